@@ -1,0 +1,8 @@
+-- The package that is held.
+use Rattle.msi.specs.Package.{Package}
+use Rattle.one_table.specs.Contents.{package_of, only_seen}
+use Rattle.one_table.specs.declared.contents.Contents.{Contents}
+
+-- the package that plain lists are
+abbrev pub package_in : Contents → Package
+package_in c = package_of (only_seen c.only)

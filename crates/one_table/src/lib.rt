@@ -1,0 +1,14 @@
+//! A Windows Installer package with at most one table beside the database's own: its plain lists, the calls on them, and the streams
+//! that it is written as.
+#![tactic(auto)]
+
+mod column;
+mod contents;
+mod keys;
+mod query;
+mod rules;
+mod sheet;
+
+pub use column::{Column, ColumnBuilder};
+pub use contents::Contents;
+pub use query::{Insert, Select};
