@@ -60,7 +60,7 @@ right_small id (s ∷ rest) small = omega arith
 pub length-stream_entries : (streams : List NamedStream) (id mini sector : ℕ) → length (stream_entries id mini sector streams) ≡ length streams
 length-stream_entries [] id mini sector = refl
 length-stream_entries (s ∷ rest) id mini sector = elim (short_or_long s) [
-  inl yes' ↦ ap length (entries_short s rest id mini sector yes') ∙ ap suc (length-stream_entries rest (id + 1) (mini + parts 64 (length s.bytes)) sector)
+  | inl yes' ↦ ap length (entries_short s rest id mini sector yes') ∙ ap suc (length-stream_entries rest (id + 1) (mini + parts 64 (length s.bytes)) sector)
   | inr no' ↦ ap length (entries_long s rest id mini sector no') ∙ ap suc (length-stream_entries rest (id + 1) mini (sector + parts 4096 (length s.bytes)))
 ]
 
@@ -76,22 +76,22 @@ pub entries_fit : (streams : List NamedStream) (id mini sector : ℕ)
     → AllByRecursion (FitsEntry V4) (stream_entries id mini sector streams)
 entries_fit [] id mini sector named sizes few minis sectors = tt
 entries_fit (s ∷ rest) id mini sector (name, names) (size, sizes) few minis sectors = elim (short_or_long s) [
-  inl yes' ↦
-  (let k = parts 64 (length s.bytes) in
-  let shorts = ap (λ ss. sum_of (counts 64 ss)) (kept is_short s rest yes') in
-  let longs = ap (λ ss. sum_of (counts 4096 ss)) (left_out (λ s. not (is_short s)) s rest (ap not yes')) in
-  let sum = sum_by-cons (λ n. n) k (counts 64 (filter is_short rest)) in
-  subst (AllByRecursion (FitsEntry V4)) (sym (entries_short s rest id mini sector yes')) (
-  named_fits s.name kind_stream (right_of id rest) no_entry no_facts (run_start mini k) (length s.bytes) name.0 name.1 (omega arith) (right_small id rest (omega arith)) (omega arith) nothing_fits (start_small mini k (omega arith)) size,
-  entries_fit rest (id + 1) (mini + k) sector names sizes (omega arith) (omega arith) (omega arith),
-  ))
+  | inl yes' ↦
+      (let k = parts 64 (length s.bytes) in
+      let shorts = ap (λ ss. sum_of (counts 64 ss)) (kept is_short s rest yes') in
+      let longs = ap (λ ss. sum_of (counts 4096 ss)) (left_out (λ s. not (is_short s)) s rest (ap not yes')) in
+      let sum = sum_by-cons (λ n. n) k (counts 64 (filter is_short rest)) in
+      subst (AllByRecursion (FitsEntry V4)) (sym (entries_short s rest id mini sector yes')) (
+        named_fits s.name kind_stream (right_of id rest) no_entry no_facts (run_start mini k) (length s.bytes) name.0 name.1 (omega arith) (right_small id rest (omega arith)) (omega arith) nothing_fits (start_small mini k (omega arith)) size,
+        entries_fit rest (id + 1) (mini + k) sector names sizes (omega arith) (omega arith) (omega arith),
+      ))
   | inr no' ↦
-  (let k = parts 4096 (length s.bytes) in
-  let shorts = ap (λ ss. sum_of (counts 64 ss)) (left_out is_short s rest no') in
-  let longs = ap (λ ss. sum_of (counts 4096 ss)) (kept (λ s. not (is_short s)) s rest (ap not no')) in
-  let sum = sum_by-cons (λ n. n) k (counts 4096 (filter (λ s. not (is_short s)) rest)) in
-  subst (AllByRecursion (FitsEntry V4)) (sym (entries_long s rest id mini sector no')) (
-  named_fits s.name kind_stream (right_of id rest) no_entry no_facts (run_start sector k) (length s.bytes) name.0 name.1 (omega arith) (right_small id rest (omega arith)) (omega arith) nothing_fits (start_small sector k (omega arith)) size,
-  entries_fit rest (id + 1) mini (sector + k) names sizes (omega arith) (omega arith) (omega arith),
-  ))
+      (let k = parts 4096 (length s.bytes) in
+      let shorts = ap (λ ss. sum_of (counts 64 ss)) (left_out is_short s rest no') in
+      let longs = ap (λ ss. sum_of (counts 4096 ss)) (kept (λ s. not (is_short s)) s rest (ap not no')) in
+      let sum = sum_by-cons (λ n. n) k (counts 4096 (filter (λ s. not (is_short s)) rest)) in
+      subst (AllByRecursion (FitsEntry V4)) (sym (entries_long s rest id mini sector no')) (
+        named_fits s.name kind_stream (right_of id rest) no_entry no_facts (run_start sector k) (length s.bytes) name.0 name.1 (omega arith) (right_small id rest (omega arith)) (omega arith) nothing_fits (start_small sector k (omega arith)) size,
+        entries_fit rest (id + 1) mini (sector + k) names sizes (omega arith) (omega arith) (omega arith),
+      ))
 ]

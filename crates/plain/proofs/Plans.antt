@@ -54,6 +54,9 @@ module _ (streams : List NamedStream) where
       ap length mini_stream_is ∙ length-all_filled 64 (filter is_short streams) (omega arith)
       ∙ ap (λ n. n * 64) (sym (ap length mini_fat_is ∙ length-runs 0 (counts 64 (filter is_short streams))))
 
+  pub mini_count : length (plan_of streams).mini_fat ≡ sum_of (counts 64 (filter is_short streams))
+  mini_count = ap length mini_fat_is ∙ length-runs 0 (counts 64 (filter is_short streams))
+
   pub directory_holds : 128 * (1 + length streams) ≤ (plan_of streams).directory_count * 4096
   unfolding plan_of
   directory_holds = covers 4096 (128 * (1 + length streams)) (omega arith)
@@ -67,11 +70,10 @@ module _ (streams : List NamedStream) where
   mini_stream_parts = refl
 
   -- the sectors beside those of the FAT
-  pub others : ℕ
+  abbrev pub others : ℕ
   others = (plan_of streams).directory_count + (plan_of streams).mini_fat_count + (plan_of streams).mini_stream_count + sum_of (plan_of streams).long_counts
 
   pub fat_len : length (fat_of (plan_of streams)) ≡ (plan_of streams).fat_count + others
-  unfolding others
   fat_len =
       let f = (plan_of streams).fat_count in
       let d = (plan_of streams).directory_count in
@@ -87,11 +89,10 @@ module _ (streams : List NamedStream) where
       omega arith)
 
   some_sector : 0 < others
-  unfolding others
   some_sector = let holds = directory_holds in omega arith
 
   pub fat_count_is : (plan_of streams).fat_count ≡ parts 1023 others
-  unfolding others plan_of
+  unfolding plan_of
   fat_count_is = refl
 
   pub others_fit : others ≤ (plan_of streams).fat_count * 1023

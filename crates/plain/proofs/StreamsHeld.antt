@@ -83,19 +83,18 @@ module _ (table stream : List ℕ) where
       let long : length part ≡ k * 64 = length-filled 0 64 s.bytes (omega arith) in
       let entries' = entries ∙ ap (λ xs. before ++ xs) (append_assoc (run at k) (runs (at + k) (counts 64 ss)) after) in
       let content' = content ∙ ap (λ xs. front ++ xs) (append_assoc part later back) in
-      let total = ap length content' ∙ length-append front (part ++ (later ++ back)) in
-      (
-      record {
-        chain = run_in table before (runs (at + k) (counts 64 ss) ++ after) at k entries' here (omega arith);
-        inside = minis_inside stream at k (omega (arith, length-append part (later ++ back)));
-        is = sym (ap (λ xs. take (length s.bytes) xs) (minis_joined stream front part (later ++ back) at k content' there long) ∙ filled_start 0 64 s.bytes);
-      },
-      shorts_held ss (at + k) (before ++ run at k) after (front ++ part) back
-          (shift table before (run at k) (runs (at + k) (counts 64 ss)) after entries)
-          (rw (length-append before (run at k), length-run at k) (omega arith))
-          (shift stream front part later back content)
-          (rw (length-append front part) (omega arith))
-          (omega arith),
+      let total = ap length content' ∙ length-append front (part ++ (later ++ back)) in (
+        record {
+          chain = run_in table before (runs (at + k) (counts 64 ss) ++ after) at k entries' here (omega arith);
+          inside = minis_inside stream at k (omega (arith, length-append part (later ++ back)));
+          is = sym (ap (λ xs. take (length s.bytes) xs) (minis_joined stream front part (later ++ back) at k content' there long) ∙ filled_start 0 64 s.bytes);
+        },
+        shorts_held ss (at + k) (before ++ run at k) after (front ++ part) back
+            (shift table before (run at k) (runs (at + k) (counts 64 ss)) after entries)
+            (rw (length-append before (run at k), length-run at k) (omega arith))
+            (shift stream front part later back content)
+            (rw (length-append front part) (omega arith))
+            (omega arith),
       )
 
 module _ (table bytes header : List ℕ) (first : length header ≡ 4096) where
@@ -113,18 +112,17 @@ module _ (table bytes header : List ℕ) (first : length header ≡ 4096) where
       let entries' = entries ∙ ap (λ xs. before ++ xs) (append_assoc (run at k) (runs (at + k) (counts 4096 ss)) after) in
       let content' = content ∙ ap (λ xs. front ++ xs) (append_assoc part later back) in
       let total = ap length content' ∙ length-append front (part ++ (later ++ back)) in
-      let file = ap length whole ∙ length-append header body in
-      (
-      record {
-        chain = run_in table before (runs (at + k) (counts 4096 ss) ++ after) at k entries' here (omega arith);
-        inside = range_inside bytes at k (omega (arith, length-append part (later ++ back))) (omega arith);
-        is = sym (ap (λ xs. take (length s.bytes) xs) (part_joined bytes header front part (later ++ back) at k (whole ∙ ap (λ xs. header ++ xs) content') first there long) ∙ filled_start 0 4096 s.bytes);
-      },
-      longs_held ss (at + k) (before ++ run at k) after (front ++ part) back body
-          (shift table before (run at k) (runs (at + k) (counts 4096 ss)) after entries)
-          (rw (length-append before (run at k), length-run at k) (omega arith))
-          whole
-          (shift body front part later back content)
-          (rw (length-append front part) (omega arith))
-          (omega arith),
+      let file = ap length whole ∙ length-append header body in (
+        record {
+          chain = run_in table before (runs (at + k) (counts 4096 ss) ++ after) at k entries' here (omega arith);
+          inside = range_inside bytes at k (omega (arith, length-append part (later ++ back))) (omega arith);
+          is = sym (ap (λ xs. take (length s.bytes) xs) (part_joined bytes header front part (later ++ back) at k (whole ∙ ap (λ xs. header ++ xs) content') first there long) ∙ filled_start 0 4096 s.bytes);
+        },
+        longs_held ss (at + k) (before ++ run at k) after (front ++ part) back body
+            (shift table before (run at k) (runs (at + k) (counts 4096 ss)) after entries)
+            (rw (length-append before (run at k), length-run at k) (omega arith))
+            whole
+            (shift body front part later back content)
+            (rw (length-append front part) (omega arith))
+            (omega arith),
       )

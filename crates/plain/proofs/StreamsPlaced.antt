@@ -80,30 +80,29 @@ module _ (bytes : List ℕ) (l : Layout) (directory : List Entry) where
   siblings_placed [] id placed small = none refl refl
   siblings_placed (s ∷ rest) id (here, later) small =
       some (named_entry s.name kind_stream (right_of (id + 1) rest) no_entry no_facts here.start (length s.bytes)) []
-          (range_with_len (id + 1 + 1) (length rest)) (omega arith) here.found (none refl refl)
-          (siblings_placed rest (id + 1) later (omega arith)) refl
+      (range_with_len (id + 1 + 1) (length rest)) (omega arith) here.found (none refl refl)
+      (siblings_placed rest (id + 1) later (omega arith)) refl
 
   pub holds_placed : (streams : List NamedStream) (id : ℕ)
       → AllByRecursion (λ s. AllByRecursion IsScalar s.name × (length (name_units s.name) ≤ 31)) streams → ArePlaced id streams
       → Holds directory (HasBytes bytes l) (range_with_len id (length streams)) (content_of_streams streams) (range_with_len id (length streams))
   holds_placed [] id named placed = (refl, refl)
-  holds_placed (s ∷ rest) id (name, names) (here, later) =
-      (
-      named_entry s.name kind_stream (right_of id rest) no_entry no_facts here.start (length s.bytes),
-      id,
-      range_with_len (id + 1) (length rest),
-      range_with_len (id + 1) (length rest),
-      refl,
-      refl,
-      record {
-        found = here.found;
-        of_kind = refl;
-        named = has_name s.name kind_stream (right_of id rest) no_entry no_facts here.start (length s.bytes) name.0 name.1;
-        bits = refl;
-      },
-      here.reads,
-      holds_placed rest (id + 1) names later,
-      )
+  holds_placed (s ∷ rest) id (name, names) (here, later) = (
+    named_entry s.name kind_stream (right_of id rest) no_entry no_facts here.start (length s.bytes),
+    id,
+    range_with_len (id + 1) (length rest),
+    range_with_len (id + 1) (length rest),
+    refl,
+    refl,
+    record {
+      found = here.found;
+      of_kind = refl;
+      named = has_name s.name kind_stream (right_of id rest) no_entry no_facts here.start (length s.bytes) name.0 name.1;
+      bits = refl;
+    },
+    here.reads,
+    holds_placed rest (id + 1) names later,
+  )
 
   module _ (four : l.version ≡ V4) where
     reads_short : (e : Entry) (at : ℕ) (content : List ℕ) → e.start ≡ run_start at (parts 64 (length content)) → e.size ≡ length content
@@ -141,36 +140,34 @@ module _ (bytes : List ℕ) (l : Layout) (directory : List Entry) where
         → ArePlaced id streams
     all_placed [] id mini sector front back is here shorts longs = tt
     all_placed (s ∷ rest) id mini sector front back is here shorts longs = elim (short_or_long s) [
-      inl yes' ↦
-      (let e = named_entry s.name kind_stream (right_of id rest) no_entry no_facts (run_start mini (parts 64 (length s.bytes))) (length s.bytes) in
-      let is' : directory ≡ front ++ ((e ∷ stream_entries (id + 1) (mini + parts 64 (length s.bytes)) sector rest) ++ back) =
-      is ∙ ap (λ es. front ++ (es ++ back)) (entries_short s rest id mini sector yes') in
-      let shorts' = subst (λ ss. AreHeldShort (mini_fat bytes l) (mini_stream bytes l) mini ss) (kept is_short s rest yes') shorts in
-      let longs' = subst (λ ss. AreHeldLong (fat bytes l) bytes sector ss) (left_out (λ s. not (is_short s)) s rest (ap not yes')) longs in
-      (
-      record {
-        start = run_start mini (parts 64 (length s.bytes));
-        found = found_at directory front e (stream_entries (id + 1) (mini + parts 64 (length s.bytes)) sector rest ++ back) id is' here;
-        reads = reads_short e mini s.bytes refl refl (ltb-true (length s.bytes) 4096 yes') shorts'.0;
-      },
-      all_placed rest (id + 1) (mini + parts 64 (length s.bytes)) sector (front ++ e ∷ []) back
-          (is' ∙ sym (append_assoc front (e ∷ []) (stream_entries (id + 1) (mini + parts 64 (length s.bytes)) sector rest ++ back)))
-          (simp length-append (omega arith)) shorts'.1 longs',
-      ))
+      | inl yes' ↦
+          (let e = named_entry s.name kind_stream (right_of id rest) no_entry no_facts (run_start mini (parts 64 (length s.bytes))) (length s.bytes) in
+          let is' : directory ≡ front ++ ((e ∷ stream_entries (id + 1) (mini + parts 64 (length s.bytes)) sector rest) ++ back) =
+          is ∙ ap (λ es. front ++ (es ++ back)) (entries_short s rest id mini sector yes') in
+          let shorts' = subst (λ ss. AreHeldShort (mini_fat bytes l) (mini_stream bytes l) mini ss) (kept is_short s rest yes') shorts in
+          let longs' = subst (λ ss. AreHeldLong (fat bytes l) bytes sector ss) (left_out (λ s. not (is_short s)) s rest (ap not yes')) longs in (
+            record {
+              start = run_start mini (parts 64 (length s.bytes));
+              found = found_at directory front e (stream_entries (id + 1) (mini + parts 64 (length s.bytes)) sector rest ++ back) id is' here;
+              reads = reads_short e mini s.bytes refl refl (ltb-true (length s.bytes) 4096 yes') shorts'.0;
+            },
+            all_placed rest (id + 1) (mini + parts 64 (length s.bytes)) sector (front ++ e ∷ []) back
+                (is' ∙ sym (append_assoc front (e ∷ []) (stream_entries (id + 1) (mini + parts 64 (length s.bytes)) sector rest ++ back)))
+                (simp length-append (omega arith)) shorts'.1 longs',
+          ))
       | inr no' ↦
-      (let e = named_entry s.name kind_stream (right_of id rest) no_entry no_facts (run_start sector (parts 4096 (length s.bytes))) (length s.bytes) in
-      let is' : directory ≡ front ++ ((e ∷ stream_entries (id + 1) mini (sector + parts 4096 (length s.bytes)) rest) ++ back) =
-      is ∙ ap (λ es. front ++ (es ++ back)) (entries_long s rest id mini sector no') in
-      let shorts' = subst (λ ss. AreHeldShort (mini_fat bytes l) (mini_stream bytes l) mini ss) (left_out is_short s rest no') shorts in
-      let longs' = subst (λ ss. AreHeldLong (fat bytes l) bytes sector ss) (kept (λ s. not (is_short s)) s rest (ap not no')) longs in
-      (
-      record {
-        start = run_start sector (parts 4096 (length s.bytes));
-        found = found_at directory front e (stream_entries (id + 1) mini (sector + parts 4096 (length s.bytes)) rest ++ back) id is' here;
-        reads = reads_long e sector s.bytes refl refl (ltb-false (length s.bytes) 4096 no') longs'.0;
-      },
-      all_placed rest (id + 1) mini (sector + parts 4096 (length s.bytes)) (front ++ e ∷ []) back
-          (is' ∙ sym (append_assoc front (e ∷ []) (stream_entries (id + 1) mini (sector + parts 4096 (length s.bytes)) rest ++ back)))
-          (simp length-append (omega arith)) shorts' longs'.1,
-      ))
+          (let e = named_entry s.name kind_stream (right_of id rest) no_entry no_facts (run_start sector (parts 4096 (length s.bytes))) (length s.bytes) in
+          let is' : directory ≡ front ++ ((e ∷ stream_entries (id + 1) mini (sector + parts 4096 (length s.bytes)) rest) ++ back) =
+          is ∙ ap (λ es. front ++ (es ++ back)) (entries_long s rest id mini sector no') in
+          let shorts' = subst (λ ss. AreHeldShort (mini_fat bytes l) (mini_stream bytes l) mini ss) (left_out is_short s rest no') shorts in
+          let longs' = subst (λ ss. AreHeldLong (fat bytes l) bytes sector ss) (kept (λ s. not (is_short s)) s rest (ap not no')) longs in (
+            record {
+              start = run_start sector (parts 4096 (length s.bytes));
+              found = found_at directory front e (stream_entries (id + 1) mini (sector + parts 4096 (length s.bytes)) rest ++ back) id is' here;
+              reads = reads_long e sector s.bytes refl refl (ltb-false (length s.bytes) 4096 no') longs'.0;
+            },
+            all_placed rest (id + 1) mini (sector + parts 4096 (length s.bytes)) (front ++ e ∷ []) back
+                (is' ∙ sym (append_assoc front (e ∷ []) (stream_entries (id + 1) mini (sector + parts 4096 (length s.bytes)) rest ++ back)))
+                (simp length-append (omega arith)) shorts' longs'.1,
+          ))
     ]

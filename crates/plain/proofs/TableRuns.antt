@@ -37,3 +37,39 @@ runs_small at [] small = tt
 runs_small at (n ∷ ns) small =
     let sum = sum_by-cons (λ n. n) n ns in
     all_append (λ x. x < 2 ^ 32) (run at n) (runs (at + n) ns) (run_small at n (omega arith)) (runs_small (at + n) ns (omega arith))
+
+-- the chains of three parts in a table that has their runs behind other entries, and where the runs of the rest stand
+module _ (table marks fill : List ℕ) (f d m c : ℕ) (longs : List ℕ) (is : table ≡ (marks ++ runs f (d ∷ m ∷ c ∷ longs)) ++ fill)
+    (marked : length marks ≡ f) (small : f + d + m + c ≤ greatest_regular + 1) where
+  first : table ≡ marks ++ (run f d ++ ((run (f + d) m ++ (run (f + d + m) c ++ runs (f + d + m + c) longs)) ++ fill))
+  first = is ∙ append_assoc marks (runs f (d ∷ m ∷ c ∷ longs)) fill
+      ∙ ap (λ xs. marks ++ xs) (append_assoc (run f d) (run (f + d) m ++ (run (f + d + m) c ++ runs (f + d + m + c) longs)) fill)
+
+  second : table ≡ (marks ++ run f d) ++ (run (f + d) m ++ ((run (f + d + m) c ++ runs (f + d + m + c) longs) ++ fill))
+  second = first ∙ sym (append_assoc marks (run f d) ((run (f + d) m ++ (run (f + d + m) c ++ runs (f + d + m + c) longs)) ++ fill))
+      ∙ ap (λ xs. (marks ++ run f d) ++ xs) (append_assoc (run (f + d) m) (run (f + d + m) c ++ runs (f + d + m + c) longs) fill)
+
+  third : table ≡ ((marks ++ run f d) ++ run (f + d) m) ++ (run (f + d + m) c ++ (runs (f + d + m + c) longs ++ fill))
+  third = second ∙ sym (append_assoc (marks ++ run f d) (run (f + d) m) ((run (f + d + m) c ++ runs (f + d + m + c) longs) ++ fill))
+      ∙ ap (λ xs. ((marks ++ run f d) ++ run (f + d) m) ++ xs) (append_assoc (run (f + d + m) c) (runs (f + d + m + c) longs) fill)
+
+  pub rest_in : table ≡ (((marks ++ run f d) ++ run (f + d) m) ++ run (f + d + m) c) ++ (runs (f + d + m + c) longs ++ fill)
+  rest_in = third ∙ sym (append_assoc ((marks ++ run f d) ++ run (f + d) m) (run (f + d + m) c) (runs (f + d + m + c) longs ++ fill))
+
+  length-second : f + d ≡ length (marks ++ run f d)
+  length-second = rw (length-append marks (run f d), length-run f d) (omega arith)
+
+  length-third : f + d + m ≡ length ((marks ++ run f d) ++ run (f + d) m)
+  length-third = rw (length-append (marks ++ run f d) (run (f + d) m), length-run (f + d) m) (let e = length-second in omega arith)
+
+  pub length-rest : f + d + m + c ≡ length (((marks ++ run f d) ++ run (f + d) m) ++ run (f + d + m) c)
+  length-rest = rw (length-append ((marks ++ run f d) ++ run (f + d) m) (run (f + d + m) c), length-run (f + d + m) c) (let e = length-third in omega arith)
+
+  pub first_in : Chain table (run_start f d) (range_with_len f d)
+  first_in = run_in table marks ((run (f + d) m ++ (run (f + d + m) c ++ runs (f + d + m + c) longs)) ++ fill) f d first (sym marked) (omega arith)
+
+  pub second_in : Chain table (run_start (f + d) m) (range_with_len (f + d) m)
+  second_in = run_in table (marks ++ run f d) ((run (f + d + m) c ++ runs (f + d + m + c) longs) ++ fill) (f + d) m second length-second (omega arith)
+
+  pub third_in : Chain table (run_start (f + d + m) c) (range_with_len (f + d + m) c)
+  third_in = run_in table ((marks ++ run f d) ++ run (f + d) m) (runs (f + d + m + c) longs ++ fill) (f + d + m) c third length-third (omega arith)
