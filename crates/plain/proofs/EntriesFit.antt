@@ -13,6 +13,8 @@ use Rattle.cfb_tree.specs.Directory.{Entry, FitsEntry, no_entry, greatest_entry,
 use Rattle.cfb_tree.proofs.NamesRead.{units_fit, all_append}
 use Rattle.plain.specs.Runs.{run_start}
 use Rattle.plain.specs.WholeImage.{NamedStream, parts, is_short, no_facts, named_entry, right_of, stream_entries, counts, sum_of}
+use Rattle.std.proofs.lemmas.Bool.{ltb-true}
+use Rattle.plain.proofs.Filled.{covers}
 use Rattle.plain.proofs.StreamsPlaced.{kept, left_out, short_or_long, entries_short, entries_long}
 
 pub all_replicate : (P : ℕ → Type 0) (n x : ℕ) → P x → AllByRecursion P (replicate n x)
@@ -69,21 +71,20 @@ nothing_fits = record { clsid_len = refl; state_bits = omega arith; created = om
 
 pub entries_fit : (streams : List NamedStream) (id mini sector : ℕ)
     → AllByRecursion (λ s. AllByRecursion IsScalar s.name × (length (name_units s.name) ≤ 31)) streams
-    → AllByRecursion (λ s. length s.bytes < 2 ^ 64) streams
     → id + length streams ≤ greatest_entry + 1
     → mini + sum_of (counts 64 (filter is_short streams)) ≤ greatest_regular + 1
     → sector + sum_of (counts 4096 (filter (λ s. not (is_short s)) streams)) ≤ greatest_regular + 1
     → AllByRecursion (FitsEntry V4) (stream_entries id mini sector streams)
-entries_fit [] id mini sector named sizes few minis sectors = tt
-entries_fit (s ∷ rest) id mini sector (name, names) (size, sizes) few minis sectors = elim (short_or_long s) [
+entries_fit [] id mini sector named few minis sectors = tt
+entries_fit (s ∷ rest) id mini sector (name, names) few minis sectors = elim (short_or_long s) [
   | inl yes' ↦
       (let k = parts 64 (length s.bytes) in
       let shorts = ap (λ ss. sum_of (counts 64 ss)) (kept is_short s rest yes') in
       let longs = ap (λ ss. sum_of (counts 4096 ss)) (left_out (λ s. not (is_short s)) s rest (ap not yes')) in
       let sum = sum_by-cons (λ n. n) k (counts 64 (filter is_short rest)) in
       subst (AllByRecursion (FitsEntry V4)) (sym (entries_short s rest id mini sector yes')) (
-        named_fits s.name kind_stream (right_of id rest) no_entry no_facts (run_start mini k) (length s.bytes) name.0 name.1 (omega arith) (right_small id rest (omega arith)) (omega arith) nothing_fits (start_small mini k (omega arith)) size,
-        entries_fit rest (id + 1) (mini + k) sector names sizes (omega arith) (omega arith) (omega arith),
+        named_fits s.name kind_stream (right_of id rest) no_entry no_facts (run_start mini k) (length s.bytes) name.0 name.1 (omega arith) (right_small id rest (omega arith)) (omega arith) nothing_fits (start_small mini k (omega arith)) (let less = ltb-true (length s.bytes) 4096 yes' in omega arith),
+        entries_fit rest (id + 1) (mini + k) sector names (omega arith) (omega arith) (omega arith),
       ))
   | inr no' ↦
       (let k = parts 4096 (length s.bytes) in
@@ -91,7 +92,7 @@ entries_fit (s ∷ rest) id mini sector (name, names) (size, sizes) few minis se
       let longs = ap (λ ss. sum_of (counts 4096 ss)) (kept (λ s. not (is_short s)) s rest (ap not no')) in
       let sum = sum_by-cons (λ n. n) k (counts 4096 (filter (λ s. not (is_short s)) rest)) in
       subst (AllByRecursion (FitsEntry V4)) (sym (entries_long s rest id mini sector no')) (
-        named_fits s.name kind_stream (right_of id rest) no_entry no_facts (run_start sector k) (length s.bytes) name.0 name.1 (omega arith) (right_small id rest (omega arith)) (omega arith) nothing_fits (start_small sector k (omega arith)) size,
-        entries_fit rest (id + 1) mini (sector + k) names sizes (omega arith) (omega arith) (omega arith),
+        named_fits s.name kind_stream (right_of id rest) no_entry no_facts (run_start sector k) (length s.bytes) name.0 name.1 (omega arith) (right_small id rest (omega arith)) (omega arith) nothing_fits (start_small sector k (omega arith)) (let most = covers 4096 (length s.bytes) (omega arith) in omega arith),
+        entries_fit rest (id + 1) mini (sector + k) names (omega arith) (omega arith) (omega arith),
       ))
 ]

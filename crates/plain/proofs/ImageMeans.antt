@@ -165,7 +165,7 @@ module _ (letters : Letters) (root : Facts) (streams : List NamedStream) (imaged
         (record { clsid_len = imaged.clsid; state_bits = imaged.state_bits; created = imaged.created; modified = imaged.modified })
         (start_small (f + d + m) c (let most = few_all in omega arith))
         (let most = few_minis in let long = mini_stream_len streams in omega arith),
-    entries_fit streams 1 0 (f + d + m + c) imaged.named imaged.sizes
+    entries_fit streams 1 0 (f + d + m + c) imaged.named
         (let some = few_streams in let most = few_all in omega arith)
         (let most = few_minis in let count = mini_count streams in omega arith)
         (let most = few_all in let sum = ap sum_of (long_counts_are streams) in omega arith),
