@@ -2,6 +2,7 @@
 use Rattle.std.proofs.Common.{◌≡◌, ℕ, ◌+◌, ◌-◌, ◌*◌, ◌/◌, ◌<◌, ◌≤◌, List, [], ◌∷◌, ◌++◌, length, take, replicate, refl, ap, sym, ◌∙◌, arith, zero, suc, length-append}
 use Rattle.std.proofs.lemmas.List.{length-replicate}
 use Rattle.std.proofs.Math.Seq.{take-append_seam}
+use Rattle.std.proofs.Math.Nat.{div-eq_of_lt, add-div_right}
 use Rattle.plain.specs.WholeImage.{parts, filled}
 
 -- parts of `size` cover n
@@ -19,3 +20,12 @@ length-filled with size items some =
 pub filled_start : (with size : ℕ) (items : List ℕ) → take (length items) (filled with size items) ≡ items
 unfolding filled
 filled_start with size items = take-append_seam items (replicate (parts size (length items) * size - length items) with)
+
+-- parts, without a sum that may be too great
+pub parts_none : (size : ℕ) → 0 < size → parts size 0 ≡ 0
+unfolding parts
+parts_none size some = div-eq_of_lt (omega arith)
+
+pub parts_some : (size n : ℕ) → 0 < size → parts size (suc n) ≡ n / size + 1
+unfolding parts
+parts_some size n some = let same : suc n + (size - 1) ≡ n + size = omega arith in ap (λ k. k / size) same ∙ add-div_right n some

@@ -1,5 +1,5 @@
 -- What a plan's numbers are.
-use Rattle.std.proofs.Common.{◌≡◌, ℕ, ◌+◌, ◌-◌, ◌*◌, ◌/◌, ◌<◌, ◌≤◌, List, [], ◌∷◌, ◌++◌, length, map, replicate, refl, ap, sym, subst, ◌∙◌, arith, zero, suc, length-append}
+use Rattle.std.proofs.Common.{◌≡◌, ℕ, ◌+◌, ◌-◌, ◌*◌, ◌/◌, ◌%◌, ◌<◌, ◌≤◌, List, [], ◌∷◌, ◌++◌, length, map, min, replicate, refl, ap, sym, subst, ◌∙◌, arith, zero, suc, length-append, ◌⊎◌, inl, inr}
 use Rattle.std.specs.Prelude.{not}
 use Rattle.std.specs.List.{filter, flat_map, range_with_len}
 use Rattle.std.proofs.lemmas.List.{length-replicate}
@@ -32,6 +32,23 @@ length-all_filled size (s ∷ ss) some =
 tells_itself : (n : ℕ) → 0 < n → (parts 1023 n + n + 1023) / 1024 ≡ parts 1023 n
 unfolding parts
 tells_itself n some = omega arith
+
+minis_fill : (n : ℕ) → parts 4096 (n * 64) ≡ parts 64 n
+unfolding parts
+minis_fill n = omega arith
+
+-- a quotient rounded up is as many parts
+pub ceil_64 : (n : ℕ) → n / 64 + min 1 (n % 64) ≡ parts 64 n
+unfolding parts
+ceil_64 n = omega arith
+
+pub ceil_1023 : (n : ℕ) → n / 1023 + min 1 (n % 1023) ≡ parts 1023 n
+unfolding parts
+ceil_1023 n = omega arith
+
+pub ceil_1024 : (n : ℕ) → n / 1024 + min 1 (n % 1024) ≡ parts 1024 n
+unfolding parts
+ceil_1024 n = omega arith
 
 module _ (streams : List NamedStream) where
   p : Plan
@@ -103,3 +120,16 @@ module _ (streams : List NamedStream) where
   fat_parts =
       ap (λ n. (n + (1024 - 1)) / 1024) (fat_len ∙ ap (λ n. n + others) fat_count_is)
       ∙ tells_itself others some_sector ∙ sym fat_count_is
+
+  pub directory_is : (plan_of streams).directory_count ≡ length streams / 32 + 1
+  unfolding plan_of parts
+  directory_is = omega arith
+
+  pub mini_stream_is_parts : (plan_of streams).mini_stream_count ≡ parts 64 (length (plan_of streams).mini_fat)
+  mini_stream_is_parts = sym (mini_stream_parts) ∙ ap (parts 4096) mini_stream_len ∙ minis_fill (length (plan_of streams).mini_fat)
+
+  -- so many mini sectors, or so many sectors, have no room
+  pub too_many : 0xFFFFFFFF < length (plan_of streams).mini_fat ⊎ 0xFFFFFFFF < sum_of (plan_of streams).long_counts → 109 < (plan_of streams).fat_count
+  too_many (inl minis) =
+      let most = others_fit in let covered = covers 1024 (length (plan_of streams).mini_fat) (omega arith) in let is = mini_fat_parts in omega arith
+  too_many (inr longs) = let most = others_fit in omega arith
