@@ -1,8 +1,9 @@
 -- Lists filled up to whole parts.
-use Rattle.std.proofs.Common.{◌≡◌, ℕ, ◌+◌, ◌-◌, ◌*◌, ◌/◌, ◌<◌, ◌≤◌, List, [], ◌∷◌, ◌++◌, length, take, replicate, refl, ap, sym, ◌∙◌, arith, zero, suc, length-append}
+use Rattle.std.proofs.Common.{◌≡◌, ℕ, ◌+◌, ◌-◌, ◌*◌, ◌/◌, ◌%◌, ◌<◌, ◌≤◌, List, [], ◌∷◌, ◌++◌, length, take, replicate, refl, ap, sym, ◌∙◌, arith, zero, suc, length-append, add-zero}
 use Rattle.std.proofs.lemmas.List.{length-replicate}
 use Rattle.std.proofs.Math.Seq.{take-append_seam}
-use Rattle.std.proofs.Math.Nat.{div-eq_of_lt, add-div_right}
+use Rattle.std.proofs.Math.Nat.{div-eq_of_lt, add-div_right, mul-add-div_right}
+use Rattle.std.proofs.lemmas.Nat.{div-add-mod'}
 use Rattle.plain.specs.WholeImage.{parts, filled}
 
 -- parts of `size` cover n
@@ -29,3 +30,25 @@ parts_none size some = div-eq_of_lt (omega arith)
 pub parts_some : (size n : ℕ) → 0 < size → parts size (suc n) ≡ n / size + 1
 unfolding parts
 parts_some size n some = let same : suc n + (size - 1) ≡ n + size = omega arith in ap (λ k. k / size) same ∙ add-div_right n some
+
+-- what is wanting up to whole parts
+pub wanting_none : (size n : ℕ) → 0 < size → n % size ≡ 0 → parts size n * size - n ≡ 0
+unfolding parts
+wanting_none size n some whole =
+    let split : n + (size - 1) ≡ n / size * size + (size - 1) = let e = div-add-mod' n size in omega arith in
+    let count : (n + (size - 1)) / size ≡ n / size =
+    ap (λ k. k / size) split ∙ mul-add-div_right some (n / size) (size - 1) ∙ ap (λ k. n / size + k) (div-eq_of_lt {n = size - 1} {m = size} (omega arith)) ∙ add-zero (n / size) in
+    let e = div-add-mod' n size in
+    rw count (omega arith)
+
+pub wanting_some : (size n : ℕ) → 0 < size → 0 < n % size → parts size n * size - n ≡ size - n % size
+unfolding parts
+wanting_some size n some more =
+    let less : n % size < size = omega arith in
+    let split : n + (size - 1) ≡ n / size * size + (n % size - 1 + size) = let e = div-add-mod' n size in omega arith in
+    let last : (n % size - 1 + size) / size ≡ 1 =
+    add-div_right (n % size - 1) some ∙ ap (λ k. k + 1) (div-eq_of_lt {n = n % size - 1} {m = size} (omega arith)) in
+    let count : (n + (size - 1)) / size ≡ n / size + 1 =
+    ap (λ k. k / size) split ∙ mul-add-div_right some (n / size) (n % size - 1 + size) ∙ ap (λ k. n / size + k) last in
+    let e = div-add-mod' n size in
+    rw count (omega arith)

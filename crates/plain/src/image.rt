@@ -14,7 +14,9 @@ ghost use Rattle.std.specs.List.Sorted.{IsStrictlySortedBy};
 ghost use Rattle.std.specs.List.{filter, flat_map, range_with_len, AllByRecursion};
 ghost use Rattle.std.specs.Prelude.{chars, length, map, min, not, replicate, IfErr, IfNone, IfOk, IfSome, IsTrue, List, OnOk, ℕ, ◌*◌, ◌+◌, ◌++◌, ◌-◌, ◌<◌, ◌≡◌, ◌≤◌, ◌↔◌, ◌⊎◌, ◌^◌};
 
-use crate::appending::{push_bytes, push_numbers, push_run, push_u16, push_u32, push_u64, push_units};
+use crate::appending::{
+    push_bytes, push_numbers, push_run, push_u16, push_u32, push_u64, push_units,
+};
 use crate::directory::{Entry, Facts, KIND_ROOT, KIND_STREAM, NO_ENTRY};
 use crate::sectors::{END_OF_CHAIN, FREE};
 use cfb_medium::Error;

@@ -12,7 +12,7 @@ returns-then-minis-gt4294967295-clause-none c =
     let count = mini_count ss in
     let longs = ap sum_of (long_counts_are ss) in
     elim c.then-minis-gt4294967295.branch [
-      goal.then-minis-gt4294967295-via-then-minis-gt4294967295 w ↦ too_many ss (inl (omega arith))
+      | goal.then-minis-gt4294967295-via-then-minis-gt4294967295 w ↦ too_many ss (inl (omega arith))
       | goal.then-minis-gt4294967295-via-else-minis-gt4294967295+then-longs-gt4294967295 w ↦ too_many ss (inr (omega arith))
     ]
 
