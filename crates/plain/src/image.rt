@@ -15,7 +15,7 @@ ghost use Rattle.std.specs.List.{filter, flat_map, range_with_len, AllByRecursio
 ghost use Rattle.std.specs.Prelude.{chars, length, map, min, not, replicate, IfErr, IfNone, IfOk, IfSome, IsTrue, List, OnOk, ℕ, ◌*◌, ◌+◌, ◌++◌, ◌-◌, ◌<◌, ◌≡◌, ◌≤◌, ◌↔◌, ◌⊎◌, ◌^◌};
 
 use crate::appending::{
-    push_bytes, push_numbers, push_run, push_u16, push_u32, push_u64, push_units,
+    push_bytes, push_filled, push_numbers, push_run, push_u16, push_u32, push_u64, push_units,
 };
 use crate::directory::{Entry, Facts, KIND_ROOT, KIND_STREAM, NO_ENTRY};
 use crate::sectors::{END_OF_CHAIN, FREE};
@@ -112,4 +112,60 @@ fn run_start(at: u32, count: u32) -> u32
     ensures { result ≡ run_start at count }
 {
     if count == 0 { END_OF_CHAIN } else { at }
+}
+
+/// Appends the FAT entries of the long streams, the first in this sector.
+fn push_long_runs(out: &mut Vec<u8>, streams: &[NamedStream], first: u32) -> Result<(), AllocError>
+    requires { first + sum_of (counts 4096 (filter (λ s. not (is_short s)) (stream_views streams.now))) < 2 ^ 32 }
+    ensures { OnOk result (out.new.items ≡ out.old.items ++ number_bytes (runs first (counts 4096 (filter (λ s. not (is_short s)) (stream_views streams.now))))) }
+{
+    let mut at = first;
+    for s in streams {
+        if !is_short(s) {
+            let count = parts(4096, s.bytes.len()) as u32;
+            push_run(out, at, count)?;
+            at += count;
+        }
+    }
+    Ok(())
+}
+
+/// Appends the mini FAT entries of the short streams.
+fn push_mini_runs(out: &mut Vec<u8>, streams: &[NamedStream]) -> Result<(), AllocError>
+    requires { sum_of (counts 64 (filter is_short (stream_views streams.now))) < 2 ^ 32 }
+    ensures { OnOk result (out.new.items ≡ out.old.items ++ number_bytes (runs 0 (counts 64 (filter is_short (stream_views streams.now))))) }
+{
+    let mut at = 0;
+    for s in streams {
+        if is_short(s) {
+            let count = parts(64, s.bytes.len()) as u32;
+            push_run(out, at, count)?;
+            at += count;
+        }
+    }
+    Ok(())
+}
+
+/// Appends the long streams' bytes, each filled up to whole sectors.
+fn push_long_streams(out: &mut Vec<u8>, streams: &[NamedStream]) -> Result<(), AllocError>
+    ensures { OnOk result (out.new.items ≡ out.old.items ++ flat_map (λ s. filled 0 4096 s.bytes) (filter (λ s. not (is_short s)) (stream_views streams.now))) }
+{
+    for s in streams {
+        if !is_short(s) {
+            push_filled(out, &s.bytes, 4096)?;
+        }
+    }
+    Ok(())
+}
+
+/// Appends the short streams' bytes, each filled up to whole mini sectors.
+fn push_short_streams(out: &mut Vec<u8>, streams: &[NamedStream]) -> Result<(), AllocError>
+    ensures { OnOk result (out.new.items ≡ out.old.items ++ flat_map (λ s. filled 0 64 s.bytes) (filter is_short (stream_views streams.now))) }
+{
+    for s in streams {
+        if is_short(s) {
+            push_filled(out, &s.bytes, 64)?;
+        }
+    }
+    Ok(())
 }
