@@ -10,12 +10,9 @@ use Rattle.msi_texts.specs.declared.codepage.CodePage.{CodePage}
 use Rattle.msi_texts.specs.declared.codepage.CodePage.TheVariants as page
 use Rattle.msi_texts.specs.Numbers.{le_bytes}
 use Rattle.msi_texts.specs.Page.{encoded, decoded, page_id, id_of}
-use Rattle.msi_texts.specs.Pool.{Pool, Place, Stored, IsHead, AreHeads, Pooled, head_of, stored_of, pool_stream, data_stream}
+use Rattle.msi_texts.specs.Pool.{Pool, Place, Stored, IsHead, AreHeads, Pooled, head_bytes, head_of, stored_place, stored_of, pool_stream, data_stream}
 use Rattle.msi_texts.specs.PoolKept.{IsKept, AreKept, IsWritable}
 use Rattle.msi_texts.proofs.PageRoundTrip.{fitting_text_comes_back}
-
-abbrev pub stored_place : CodePage → Place → Stored
-stored_place page p = (encoded page p.text, p.count)
 
 -- each page comes back from its number
 pub page_comes_back : (p : CodePage) → page_id (id_of p) ≡ Some p
@@ -24,7 +21,7 @@ page_comes_back _ = refl
 
 -- a head is written as one is read
 head_numbers : (len count : ℕ) → len < 2 ^ 32 → count < 2 ^ 16 → (count ≡ 0 → len ≡ 0) →
-    IsHead len count (cond (len == 0 && count == 0) (le_bytes 4 0) (cond (len == 0 || nat_le (2 ^ 16) len) (le_bytes 2 0 ++ le_bytes 2 count ++ le_bytes 4 len) (le_bytes 2 len ++ le_bytes 2 count)))
+    IsHead len count (head_bytes len count)
 head_numbers len count size few free = (size, few, go (len == 0) (count == 0) (nat_le (2 ^ 16) len) refl refl refl)
   where
     go : (a b c : Bool) → (len == 0) ≡ a → (count == 0) ≡ b → nat_le (2 ^ 16) len ≡ c →
