@@ -4,13 +4,8 @@ use Rattle.std.proofs.lemmas.Iterator.{YieldsList-from_chars}
 use Rattle.std.proofs.lemmas.Iterator.Consumers.{YieldsList-turn, YieldsList-end}
 use Rattle.std.proofs.lemmas.Grind.{common_steps}
 use Rattle.msi_texts.specs.Page.{byte_of}
-use Rattle.msi_texts.proofs.CharsLoop.{rest_before, rest_after}
+use Rattle.msi_texts.proofs.CharsLoop.{rest_before, rest_after, moved}
 use Rattle.msi_texts.proofs.codepage.CodePage.encode_chars.Goals as goal
-
--- the first of what is to come moves over
-step_kept : (old new rest all left : List ℕ) (b d : ℕ) → old ++ rest ≡ all → rest ≡ d ∷ left → b ≡ d → new ≡ old ++ b ∷ [] → new ++ left ≡ all
-step_kept old new rest all left b d kept first same next =
-    ap (λ x. x ++ left) next ∙ append_assoc old (b ∷ []) left ∙ ap (λ x. old ++ x ∷ left) same ∙ ap (λ x. old ++ x) (sym first) ∙ kept
 
 pub loop-ch-preserved : goal.loop-ch-preserved
 loop-ch-preserved c =
@@ -18,7 +13,7 @@ loop-ch-preserved c =
     let written : List ℕ → List ℕ = map (λ c'. unwrap_or (byte_of c.args.self c') 63) in
     let before = ap written (rest_before _ _ _ t) in
     let byte : c.unwrap_or.result ≡ unwrap_or (byte_of c.args.self c.in-Some.ch) 63 = c.unwrap_or.ensures ∙ ap (λ o. unwrap_or o 63) c.byte_of.ensures in
-    step_kept _ _ _ _ _ _ _ c.loop-ch.invariant before byte c.in_ok-push.ensures.items
+    moved _ _ _ _ _ _ c.loop-ch.invariant before (c.in_ok-push.ensures.items ∙ ap (λ b. c.loop-ch.bytes.items ++ b ∷ []) byte)
 
 pub returns : goal.returns
 returns c =
