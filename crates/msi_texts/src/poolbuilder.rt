@@ -1,8 +1,11 @@
 // Reading the string pool from its two streams.
-ghost use Rattle.std.specs.Prelude.{◌≡◌, ◌+◌, ◌<◌, ◌^◌, ℕ, [], length, Ok, Err, IfOk, IfErr, OnOk, OnErr, drop, sum_by};
+ghost use Rattle.std.specs.Prelude.{◌≡◌, ◌⊎◌, ◌+◌, ◌<◌, ◌≤◌, ◌^◌, ℕ, [], false, length, Ok, Err, IfOk, IfErr, OnOk, OnErr, drop, take, string_bytes};
 ghost use Rattle.msi_texts.specs.Results.{Answers};
 ghost use Rattle.msi_texts.specs.Reading.{number_at};
-ghost use Rattle.msi_texts.specs.PoolReading.{head_at, heads_at, begun, pool_of, page_number};
+ghost use Rattle.msi_texts.specs.PoolReading.{head_at, heads_at, begun, pool_of, page_number, places_at, text_len};
+ghost use Rattle.msi_texts.specs.Page.{decoded};
+ghost use Rattle.msi_texts.specs.Pool.{places_of};
+ghost use Rattle.cfb_medium.specs.declared.error.Error.TheVariants.{UnexpectedEof, Memory};
 
 use crate::codepage::CodePage;
 use crate::numbers::{read_u16, read_u32};
@@ -83,6 +86,63 @@ impl StringPoolBuilder {
             heads,
         })
     }
+
+    /// Reads the texts from the data stream, and goes past them. UnexpectedEof where bytes are missing;
+    /// after an error the reader is where it was.
+    pub fn build_from_data(self, alloc: Global, reader: &mut &[u8]) -> Result<StringPool, Error>
+        ensures read { Answers (λ pool. pool.pool) result (pool_of self reader.old.now) }
+        ensures unmodified { IfOk result (λ pool. pool.modified ≡ false) }
+        ensures rest { OnOk result (reader.new.now ≡ drop (text_len self.heads) reader.old.now) }
+        ensures err { OnErr result (reader.new.now ≡ reader.old.now) }
+    {
+        let mut rest = *reader;
+        let strings = read_texts(alloc, self.codepage, self.heads.as_slice(), &mut rest)?;
+        *reader = rest;
+        Ok(StringPool::from_strings(
+            self.codepage,
+            self.long_string_refs,
+            strings,
+        ))
+    }
+}
+
+/// Takes the next text.
+fn read_text(
+    alloc: Global,
+    codepage: CodePage,
+    reader: &mut &[u8],
+    len: usize,
+) -> Result<String, Error>
+    ensures whole { OnOk result (len ≤ length reader.old.now) }
+    ensures text { IfOk result (λ text. string_bytes text ≡ decoded codepage (take len reader.old.now)) }
+    ensures rest { OnOk result (reader.new.now ≡ drop len reader.old.now) }
+    ensures error { IfErr result (λ e. (e ≡ Memory) ⊎ ((e ≡ UnexpectedEof) × (length reader.old.now < len))) }
+{
+    let bytes = *reader;
+    if bytes.len() < len {
+        return Err(Error::UnexpectedEof);
+    }
+    *reader = &bytes[len..];
+    Ok(codepage.decode(alloc, &bytes[..len])?)
+}
+
+/// Takes the texts of these places.
+fn read_texts(
+    alloc: Global,
+    codepage: CodePage,
+    heads: &[(u32, u16)],
+    reader: &mut &[u8],
+) -> Result<Vec<(String, u16)>, Error>
+    ensures places { Answers (λ strings. places_of strings.items) result (places_at codepage heads.now reader.old.now) }
+    ensures rest { OnOk result (reader.new.now ≡ drop (text_len heads.now) reader.old.now) }
+    ensures len { IfOk result (λ strings. length strings.items ≡ length heads.now) }
+{
+    let mut strings = Vec::new(alloc);
+    for (len, count) in heads {
+        let text = read_text(alloc, codepage, reader, *len as usize)?;
+        strings.push((text, *count))?;
+    }
+    Ok(strings)
 }
 
 /// The number of a page without the bit for references of three bytes.
