@@ -86,7 +86,7 @@ found_tables (Some t) kept =
     put_others (λ u. bytes_eq u.name tables_name) (only_table t) (own_tables (Some t)) ((is_free t.name (kept.each t refl).free).tables)
 
 -- neither of the two has the name
-others_found : (o : Option Only) (name : List ℕ) → bytes_eq name columns_name ≡ false → bytes_eq name tables_name ≡ false → table_named (own_tables o) name ≡ None
+pub others_found : (o : Option Only) (name : List ℕ) → bytes_eq name columns_name ≡ false → bytes_eq name tables_name ≡ false → table_named (own_tables o) name ≡ None
 others_found o name c t =
     find_cond (λ u. bytes_eq u.name name) (columns_table o) (tables_table o ∷ []) false (bytes_swap columns_name name ∙ c)
     ∙ find_cond (λ u. bytes_eq u.name name) (tables_table o) [] false (bytes_swap tables_name name ∙ t)

@@ -1,7 +1,10 @@
 pub mod Arranging
+pub mod Created
 pub mod Distinct
 pub mod Found
+pub mod Identifiers
 pub mod Inserted
 pub mod KeyChecks
+pub mod Naming
 pub mod Rows
 pub mod Selected

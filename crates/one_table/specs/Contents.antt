@@ -16,7 +16,8 @@ use Rattle.msi.specs.Calls.{is_valid_table_name, table_put, new_table, title_of}
 use Rattle.msi.specs.declared.kind.PackageType.TheVariants.{Installer}
 use Rattle.msi_props.specs.Summary.{edited, set_text, new_summary}
 use denote.Ref.{Bor}
-use Rattle.one_table.specs.Limits.{is_taken, InsertsFew}
+use Rattle.one_table.specs.Limits.{is_taken, InsertsFew, CreatesBare}
+use Rattle.cfb_tree.specs.Names.{ascii_letters}
 use Rattle.one_table.specs.declared.contents.OnlyTable.{OnlyTable}
 
 -- a table of one column of whole numbers, its key: the names, and the keys in their stored order
@@ -150,3 +151,15 @@ keys_said rows = map key_said rows
 pub record Adds (o : Only) (new_rows : List (List Datum)) (keys : List ℤ) : Type 0 where
   pub inserts : InsertsFew (package_of (Some o)) o.name new_rows (package_of (Some (record o { keys = keys }))) (Ok tt)
   pub kept : IsKept (record o { keys = keys })
+
+-- a table without rows
+abbrev pub new_only : List ℕ → List ℕ → Only
+new_only name column = record { name = name; column = column; keys = [] }
+
+-- there is no table yet, and the first can be made: one column of whole numbers that is the key
+pub record IsFirst (o : Option Only) (name : List ℕ) (columns : List Column) : Type 0 where
+  pub none : o ≡ None
+  pub column : List ℕ
+  pub one : columns ≡ key_column column ∷ []
+  pub creates : CreatesBare ascii_letters (package_of None) name (key_column column ∷ []) (package_of (Some (new_only name column))) (Ok tt)
+  pub kept : IsKept (new_only name column)

@@ -49,16 +49,26 @@ is_number_key (c ∷ d ∷ cs) = false
 abbrev pub is_bare : Package → Bool
 is_bare P = list_all (λ t. is_system t.name) P.tables
 
+-- the names are those of a table and its columns, of which there are one to 32, and one belongs to the key
+abbrev pub is_well_named : List ℕ → List Column → Bool
+is_well_named name columns =
+    is_valid_table_name name && not (length columns == 0) && nat_le (length columns) 32
+    && list_any (λ c. c.key) columns && list_all (λ c. is_identifier c.name) columns && names_distinct columns
+
+-- the rows that would describe the table are valid, the name is free, and the columns come back as they are
+abbrev pub is_describable : List ℕ → List Column → Bool
+is_describable name columns =
+    list_all (are_valid columns_columns) (columns_rows name 1 columns) && are_valid tables_columns (text name ∷ [])
+    && list_all (are_valid validation_columns) (map (validation_row name) columns)
+    && not (is_taken name) && list_all is_kept columns
+
 -- The rows of _Columns and _Tables and the pool of a new table, or the first refusal, where at_free_name tells that no root storage stands at the
 -- encoded name. Its rows of _Validation are judged, but none is written; the name of _Validation is taken.
 abbrev pub created_bare : Bool → Package → List ℕ → List Column → Result ((List Row × List Row) × Pool) Error
 created_bare at_free_name P name columns =
-    unless_not (is_valid_table_name name && not (length columns == 0) && nat_le (length columns) 32
-    && list_any (λ c. c.key) columns && list_all (λ c. is_identifier c.name) columns && names_distinct columns) InvalidInput >>= λ _.
+    unless_not (is_well_named name columns) InvalidInput >>= λ _.
     unless_not (not (has_table P name)) AlreadyExists >>= λ _.
-    unless_not (list_all (are_valid columns_columns) (columns_rows name 1 columns) && are_valid tables_columns (text name ∷ [])
-    && list_all (are_valid validation_columns) (map (validation_row name) columns)
-    && not (is_taken name) && list_all is_kept columns) InvalidInput >>= λ _.
+    unless_not (is_describable name columns) InvalidInput >>= λ _.
     unless_not at_free_name AlreadyExists >>= λ _.
     unless_not (is_bare P && is_number_key columns) InvalidInput >>= λ _.
     rows_counted P.pool (columns_rows name 1 columns) >>= λ c.

@@ -1,10 +1,11 @@
 // The package as plain lists.
-ghost use Rattle.std.specs.Prelude.{◌≡◌, ◌⊎◌, ◌||◌, true, Err, string_bytes, IfOk, IfErr, MatchOption, Some, None, bytes_eq};
+ghost use Rattle.std.specs.Prelude.{◌≡◌, ◌⊎◌, ◌||◌, ◌∷◌, [], ℕ, List, length, nat_lt, true, Err, string_bytes, IfOk, IfErr, MatchOption, Some, None, bytes_eq};
 ghost use Rattle.msi_tables.specs.Schema.{columns_name, tables_name};
 ghost use Rattle.cfb_medium.specs.declared.error.Error.TheVariants.{Memory};
 ghost use Rattle.cfb_tree.specs.Names.{ascii_letters};
-ghost use Rattle.one_table.specs.Contents.{package_of, AreKept, IsKept, Adds, only_of, only_seen};
-ghost use Rattle.one_table.specs.Limits.{InsertsFew, inserted_few};
+ghost use Rattle.one_table.specs.Contents.{package_of, AreKept, IsKept, IsFirst, Adds, new_only, key_column, only_of, only_seen};
+ghost use Rattle.one_table.specs.Limits.{CreatesBare, InsertsFew, created_bare, inserted_few, is_taken};
+ghost use Rattle.msi.specs.Calls.{has_table};
 ghost use Rattle.one_table.specs.Rules.{rows_said};
 ghost use Rattle.one_table.specs.Requests.{columns_said, insert_table, insert_rows, select_said};
 ghost use Rattle.msi_tables.specs.Table.{Table, table_named};
@@ -12,6 +13,7 @@ ghost use Rattle.one_table.specs.Sheets.{IsSheet};
 ghost use Rattle.one_table.specs.Answers.{Meets, Selects};
 
 use crate::keys::merged;
+use crate::names::{are_named, is_number_key};
 use crate::rules::judge;
 use crate::sheet::{Sheet, columns_sheet, only_sheet, tables_sheet};
 use crate::{Column, Insert, Select};
@@ -87,6 +89,65 @@ impl Contents {
         Ok((column_names, rows))
     }
 
+    /// Makes a table. `InvalidInput` for names that aren't identifiers or can't name a stream, for no column, more than 32, none of the
+    /// key or a name twice; `AlreadyExists` where there is such a table; `InvalidInput` for names of more than 32 characters, for the
+    /// name of a table of the database or of a stream of its pool, where there is another table, and for any but one column of
+    /// 16 bits that is the key. After an error nothing has changed.
+    pub fn create_table(&mut self, name: &str, columns: &[Column]) -> Result<(), Error>
+        ensures { Meets (CreatesBare ascii_letters (package_in self.old) name.now (columns_said columns.now)) (package_in self.old) (package_in self.new) result }
+    {
+        match self.refusal(name, columns) {
+            Some(error) => Err(error),
+            None => {
+                let only = new_table(self.alloc, name, columns)?;
+                self.only = Some(only);
+                Ok(())
+            }
+        }
+    }
+
+    // Why a table can't be made, if so.
+    fn refusal(&self, name: &str, columns: &[Column]) -> Option<Error>
+        ensures { MatchOption result (IsFirst (only_seen self.now.only) name.now (columns_said columns.now))
+            (λ e. created_bare true (package_in self.now) name.now (columns_said columns.now) ≡ Err e) }
+    {
+        if !are_named(name, columns) {
+            return Some(Error::InvalidInput);
+        }
+        if self.has_table(name) {
+            return Some(Error::AlreadyExists);
+        }
+        if !is_number_key(columns) {
+            return Some(Error::InvalidInput);
+        }
+        if self.only.is_some() {
+            return Some(Error::InvalidInput);
+        }
+        if is_reserved(name) {
+            return Some(Error::InvalidInput);
+        }
+        if name.len() > MOST_CHARACTERS {
+            return Some(Error::InvalidInput);
+        }
+        if has_long_name(columns) {
+            return Some(Error::InvalidInput);
+        }
+        None
+    }
+
+    // Whether there is a table of the name.
+    fn has_table(&self, name: &str) -> bool
+        ensures { result ≡ has_table (package_in self.now) name.now }
+    {
+        if is_columns(name) || is_tables(name) {
+            return true;
+        }
+        match &self.only {
+            Some(only) => is_same(&only.name, name),
+            None => false,
+        }
+    }
+
     /// Adds rows, and arranges them. `NotFound` without the table; `InvalidInput` for a wrong number of values or an invalid one; then
     /// row by row `AlreadyExists` for a stored key and `InvalidInput` for that of an earlier new row; `InvalidInput` for a table of
     /// the database itself, and for more than 2047 rows. After an error nothing has changed.
@@ -124,6 +185,43 @@ impl Contents {
         }
     }
 }
+
+// The first table.
+fn new_table(alloc: Global, name: &str, columns: &[Column]) -> Result<OnlyTable, Error>
+    ensures made { IfOk result (λ t. (column : List ℕ) → columns_said columns.now ≡ key_column column ∷ [] → only_of t ≡ new_only name.now column) }
+    ensures err { IfErr result (λ e. e ≡ Memory) }
+{
+    let column = match columns {
+        [column, ..] => column.name(),
+        [] => name,
+    };
+    Ok(OnlyTable {
+        name: String::from_str(alloc, name)?,
+        column: String::from_str(alloc, column)?,
+        keys: Vec::new(alloc),
+    })
+}
+
+// Whether the one column has a name of too many characters.
+fn has_long_name(columns: &[Column]) -> bool
+    ensures { (column : List ℕ) → columns_said columns.now ≡ key_column column ∷ [] → result ≡ nat_lt 32 (length column) }
+{
+    match columns {
+        [column, ..] => column.name().len() > MOST_CHARACTERS,
+        [] => false,
+    }
+}
+
+// Whether the name is that of a table of the database itself, or of a stream of its pool.
+fn is_reserved(name: &str) -> bool
+    ensures { result ≡ is_taken name.now }
+{
+    let own = is_tables(name) || is_columns(name) || name == "_Validation";
+    own || name == "_StringPool" || name == "_StringData"
+}
+
+// The greatest number of characters of a name.
+const MOST_CHARACTERS: usize = 32;
 
 // The keys of a table with those of new rows, in order.
 fn added(alloc: Global, only: &OnlyTable, new_rows: &[Vec<Value>]) -> Result<Vec<i32>, Error>

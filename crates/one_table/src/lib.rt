@@ -5,6 +5,7 @@
 mod column;
 mod contents;
 mod keys;
+mod names;
 mod query;
 mod rules;
 mod sheet;

@@ -1,0 +1,103 @@
+// Names of tables and columns.
+ghost use Rattle.std.specs.Prelude.{◌≡◌, ◌==◌, ◌&&◌, not, length, nat_le, bytes_eq};
+ghost use Rattle.std.specs.List.{list_all, list_any};
+ghost use Rattle.msi_texts.specs.Category.{is_identifier, begins_name, is_name_byte};
+ghost use Rattle.msi.specs.Calls.{names_distinct};
+ghost use Rattle.one_table.specs.Limits.{is_number_key};
+ghost use Rattle.one_table.specs.Requests.{column_said, columns_said};
+ghost use Rattle.one_table.specs.Naming.{are_named};
+
+use crate::Column;
+use msi_tables::ColumnType;
+
+// An ASCII letter or `_`.
+fn begins_name(byte: u8) -> bool
+    ensures { result ≡ begins_name byte }
+{
+    byte.is_ascii_alphabetic() || byte == b'_'
+}
+
+// A letter or `_`, a digit or `.`.
+fn is_name_byte(byte: u8) -> bool
+    ensures { result ≡ is_name_byte byte }
+{
+    begins_name(byte) || byte.is_ascii_digit() || byte == b'.'
+}
+
+// Whether all bytes are such.
+fn are_name_bytes(bytes: &[u8]) -> bool
+    ensures { result ≡ list_all is_name_byte bytes.now }
+{
+    bytes.iter().all(|byte| is_name_byte(*byte))
+}
+
+// A letter or `_`, and then letters, digits, `_` and `.`.
+pub fn is_identifier(name: &str) -> bool
+    ensures { result ≡ is_identifier name.now }
+{
+    match name.as_bytes() {
+        [] => false,
+        [first, rest @ ..] => begins_name(*first) && are_name_bytes(rest),
+    }
+}
+
+// Whether one of the columns has the name.
+fn is_among(columns: &[Column], name: &str) -> bool
+    ensures { result ≡ list_any (λ column. bytes_eq (column_said column).name name.now) columns.now }
+{
+    columns.iter().any(|column| column.name() == name)
+}
+
+// Whether no two of the columns have one name.
+fn are_distinct(columns: &[Column]) -> bool
+    ensures { result ≡ names_distinct (columns_said columns.now) }
+{
+    match columns {
+        [] => true,
+        [first, rest @ ..] => !is_among(rest, first.name()) && are_distinct(rest),
+    }
+}
+
+// Whether one of the columns belongs to the key.
+fn has_key(columns: &[Column]) -> bool
+    ensures { result ≡ list_any (λ column. (column_said column).key) columns.now }
+{
+    columns.iter().any(|column| column.is_primary_key())
+}
+
+// Whether all columns have names that identifiers are.
+fn are_identifiers(columns: &[Column]) -> bool
+    ensures { result ≡ list_all (λ column. is_identifier (column_said column).name) columns.now }
+{
+    columns.iter().all(|column| is_identifier(column.name()))
+}
+
+// Whether the names can be those of a table and its columns, of which there are one to 32, and one belongs to the key.
+pub fn are_named(name: &str, columns: &[Column]) -> bool
+    ensures { result ≡ are_named name.now (columns_said columns.now) }
+{
+    if !is_identifier(name) || columns.is_empty() {
+        return false;
+    }
+    if columns.len() > 32 || !has_key(columns) {
+        return false;
+    }
+    if !are_identifiers(columns) {
+        return false;
+    }
+    are_distinct(columns)
+}
+
+// Whether these are one column of whole numbers of 16 bits, which is the key.
+pub fn is_number_key(columns: &[Column]) -> bool
+    ensures { result ≡ is_number_key (columns_said columns.now) }
+{
+    match columns {
+        [column] => {
+            column.coltype() == ColumnType::Int16
+                && column.is_primary_key()
+                && !column.is_nullable()
+        }
+        _ => false,
+    }
+}
