@@ -1,6 +1,7 @@
 -- How the code plans an image.
-use Rattle.std.specs.Prelude.{◌≡◌, ◌+◌, ◌==◌, ℕ, length, if◌then◌else◌}
+use Rattle.std.specs.Prelude.{◌≡◌, ◌+◌, ◌<◌, ◌^◌, ◌==◌, ℕ, length, if◌then◌else◌}
 use Rattle.cfb_tree.specs.Directory.{no_entry}
+use Rattle.cfb_tree.specs.Tree.{Facts}
 use Rattle.plain.specs.declared.plan.Plan.{Plan as MadePlan}
 use Rattle.plain.specs.Runs.{run_start}
 use Rattle.plain.specs.WholeImage.{NamedStream, Plan, is_short, parts, sum_of}
@@ -30,3 +31,10 @@ sector_behind sector s = if is_short s then sector else sector + parts 4096 (len
 -- the entry after number `id`, where so many are left ([MS-CFB] 2.6.4)
 abbrev pub link_after : ℕ → ℕ → ℕ
 link_after id left = if left == 0 then no_entry else id + 1
+
+-- facts that fit into an entry ([MS-CFB] 2.6.1)
+pub record FitFacts (facts : Facts) : Type 0 where
+  pub clsid_len : length facts.clsid ≡ 16
+  pub state_bits : facts.state_bits < 2 ^ 32
+  pub created : facts.created < 2 ^ 64
+  pub modified : facts.modified < 2 ^ 64

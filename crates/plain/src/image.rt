@@ -6,7 +6,7 @@ ghost use Rattle.cfb_sectors.specs.Header.{header_bytes};
 ghost use Rattle.cfb_tree.specs.Directory.{entry_bytes, kind_root, kind_stream, no_entry, unused_entry};
 ghost use Rattle.cfb_sectors.specs.Sectors.{free};
 ghost use Rattle.cfb_tree.specs.Names.{name_cmp, name_units, Letters};
-ghost use Rattle.plain.specs.Plans.{link_after, mini_behind, sector_behind, start_of, IsPlan};
+ghost use Rattle.plain.specs.Plans.{FitFacts, link_after, mini_behind, sector_behind, start_of, IsPlan};
 ghost use Rattle.plain.specs.Runs.{run_start, runs};
 ghost use Rattle.plain.specs.Views.{entry_view, facts_view, stream_view, stream_views};
 ghost use Rattle.plain.specs.WholeImage.{content_of_streams, counts, directory_of, fat_of, filled, header_of, image, is_short, named_entry, no_facts, parts, plan_of, right_of, stream_entries, sum_of, NamedStream as Named, Plan as MeantPlan};
@@ -183,8 +183,15 @@ fn push_header(out: &mut Vec<u8>, plan: &Plan) -> Result<(), AllocError>
     push_words(
         out,
         &[
-            plan.directory, plan.fat, plan.fat, 0, 4096, first_mini_fat, plan.mini_fat,
-            END_OF_CHAIN, 0,
+            plan.directory,
+            plan.fat,
+            plan.fat,
+            0,
+            4096,
+            first_mini_fat,
+            plan.mini_fat,
+            END_OF_CHAIN,
+            0,
         ],
     )?;
     push_range(out, plan.fat)?;
@@ -218,7 +225,11 @@ fn push_mini_fat(out: &mut Vec<u8>, streams: &[NamedStream], plan: &Plan) -> Res
 }
 
 /// Appends the mini stream, filled up to whole sectors.
-fn push_mini_stream(out: &mut Vec<u8>, streams: &[NamedStream], plan: &Plan) -> Result<(), AllocError>
+fn push_mini_stream(
+    out: &mut Vec<u8>,
+    streams: &[NamedStream],
+    plan: &Plan,
+) -> Result<(), AllocError>
     requires { IsPlan plan.now (plan_of (stream_views streams.now)) }
     ensures { OnOk result (out.new.items ≡ out.old.items ++ filled 0 4096 (plan_of (stream_views streams.now)).mini_stream) }
 {
@@ -354,6 +365,20 @@ fn push_directory(
     push_unused(out, plan.directory as usize * 32 - 1 - streams.len())
 }
 
+/// The same facts, of which each fits into an entry.
+fn copied(facts: &Facts) -> Facts
+    ensures same { result ≡ facts.now }
+    ensures fits { FitFacts (facts_view result) }
+{
+    let (state_bits, created, modified) = (facts.state_bits, facts.created, facts.modified);
+    Facts {
+        clsid: facts.clsid,
+        state_bits,
+        created,
+        modified,
+    }
+}
+
 /// Writes the whole image of a compound file of version 4: a root with these streams, in the order of their names.
 ///
 /// Such an image means the root with its streams, where the names rise strictly in the order of names. `Error::Full`
@@ -371,7 +396,7 @@ pub fn write_image(alloc: Global, root: &Facts, streams: &[NamedStream]) -> Resu
     let Some(plan) = plan_of(streams) else {
         return Err(Error::Full);
     };
-    let root = *root;
+    let root = copied(root);
     let mut out = Vec::new(alloc);
     push_header(&mut out, &plan)?;
     push_fat(&mut out, streams, &plan)?;
