@@ -11,6 +11,7 @@ use Rattle.cfb_tree.specs.Names.{name_units}
 use Rattle.cfb_tree.specs.Tree.{Facts}
 use Rattle.cfb_tree.specs.Directory.{Entry, FitsEntry, no_entry, greatest_entry, kind_stream}
 use Rattle.cfb_tree.proofs.NamesRead.{units_fit, all_append}
+use Rattle.plain.specs.Plans.{FitFacts}
 use Rattle.plain.specs.Runs.{run_start}
 use Rattle.plain.specs.WholeImage.{NamedStream, parts, is_short, no_facts, named_entry, right_of, stream_entries, counts, sum_of}
 use Rattle.std.proofs.lemmas.Bool.{ltb-true}
@@ -20,13 +21,6 @@ use Rattle.plain.proofs.StreamsPlaced.{kept, left_out, short_or_long, entries_sh
 pub all_replicate : (P : ℕ → Type 0) (n x : ℕ) → P x → AllByRecursion P (replicate n x)
 all_replicate P zero x h = tt
 all_replicate P (suc n) x h = (h, all_replicate P n x h)
-
--- facts that fit into an entry
-pub record FitFacts (facts : Facts) : Type 0 where
-  pub clsid_len : length facts.clsid ≡ 16
-  pub state_bits : facts.state_bits < 2 ^ 32
-  pub created : facts.created < 2 ^ 64
-  pub modified : facts.modified < 2 ^ 64
 
 pub named_fits : (name : List ℕ) (kind right child : ℕ) (facts : Facts) (start size : ℕ) → AllByRecursion IsScalar name
     → length (name_units name) ≤ 31 → kind < 2 ^ 8 → right < 2 ^ 32 → child < 2 ^ 32 → FitFacts facts → start < 2 ^ 32 → size < 2 ^ 64

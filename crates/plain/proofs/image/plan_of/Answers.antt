@@ -44,5 +44,4 @@ returns-clause-some c =
       mini_stream = made_mini_stream ss n minis longs m k f many a b d e g h i;
       minis = made_minis ss n minis longs m k f many a b d e g h i;
       longs = made_longs ss n minis longs m k f many a b d e g h i;
-      small = c.if-fat-gt109.false;
     }
