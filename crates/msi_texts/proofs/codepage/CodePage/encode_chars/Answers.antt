@@ -19,4 +19,4 @@ pub returns : goal.returns
 returns c =
     let t = YieldsList-end (YieldsList-from_chars c.args.text.now c.utf8.text cc) c.loop-ch.yielded _ c.loop-ch.yielded_by _ _ c.in-None.is c.next.ensures.steps in
     let written : List ℕ → List ℕ = map (λ c'. unwrap_or (byte_of c.args.self c') 63) in
-    sym (append-nil _) ∙ ap (λ rest. c.loop-ch.bytes.items ++ written rest) (sym (rest_after (chars c.args.text.now) c.loop-ch.yielded t.1)) ∙ c.loop-ch.invariant
+    sym (append-nil _) ∙ ap (λ rest. c.loop-ch.bytes.items ++ written rest) (sym (rest_after (chars c.args.text.now) (length c.loop-ch.yielded) t.1)) ∙ c.loop-ch.invariant

@@ -1,0 +1,6 @@
+use Rattle.std.proofs.Common.{◌∙◌}
+use Rattle.msi_texts.proofs.Parsed.{parsed_16}
+use Rattle.msi_texts.proofs.category.reads_i16.Goals as goal
+
+pub returns : goal.returns
+returns c = c.is_ok.ensures.value ∙ parsed_16 c.args.text.now c.parse.result c.parse.ensures.value.0
