@@ -20,10 +20,10 @@ name_bytes (b ∷ bs) e =
     let both = and_true (begins_name b) (list_all is_name_byte bs) e in
     rw (both.0, both.1) refl
 
-name_byte_ascii : (b : ℕ) → is_name_byte b ≡ true → b < 128
+pub name_byte_ascii : (b : ℕ) → is_name_byte b ≡ true → b < 128
 name_byte_ascii b e = grind (arith, nat_tests, e)
 
-ascii_bytes : (bs : List ℕ) → list_all is_name_byte bs ≡ true → IsAscii bs
+pub ascii_bytes : (bs : List ℕ) → list_all is_name_byte bs ≡ true → IsAscii bs
 ascii_bytes [] e = λ i. omega arith
 ascii_bytes (b ∷ bs) e =
     let both = and_true (is_name_byte b) (list_all is_name_byte bs) e in

@@ -5,6 +5,11 @@ pub mod Found
 pub mod Identifiers
 pub mod Inserted
 pub mod KeyChecks
+pub mod KeyRows
 pub mod Naming
+pub mod Packed
+pub mod Put
 pub mod Rows
 pub mod Selected
+pub mod StreamNames
+pub mod StreamsFound

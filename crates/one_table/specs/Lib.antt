@@ -6,3 +6,4 @@ pub mod Naming
 pub mod Requests
 pub mod Rules
 pub mod Sheets
+pub mod Streams
