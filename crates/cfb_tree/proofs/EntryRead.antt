@@ -1,5 +1,5 @@
 -- A directory entry that was written is read.
-use Rattle.std.proofs.Common.{◌≡◌, ℕ, ◌+◌, ◌*◌, ◌<◌, ◌≤◌, ◌^◌, List, [], ◌∷◌, ◌++◌, length, take, drop, map, refl, ap, sym, subst, ◌∙◌, arith, zero, suc, append_assoc, length-append}
+use Rattle.std.proofs.Common.{◌≡◌, ℕ, ◌+◌, ◌*◌, ◌<◌, ◌^◌, List, [], ◌∷◌, ◌++◌, length, take, drop, map, refl, ap, sym, ◌∙◌, arith, append_assoc, length-append}
 use Rattle.std.specs.Prelude.{slice_range, slice_index}
 use Rattle.std.specs.List.{flat_map, range_with_len, AllByRecursion}
 use Rattle.std.specs.Int.{w8, w16, w32, w64, from_le_bytes, to_le_bytes}
@@ -9,7 +9,6 @@ use Rattle.cfb_medium.specs.declared.version.Version.{Version}
 use Rattle.cfb_medium.specs.declared.version.Version.TheVariants.{V3, V4}
 use Rattle.cfb_medium.specs.Numbers.{u8_at, u16_at, u32_at, u64_at}
 use Rattle.cfb_medium.proofs.Pieces.{range_is}
-use Rattle.cfb_tree.specs.Tree.{Facts}
 use Rattle.cfb_tree.specs.Directory.{Entry, FitsEntry, clsid_of, size_of, name_units_of, entry_of, entry_bytes}
 
 -- numbers of two bytes that were written are read one by one

@@ -1,5 +1,5 @@
 -- The entries of an image fit into their bytes.
-use Rattle.std.proofs.Common.{◌≡◌, ℕ, ◌+◌, ◌-◌, ◌*◌, ◌<◌, ◌≤◌, ◌^◌, List, [], ◌∷◌, ◌++◌, length, replicate, refl, ap, sym, subst, ◌∙◌, arith, zero, suc, length-append, ◌⊎◌, inl, inr}
+use Rattle.std.proofs.Common.{◌≡◌, ℕ, ◌+◌, ◌-◌, ◌<◌, ◌≤◌, ◌^◌, List, [], ◌∷◌, length, replicate, refl, ap, sym, subst, ◌∙◌, arith, zero, suc, length-append, inl, inr}
 use Rattle.std.specs.Prelude.{not}
 use Rattle.std.specs.List.{filter, AllByRecursion}
 use Rattle.std.specs.Char.{IsScalar}
@@ -9,7 +9,7 @@ use Rattle.cfb_medium.specs.declared.version.Version.TheVariants.{V4}
 use Rattle.cfb_sectors.specs.Sectors.{greatest_regular}
 use Rattle.cfb_tree.specs.Names.{name_units}
 use Rattle.cfb_tree.specs.Tree.{Facts}
-use Rattle.cfb_tree.specs.Directory.{Entry, FitsEntry, no_entry, greatest_entry, kind_stream}
+use Rattle.cfb_tree.specs.Directory.{FitsEntry, no_entry, greatest_entry, kind_stream}
 use Rattle.cfb_tree.proofs.NamesRead.{units_fit, all_append}
 use Rattle.plain.specs.Plans.{FitFacts}
 use Rattle.plain.specs.Runs.{run_start}

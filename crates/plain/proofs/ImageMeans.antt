@@ -1,6 +1,6 @@
 -- An image of a root with named streams means them.
-use Rattle.std.proofs.Common.{◌≡◌, ℕ, ◌+◌, ◌-◌, ◌*◌, ◌/◌, ◌<◌, ◌≤◌, ◌^◌, List, [], ◌∷◌, ◌++◌, length, map, replicate, refl, ap, sym, subst, ◌∙◌, arith, zero, suc, append_assoc, length-append, inl, inr}
-use Rattle.std.specs.Prelude.{not, ⊤, codes, nat_eq, false, slice_get, Some}
+use Rattle.std.proofs.Common.{◌≡◌, ℕ, ◌+◌, ◌-◌, ◌*◌, ◌<◌, ◌≤◌, ◌^◌, List, [], ◌∷◌, ◌++◌, length, map, replicate, refl, ap, sym, subst, ◌∙◌, arith, zero, suc, append_assoc, length-append, inl}
+use Rattle.std.specs.Prelude.{not, codes, nat_eq, false, slice_get, Some}
 use Rattle.std.specs.List.{filter, flat_map, range_with_len, AllByRecursion, IsDistinct}
 use Rattle.std.specs.List.Sorted.{IsStrictlySortedBy}
 use Rattle.std.proofs.lemmas.List.Sums.{sum_by-cons}
@@ -10,21 +10,21 @@ use Rattle.std.proofs.lemmas.Bool.{ne_eqb}
 use Rattle.cfb_medium.specs.declared.version.Version.TheVariants.{V4}
 use Rattle.cfb_medium.specs.Numbers.{numbers, number_bytes}
 use Rattle.cfb_medium.proofs.WrittenNumbers.{length-number_bytes, numbers_again}
-use Rattle.cfb_sectors.specs.Header.{HeaderFields, header_bytes, FitsHeader, HasFields, header_difat, first_directory_sector, first_mini_fat_sector, first_difat_sector}
-use Rattle.cfb_sectors.specs.Sectors.{joined, AreInFile, Chain, greatest_regular, free, end_of_chain, difat}
+use Rattle.cfb_sectors.specs.Header.{header_bytes, FitsHeader, HasFields, header_difat}
+use Rattle.cfb_sectors.specs.Sectors.{joined, AreInFile, Chain, greatest_regular, free, end_of_chain}
 use Rattle.cfb_sectors.proofs.HeaderLemmas.{length-header_bytes, header_read}
 use Rattle.cfb_tree.specs.Names.{Letters, name_cmp}
-use Rattle.cfb_tree.specs.Tree.{Facts, child_names, IsOrderedInside, IsOrdered}
-use Rattle.cfb_tree.specs.Directory.{Entry, FitsEntry, Siblings, Holds, entries_of, entry_of, entry_bytes, unused_entry, kind_root, no_entry, greatest_entry}
+use Rattle.cfb_tree.specs.Tree.{Facts, child_names, IsOrderedInside}
+use Rattle.cfb_tree.specs.Directory.{Entry, FitsEntry, entries_of, entry_of, entry_bytes, unused_entry, kind_root, no_entry}
 use Rattle.cfb_tree.proofs.NamesRead.{all_append}
-use Rattle.cfb.specs.Means.{Layout, IsLaidOut, HasBytes, MeansBy, Means, fat, mini_fat, mini_stream, directory}
+use Rattle.cfb.specs.Means.{Layout, IsLaidOut, Means, fat, mini_fat, mini_stream, directory}
 use Rattle.plain.specs.Runs.{run, run_start, runs}
-use Rattle.plain.specs.WholeImage.{NamedStream, Plan, IsImaged, parts, filled, is_short, counts, sum_of, plan_of, fat_of, header_of, first_mini_fat_of, first_mini_stream_of, first_long_of, directory_of, named_entry, right_of, stream_entries, content_of_streams, image}
+use Rattle.plain.specs.WholeImage.{NamedStream, Plan, IsImaged, parts, filled, is_short, counts, sum_of, plan_of, fat_of, header_of, first_mini_stream_of, first_long_of, directory_of, named_entry, right_of, content_of_streams, image}
 use Rattle.plain.proofs.DirectoryJoined.{directory_again, length-directory}
 use Rattle.plain.proofs.EntriesFit.{all_replicate, named_fits, start_small, right_small, length-stream_entries, entries_fit}
 use Rattle.plain.proofs.Filled.{covers, length-filled}
 use Rattle.plain.proofs.ImageParts.{behind_4, front_4, joined_1, joined_2, joined_3, joined_4, inside_1, inside_2, inside_3, inside_4}
-use Rattle.plain.proofs.Plans.{mini_stream_is, mini_fat_is, long_counts_are, mini_stream_len, mini_count, directory_holds, mini_fat_parts, mini_stream_parts, others, fat_len, others_fit, fat_parts, length-all_filled}
+use Rattle.plain.proofs.Plans.{mini_stream_is, mini_fat_is, long_counts_are, mini_stream_len, mini_count, directory_holds, mini_fat_parts, mini_stream_parts, others_fit, fat_parts, length-all_filled}
 use Rattle.plain.proofs.StreamsHeld.{AreHeldShort, AreHeldLong, shorts_held, longs_held}
 use Rattle.plain.proofs.StreamsPlaced.{ArePlaced, all_placed, siblings_placed, holds_placed}
 use Rattle.plain.proofs.TableRuns.{runs_small, first_in, second_in, third_in, rest_in, length-rest}

@@ -1,5 +1,5 @@
 -- The parts of an image, as they are appended.
-use Rattle.std.proofs.Common.{◌≡◌, ℕ, ◌+◌, ◌-◌, ◌*◌, ◌<◌, ◌≤◌, ◌^◌, List, [], ◌∷◌, ◌++◌, length, replicate, refl, ap, sym, ◌∙◌, arith, append_assoc, cond, suc}
+use Rattle.std.proofs.Common.{◌≡◌, ℕ, ◌+◌, ◌-◌, ◌*◌, ◌≤◌, List, [], ◌∷◌, ◌++◌, length, replicate, refl, ap, sym, ◌∙◌, arith, cond, suc}
 use Rattle.std.specs.Int.{w16, w32, to_le_bytes}
 use Rattle.std.specs.List.{filter, flat_map, range_with_len}
 use Rattle.std.specs.Prelude.{codes, not}
@@ -16,7 +16,7 @@ use Rattle.plain.specs.Plans.{IsPlan, link_after}
 use Rattle.plain.specs.Runs.{run, run_start, runs}
 use Rattle.plain.specs.WholeImage.{NamedStream, Plan, counts, fat_of, filled, header_of, is_short, named_entry, right_of, directory_of, stream_entries, parts, plan_of, sum_of}
 use Rattle.plain.proofs.AppendSteps.{appended_2, appended_3, appended_4}
-use Rattle.plain.proofs.Plans.{directory_holds, long_counts_are, mini_count, mini_fat_is, mini_fat_parts, mini_stream_len, mini_stream_parts, fat_len, fat_parts}
+use Rattle.plain.proofs.Plans.{directory_holds, long_counts_are, mini_count, mini_fat_parts, mini_stream_len, mini_stream_parts, fat_len, fat_parts}
 
 -- numbers appended in two parts
 pub numbers_2 : (a b c xs ys : List ℕ) → b ≡ a ++ number_bytes xs → c ≡ b ++ number_bytes ys → c ≡ a ++ number_bytes (xs ++ ys)

@@ -1,5 +1,5 @@
 -- An image that was written is the image of its root and streams, and means them.
-use Rattle.std.proofs.Common.{◌≡◌, ℕ, ◌+◌, ◌-◌, ◌*◌, ◌<◌, ◌≤◌, ◌^◌, List, [], ◌∷◌, ◌++◌, length, map, replicate, ap, sym, subst, ◌∙◌, append_assoc, Bool, true, false, ◌&&◌, refl}
+use Rattle.std.proofs.Common.{◌≡◌, ℕ, ◌-◌, ◌*◌, ◌≤◌, List, [], ◌∷◌, ◌++◌, length, map, replicate, ap, sym, subst, ◌∙◌, append_assoc, Bool, true, false, ◌&&◌, refl}
 use Rattle.std.specs.Char.{IsScalar}
 use Rattle.std.specs.List.{filter, flat_map, range_with_len, AllByRecursion}
 use Rattle.std.specs.List.Sorted.{IsStrictlySortedBy}
@@ -17,7 +17,7 @@ use Rattle.cfb_tree.specs.Tree.{Facts}
 use Rattle.plain.specs.declared.image.NamedStream.{NamedStream as GivenStream}
 use Rattle.plain.specs.Plans.{FitFacts}
 use Rattle.plain.specs.Views.{stream_views}
-use Rattle.plain.specs.WholeImage.{NamedStream, IsImaged, content_of_streams, directory_of, fat_of, filled, header_of, image, is_short, plan_of}
+use Rattle.plain.specs.WholeImage.{NamedStream, content_of_streams, directory_of, fat_of, filled, header_of, image, is_short, plan_of}
 use Rattle.plain.proofs.ImageMeans.{image_means}
 
 module _ (root : Facts) (ss : List NamedStream) (n : ℕ) (many : n ≡ length ss) where

@@ -1,14 +1,9 @@
 -- What a plan's numbers are.
-use Rattle.std.proofs.Common.{◌≡◌, ℕ, ◌+◌, ◌-◌, ◌*◌, ◌/◌, ◌%◌, ◌<◌, ◌≤◌, List, [], ◌∷◌, ◌++◌, length, map, min, replicate, refl, ap, sym, subst, ◌∙◌, arith, zero, suc, length-append, ◌⊎◌, inl, inr}
+use Rattle.std.proofs.Common.{◌≡◌, ℕ, ◌+◌, ◌-◌, ◌*◌, ◌/◌, ◌%◌, ◌<◌, ◌≤◌, List, [], ◌∷◌, length, min, replicate, refl, ap, sym, ◌∙◌, arith, length-append, ◌⊎◌, inl, inr}
 use Rattle.std.specs.Prelude.{not}
-use Rattle.std.specs.List.{filter, flat_map, range_with_len}
+use Rattle.std.specs.List.{filter, flat_map}
 use Rattle.std.proofs.lemmas.List.{length-replicate}
 use Rattle.std.proofs.lemmas.List.Sums.{sum_by-cons}
-use Rattle.std.proofs.lemmas.List.FromFn.{length-range_with_len}
-use Rattle.cfb_medium.specs.Numbers.{number_bytes}
-use Rattle.cfb_medium.proofs.WrittenNumbers.{length-number_bytes}
-use Rattle.cfb_sectors.specs.Sectors.{free}
-use Rattle.cfb_tree.specs.Directory.{Entry, unused_entry}
 use Rattle.plain.specs.Runs.{runs}
 use Rattle.plain.specs.WholeImage.{NamedStream, Plan, parts, filled, is_short, counts, sum_of, plan_of, fat_of}
 use Rattle.plain.proofs.Filled.{covers, length-filled}

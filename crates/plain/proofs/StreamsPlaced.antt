@@ -1,7 +1,7 @@
 -- Streams whose entries stand one after the other in the directory.
-use Rattle.std.proofs.Common.{◌≡◌, ℕ, ◌+◌, ◌-◌, ◌*◌, ◌/◌, ◌%◌, ◌<◌, ◌≤◌, List, [], ◌∷◌, ◌++◌, length, take, map, replicate, refl, ap, sym, subst, ◌∙◌, arith, zero, suc, append_assoc, length-append, Bool, true, false, cond, ◌⊎◌, inl, inr}
+use Rattle.std.proofs.Common.{◌≡◌, ℕ, ◌+◌, ◌-◌, ◌*◌, ◌/◌, ◌<◌, ◌≤◌, List, [], ◌∷◌, ◌++◌, length, take, replicate, refl, ap, sym, subst, ◌∙◌, arith, append_assoc, length-append, Bool, true, false, cond, ◌⊎◌, inl, inr}
 use Rattle.std.specs.Prelude.{⊤, slice_get, Some, not}
-use Rattle.std.specs.List.{filter, flat_map, range_with_len, AllByRecursion}
+use Rattle.std.specs.List.{filter, range_with_len, AllByRecursion}
 use Rattle.std.specs.Char.{IsScalar}
 use Rattle.std.specs.Char.Utf16.{utf16_chars}
 use Rattle.std.proofs.Math.Seq.{take-append_seam}
@@ -10,9 +10,9 @@ use Rattle.cfb_medium.specs.declared.version.Version.TheVariants.{V4}
 use Rattle.cfb_sectors.specs.Sectors.{AreInFile, Chain, joined}
 use Rattle.cfb_tree.specs.Names.{name_units}
 use Rattle.cfb_tree.specs.Tree.{Facts}
-use Rattle.cfb_tree.specs.Directory.{Entry, HasName, Siblings, none, some, IsStream, Holds, no_entry, greatest_entry, kind_stream}
+use Rattle.cfb_tree.specs.Directory.{Entry, HasName, Siblings, none, some, Holds, no_entry, greatest_entry, kind_stream}
 use Rattle.cfb_tree.proofs.NamesRead.{units_spell}
-use Rattle.cfb.specs.Means.{Layout, HasBytes, IsInSectors, IsInMiniSectors, fat, mini_fat, mini_stream}
+use Rattle.cfb.specs.Means.{Layout, HasBytes, fat, mini_fat, mini_stream}
 use Rattle.plain.specs.Runs.{run_start}
 use Rattle.plain.specs.WholeImage.{NamedStream, parts, is_short, no_facts, named_entry, right_of, stream_entries, content_of_streams}
 use Rattle.plain.proofs.StreamsHeld.{AreHeldShort, AreHeldLong, IsHeldShort, IsHeldLong, minis}

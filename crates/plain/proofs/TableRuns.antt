@@ -2,7 +2,7 @@
 use Rattle.std.proofs.Common.{◌≡◌, ℕ, ◌+◌, ◌<◌, ◌≤◌, ◌^◌, List, [], ◌∷◌, ◌++◌, length, refl, ap, sym, subst, ◌∙◌, arith, zero, suc, append_assoc, length-append}
 use Rattle.std.specs.List.{range_with_len, AllByRecursion}
 use Rattle.std.proofs.lemmas.List.Sums.{sum_by-cons}
-use Rattle.cfb_sectors.specs.Sectors.{Chain, end_of_chain, greatest_regular}
+use Rattle.cfb_sectors.specs.Sectors.{Chain, greatest_regular}
 use Rattle.cfb_tree.proofs.NamesRead.{all_append}
 use Rattle.plain.specs.Runs.{run, run_start, runs}
 use Rattle.plain.specs.WholeImage.{sum_of}

@@ -1,6 +1,5 @@
-use Rattle.std.proofs.Common.{rules, arith, ◌≡◌, ◌+◌, ◌-◌, ◌^◌, [], ◌∙◌, ap, sym, drop, min}
+use Rattle.std.proofs.Common.{arith, ◌≡◌, ◌+◌, ◌-◌, ◌^◌, [], ◌∙◌, ap, sym, drop, min}
 use Rattle.std.specs.List.{filter}
-use Rattle.std.specs.Prelude.{not}
 use Rattle.std.proofs.lemmas.List.{drop_all}
 use Rattle.plain.specs.Views.{stream_views}
 use Rattle.plain.specs.WholeImage.{counts, is_short, sum_of}

@@ -1,4 +1,4 @@
-use Rattle.std.proofs.Common.{arith, ◌≡◌, ℕ, ◌-◌, ap, sym, ◌∙◌, suc}
+use Rattle.std.proofs.Common.{arith, ◌≡◌, ◌-◌, ap, sym, ◌∙◌, suc}
 use Rattle.plain.specs.WholeImage.{parts}
 use Rattle.plain.proofs.Filled.{parts_none, parts_some}
 use Rattle.plain.proofs.image.parts.Goals as goal

@@ -1,4 +1,4 @@
-use Rattle.std.proofs.Common.{arith, ℕ, ap, sym, ◌≡◌, ◌∙◌, length, inl, inr}
+use Rattle.std.proofs.Common.{arith, ap, sym, ◌≡◌, length, inl, inr}
 use Rattle.std.proofs.lemmas.List.{length-map}
 use Rattle.plain.specs.Views.{stream_view, stream_views}
 use Rattle.plain.specs.WholeImage.{sum_of}

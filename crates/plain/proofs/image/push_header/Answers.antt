@@ -1,4 +1,4 @@
-use Rattle.std.proofs.Common.{◌≡◌, ◌++◌, ◌∷◌, [], replicate, refl}
+use Rattle.std.proofs.Common.{◌≡◌, ◌++◌, replicate}
 use Rattle.cfb_sectors.specs.Header.{header_bytes}
 use Rattle.plain.specs.WholeImage.{header_of}
 use Rattle.plain.proofs.AppendSteps.{on_ok}

@@ -1,10 +1,10 @@
-use Rattle.std.proofs.Common.{◌≡◌, ◌≤◌, ◌+◌, ◌++◌, drop}
-use Rattle.std.specs.List.{filter, flat_map}
+use Rattle.std.proofs.Common.{◌≡◌, ◌+◌, ◌++◌, drop}
+use Rattle.std.specs.List.{filter}
 use Rattle.std.specs.Prelude.{not}
 use Rattle.cfb_medium.specs.Numbers.{number_bytes}
 use Rattle.plain.specs.Runs.{runs}
 use Rattle.plain.specs.Views.{stream_views}
-use Rattle.plain.specs.WholeImage.{counts, filled, is_short, sum_of}
+use Rattle.plain.specs.WholeImage.{counts, is_short, sum_of}
 use Rattle.plain.proofs.image.push_long_runs.Given as goal
 
 abbrev pub invariant-loop-s : goal.invariant-loop-s

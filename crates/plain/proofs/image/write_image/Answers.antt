@@ -1,4 +1,4 @@
-use Rattle.std.proofs.Common.{◌≡◌, ◌<◌, ◌≤◌, ◌^◌, ◌++◌, replicate, arith, rules, sym, subst, ap, ◌∙◌, length}
+use Rattle.std.proofs.Common.{◌++◌, replicate, arith, sym, subst, ap, ◌∙◌, length}
 use Rattle.std.proofs.lemmas.List.{length-map}
 use Rattle.cfb_sectors.specs.Header.{header_bytes}
 use Rattle.plain.specs.Plans.{FitFacts, IsPlan}
