@@ -70,7 +70,7 @@ impl LanguageId {
     pub fn id(&self) -> u16
         ensures { result ≡ self.now }
     {
-        self.id
+        u16::from(*self)
     }
 
     /// The primary language: the low ten bits.
@@ -162,7 +162,7 @@ impl From<u16> for LanguageId {
     ghost from_gives = { λ id l. l ≡ id };
 
     fn from(id: u16) -> LanguageId {
-        LanguageId { id }
+        LanguageId::from_id(id)
     }
 }
 
