@@ -1,5 +1,5 @@
 // What a commit leaves, and how often it writes.
-use crate::FaultyDevice;
+use crate::faulty::FaultyDevice;
 use crate::logs::{device, open_log};
 use cfb_medium::{Medium, ReadMedium};
 use staged::{Recovered, Staged, Which, recover};
@@ -115,8 +115,14 @@ fn a_recovered_device_is_read_and_changed(rt: HostRuntime) -> Result<(), Fail> {
 #[test]
 fn an_end_past_the_last_place_is_refused(rt: HostRuntime) -> Result<(), Fail> {
     let mut staged = counted(rt.alloc(), &[])?;
-    assert_eq!(rt; staged.write_at((1 << 63) - 1, &[1]), Err(cfb_medium::Error::InvalidInput));
-    assert_eq!(rt; staged.write_at(u64::MAX, &[1]), Err(cfb_medium::Error::InvalidInput));
+    assert_eq!(rt;
+        staged.write_at((1 << 63) - 1, &[1]),
+        Err(cfb_medium::Error::InvalidInput)
+    );
+    assert_eq!(rt;
+        staged.write_at(u64::MAX, &[1]),
+        Err(cfb_medium::Error::InvalidInput)
+    );
     assert_eq!(rt; staged.len(), Ok(0));
     assert_eq!(rt; staged.changed_pages(), 0);
     Ok(())

@@ -1,5 +1,5 @@
 // Each device call fails once: the answer is that of the device, and `has_failed` tells the truth.
-use crate::FaultyDevice;
+use crate::faulty::FaultyDevice;
 use crate::logs::{device, open_log};
 use cfb_medium::{Error, Medium, ReadMedium};
 use staged::{Recovered, Staged, Which, recover};

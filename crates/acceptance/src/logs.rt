@@ -6,10 +6,7 @@ use std::process::Abort;
 use std::test::Fail;
 
 pub fn device(alloc: Global, home: &[u8], log: &[u8]) -> Result<MemoryDevice, Fail> {
-    Ok(MemoryDevice::new(
-        Vec::from_slice(alloc, home)?,
-        Vec::from_slice(alloc, log)?,
-    ))
+    Ok(MemoryDevice::new(Vec::from_slice(alloc, home)?, Vec::from_slice(alloc, log)?))
 }
 
 // The gate and the head of an open log.

@@ -1,9 +1,9 @@
 -- The tests of a log's pages, and what they say.
-use Rattle.std.proofs.Common.{inl, inr, ◌≡◌, ℕ, ◌+◌, ◌-◌, ◌*◌, ◌/◌, ◌<◌, ◌≤◌, ◌==◌, ◌||◌, ◌&&◌, nat_lt, nat_le, Bool, true, false, cond, zero, suc, List, [], ◌∷◌, length, get_or, drop, Option, Some, None, is_some, refl, sym, ◌∙◌, ap, arith, subst}
+use Rattle.std.proofs.Common.{inl, inr, ◌≡◌, ℕ, ◌+◌, ◌-◌, ◌*◌, ◌/◌, ◌<◌, ◌≤◌, ◌==◌, ◌||◌, ◌&&◌, nat_lt, nat_le, Bool, true, false, cond, zero, suc, List, [], ◌∷◌, length, get_or, drop, Option, Some, is_some, refl, sym, ◌∙◌, ap, arith, subst}
 use Rattle.std.specs.Prelude.{IsTrue}
 use Rattle.std.specs.List.{list_any, list_all}
-use Rattle.std.proofs.lemmas.Bool.{cases_lt, cases_eq, and_parts, and_from, ltb-true, lt-ltb, leb-true, le-leb, le-ltb, cases_Bool, cond-true, cond-false, false_from_ne_true}
-use Rattle.staged.specs.Log.{rises, has_pages, fits_home, pages_for, leads, has_open_gate, has_head, length_in, count_in, pages_in, records, Logged, ClosedLog, MalformedLog, OpenLog, logged, IsOpen}
+use Rattle.std.proofs.lemmas.Bool.{cases_lt, cases_eq, and_parts, and_from, ltb-true, lt-ltb, leb-true, le-leb, le-ltb, cond-true, cond-false, false_from_ne_true}
+use Rattle.staged.specs.Log.{rises, has_pages, fits_home, pages_for, leads, has_open_gate, has_head, length_in, count_in, pages_in, records, ClosedLog, MalformedLog, OpenLog, logged}
 use Rattle.staged.specs.Recovery.{IsHeadOf, IsWholeHead}
 use Rattle.staged.specs.Files.{Files}
 use Rattle.staged.specs.declared.recovery.Head.{Head}
@@ -131,9 +131,11 @@ open_head files head gate whole fits =
     let both = leads_true pages (length files.home) head.len fits in
     let opened : logged files ≡ OpenLog (length_in log) (pages_in log) =
     cond-true (has_open_gate log) (cond (has_head log && leads (pages_in log) (length files.home) (length_in log)) (OpenLog (length_in log) (pages_in log)) MalformedLog) ClosedLog gate
-    ∙ cond-true (has_head log && leads (pages_in log) (length files.home) (length_in log)) (OpenLog (length_in log) (pages_in log)) MalformedLog (and_from (has_head log) _ whole.whole fit) in
-    (opened ∙ ap (λ (n : ℕ). OpenLog n (pages_in log)) (sym whole.len) ∙ ap (λ (ps : List Page). OpenLog head.len ps) (sym same), record {
-      enough = let e = whole.count in omega arith;
-      rising = both.0;
-      covers = both.1;
-    })
+    ∙ cond-true (has_head log && leads (pages_in log) (length files.home) (length_in log)) (OpenLog (length_in log) (pages_in log)) MalformedLog (and_from (has_head log) _ whole.whole fit) in (
+      opened ∙ ap (λ (n : ℕ). OpenLog n (pages_in log)) (sym whole.len) ∙ ap (λ (ps : List Page). OpenLog head.len ps) (sym same),
+      record {
+        enough = let e = whole.count in omega arith;
+        rising = both.0;
+        covers = both.1;
+      },
+    )

@@ -1,4 +1,4 @@
-use Rattle.std.proofs.Common.{rules, inl, inr, ◌⊎◌, ◌≡◌, ◌≢◌, ◌≤◌, ◌<◌, ◌+◌, ◌*◌, ◌/◌, ◌%◌, min, ℕ, [], List, Bool, IsTrue, length, take, drop, get_or, refl, sym, subst, ap, ◌∙◌, arith}
+use Rattle.std.proofs.Common.{inl, inr, ◌⊎◌, ◌≡◌, ◌≢◌, ◌≤◌, ◌<◌, ◌+◌, ◌*◌, ◌/◌, ◌%◌, min, ℕ, [], List, Bool, IsTrue, length, take, drop, get_or, sym, subst, ap, ◌∙◌, arith}
 use Rattle.staged.specs.Files.{Files}
 use Rattle.staged.specs.Log.{records, record_at, pages_for}
 use Rattle.staged.specs.declared.pages.Page.{Page}

@@ -1,4 +1,4 @@
-use Rattle.std.proofs.Common.{◌≡◌, ℕ, List, Bool, true, IsTrue, length, drop, sym, subst, ap, ◌∙◌}
+use Rattle.std.proofs.Common.{◌≡◌, Bool, true, IsTrue, length, drop, sym, subst, ap, ◌∙◌}
 use Rattle.staged.specs.Files.{Files}
 use Rattle.staged.specs.Log.{leads, records, has_open_gate}
 use Rattle.staged.specs.Recovery.{IsWholeHead}

@@ -1,11 +1,10 @@
-use Rattle.std.proofs.Common.{◌≡◌, ◌+◌, ◌<◌, ℕ, [], List, length, map, get_or, sym, subst, ap, ◌∙◌, arith}
+use Rattle.std.proofs.Common.{◌≡◌, ◌<◌, ℕ, [], length, map, sym, subst, ap, ◌∙◌, arith}
 use Rattle.std.proofs.lemmas.List.{get_or-map, length-map}
 use Rattle.staged.specs.Pages.{Holds}
 use Rattle.staged.specs.declared.pages.Page.{Page}
 use Rattle.staged.proofs.Found.{place_of}
 use Rattle.staged.proofs.Homed.{held_at}
 use Rattle.staged.proofs.staged.Staged.changed_pages.Goals as goal
-
 
 pub returns-clause-counted : goal.returns-clause-counted
 returns-clause-counted g c =
@@ -14,14 +13,17 @@ returns-clause-counted g c =
     let number = λ (p : Page). p.number in
     let none : Page = record { number = 0; bytes = [] } in
     let is = λ (i : ℕ) (within : i < length items). get_or-map number items i none 0 within in
-    let long : length (map number items) ≡ length items = length-map items number in
-    (map number items, long ∙ sym (ap length c.as_slice.ensures), record {
-      rising = λ i j less within.
-          let last : j < length items = omega arith in
-          let e = pages.rising.rising i j none less last in
-          let a = is i (omega arith) in
-          let b = is j last in
-          omega arith;
-      each = λ i within. let inside : i < length items = omega arith in subst (λ (n : ℕ). Holds items n) (sym (is i inside)) (held_at items i none pages.rising inside);
-      all = λ page held. let place = place_of items page none held in (place.0, omega (arith, place.1), is place.0 place.1 ∙ place.2);
-    })
+    let long : length (map number items) ≡ length items = length-map items number in (
+      map number items,
+      long ∙ sym (ap length c.as_slice.ensures),
+      record {
+        rising = λ i j less within.
+            let last : j < length items = omega arith in
+            let e = pages.rising.rising i j none less last in
+            let a = is i (omega arith) in
+            let b = is j last in
+            omega arith;
+        each = λ i within. let inside : i < length items = omega arith in subst (λ (n : ℕ). Holds items n) (sym (is i inside)) (held_at items i none pages.rising inside);
+        all = λ page held. let place = place_of items page none held in (place.0, omega (arith, place.1), is place.0 place.1 ∙ place.2);
+      },
+    )
