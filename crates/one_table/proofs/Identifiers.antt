@@ -6,6 +6,11 @@ use Rattle.std.specs.Char.Escape.{encode_utf16}
 use Rattle.std.proofs.lemmas.Bool.Decides.{nat_tests}
 use Rattle.std.proofs.lemmas.Str.{chars-IsAscii}
 use Rattle.std.specs.Str.{IsAscii}
+use Rattle.std.specs.Prelude.{encode_utf8_all}
+use Rattle.std.proofs.lemmas.Str.{chars-encodes}
+use Rattle.std.proofs.Common.{lit≤}
+use lib.Utf8.{scalars, scalar}
+use Rattle.msi.specs.Package.{stream_name}
 use Rattle.msi_texts.specs.Category.{is_identifier, begins_name, is_name_byte, is_upper, is_lower}
 use Rattle.msi_texts.specs.StreamName.{is_valid_name, is_between, spelled, spelled_name, letter_value, pair, pair_of, lone, lone_of, joined_or, is_plain_name, is_plain, table_prefix}
 
@@ -94,3 +99,16 @@ short_is_valid (b ∷ bs) e short =
     let few : nat_le (suc (length (spelled (b ∷ bs)))) 31 ≡ true = grind (arith, nat_tests, half, short) in
     let some : (suc (length bs) == 0) ≡ false = grind (arith, nat_tests) in
     rw (name_chars (b ∷ bs) e, units, some, few) refl
+
+-- such characters are characters
+all_scalars : (cs : List ℕ) → AllByRecursion (λ c. c < 0xD800) cs → scalars cs ≡ true
+all_scalars [] h = refl
+all_scalars (c ∷ cs) h =
+    let one : scalar c ≡ true = grind (arith, nat_tests, h.0) in
+    rw (one, all_scalars cs h.1) refl
+
+-- the name of a table's stream as text spells it
+pub stream_chars : (name : List ℕ) → is_identifier name ≡ true → chars (encode_utf8_all (stream_name name)) ≡ stream_name name
+stream_chars name e =
+    let letters = (spelled_half name (name_bytes name e)).1 in
+    rw (name_chars name e) (chars-encodes (table_prefix ∷ spelled name) (all_scalars (table_prefix ∷ spelled name) (lit< tt, below_surrogates (spelled name) letters)))

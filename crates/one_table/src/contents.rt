@@ -245,7 +245,7 @@ fn added(alloc: Global, only: &OnlyTable, new_rows: &[Vec<Value>]) -> Result<Vec
 const MOST_ROWS: usize = 2047;
 
 // Whether two names are one.
-fn is_same(name: &str, other: &str) -> bool
+pub fn is_same(name: &str, other: &str) -> bool
     ensures { result ≡ bytes_eq name.now other.now }
 {
     name == other

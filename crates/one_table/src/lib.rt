@@ -9,6 +9,7 @@ mod names;
 mod query;
 mod rules;
 mod sheet;
+mod streams;
 
 pub use column::{Column, ColumnBuilder};
 pub use contents::Contents;
