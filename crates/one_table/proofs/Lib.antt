@@ -13,3 +13,4 @@ pub mod Rows
 pub mod Selected
 pub mod StreamNames
 pub mod StreamsFound
+pub mod Written

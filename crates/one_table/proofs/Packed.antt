@@ -36,7 +36,12 @@ use Rattle.std.proofs.lemmas.Cmp.{nat_list_cmp_total, nat_list_eq_equiv}
 use Rattle.std.proofs.lemmas.Map.Views.{Contains-from_any, list_any-from_Contains}
 use Rattle.cfb_tree.proofs.NameOrder.{slice_cmp_equal, name_cmp_total}
 use Rattle.one_table.proofs.KeyChecks.{any_map}
-use Rattle.std.proofs.Common.{lit<}
+use Rattle.std.proofs.Common.{lit<, lit≤, length-append}
+use Rattle.std.specs.Prelude.{nat_lt, nat_le, ◌==◌}
+use Rattle.std.proofs.lemmas.Bool.Decides.{nat_tests}
+use Rattle.msi_texts.specs.Numbers.{le_bytes}
+use Rattle.msi_texts.specs.Pool.{head_bytes}
+use Rattle.msi_texts.specs.PoolState.{is_in_size}
 use Rattle.std.specs.Str.Lossy.{utf8_valid_len}
 use Rattle.std.specs.Str.{is_utf8}
 use lib.Utf8.{encode}
@@ -411,3 +416,38 @@ streams_pack o kept = record {
   streams = sym (rw (objects_of (streams_of o)) (none_others o (streams_of o) (all_own o)));
   storages = sym (rw (objects_of (streams_of o)) (none_stored (streams_of o)));
 }
+
+-- ---- the pool's first stream is short
+
+head_small : (len count : ℕ) → length (head_bytes len count) ≤ 8
+head_small len count =
+    elim (len == 0 && count == 0) as (λ a. length (cond a (le_bytes 4 0) (cond (len == 0 || nat_le (2 ^ 16) len) (le_bytes 2 0 ++ le_bytes 2 count ++ le_bytes 4 len) (le_bytes 2 len ++ le_bytes 2 count))) ≤ 8) [
+      | true ↦ lit≤ tt
+      | false ↦ elim (len == 0 || nat_le (2 ^ 16) len) as (λ b. length (cond b (le_bytes 2 0 ++ le_bytes 2 count ++ le_bytes 4 len) (le_bytes 2 len ++ le_bytes 2 count)) ≤ 8) [
+        | true ↦ lit≤ tt
+        | false ↦ lit≤ tt
+      ]
+    ]
+
+heads_small : (name column : List ℕ) (b : Bool) → length name ≤ 32 → length column ≤ 32
+    → is_in_size (pool_with (cond b (record { text = name; count = 3 } ∷ []) (record { text = name; count = 2 } ∷ record { text = column; count = 1 } ∷ []))) ≡ true
+heads_small name column true short narrow =
+    let one = head_small (length name) 3 in
+    let all : nat_lt (length (pool_stream (pool_with (record { text = name; count = 3 } ∷ [])))) 4294967295 ≡ true =
+    grind (arith, nat_tests, length-append (le_bytes 4 65001) (head_bytes (length name) 3 ++ []), length-append (head_bytes (length name) 3) [], one) in
+    let text_fits : nat_lt (length name) 4294967295 ≡ true = grind (arith, nat_tests, short) in
+    rw (all, text_fits) refl
+heads_small name column false short narrow =
+    let one = head_small (length name) 2 in
+    let two = head_small (length column) 1 in
+    let all : nat_lt (length (pool_stream (pool_with (record { text = name; count = 2 } ∷ record { text = column; count = 1 } ∷ [])))) 4294967295 ≡ true =
+    grind (arith, nat_tests, length-append (head_bytes (length name) 2) (head_bytes (length column) 1 ++ []), length-append (head_bytes (length column) 1) [], one, two) in
+    let text_fits : nat_lt (length name) 4294967295 ≡ true = grind (arith, nat_tests, short) in
+    let column_fits : nat_lt (length column) 4294967295 ≡ true = grind (arith, nat_tests, narrow) in
+    rw (all, text_fits, column_fits) refl
+
+pub pool_in_size : (o : Option Only) → AreKept o → is_in_size (pool_with (own_places o)) ≡ true
+pool_in_size None kept = refl
+pool_in_size (Some t) kept =
+    let one = kept.each t refl in
+    heads_small t.name t.column (bytes_eq t.name t.column) one.short_name one.short_column

@@ -38,6 +38,11 @@ abbrev pub put_by : {X K : Type 0} → (K → K → Ordering) → (X → K) → 
 put_by cmp key x [] = x ∷ []
 put_by cmp key x (y ∷ ys) = if is_lt (cmp (key x) (key y)) then x ∷ y ∷ ys else y ∷ put_by cmp key x ys
 
+-- where a stream belongs among others: before the first that comes behind it
+abbrev pub place_of : NamedStream → List NamedStream → ℕ
+place_of s [] = 0
+place_of s (t ∷ ts) = if is_lt (name_cmp ascii_letters s.name t.name) then 0 else place_of s ts + 1
+
 -- a stream
 abbrev pub named : List ℕ → List ℕ → NamedStream
 named name bytes = record { name = name; bytes = bytes }

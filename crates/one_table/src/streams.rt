@@ -11,14 +11,13 @@ ghost use Rattle.msi_props.specs.Props.{props_bytes};
 ghost use Rattle.msi.specs.Package.{stream_name, summary_name};
 ghost use Rattle.plain.specs.Views.{stream_view, stream_views};
 ghost use Rattle.one_table.specs.Contents.{package_of, only_of, only_seen, only_lent, pool_with, own_places, IsKept, AreKept, is_key};
-ghost use Rattle.one_table.specs.Streams.{named, own_streams, put_by, keys_bytes, key_number, columns_bytes, tables_bytes};
+ghost use Rattle.one_table.specs.Streams.{named, own_streams, streams_of, put_by, place_of, keys_bytes, key_number, columns_bytes, tables_bytes};
 
 use crate::contents::{OnlyTable, is_same};
 use cfb_medium::Error;
 use msi_texts::{CodePage, SUMMARY_INFO_STREAM_NAME, StringPool, encode};
 use plain::{NamedStream, compare_names};
 use std::alloc::Global;
-use std::cmp::Ordering;
 
 // The stream of a table.
 fn table_stream(alloc: Global, table: &str, bytes: Vec<u8>) -> Result<NamedStream, Error>
@@ -164,8 +163,75 @@ fn summary_stream(alloc: Global) -> Result<NamedStream, Error>
     ensures stream { IfOk result (λ s. stream_view s ≡ named summary_name (props_bytes (package_of None).summary)) }
     ensures err { IfErr result (λ e. e ≡ Memory) }
 {
-    Ok(NamedStream {
-        name: String::from_str(alloc, SUMMARY_INFO_STREAM_NAME)?,
-        bytes: summary_bytes(alloc)?,
-    })
+    let name = String::from_str(alloc, SUMMARY_INFO_STREAM_NAME)?;
+    let bytes = summary_bytes(alloc)?;
+    Ok(NamedStream { name, bytes })
 }
+
+// All streams, in the container's order.
+pub fn all_streams(alloc: Global, only: Option<&OnlyTable>) -> Result<Vec<NamedStream>, Error>
+    requires { AreKept (only_lent only) }
+    ensures streams { IfOk result (λ v. stream_views v.items ≡ streams_of (only_lent only.entry)) }
+    ensures err { IfErr result (λ e. e ≡ Memory) }
+{
+    let mut streams = own_streams(alloc, only)?;
+    if let Some(only) = only {
+        let stream = table_stream(alloc, &only.name, key_cells(alloc, &only.keys)?)?;
+        put(alloc, &mut streams, stream)?;
+    }
+    Ok(streams)
+}
+
+// Puts a stream before the first that comes behind it.
+fn put(alloc: Global, streams: &mut Vec<NamedStream>, stream: NamedStream) -> Result<(), Error>
+    ensures put { OnOk result (stream_views streams.new.items ≡ put_by (name_cmp ascii_letters) (λ s. s.name) (stream_view stream) (stream_views streams.old.items)) }
+    ensures err { IfErr result (λ e. e ≡ Memory) }
+{
+    let at = place(alloc, streams, &stream)?;
+    streams.insert(at, stream)?;
+    Ok(())
+}
+
+// Where a stream belongs among others that rise by their names.
+fn place(alloc: Global, streams: &[NamedStream], stream: &NamedStream) -> Result<usize, Error>
+    ensures place { IfOk result (λ at. place_of (stream_view stream.now) (stream_views streams.now) ≡ at) }
+    ensures within { IfOk result (λ at. at ≤ length streams.now) }
+    ensures err { IfErr result (λ e. e ≡ Memory) }
+{
+    for (at, other) in streams.iter().enumerate() {
+        if compare_names(alloc, &ASCII_LETTERS, &stream.name, &other.name)?.is_lt() {
+            return Ok(at);
+        }
+    }
+    Ok(streams.len())
+}
+
+/// The letter table of ASCII: each of a to z counts as its capital.
+pub const ASCII_LETTERS: [(char, char); 26] = [
+    ('a', 'A'),
+    ('b', 'B'),
+    ('c', 'C'),
+    ('d', 'D'),
+    ('e', 'E'),
+    ('f', 'F'),
+    ('g', 'G'),
+    ('h', 'H'),
+    ('i', 'I'),
+    ('j', 'J'),
+    ('k', 'K'),
+    ('l', 'L'),
+    ('m', 'M'),
+    ('n', 'N'),
+    ('o', 'O'),
+    ('p', 'P'),
+    ('q', 'Q'),
+    ('r', 'R'),
+    ('s', 'S'),
+    ('t', 'T'),
+    ('u', 'U'),
+    ('v', 'V'),
+    ('w', 'W'),
+    ('x', 'X'),
+    ('y', 'Y'),
+    ('z', 'Z'),
+];
