@@ -1,5 +1,5 @@
 //! Writing a whole image at once.
-ghost use Rattle.cfb.specs.Means.{Means};
+ghost use Rattle.cfb.specs.Means.{IsStrictlyOpenable, Means};
 ghost use Rattle.cfb_medium.specs.Numbers.{number_bytes};
 ghost use Rattle.cfb_medium.specs.declared.error.Error.TheVariants.{Full, Memory};
 ghost use Rattle.cfb_sectors.specs.Header.{header_bytes};
@@ -406,7 +406,8 @@ fn copied(facts: &Facts) -> Facts
 
 /// Writes the whole image of a compound file of version 4: a root with these streams, in the order of their names.
 ///
-/// Such an image means the root with its streams, where the names rise strictly in the order of names. `Error::Full`
+/// Such an image means the root with its streams, and a strict reader takes it, where the names rise strictly in the
+/// order of names. `Error::Full`
 /// comes where the header has no room for the image's FAT sectors (109, about 435 MB), and then before all else;
 /// `Error::Memory` where there is not memory enough.
 pub fn write_image(alloc: Global, root: &Facts, streams: &[NamedStream]) -> Result<Vec<u8>, Error>
@@ -414,6 +415,8 @@ pub fn write_image(alloc: Global, root: &Facts, streams: &[NamedStream]) -> Resu
     ensures image { IfOk result (λ v. v.items ≡ image (facts_view root.now) (stream_views streams.now)) }
     ensures meant { IfOk result (λ v. (letters : Letters) → IsStrictlySortedBy (name_cmp letters) (map (λ s. s.name) (stream_views streams.now))
         → Means letters v.items (record { root = facts_view root.now; content = content_of_streams (stream_views streams.now) })) }
+    ensures strict { IfOk result (λ v. (letters : Letters) → IsStrictlySortedBy (name_cmp letters) (map (λ s. s.name) (stream_views streams.now))
+        → IsStrictlyOpenable letters v.items) }
     ensures room { OnOk result ((plan_of (stream_views streams.now)).fat_count ≤ 109) }
     ensures errors { IfErr result (λ e. ((e ≡ Full) × (109 < (plan_of (stream_views streams.now)).fat_count))
         ⊎ ((e ≡ Memory) × ((plan_of (stream_views streams.now)).fat_count ≤ 109))) }
