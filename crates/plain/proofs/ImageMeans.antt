@@ -14,19 +14,20 @@ use Rattle.cfb_sectors.specs.Header.{header_bytes, FitsHeader, HasFields, header
 use Rattle.cfb_sectors.specs.Sectors.{joined, AreInFile, Chain, greatest_regular, free, end_of_chain}
 use Rattle.cfb_sectors.proofs.HeaderLemmas.{length-header_bytes, header_read}
 use Rattle.cfb_tree.specs.Names.{Letters, name_cmp}
-use Rattle.cfb_tree.specs.Tree.{Facts, child_names, IsOrderedInside}
+use Rattle.cfb_tree.specs.Tree.{Facts, Tree, child_names, IsOrderedInside}
 use Rattle.cfb_tree.specs.Directory.{Entry, FitsEntry, entries_of, entry_of, entry_bytes, unused_entry, kind_root, no_entry}
 use Rattle.cfb_tree.proofs.NamesRead.{all_append}
-use Rattle.cfb.specs.Means.{Layout, IsLaidOut, Means, fat, mini_fat, mini_stream, directory}
+use Rattle.cfb.specs.Means.{Layout, IsLaidOut, IsStrict, IsStrictlyOpenable, HasBytes, Means, fat, mini_fat, mini_stream, directory}
 use Rattle.plain.specs.Runs.{run, run_start, runs}
 use Rattle.plain.specs.WholeImage.{NamedStream, Plan, IsImaged, parts, filled, is_short, counts, sum_of, plan_of, fat_of, header_of, first_mini_stream_of, first_long_of, directory_of, named_entry, right_of, content_of_streams, image}
 use Rattle.plain.proofs.DirectoryJoined.{directory_again, length-directory}
 use Rattle.plain.proofs.EntriesFit.{all_replicate, named_fits, start_small, right_small, length-stream_entries, entries_fit}
 use Rattle.plain.proofs.Filled.{covers, length-filled}
-use Rattle.plain.proofs.ImageParts.{behind_4, front_4, joined_1, joined_2, joined_3, joined_4, inside_1, inside_2, inside_3, inside_4}
+use Rattle.plain.proofs.ImageParts.{behind_4, front_4, joined_1, joined_2, joined_3, joined_4, inside_1, inside_2, inside_3, inside_4, whole}
 use Rattle.plain.proofs.Plans.{mini_stream_is, mini_fat_is, long_counts_are, mini_stream_len, mini_count, directory_holds, mini_fat_parts, mini_stream_parts, others_fit, fat_parts, length-all_filled}
+use Rattle.plain.proofs.ImageStrict.{holds_any, placed_colored}
 use Rattle.plain.proofs.StreamsHeld.{AreHeldShort, AreHeldLong, shorts_held, longs_held}
-use Rattle.plain.proofs.StreamsPlaced.{ArePlaced, all_placed, siblings_placed, holds_placed}
+use Rattle.plain.proofs.StreamsPlaced.{ArePlaced, all_placed, has_name, siblings_placed, holds_placed}
 use Rattle.plain.proofs.TableRuns.{runs_small, first_in, second_in, third_in, rest_in, length-rest}
 
 -- numbers in a row are distinct
@@ -367,3 +368,40 @@ module _ (letters : Letters) (root : Facts) (streams : List NamedStream) (imaged
       ordered = (subst (IsStrictlySortedBy (name_cmp letters)) (sym (names_are streams)) imaged.rising, ordered_inside letters streams);
     },
   )
+
+  strict : IsStrict bytes lay
+  strict =
+      let read = fields in
+      record {
+        directory_count = read.directory_count ∙ sym (length-range_with_len f d);
+        fat_count = read.fat_count ∙ sym (length-range_with_len 0 f);
+        mini_fat_count = read.mini_fat_count ∙ sym (length-range_with_len (f + d) m);
+        difat_count = read.difat_count;
+        difat_end = refl;
+        whole_sectors =
+            let long = whole bytes header part_1 part_2 part_3 part_4 part_5 f d m c k split long_0 long_1 long_2 long_3 long_4 long_5 small in omega arith;
+        root_name =
+            has_name (codes "Root Entry") kind_root no_entry (right_of 0 streams) root (run_start (first_mini_stream_of p) c) (length p.mini_stream)
+            (refl, (refl, (refl, (refl, (refl, (refl, (refl, (refl, (refl, (refl, tt)))))))))) (omega arith);
+        root_color = refl;
+        colors = placed_colored bytes lay (directory bytes lay) streams 1 placed;
+      }
+
+  pub image_strict : IsStrictlyOpenable letters (image root streams)
+  unfolding image_means
+  image_strict =
+      let tree : Tree = record { root = root; content = content_of_streams streams } in
+      let meant = image_means.1 in (
+        lay,
+        tree,
+        record {
+          laid_out = laid_out;
+          facts = refl;
+          children = meant.children;
+          siblings = meant.siblings;
+          holds = holds_any (directory bytes lay) (HasBytes bytes lay) meant.children (content_of_streams streams) lay.entries meant.holds;
+          once = meant.once;
+          ordered = meant.ordered;
+        },
+        strict,
+      )

@@ -30,7 +30,7 @@ range_inside bytes n (suc count) long small = ((omega arith, omega arith), range
 module _ (bytes header p1 p2 p3 p4 p5 : List ℕ) (f d m c k : ℕ) (is : bytes ≡ header ++ (p1 ++ (p2 ++ (p3 ++ (p4 ++ p5))))) (first : length header ≡ 4096)
     (long_1 : length p1 ≡ f * 4096) (long_2 : length p2 ≡ d * 4096) (long_3 : length p3 ≡ m * 4096) (long_4 : length p4 ≡ c * 4096) (long_5 : length p5 ≡ k * 4096)
     (small : f + d + m + c + k ≤ greatest_regular + 1) where
-  whole : length bytes ≡ (1 + f + d + m + c + k) * 4096
+  pub whole : length bytes ≡ (1 + f + d + m + c + k) * 4096
   whole =
       ap length is ∙ length-append header (p1 ++ (p2 ++ (p3 ++ (p4 ++ p5))))
       ∙ (let a = length-append p1 (p2 ++ (p3 ++ (p4 ++ p5))) in let b = length-append p2 (p3 ++ (p4 ++ p5)) in

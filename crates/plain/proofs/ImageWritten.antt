@@ -7,7 +7,7 @@ use Rattle.std.specs.Prelude.{not}
 use Rattle.std.specs.String.{string_bytes}
 use Rattle.std.proofs.Math.Utf8.{scalar, scalars}
 use Rattle.std.proofs.lemmas.Str.{IsUtf8-string_bytes, scalars-chars}
-use Rattle.cfb.specs.Means.{Means}
+use Rattle.cfb.specs.Means.{IsStrictlyOpenable, Means}
 use Rattle.cfb_medium.specs.Numbers.{number_bytes}
 use Rattle.cfb_sectors.specs.Header.{header_bytes}
 use Rattle.cfb_sectors.specs.Sectors.{free}
@@ -17,8 +17,8 @@ use Rattle.cfb_tree.specs.Tree.{Facts}
 use Rattle.plain.specs.declared.image.NamedStream.{NamedStream as GivenStream}
 use Rattle.plain.specs.Plans.{FitFacts}
 use Rattle.plain.specs.Views.{stream_views}
-use Rattle.plain.specs.WholeImage.{NamedStream, content_of_streams, directory_of, fat_of, filled, header_of, image, is_short, plan_of}
-use Rattle.plain.proofs.ImageMeans.{image_means}
+use Rattle.plain.specs.WholeImage.{NamedStream, IsImaged, content_of_streams, directory_of, fat_of, filled, header_of, image, is_short, plan_of}
+use Rattle.plain.proofs.ImageMeans.{image_means, image_strict}
 
 module _ (root : Facts) (ss : List NamedStream) (n : ℕ) (many : n ≡ length ss) where
   pub image_written : (a b c d e f : List ℕ) → a ≡ header_bytes (header_of (plan_of ss)) ++ replicate 3584 0
@@ -55,18 +55,25 @@ all_named [] short = tt
 all_named (s ∷ streams) (here, later) =
     ((all_scalars _ (scalars-chars (string_bytes s.name) (IsUtf8-string_bytes s.name)), here), all_named streams later)
 
-pub image_meant : (bytes : List ℕ) (root : Facts) (streams : List GivenStream) → bytes ≡ image root (stream_views streams)
-    → AllByRecursion (λ s. length (name_units s.name) ≤ 31) (stream_views streams) → FitFacts root → (plan_of (stream_views streams)).fat_count ≤ 109
-    → (letters : Letters) → IsStrictlySortedBy (name_cmp letters) (map (λ s. s.name) (stream_views streams))
-    → Means letters bytes (record { root = root; content = content_of_streams (stream_views streams) })
-image_meant bytes root streams is short facts small letters rising =
-    subst (λ xs. Means letters xs (record { root = root; content = content_of_streams (stream_views streams) })) (sym is)
-    (image_means letters root (stream_views streams) (record {
-      named = all_named streams short;
-      rising = rising;
-      clsid = facts.clsid_len;
-      state_bits = facts.state_bits;
-      created = facts.created;
-      modified = facts.modified;
-      small = small;
-    }))
+module _ (bytes : List ℕ) (root : Facts) (streams : List GivenStream) (is : bytes ≡ image root (stream_views streams))
+    (short : AllByRecursion (λ s. length (name_units s.name) ≤ 31) (stream_views streams)) (facts : FitFacts root)
+    (small : (plan_of (stream_views streams)).fat_count ≤ 109) (letters : Letters)
+    (rising : IsStrictlySortedBy (name_cmp letters) (map (λ s. s.name) (stream_views streams))) where
+  imaged : IsImaged letters root (stream_views streams)
+  imaged = record {
+    named = all_named streams short;
+    rising = rising;
+    clsid = facts.clsid_len;
+    state_bits = facts.state_bits;
+    created = facts.created;
+    modified = facts.modified;
+    small = small;
+  }
+
+  pub image_meant : Means letters bytes (record { root = root; content = content_of_streams (stream_views streams) })
+  image_meant =
+      subst (λ xs. Means letters xs (record { root = root; content = content_of_streams (stream_views streams) })) (sym is)
+      (image_means letters root (stream_views streams) imaged)
+
+  pub image_opens_strictly : IsStrictlyOpenable letters bytes
+  image_opens_strictly = subst (IsStrictlyOpenable letters) (sym is) (image_strict letters root (stream_views streams) imaged)

@@ -1,5 +1,5 @@
 //! Writing a whole image at once.
-ghost use Rattle.cfb.specs.Means.{Means};
+ghost use Rattle.cfb.specs.Means.{IsStrictlyOpenable, Means};
 ghost use Rattle.cfb_medium.specs.Numbers.{number_bytes};
 ghost use Rattle.cfb_medium.specs.declared.error.Error.TheVariants.{Full, Memory};
 ghost use Rattle.cfb_sectors.specs.Header.{header_bytes};
@@ -34,6 +34,21 @@ const BYTE_ORDER: u16 = 0xFFFE;
 /// The mark of a sector of the FAT.
 const FAT_SECTOR: u32 = 0xFFFF_FFFD;
 
+/// A sector's bytes.
+const SECTOR_LEN: usize = 4096;
+
+/// A mini sector's bytes.
+const MINI_SECTOR_LEN: usize = 64;
+
+/// A stream of fewer bytes lies in mini sectors.
+const MINI_CUTOFF: usize = 4096;
+
+/// The sectors that a FAT sector, or the mini sectors that a mini FAT sector, tells of.
+const TABLE_ENTRIES: u32 = 1024;
+
+/// The FAT sectors that a header has room for.
+const HEADER_ENTRIES: u32 = 109;
+
 /// A stream that stands in the root.
 #[derive(Debug, Drop)]
 pub struct NamedStream {
@@ -53,7 +68,7 @@ fn parts(size: usize, n: usize) -> usize
 fn is_short(s: &NamedStream) -> bool
     ensures { result ≡ is_short (stream_view s.now) }
 {
-    s.bytes.len() < 4096
+    s.bytes.len() < MINI_CUTOFF
 }
 
 /// The mini sectors of all short streams, or the greatest number if they are more.
@@ -63,7 +78,7 @@ fn mini_sectors(streams: &[NamedStream]) -> u64
     let mut count = 0u64;
     for s in streams {
         if is_short(s) {
-            count = count.saturating_add(parts(64, s.bytes.len()) as u64);
+            count = count.saturating_add(parts(MINI_SECTOR_LEN, s.bytes.len()) as u64);
         }
     }
     count
@@ -76,7 +91,7 @@ fn long_sectors(streams: &[NamedStream]) -> u64
     let mut count = 0u64;
     for s in streams {
         if !is_short(s) {
-            count = count.saturating_add(parts(4096, s.bytes.len()) as u64);
+            count = count.saturating_add(parts(SECTOR_LEN, s.bytes.len()) as u64);
         }
     }
     count
@@ -89,9 +104,11 @@ fn plan_of(streams: &[NamedStream]) -> Option<Plan>
 {
     let minis = mini_sectors(streams);
     let longs = long_sectors(streams);
+    // so many have no room whatever else there is, and fewer leave the sums below in their type
     if minis > 0xFFFF_FFFF || longs > 0xFFFF_FFFF {
         return None;
     }
+    // a directory sector has 32 entries, and a FAT sector tells of 1023 sectors beside itself
     let directory = streams.len() as u64 / 32 + 1;
     let mini_fat = minis.div_ceil(1024);
     let mini_stream = minis.div_ceil(64);
@@ -124,7 +141,7 @@ fn push_long_runs(out: &mut Vec<u8>, streams: &[NamedStream], first: u32) -> Res
     let mut at = first;
     for s in streams {
         if !is_short(s) {
-            let count = parts(4096, s.bytes.len()) as u32;
+            let count = parts(SECTOR_LEN, s.bytes.len()) as u32;
             push_run(out, at, count)?;
             at += count;
         }
@@ -140,7 +157,7 @@ fn push_mini_runs(out: &mut Vec<u8>, streams: &[NamedStream]) -> Result<(), Allo
     let mut at = 0;
     for s in streams {
         if is_short(s) {
-            let count = parts(64, s.bytes.len()) as u32;
+            let count = parts(MINI_SECTOR_LEN, s.bytes.len()) as u32;
             push_run(out, at, count)?;
             at += count;
         }
@@ -154,7 +171,7 @@ fn push_long_streams(out: &mut Vec<u8>, streams: &[NamedStream]) -> Result<(), A
 {
     for s in streams {
         if !is_short(s) {
-            push_filled(out, &s.bytes, 4096)?;
+            push_filled(out, &s.bytes, SECTOR_LEN)?;
         }
     }
     Ok(())
@@ -166,7 +183,7 @@ fn push_short_streams(out: &mut Vec<u8>, streams: &[NamedStream]) -> Result<(), 
 {
     for s in streams {
         if is_short(s) {
-            push_filled(out, &s.bytes, 64)?;
+            push_filled(out, &s.bytes, MINI_SECTOR_LEN)?;
         }
     }
     Ok(())
@@ -195,7 +212,7 @@ fn push_header(out: &mut Vec<u8>, plan: &Plan) -> Result<(), AllocError>
         ],
     )?;
     push_range(out, plan.fat)?;
-    push_numbers(out, FREE, 109 - plan.fat as usize)?;
+    push_numbers(out, FREE, (HEADER_ENTRIES - plan.fat) as usize)?;
     push_bytes(out, 0, 3584)
 }
 
@@ -212,7 +229,11 @@ fn push_fat(out: &mut Vec<u8>, streams: &[NamedStream], plan: &Plan) -> Result<(
     push_run(out, mini_fat, plan.mini_fat)?;
     push_run(out, mini_stream, plan.mini_stream)?;
     push_long_runs(out, streams, longs)?;
-    push_numbers(out, FREE, (1024 * plan.fat - longs - plan.longs) as usize)
+    push_numbers(
+        out,
+        FREE,
+        (TABLE_ENTRIES * plan.fat - longs - plan.longs) as usize,
+    )
 }
 
 /// Appends the mini FAT: the runs of the short streams, and free entries.
@@ -221,7 +242,11 @@ fn push_mini_fat(out: &mut Vec<u8>, streams: &[NamedStream], plan: &Plan) -> Res
     ensures { OnOk result (out.new.items ≡ out.old.items ++ number_bytes (filled free 1024 (plan_of (stream_views streams.now)).mini_fat)) }
 {
     push_mini_runs(out, streams)?;
-    push_numbers(out, FREE, (1024 * plan.mini_fat - plan.minis) as usize)
+    push_numbers(
+        out,
+        FREE,
+        (TABLE_ENTRIES * plan.mini_fat - plan.minis) as usize,
+    )
 }
 
 /// Appends the mini stream, filled up to whole sectors.
@@ -253,12 +278,12 @@ impl Places {
         ensures sector { self.new.sector ≡ sector_behind self.old.sector (stream_view s.now) }
     {
         if is_short(s) {
-            let count = parts(64, s.bytes.len()) as u32;
+            let count = parts(MINI_SECTOR_LEN, s.bytes.len()) as u32;
             let start = run_start(self.mini, count);
             self.mini += count;
             start
         } else {
-            let count = parts(4096, s.bytes.len()) as u32;
+            let count = parts(SECTOR_LEN, s.bytes.len()) as u32;
             let start = run_start(self.sector, count);
             self.sector += count;
             start
@@ -381,7 +406,8 @@ fn copied(facts: &Facts) -> Facts
 
 /// Writes the whole image of a compound file of version 4: a root with these streams, in the order of their names.
 ///
-/// Such an image means the root with its streams, where the names rise strictly in the order of names. `Error::Full`
+/// Such an image means the root with its streams, and a strict reader takes it, where the names rise strictly in the
+/// order of names. `Error::Full`
 /// comes where the header has no room for the image's FAT sectors (109, about 435 MB), and then before all else;
 /// `Error::Memory` where there is not memory enough.
 pub fn write_image(alloc: Global, root: &Facts, streams: &[NamedStream]) -> Result<Vec<u8>, Error>
@@ -389,6 +415,8 @@ pub fn write_image(alloc: Global, root: &Facts, streams: &[NamedStream]) -> Resu
     ensures image { IfOk result (λ v. v.items ≡ image (facts_view root.now) (stream_views streams.now)) }
     ensures meant { IfOk result (λ v. (letters : Letters) → IsStrictlySortedBy (name_cmp letters) (map (λ s. s.name) (stream_views streams.now))
         → Means letters v.items (record { root = facts_view root.now; content = content_of_streams (stream_views streams.now) })) }
+    ensures strict { IfOk result (λ v. (letters : Letters) → IsStrictlySortedBy (name_cmp letters) (map (λ s. s.name) (stream_views streams.now))
+        → IsStrictlyOpenable letters v.items) }
     ensures room { OnOk result ((plan_of (stream_views streams.now)).fat_count ≤ 109) }
     ensures errors { IfErr result (λ e. ((e ≡ Full) × (109 < (plan_of (stream_views streams.now)).fat_count))
         ⊎ ((e ≡ Memory) × ((plan_of (stream_views streams.now)).fat_count ≤ 109))) }

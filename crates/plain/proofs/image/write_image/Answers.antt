@@ -4,7 +4,7 @@ use Rattle.cfb_sectors.specs.Header.{header_bytes}
 use Rattle.plain.specs.Plans.{FitFacts, IsPlan}
 use Rattle.plain.specs.Views.{facts_view, stream_view, stream_views}
 use Rattle.plain.specs.WholeImage.{header_of, plan_of}
-use Rattle.plain.proofs.ImageWritten.{image_meant, image_written}
+use Rattle.plain.proofs.ImageWritten.{image_meant, image_opens_strictly, image_written}
 use Rattle.plain.proofs.image.write_image.Goals as goal
 
 pub returns-clause-image : goal.returns-clause-image
@@ -22,3 +22,11 @@ returns-clause-meant c =
     let is : IsPlan c.in-Some.plan (plan_of ss) = rw c.in-Some.is at c.plan_of.ensures.some in
     let facts : FitFacts (facts_view c.args.root.now) = subst (λ f. FitFacts (facts_view f)) c.copied-root.ensures.same c.copied-root.ensures.fits in
     image_meant c.push_long_streams.new.out.items (facts_view c.args.root.now) c.args.streams.now (returns-clause-image c) c.requires facts (omega (arith, is.fat, c.in-Some.plan.small))
+
+pub returns-clause-strict : goal.returns-clause-strict
+returns-clause-strict c =
+    let ss = stream_views c.args.streams.now in
+    let is : IsPlan c.in-Some.plan (plan_of ss) = rw c.in-Some.is at c.plan_of.ensures.some in
+    let facts : FitFacts (facts_view c.args.root.now) = subst (λ f. FitFacts (facts_view f)) c.copied-root.ensures.same c.copied-root.ensures.fits in
+    image_opens_strictly c.push_long_streams.new.out.items (facts_view c.args.root.now) c.args.streams.now (returns-clause-image c) c.requires facts
+    (omega (arith, is.fat, c.in-Some.plan.small))
