@@ -3,6 +3,7 @@ pub mod Created
 pub mod Distinct
 pub mod Found
 pub mod Identifiers
+pub mod Imaged
 pub mod Inserted
 pub mod KeyChecks
 pub mod KeyRows

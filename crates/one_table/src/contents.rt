@@ -1,7 +1,8 @@
 // The package as plain lists.
 ghost use Rattle.std.specs.Prelude.{◌≡◌, ◌⊎◌, ◌||◌, ◌∷◌, [], ℕ, List, length, nat_lt, true, Err, string_bytes, IfOk, IfErr, MatchOption, Some, None, bytes_eq};
 ghost use Rattle.msi_tables.specs.Schema.{columns_name, tables_name};
-ghost use Rattle.cfb_medium.specs.declared.error.Error.TheVariants.{Memory};
+ghost use Rattle.cfb_medium.specs.declared.error.Error.TheVariants.{Memory, Full};
+ghost use Rattle.msi.specs.Package.{MeansPackage};
 ghost use Rattle.cfb_tree.specs.Names.{ascii_letters};
 ghost use Rattle.one_table.specs.Contents.{package_of, AreKept, IsKept, IsFirst, Adds, new_only, key_column, only_of, only_seen};
 ghost use Rattle.one_table.specs.Limits.{CreatesBare, InsertsFew, created_bare, inserted_few, is_taken};
@@ -16,9 +17,11 @@ use crate::keys::merged;
 use crate::names::{are_named, is_number_key};
 use crate::rules::judge;
 use crate::sheet::{Sheet, columns_sheet, only_sheet, tables_sheet};
+use crate::streams::all_streams;
 use crate::{Column, Insert, Select};
 use cfb_medium::Error;
 use msi_texts::Value;
+use plain::{Facts, write_image};
 use std::alloc::Global;
 
 // The one table: its name, its column's, and the keys in their stored order.
@@ -38,7 +41,7 @@ pub struct Contents {
 }
 
 impl Contents {
-    ghost use Rattle.one_table.specs.Held.{package_in};
+    ghost use Rattle.one_table.specs.Held.{package_in, image_in};
 
     /// A new package, which has no table of its own.
     pub fn new(alloc: Global) -> Contents
@@ -170,6 +173,17 @@ impl Contents {
         Ok(())
     }
 
+    /// The bytes of a whole compound file that means the package. `Memory` where there is no room for it.
+    pub fn image(&self) -> Result<Vec<u8>, Error>
+        ensures image { IfOk result (λ bytes. bytes.items ≡ image_in self.now) }
+        ensures meant { IfOk result (λ bytes. MeansPackage ascii_letters bytes.items (package_in self.now)) }
+        ensures err { IfErr result (λ e. (e ≡ Memory) ⊎ (e ≡ Full)) }
+    {
+        let streams = all_streams(self.alloc, self.only.as_ref())?;
+        let bytes = write_image(self.alloc, &ROOT, &streams)?;
+        Ok(bytes)
+    }
+
     // Why an insert into a table of the database itself is refused.
     fn own_refusal(&self, insert: &Insert) -> Error
         requires { (bytes_eq (insert_table insert.now) columns_name || bytes_eq (insert_table insert.now) tables_name) ≡ true }
@@ -185,6 +199,17 @@ impl Contents {
         }
     }
 }
+
+// The root of an installer package.
+const ROOT: Facts = Facts {
+    clsid: [
+        0x00, 0x0C, 0x10, 0x84, 0x00, 0x00, 0x00, 0x00, 0xC0, 0x00, 0x00, 0x00, 0x00, 0x00, 0x00,
+        0x46,
+    ],
+    state_bits: 0,
+    created: 0,
+    modified: 0,
+};
 
 // The first table.
 fn new_table(alloc: Global, name: &str, columns: &[Column]) -> Result<OnlyTable, Error>

@@ -175,10 +175,12 @@ pub fn all_streams(alloc: Global, only: Option<&OnlyTable>) -> Result<Vec<NamedS
     ensures err { IfErr result (λ e. e ≡ Memory) }
 {
     let mut streams = own_streams(alloc, only)?;
-    if let Some(only) = only {
-        let stream = table_stream(alloc, &only.name, key_cells(alloc, &only.keys)?)?;
-        put(alloc, &mut streams, stream)?;
-    }
+    let Some(only) = only else {
+        return Ok(streams);
+    };
+    let cells = key_cells(alloc, &only.keys)?;
+    let stream = table_stream(alloc, &only.name, cells)?;
+    put(alloc, &mut streams, stream)?;
     Ok(streams)
 }
 

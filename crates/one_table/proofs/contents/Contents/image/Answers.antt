@@ -1,0 +1,22 @@
+use Rattle.std.proofs.Common.{◌≡◌, sym, ◌∙◌, map, refl}
+use Rattle.one_table.specs.Contents.{only_seen}
+use Rattle.one_table.specs.Streams.{streams_of}
+use Rattle.plain.specs.Views.{stream_views}
+use Rattle.plain.specs.WholeImage.{content_of_streams}
+use Rattle.cfb_tree.specs.Names.{ascii_letters}
+use Rattle.one_table.proofs.Imaged.{names_short, means_package, lent_seen}
+use Rattle.one_table.proofs.Packed.{streams_rise}
+use Rattle.one_table.proofs.contents.Contents.image.Goals as goal
+
+pub write_image-requires : goal.write_image-requires
+write_image-requires c =
+    rw (c.deref.ensures.value, c.in_ok-streams.ensures.streams, lent_seen c.as_ref.result c.args.self.now.only c.as_ref.ensures.value)
+    (names_short (only_seen c.args.self.now.only) c.args.self.now.kept)
+
+pub returns-clause-meant : goal.returns-clause-meant
+returns-clause-meant c =
+    let o = only_seen c.args.self.now.only in
+    let streams : stream_views c.deref.result.now ≡ streams_of o =
+    (rw (c.deref.ensures.value, c.in_ok-streams.ensures.streams, lent_seen c.as_ref.result c.args.self.now.only c.as_ref.ensures.value) refl) in
+    let means = c.in_ok-bytes.ensures.meant ascii_letters (rw streams (streams_rise o c.args.self.now.kept)) in
+    means_package o c.args.self.now.kept c.in_ok-bytes.bytes.items (rw streams at means)
