@@ -1,7 +1,7 @@
 // The package as plain lists.
 ghost use Rattle.std.specs.Prelude.{◌≡◌, ◌⊎◌, ◌||◌, ◌∷◌, [], ℕ, List, length, nat_lt, true, Err, string_bytes, IfOk, IfErr, MatchOption, Some, None, bytes_eq};
 ghost use Rattle.msi_tables.specs.Schema.{columns_name, tables_name};
-ghost use Rattle.cfb_medium.specs.declared.error.Error.TheVariants.{Memory, Full};
+ghost use Rattle.cfb_medium.specs.declared.error.Error.TheVariants.{Memory, Full, InvalidData};
 ghost use Rattle.msi.specs.Package.{MeansPackage};
 ghost use Rattle.cfb_tree.specs.Names.{ascii_letters};
 ghost use Rattle.one_table.specs.Contents.{package_of, AreKept, IsKept, IsFirst, Adds, new_only, key_column, only_of, only_seen};
@@ -15,13 +15,14 @@ ghost use Rattle.one_table.specs.Answers.{Meets, Selects};
 
 use crate::keys::merged;
 use crate::names::{are_named, is_number_key};
+use crate::reading::{find_only, is_kept};
 use crate::rules::judge;
 use crate::sheet::{Sheet, columns_sheet, only_sheet, tables_sheet};
-use crate::streams::all_streams;
+use crate::streams::{ASCII_LETTERS, all_streams};
 use crate::{Column, Insert, Select};
 use cfb_medium::Error;
 use msi_texts::Value;
-use plain::{Facts, write_image};
+use plain::{Facts, read_tree, write_image};
 use std::alloc::Global;
 
 // The one table: its name, its column's, and the keys in their stored order.
@@ -151,6 +152,41 @@ impl Contents {
         }
     }
 
+    /// The package of a file that `image` wrote. `InvalidData` for any other bytes, `Memory` where there is no room.
+    pub fn read(alloc: Global, bytes: &[u8]) -> Result<Contents, Error>
+        ensures read { IfOk result (λ contents. image_in contents ≡ bytes.now) }
+        ensures meant { IfOk result (λ contents. MeansPackage ascii_letters bytes.now (package_in contents)) }
+        ensures err { IfErr result (λ e. (e ≡ Memory) ⊎ (e ≡ InvalidData)) }
+    {
+        let Some(tree) = read_tree(alloc, bytes, &ASCII_LETTERS)? else {
+            return Err(Error::InvalidData);
+        };
+        let Some(contents) = Contents::of(alloc, find_only(alloc, &tree.content)?) else {
+            return Err(Error::InvalidData);
+        };
+        match contents.image() {
+            Ok(image) => {
+                if image.as_slice() == bytes {
+                    Ok(contents)
+                } else {
+                    Err(Error::InvalidData)
+                }
+            }
+            Err(Error::Memory) => Err(Error::Memory),
+            Err(_) => Err(Error::InvalidData),
+        }
+    }
+
+    // The package of a table, if it is such as is kept here.
+    fn of(alloc: Global, only: Option<OnlyTable>) -> Option<Contents> {
+        if let Some(table) = &only
+            && !is_kept(table)
+        {
+            return None;
+        }
+        Some(Contents { alloc, only })
+    }
+
     /// Adds rows, and arranges them. `NotFound` without the table; `InvalidInput` for a wrong number of values or an invalid one; then
     /// row by row `AlreadyExists` for a stored key and `InvalidInput` for that of an earlier new row; `InvalidInput` for a table of
     /// the database itself, and for more than 2047 rows. After an error nothing has changed.
@@ -238,7 +274,7 @@ fn has_long_name(columns: &[Column]) -> bool
 }
 
 // Whether the name is that of a table of the database itself, or of a stream of its pool.
-fn is_reserved(name: &str) -> bool
+pub fn is_reserved(name: &str) -> bool
     ensures { result ≡ is_taken name.now }
 {
     let own = is_tables(name) || is_columns(name) || name == "_Validation";
@@ -246,7 +282,7 @@ fn is_reserved(name: &str) -> bool
 }
 
 // The greatest number of characters of a name.
-const MOST_CHARACTERS: usize = 32;
+pub const MOST_CHARACTERS: usize = 32;
 
 // The keys of a table with those of new rows, in order.
 fn added(alloc: Global, only: &OnlyTable, new_rows: &[Vec<Value>]) -> Result<Vec<i32>, Error>
@@ -267,7 +303,7 @@ fn added(alloc: Global, only: &OnlyTable, new_rows: &[Vec<Value>]) -> Result<Vec
 }
 
 // The greatest number of rows.
-const MOST_ROWS: usize = 2047;
+pub const MOST_ROWS: usize = 2047;
 
 // Whether two names are one.
 pub fn is_same(name: &str, other: &str) -> bool

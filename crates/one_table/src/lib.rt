@@ -7,6 +7,7 @@ mod contents;
 mod keys;
 mod names;
 mod query;
+mod reading;
 mod rules;
 mod sheet;
 mod streams;
