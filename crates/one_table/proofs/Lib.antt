@@ -7,6 +7,7 @@ pub mod Imaged
 pub mod Inserted
 pub mod KeyChecks
 pub mod KeyRows
+pub mod KeysRead
 pub mod Naming
 pub mod Packed
 pub mod Put

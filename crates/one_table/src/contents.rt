@@ -166,7 +166,7 @@ impl Contents {
         };
         match contents.image() {
             Ok(image) => {
-                if image.as_slice() == bytes {
+                if is_same_bytes(&image, bytes) {
                     Ok(contents)
                 } else {
                     Err(Error::InvalidData)
@@ -304,6 +304,13 @@ fn added(alloc: Global, only: &OnlyTable, new_rows: &[Vec<Value>]) -> Result<Vec
 
 // The greatest number of rows.
 pub const MOST_ROWS: usize = 2047;
+
+// Whether two lists of bytes are one.
+fn is_same_bytes(bytes: &[u8], other: &[u8]) -> bool
+    ensures { result ≡ bytes_eq bytes.now other.now }
+{
+    bytes == other
+}
 
 // Whether two names are one.
 pub fn is_same(name: &str, other: &str) -> bool

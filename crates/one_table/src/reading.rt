@@ -1,6 +1,7 @@
 // The package of a file that was written here.
 ghost use Rattle.std.specs.Prelude.{◌≡◌, IfErr, IsTrue, map};
-ghost use Rattle.std.specs.List.{list_all};
+ghost use Rattle.std.specs.List.{list_all, list_any};
+ghost use Rattle.std.specs.Ordering.{int_eq};
 ghost use Rattle.cfb_medium.specs.declared.error.Error.TheVariants.{Memory};
 ghost use Rattle.msi_tables.specs.Table.{are_distinct};
 ghost use Rattle.one_table.specs.Contents.{only_of, IsKept, is_key, key_data};
@@ -69,7 +70,10 @@ pub fn is_kept(only: &OnlyTable) -> bool
     if !is_identifier(&only.column) || only.column.len() > MOST_CHARACTERS {
         return false;
     }
-    only.keys.len() <= MOST_ROWS && are_keys(&only.keys) && are_distinct(&only.keys)
+    if only.keys.len() > MOST_ROWS || !are_keys(&only.keys) {
+        return false;
+    }
+    are_distinct(&only.keys)
 }
 
 // Whether cells of 16 bits hold all these numbers.
@@ -84,9 +88,16 @@ fn are_distinct(keys: &[i32]) -> bool
     ensures { result ≡ are_distinct (map key_data keys.now) }
 {
     for at in 0..keys.len() {
-        if keys[at + 1..].contains(&keys[at]) {
+        if is_among(&keys[at + 1..], keys[at]) {
             return false;
         }
     }
     true
+}
+
+// Whether the number is one of these.
+fn is_among(keys: &[i32], key: i32) -> bool
+    ensures { result ≡ list_any (λ other. int_eq other key) keys.now }
+{
+    keys.iter().any(|other| *other == key)
 }
