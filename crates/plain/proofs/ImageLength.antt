@@ -1,9 +1,8 @@
 -- How long an image is, and that of a few short streams it grows with their number and their bytes.
-use Rattle.std.proofs.Common.{◌≡◌, ℕ, ◌+◌, ◌-◌, ◌*◌, ◌/◌, ◌<◌, ◌≤◌, List, [], ◌∷◌, ◌++◌, length, map, replicate, refl, ap, sym, subst, ◌∙◌, arith, append_assoc, length-append, inl, inr, true, false}
+use Rattle.std.proofs.Common.{◌≡◌, ℕ, ◌+◌, ◌-◌, ◌*◌, ◌/◌, ◌<◌, ◌≤◌, List, [], ◌∷◌, ◌++◌, length, replicate, refl, ap, sym, subst, ◌∙◌, arith, append_assoc, length-append, inl, inr}
 use Rattle.std.specs.Prelude.{not}
 use Rattle.std.specs.List.{filter, flat_map, range_with_len, AllByRecursion}
-use Rattle.std.specs.Int.{w16}
-use Rattle.std.specs.Int.{to_le_bytes}
+use Rattle.std.specs.Char.{IsScalar}
 use Rattle.std.proofs.lemmas.Bool.{lt-ltb}
 use Rattle.std.proofs.lemmas.List.{length-replicate}
 use Rattle.std.proofs.lemmas.List.FromFn.{length-range_with_len}
@@ -14,10 +13,10 @@ use Rattle.cfb_sectors.specs.Header.{HeaderFields, header_bytes}
 use Rattle.cfb_sectors.specs.Sectors.{free}
 use Rattle.cfb_tree.specs.Names.{name_units}
 use Rattle.cfb_tree.specs.Tree.{Facts}
-use Rattle.cfb_tree.specs.Directory.{Entry, entry_bytes, unused_entry, kind_root, kind_stream, no_entry}
+use Rattle.cfb_tree.specs.Directory.{Entry, entry_bytes, unused_entry, kind_stream, no_entry}
 use Rattle.cfb_tree.proofs.EntryRead.{length-units}
 use Rattle.plain.specs.Runs.{run_start}
-use Rattle.plain.specs.WholeImage.{NamedStream, Plan, AreFewShort, ShortImagesGrow, parts, filled, is_short, counts, sum_of, plan_of, fat_of, header_of, first_mini_stream_of, first_long_of, directory_of, named_entry, right_of, stream_entries, no_facts, image}
+use Rattle.plain.specs.WholeImage.{NamedStream, Plan, AreFewShort, ShortImagesGrow, parts, filled, is_short, counts, sum_of, plan_of, fat_of, header_of, first_long_of, directory_of, named_entry, right_of, stream_entries, no_facts, image}
 use Rattle.plain.proofs.EntriesFit.{length-stream_entries}
 use Rattle.plain.proofs.Filled.{length-filled}
 use Rattle.plain.proofs.ImageParts.{whole}
@@ -33,7 +32,7 @@ IsWide e = length e.name_units ≡ 32
 
 length-entry : (e : Entry) → IsWide e → length (entry_bytes e) ≡ 128
 unfolding entry_bytes
-length-entry e wide = rw (length-append, length-append, length-append) (let long = length-units e.name_units in omega arith)
+length-entry e wide = simp length-append (let long = length-units e.name_units in omega arith)
 
 length-used : (es : List Entry) → AllByRecursion IsWide es → length (flat_map entry_bytes es) ≡ length es * 128
 length-used [] wide = refl
@@ -63,8 +62,13 @@ all_wide (s ∷ rest) id mini sector (name, names) = elim (short_or_long s) [
       (wide s.name kind_stream (right_of id rest) no_entry no_facts (run_start sector k) (length s.bytes) name, all_wide rest (id + 1) mini (sector + k) names))
 ]
 
-module _ (root : Facts) (streams : List NamedStream) (named : AllByRecursion (λ s. length (name_units s.name) ≤ 31) streams)
-    (small : (plan_of streams).fat_count ≤ 109) where
+-- names that can be written are short enough
+pub short_names : (streams : List NamedStream) → AllByRecursion (λ s. AllByRecursion IsScalar s.name × (length (name_units s.name) ≤ 31)) streams
+    → AllByRecursion (λ s. length (name_units s.name) ≤ 31) streams
+short_names [] named = tt
+short_names (s ∷ rest) (name, names) = (name.1, short_names rest names)
+
+module _ (streams : List NamedStream) where
   abbrev p : Plan
   p = plan_of streams
 
@@ -77,61 +81,69 @@ module _ (root : Facts) (streams : List NamedStream) (named : AllByRecursion (λ
   abbrev unused : List ℕ
   unused = range_with_len 0 (d * 32 - 1 - length streams)
 
-  long_0 : length (header_bytes (header_of p) ++ replicate 3584 0) ≡ 4096
-  long_0 =
+  -- a part's length in sectors
+  pub length-header_part : f ≤ 109 → length (header_bytes (header_of p) ++ replicate 3584 0) ≡ 4096
+  length-header_part small =
       let named_sectors : length (header_of p).difat ≡ 109 =
       length-append (range_with_len 0 f) (replicate (109 - f) free)
       ∙ (let some = length-range_with_len 0 f in let none = length-replicate {A = ℕ} (109 - f) free in omega arith) in
       length-append (header_bytes (header_of p)) (replicate 3584 0)
       ∙ (let h = length-header (header_of p) named_sectors in let z = length-replicate {A = ℕ} 3584 0 in omega arith)
 
-  long_1 : length (number_bytes (filled free 1024 (fat_of p))) ≡ f * 4096
-  long_1 =
+  pub length-fat_part : length (number_bytes (filled free 1024 (fat_of p))) ≡ f * 4096
+  length-fat_part =
       length-number_bytes (filled free 1024 (fat_of p))
       ∙ (let l = length-filled free 1024 (fat_of p) (omega arith) in let n = fat_parts streams in omega arith)
 
-  used : length (flat_map entry_bytes (directory_of root streams p)) ≡ (1 + length streams) * 128
+  used : (root : Facts) → AllByRecursion (λ s. length (name_units s.name) ≤ 31) streams
+      → length (flat_map entry_bytes (directory_of root streams p)) ≡ (1 + length streams) * 128
   unfolding directory_of
-  used =
-      length-used (directory_of root streams p)
-        (refl, all_wide streams 1 0 (first_long_of p) named)
+  used root named =
+      length-used (directory_of root streams p) (refl, all_wide streams 1 0 (first_long_of p) named)
       ∙ (let rest = length-stream_entries streams 1 0 (first_long_of p) in omega arith)
 
-  long_2 : length (flat_map entry_bytes (directory_of root streams p) ++ flat_map (λ n. unused_entry) unused) ≡ d * 4096
-  long_2 =
+  pub length-directory_part : (root : Facts) → AllByRecursion (λ s. length (name_units s.name) ≤ 31) streams
+      → length (flat_map entry_bytes (directory_of root streams p) ++ flat_map (λ n. unused_entry) unused) ≡ d * 4096
+  length-directory_part root named =
       length-append (flat_map entry_bytes (directory_of root streams p)) (flat_map (λ n. unused_entry) unused)
-      ∙ (let here = used in let later = length-unused unused in let many = length-range_with_len 0 (d * 32 - 1 - length streams) in
+      ∙ (let here = used root named in let later = length-unused unused in let many = length-range_with_len 0 (d * 32 - 1 - length streams) in
       let holds = directory_holds streams in omega arith)
 
-  long_3 : length (number_bytes (filled free 1024 p.mini_fat)) ≡ p.mini_fat_count * 4096
-  long_3 =
+  pub length-mini_fat_part : length (number_bytes (filled free 1024 p.mini_fat)) ≡ p.mini_fat_count * 4096
+  length-mini_fat_part =
       length-number_bytes (filled free 1024 p.mini_fat)
       ∙ (let l = length-filled free 1024 p.mini_fat (omega arith) in let n = mini_fat_parts streams in omega arith)
 
-  long_4 : length (filled 0 4096 p.mini_stream) ≡ p.mini_stream_count * 4096
-  long_4 = length-filled 0 4096 p.mini_stream (omega arith) ∙ ap (λ n. n * 4096) (mini_stream_parts streams)
+  pub length-mini_stream_part : length (filled 0 4096 p.mini_stream) ≡ p.mini_stream_count * 4096
+  length-mini_stream_part = length-filled 0 4096 p.mini_stream (omega arith) ∙ ap (λ n. n * 4096) (mini_stream_parts streams)
 
-  long_5 : length (flat_map (λ s. filled 0 4096 s.bytes) (filter (λ s. not (is_short s)) streams)) ≡ sum_of p.long_counts * 4096
-  long_5 =
+  pub length-long_part : length (flat_map (λ s. filled 0 4096 s.bytes) (filter (λ s. not (is_short s)) streams)) ≡ sum_of p.long_counts * 4096
+  length-long_part =
       length-all_filled 4096 (filter (λ s. not (is_short s)) streams) (omega arith)
       ∙ ap (λ ns. sum_of ns * 4096) (sym (long_counts_are streams))
 
-  -- the header's sector and those of the parts
-  pub image_length : length (image root streams)
-      ≡ 4096 * (1 + (plan_of streams).fat_count + (plan_of streams).directory_count + (plan_of streams).mini_fat_count
-      + (plan_of streams).mini_stream_count + sum_of (plan_of streams).long_counts)
-  unfolding image
-  image_length =
-      let part_0 = header_bytes (header_of p) ++ replicate 3584 0 in
-      let part_1 = number_bytes (filled free 1024 (fat_of p)) in
-      let part_2 = flat_map entry_bytes (directory_of root streams p) ++ flat_map (λ n. unused_entry) unused in
-      let part_3 = number_bytes (filled free 1024 p.mini_fat) in
-      let part_4 = filled 0 4096 p.mini_stream in
-      let part_5 = flat_map (λ s. filled 0 4096 s.bytes) (filter (λ s. not (is_short s)) streams) in
-      let split : image root streams ≡ part_0 ++ (part_1 ++ (part_2 ++ (part_3 ++ (part_4 ++ part_5)))) = simp append_assoc in
-      whole (image root streams) part_0 part_1 part_2 part_3 part_4 part_5 f d p.mini_fat_count p.mini_stream_count (sum_of p.long_counts)
-        split long_0 long_1 long_2 long_3 long_4 long_5 (let most = others_fit streams in omega (arith, small))
-      ∙ omega arith
+-- the header's sector and those of the parts
+pub image_length : (root : Facts) (streams : List NamedStream) → AllByRecursion (λ s. length (name_units s.name) ≤ 31) streams
+    → (plan_of streams).fat_count ≤ 109
+    → length (image root streams)
+    ≡ 4096 * (1 + (plan_of streams).fat_count + (plan_of streams).directory_count + (plan_of streams).mini_fat_count
+    + (plan_of streams).mini_stream_count + sum_of (plan_of streams).long_counts)
+unfolding image
+image_length root streams named small =
+    let p = plan_of streams in
+    let d = p.directory_count in
+    let part_0 = header_bytes (header_of p) ++ replicate 3584 0 in
+    let part_1 = number_bytes (filled free 1024 (fat_of p)) in
+    let part_2 =
+    flat_map entry_bytes (directory_of root streams p) ++ flat_map (λ n. unused_entry) (range_with_len 0 (d * 32 - 1 - length streams)) in
+    let part_3 = number_bytes (filled free 1024 p.mini_fat) in
+    let part_4 = filled 0 4096 p.mini_stream in
+    let part_5 = flat_map (λ s. filled 0 4096 s.bytes) (filter (λ s. not (is_short s)) streams) in
+    let split : image root streams ≡ part_0 ++ (part_1 ++ (part_2 ++ (part_3 ++ (part_4 ++ part_5)))) = simp append_assoc in
+    whole (image root streams) part_0 part_1 part_2 part_3 part_4 part_5 p.fat_count d p.mini_fat_count p.mini_stream_count (sum_of p.long_counts)
+    split (length-header_part streams small) (length-fat_part streams) (length-directory_part streams root named) (length-mini_fat_part streams)
+    (length-mini_stream_part streams) (length-long_part streams) (let most = others_fit streams in omega (arith, small))
+    ∙ omega arith
 
 all_kept : (streams : List NamedStream) → AllByRecursion (λ s. length s.bytes < 4096) streams → filter is_short streams ≡ streams
 all_kept [] short = refl
@@ -216,7 +228,7 @@ pub short_image_small : (streams : List NamedStream) → AllByRecursion (λ s. l
 short_image_small streams short few = let one = one_fat_count streams short few in omega arith
 
 -- the image of a few short streams, in sectors
-short_image_length : (root : Facts) (streams : List NamedStream) → AreFewShort streams
+pub short_image_length : (root : Facts) (streams : List NamedStream) → AreFewShort streams
     → length (image root streams) ≡ 4096 * (3 + length streams / 32 + parts 1024 (sum_of (counts 64 streams)) + parts 64 (sum_of (counts 64 streams)))
 short_image_length root streams are =
     let plan = short_plan streams are.short in
