@@ -1,4 +1,4 @@
--- How long an image is, and that of a few short streams it grows with their number and their bytes.
+-- How long an image is, and that the image of a few short streams grows with their number and their mini sectors.
 use Rattle.std.proofs.Common.{◌≡◌, ℕ, ◌+◌, ◌-◌, ◌*◌, ◌/◌, ◌<◌, ◌≤◌, List, [], ◌∷◌, ◌++◌, length, replicate, refl, ap, sym, subst, ◌∙◌, arith, append_assoc, length-append, inl, inr}
 use Rattle.std.specs.Prelude.{not}
 use Rattle.std.specs.List.{filter, flat_map, range_with_len, AllByRecursion}
