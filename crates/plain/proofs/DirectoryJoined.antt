@@ -1,8 +1,8 @@
 -- A directory that was written is read.
-use Rattle.std.proofs.Common.{◌≡◌, ℕ, ◌+◌, ◌*◌, ◌/◌, List, [], ◌∷◌, ◌++◌, length, take, drop, map, refl, ap, sym, ◌∙◌, arith, length-append}
+use Rattle.std.proofs.Common.{◌≡◌, ℕ, ◌*◌, ◌/◌, List, [], ◌∷◌, ◌++◌, length, take, drop, map, refl, ap, sym, ◌∙◌, arith, length-append}
 use Rattle.std.specs.List.{flat_map, AllByRecursion}
 use Rattle.std.proofs.Math.Seq.{take-append_seam, drop-append_seam}
-use Rattle.std.proofs.lemmas.List.{map-append, length-map}
+use Rattle.std.proofs.lemmas.List.{map-append}
 use Rattle.std.proofs.lemmas.Grind.{flat_map-append}
 use Rattle.std.proofs.lemmas.List.Folds.{flat_map-map}
 use Rattle.cfb_medium.specs.declared.version.Version.TheVariants.{V4}
@@ -67,7 +67,3 @@ module _ (es : List Entry) (ns : List ℕ) (fits : AllByRecursion (FitsEntry V4)
       ap (entries_of V4) together ∙ entries_again all_parts sizes
       ∙ map-append (entry_of V4) (map entry_bytes es) (map (λ n. unused_entry) ns)
       ∙ ap (λ xs. xs ++ map (entry_of V4) (map (λ n. unused_entry) ns)) (each_again es fits)
-
-  pub length-directory : length (flat_map entry_bytes es ++ flat_map (λ n. unused_entry) ns) ≡ (length es + length ns) * 128
-  unfolding all_parts
-  length-directory = ap length together ∙ length-joined 128 all_parts sizes ∙ ap (λ n. n * 128) (simp (length-append, length-map))

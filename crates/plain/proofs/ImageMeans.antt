@@ -9,22 +9,23 @@ use Rattle.std.proofs.lemmas.List.FromFn.{length-range_with_len}
 use Rattle.std.proofs.lemmas.Bool.{ne_eqb}
 use Rattle.cfb_medium.specs.declared.version.Version.TheVariants.{V4}
 use Rattle.cfb_medium.specs.Numbers.{numbers, number_bytes}
-use Rattle.cfb_medium.proofs.WrittenNumbers.{length-number_bytes, numbers_again}
+use Rattle.cfb_medium.proofs.WrittenNumbers.{numbers_again}
 use Rattle.cfb_sectors.specs.Header.{header_bytes, FitsHeader, HasFields, header_difat}
 use Rattle.cfb_sectors.specs.Sectors.{joined, AreInFile, Chain, greatest_regular, free, end_of_chain}
-use Rattle.cfb_sectors.proofs.HeaderLemmas.{length-header_bytes, header_read}
+use Rattle.cfb_sectors.proofs.HeaderLemmas.{header_read}
 use Rattle.cfb_tree.specs.Names.{Letters, name_cmp}
 use Rattle.cfb_tree.specs.Tree.{Facts, Tree, child_names, IsOrderedInside}
 use Rattle.cfb_tree.specs.Directory.{Entry, FitsEntry, entries_of, entry_of, entry_bytes, unused_entry, kind_root, no_entry}
 use Rattle.cfb_tree.proofs.NamesRead.{all_append}
 use Rattle.cfb.specs.Means.{Layout, IsLaidOut, IsStrict, IsStrictlyOpenable, HasBytes, Means, fat, mini_fat, mini_stream, directory}
 use Rattle.plain.specs.Runs.{run, run_start, runs}
-use Rattle.plain.specs.WholeImage.{NamedStream, Plan, IsImaged, parts, filled, is_short, counts, sum_of, plan_of, fat_of, header_of, first_mini_stream_of, first_long_of, directory_of, named_entry, right_of, content_of_streams, image}
-use Rattle.plain.proofs.DirectoryJoined.{directory_again, length-directory}
-use Rattle.plain.proofs.EntriesFit.{all_replicate, named_fits, start_small, right_small, length-stream_entries, entries_fit}
-use Rattle.plain.proofs.Filled.{covers, length-filled}
+use Rattle.plain.specs.WholeImage.{NamedStream, Plan, IsImaged, parts, filled, is_short, counts, sum_of, plan_of, fat_of, header_of, first_mini_stream_of, directory_of, named_entry, right_of, content_of_streams, image}
+use Rattle.plain.proofs.DirectoryJoined.{directory_again}
+use Rattle.plain.proofs.EntriesFit.{all_replicate, named_fits, start_small, right_small, entries_fit}
+use Rattle.plain.proofs.ImageLength.{short_names, length-header_part, length-fat_part, length-directory_part, length-mini_fat_part, length-mini_stream_part, length-long_part}
+use Rattle.plain.proofs.Filled.{covers}
 use Rattle.plain.proofs.ImageParts.{behind_4, front_4, joined_1, joined_2, joined_3, joined_4, inside_1, inside_2, inside_3, inside_4, whole}
-use Rattle.plain.proofs.Plans.{mini_stream_is, mini_fat_is, long_counts_are, mini_stream_len, mini_count, directory_holds, mini_fat_parts, mini_stream_parts, others_fit, fat_parts, length-all_filled}
+use Rattle.plain.proofs.Plans.{mini_stream_is, mini_fat_is, long_counts_are, mini_stream_len, mini_count, directory_holds, mini_fat_parts, others_fit}
 use Rattle.plain.proofs.ImageStrict.{holds_any, placed_colored}
 use Rattle.plain.proofs.StreamsHeld.{AreHeldShort, AreHeldLong, shorts_held, longs_held}
 use Rattle.plain.proofs.StreamsPlaced.{ArePlaced, all_placed, has_name, siblings_placed, holds_placed}
@@ -139,7 +140,7 @@ module _ (letters : Letters) (root : Facts) (streams : List NamedStream) (imaged
 
   long_0 : length header ≡ 4096
   unfolding header
-  long_0 = length-append (header_bytes (header_of p)) (replicate 3584 0) ∙ (let h = length-header_bytes (header_of p) [] fits_header in let z = length-replicate {A = ℕ} 3584 0 in omega arith)
+  long_0 = length-header_part streams imaged.small
 
   fields : HasFields (header_of p) bytes
   unfolding header
@@ -150,9 +151,7 @@ module _ (letters : Letters) (root : Facts) (streams : List NamedStream) (imaged
 
   long_1 : length part_1 ≡ f * 4096
   unfolding part_1
-  long_1 =
-      length-number_bytes (filled free 1024 (fat_of p))
-      ∙ (let l = length-filled free 1024 (fat_of p) (omega arith) in let n = fat_parts streams in omega arith)
+  long_1 = length-fat_part streams
 
   abbrev root_entry : Entry
   root_entry =
@@ -172,31 +171,21 @@ module _ (letters : Letters) (root : Facts) (streams : List NamedStream) (imaged
         (let most = few_all in let sum = ap sum_of (long_counts_are streams) in omega arith),
   )
 
-  length-entries : length (directory_of root streams p) ≡ 1 + length streams
-  unfolding directory_of
-  length-entries = let rest = length-stream_entries streams 1 0 (first_long_of p) in omega arith
-
   long_2 : length part_2 ≡ d * 4096
   unfolding part_2
-  long_2 =
-      length-directory (directory_of root streams p) (range_with_len 0 (d * 32 - 1 - length streams)) directory_fits
-      ∙ (let used = length-entries in let rest = length-range_with_len 0 (d * 32 - 1 - length streams) in let some = few_streams in omega arith)
+  long_2 = length-directory_part streams root (short_names streams imaged.named)
 
   long_3 : length part_3 ≡ m * 4096
   unfolding part_3
-  long_3 =
-      length-number_bytes (filled free 1024 p.mini_fat)
-      ∙ (let l = length-filled free 1024 p.mini_fat (omega arith) in let n = mini_fat_parts streams in omega arith)
+  long_3 = length-mini_fat_part streams
 
   long_4 : length part_4 ≡ c * 4096
   unfolding part_4
-  long_4 = length-filled 0 4096 p.mini_stream (omega arith) ∙ ap (λ n. n * 4096) (mini_stream_parts streams)
+  long_4 = length-mini_stream_part streams
 
   long_5 : length part_5 ≡ k * 4096
   unfolding part_5
-  long_5 =
-      length-all_filled 4096 (filter (λ s. not (is_short s)) streams) (omega arith)
-      ∙ ap (λ ns. sum_of ns * 4096) (sym (long_counts_are streams))
+  long_5 = length-long_part streams
 
   small : f + d + m + c + k ≤ greatest_regular + 1
   small = let most = few_all in omega arith
