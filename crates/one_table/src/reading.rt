@@ -87,8 +87,8 @@ fn are_keys(keys: &[i32]) -> bool
 fn are_distinct(keys: &[i32]) -> bool
     ensures { result ≡ are_distinct (map key_data keys.now) }
 {
-    for at in 0..keys.len() {
-        if is_among(&keys[at + 1..], keys[at]) {
+    for (at, key) in keys.iter().enumerate() {
+        if is_among(&keys[at + 1..], key) {
             return false;
         }
     }
@@ -96,8 +96,8 @@ fn are_distinct(keys: &[i32]) -> bool
 }
 
 // Whether the number is one of these.
-fn is_among(keys: &[i32], key: i32) -> bool
-    ensures { result ≡ list_any (λ other. int_eq other key) keys.now }
+fn is_among(keys: &[i32], key: &i32) -> bool
+    ensures { result ≡ list_any (λ other. int_eq other key.now) keys.now }
 {
-    keys.iter().any(|other| *other == key)
+    keys.iter().any(|other| *other == *key)
 }
