@@ -329,6 +329,7 @@ module _ (o : Only) (kept : IsKept o) (s : Sheet) (sheet : IsSheet (package_of (
     adds keys few order permuted = record {
       inserts = inserts o kept new_rows keys accepts few order permuted;
       kept = keeps o kept new_rows keys accepts few order permuted;
+      more = omega (arith, length_all o kept new_rows keys accepts few order permuted);
     }
 
 -- the tables of the database itself have at most one row, and take none

@@ -57,7 +57,7 @@ rows_from all before (z ∷ zs) start count is here fit =
     rw is (between before (le_bytes 2 (key_number z)) (keys_bytes zs) (count * 0 + start * 2) (omega (arith, here)) refl) in
     rw (first, two_bytes (key_number z) cell_of.0, cell_of.1, later) refl
 
-keys_length : (keys : List ℤ) → length (keys_bytes keys) ≡ 2 * length keys
+pub keys_length : (keys : List ℤ) → length (keys_bytes keys) ≡ 2 * length keys
 keys_length [] = refl
 keys_length (z ∷ zs) = omega (arith, keys_length zs)
 

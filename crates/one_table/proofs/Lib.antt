@@ -2,6 +2,7 @@ pub mod Arranging
 pub mod Created
 pub mod Distinct
 pub mod Found
+pub mod Growing
 pub mod Identifiers
 pub mod Imaged
 pub mod Inserted

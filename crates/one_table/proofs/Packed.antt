@@ -419,7 +419,7 @@ streams_pack o kept = record {
 
 -- ---- the pool's first stream is short
 
-head_small : (len count : ℕ) → length (head_bytes len count) ≤ 8
+pub head_small : (len count : ℕ) → length (head_bytes len count) ≤ 8
 head_small len count =
     elim (len == 0 && count == 0) as (λ a. length (cond a (le_bytes 4 0) (cond (len == 0 || nat_le (2 ^ 16) len) (le_bytes 2 0 ++ le_bytes 2 count ++ le_bytes 4 len) (le_bytes 2 len ++ le_bytes 2 count))) ≤ 8) [
       | true ↦ lit≤ tt

@@ -151,6 +151,7 @@ keys_said rows = map key_said rows
 pub record Adds (o : Only) (new_rows : List (List Datum)) (keys : List ℤ) : Type 0 where
   pub inserts : InsertsFew (package_of (Some o)) o.name new_rows (package_of (Some (record o { keys = keys }))) (Ok tt)
   pub kept : IsKept (record o { keys = keys })
+  pub more : length o.keys ≤ length keys
 
 -- a table without rows
 abbrev pub new_only : List ℕ → List ℕ → Only

@@ -1,7 +1,7 @@
 // The package as plain lists.
-ghost use Rattle.std.specs.Prelude.{◌≡◌, ◌⊎◌, ◌||◌, ◌∷◌, [], ℕ, List, length, nat_lt, true, Err, string_bytes, IfOk, IfErr, MatchOption, Some, None, bytes_eq};
+ghost use Rattle.std.specs.Prelude.{◌≡◌, ◌⊎◌, ◌||◌, ◌∷◌, ◌≤◌, [], ℕ, List, length, nat_lt, true, Err, string_bytes, IfOk, IfErr, MatchOption, Some, None, bytes_eq};
 ghost use Rattle.msi_tables.specs.Schema.{columns_name, tables_name};
-ghost use Rattle.cfb_medium.specs.declared.error.Error.TheVariants.{Memory, Full, InvalidData};
+ghost use Rattle.cfb_medium.specs.declared.error.Error.TheVariants.{Memory, InvalidData};
 ghost use Rattle.msi.specs.Package.{MeansPackage};
 ghost use Rattle.cfb_tree.specs.Names.{ascii_letters};
 ghost use Rattle.one_table.specs.Contents.{package_of, AreKept, IsKept, IsFirst, Adds, new_only, key_column, only_of, only_seen};
@@ -98,7 +98,8 @@ impl Contents {
     /// name of a table of the database or of a stream of its pool, where there is another table, and for any but one column of
     /// 16 bits that is the key. After an error nothing has changed.
     pub fn create_table(&mut self, name: &str, columns: &[Column]) -> Result<(), Error>
-        ensures { Meets (CreatesBare ascii_letters (package_in self.old) name.now (columns_said columns.now)) (package_in self.old) (package_in self.new) result }
+        ensures meets { Meets (CreatesBare ascii_letters (package_in self.old) name.now (columns_said columns.now)) (package_in self.old) (package_in self.new) result }
+        ensures grows { length (image_in self.old) ≤ length (image_in self.new) }
     {
         match self.refusal(name, columns) {
             Some(error) => Err(error),
@@ -172,8 +173,7 @@ impl Contents {
                     Err(Error::InvalidData)
                 }
             }
-            Err(Error::Memory) => Err(Error::Memory),
-            Err(_) => Err(Error::InvalidData),
+            Err(error) => Err(error),
         }
     }
 
@@ -191,7 +191,8 @@ impl Contents {
     /// row by row `AlreadyExists` for a stored key and `InvalidInput` for that of an earlier new row; `InvalidInput` for a table of
     /// the database itself, and for more than 2047 rows. After an error nothing has changed.
     pub fn insert(&mut self, insert: &Insert) -> Result<(), Error>
-        ensures { Meets (InsertsFew (package_in self.old) (insert_table insert.now) (insert_rows insert.now)) (package_in self.old) (package_in self.new) result }
+        ensures meets { Meets (InsertsFew (package_in self.old) (insert_table insert.now) (insert_rows insert.now)) (package_in self.old) (package_in self.new) result }
+        ensures grows { length (image_in self.old) ≤ length (image_in self.new) }
     {
         if is_columns(insert.table_name()) || is_tables(insert.table_name()) {
             return Err(self.own_refusal(insert));
@@ -213,11 +214,13 @@ impl Contents {
     pub fn image(&self) -> Result<Vec<u8>, Error>
         ensures image { IfOk result (λ bytes. bytes.items ≡ image_in self.now) }
         ensures meant { IfOk result (λ bytes. MeansPackage ascii_letters bytes.items (package_in self.now)) }
-        ensures err { IfErr result (λ e. (e ≡ Memory) ⊎ (e ≡ Full)) }
+        ensures err { IfErr result (λ e. e ≡ Memory) }
     {
         let streams = all_streams(self.alloc, self.only.as_ref())?;
-        let bytes = write_image(self.alloc, &ROOT, &streams)?;
-        Ok(bytes)
+        match write_image(self.alloc, &ROOT, &streams) {
+            Ok(bytes) => Ok(bytes),
+            Err(error) => Err(error),
+        }
     }
 
     // Why an insert into a table of the database itself is refused.

@@ -1,4 +1,6 @@
-use Rattle.std.proofs.Common.{◌≡◌, sym, ◌∙◌, map, refl}
+use Rattle.std.proofs.Common.{◌≡◌, sym, ◌∙◌, map, refl, arith, ⊎_elim}
+use Rattle.plain.proofs.ImageLength.{short_image_small}
+use Rattle.one_table.proofs.Growing.{few_short}
 use Rattle.one_table.specs.Contents.{only_seen}
 use Rattle.one_table.specs.Streams.{streams_of}
 use Rattle.plain.specs.Views.{stream_views}
@@ -13,10 +15,19 @@ write_image-requires c =
     rw (c.deref.ensures.value, c.in_ok-streams.ensures.streams, lent_seen c.as_ref.result c.args.self.now.only c.as_ref.ensures.value)
     (names_short (only_seen c.args.self.now.only) c.args.self.now.kept)
 
-pub returns-clause-meant : goal.returns-clause-meant
-returns-clause-meant c =
+pub returns-in-Ok-clause-meant : goal.returns-in-Ok-clause-meant
+returns-in-Ok-clause-meant c =
     let o = only_seen c.args.self.now.only in
     let streams : stream_views c.deref.result.now ≡ streams_of o =
     (rw (c.deref.ensures.value, c.in_ok-streams.ensures.streams, lent_seen c.as_ref.result c.args.self.now.only c.as_ref.ensures.value) refl) in
-    let means = c.in_ok-bytes.ensures.meant ascii_letters (rw streams (streams_rise o c.args.self.now.kept)) in
-    means_package o c.args.self.now.kept c.in_ok-bytes.bytes.items (rw streams at means)
+    let means = c.in-Ok.ensures.meant ascii_letters (rw streams (streams_rise o c.args.self.now.kept)) in
+    means_package o c.args.self.now.kept c.in-Ok.bytes.items (rw streams at means)
+
+pub returns-clause-err : goal.returns-clause-err
+returns-clause-err c =
+    let o = only_seen c.args.self.now.only in
+    let streams : stream_views c.deref.result.now ≡ streams_of o =
+    (rw (c.deref.ensures.value, c.in_ok-streams.ensures.streams, lent_seen c.as_ref.result c.args.self.now.only c.as_ref.ensures.value) refl) in
+    let few = few_short o c.args.self.now.kept in
+    let small = short_image_small (streams_of o) few.short few.few in
+    ⊎_elim (λ full. absurd (let past = (rw streams at full.1) in omega (arith, past, small))) (λ want. want.0) c.in-Err.ensures.errors
