@@ -10,12 +10,12 @@ use Rattle.msi_texts.specs.Reading.{bytes_at, number_at}
 use Rattle.msi_texts.specs.PoolReading.{Heads, length_at, head_at, heads_at}
 
 -- what two calls in a row gave
-bind_cases : {A B : Type 0} (r : Result A Error) (f : A → Result B Error) (y : B) → (r >>= f) ≡ Ok y → (x : A) × (r ≡ Ok x) × (f x ≡ Ok y)
+pub bind_cases : {A B : Type 0} (r : Result A Error) (f : A → Result B Error) (y : B) → (r >>= f) ≡ Ok y → (x : A) × (r ≡ Ok x) × (f x ≡ Ok y)
 bind_cases (Ok x) f y h = (x, refl, h)
 bind_cases (Err e) f y h = cc
 
 -- the rest of what was read
-abbrev rest_of : {A : Type 0} → Result (A × List ℕ) Error → List ℕ
+abbrev pub rest_of : {A : Type 0} → Result (A × List ℕ) Error → List ℕ
 rest_of (Ok x) = x.1
 rest_of (Err e) = []
 

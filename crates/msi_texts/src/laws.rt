@@ -1,9 +1,10 @@
 // Laws of the definitions, each the contract of a function.
-ghost use Rattle.std.specs.Prelude.{◌≡◌, ◌↔◌, ℕ, List, Bool, false, IsTrue};
+ghost use Rattle.std.specs.Prelude.{◌≡◌, ◌↔◌, ◌<◌, ℕ, List, Bool, false, IsTrue, Ok, slice_index};
 ghost use Rattle.msi_texts.specs.StreamName.{spelled, spelled_name, is_marked, name_of, is_plain_name};
 ghost use Rattle.msi_texts.specs.Datum.{datum_of};
 ghost use Rattle.msi_texts.specs.Pool.{Pool, Pooled, pool_stream, data_stream};
 ghost use Rattle.msi_texts.specs.PoolKept.{IsWritable};
+ghost use Rattle.msi_texts.specs.PoolReading.{Begun, begun, pool_of};
 
 use crate::stringref::ValueRef;
 use crate::value::Value;
@@ -22,6 +23,14 @@ pub fn names_are_read_back()
 /// The two streams that a pool writes are read as that pool, where its texts fit.
 pub fn written_pools_are_read()
     ensures { (pool : Pool) → IsWritable pool → Pooled (pool_stream pool) (data_stream pool) pool }
+{
+}
+
+/// The builder finds in two streams just the pool that they hold: one that they hold is read, and what
+/// is read is what they hold.
+pub fn pools_are_read_as_they_are_held()
+    ensures found { (pool_bytes data_bytes : List ℕ) (pool : Pool) → Pooled pool_bytes data_bytes pool → (builder : Begun) × (begun pool_bytes ≡ Ok builder) × (pool_of builder data_bytes ≡ Ok pool) }
+    ensures held { (pool_bytes data_bytes : List ℕ) (builder : Begun) (pool : Pool) → ((i : ℕ) → slice_index pool_bytes i < 256) → begun pool_bytes ≡ Ok builder → pool_of builder data_bytes ≡ Ok pool → Pooled pool_bytes data_bytes pool }
 {
 }
 
