@@ -1,6 +1,6 @@
 -- The pool that two streams hold is found in them.
-use Rattle.std.proofs.Common.{◌≡◌, ℕ, zero, suc, ◌+◌, ◌-◌, ◌*◌, ◌/◌, ◌%◌, ◌^◌, ◌<◌, ◌≤◌, ◌⊎◌, inl, inr, Bool, true, false, cond, List, [], ◌∷◌, ◌++◌, map, length, take, drop, Option, Some, None, Result, Ok, Err, refl, ap, ap₂, sym, ◌∙◌, subst, arith, append_assoc}
-use Rattle.std.specs.Prelude.{nat_lt, nat_le, ◌==◌, ◌&&◌, find}
+use Rattle.std.proofs.Common.{◌≡◌, ℕ, zero, suc, ◌+◌, ◌^◌, ◌<◌, ◌≤◌, ◌⊎◌, inl, inr, Bool, true, false, cond, List, [], ◌∷◌, ◌++◌, map, length, take, drop, Option, Some, None, Result, Ok, Err, refl, ap, ap₂, sym, ◌∙◌, subst, arith, append_assoc}
+use Rattle.std.specs.Prelude.{nat_lt, ◌==◌, ◌&&◌, find}
 use Rattle.std.specs.List.{flat_map}
 use Rattle.std.proofs.lemmas.Bool.Decides.{nat_tests}
 use Rattle.std.proofs.lemmas.List.{length-append, length-map}
@@ -12,9 +12,9 @@ use Rattle.msi_texts.specs.Numbers.{le_bytes, le_number}
 use Rattle.msi_texts.specs.Results.{◌>>=◌, unless_not, or_refused}
 use Rattle.msi_texts.specs.Reading.{bytes_at, number_at}
 use Rattle.msi_texts.specs.declared.codepage.CodePage.TheVariants as page
-use Rattle.msi_texts.specs.Page.{page_id, id_of, all_pages, decoded}
+use Rattle.msi_texts.specs.Page.{page_id, id_of, all_pages}
 use Rattle.msi_texts.specs.Pool.{Pool, Place, Stored, IsHead, AreHeads, Pooled, width_bit}
-use Rattle.msi_texts.specs.PoolReading.{Heads, Begun, length_at, head_at, heads_at, page_number, begun, texts_at, place_read, places_at, pool_of}
+use Rattle.msi_texts.specs.PoolReading.{Heads, Begun, length_at, head_at, heads_at, page_number, begun, texts_at, place_read, pool_of}
 use Rattle.msi_texts.proofs.PoolReads.{head_in_numbers, pair_ok, begun_with, width_of}
 
 -- what stands in front is taken
@@ -118,6 +118,7 @@ found_passes {A = A} test (y ∷ ys) x e = go (test y) refl (found_passes test y
     value_in : Option A → A
     value_in (Some z) = z
     value_in None = x
+
     go : (b : Bool) → test y ≡ b → (find test ys ≡ Some x → test x ≡ true) → cond b (Some y) (find test ys) ≡ Some x → test x ≡ true
     go true f ih g = ap test (sym (ap value_in g)) ∙ f
     go false f ih g = ih g
@@ -159,10 +160,10 @@ pooled_pool_is_read pool_bytes data_bytes pool h =
     let hs = map head_in_numbers h.stored in
     let few : nat_lt (length hs) (2 ^ 32) ≡ true = less_tested (length hs) (2 ^ 32) (subst (λ m. m < 2 ^ 32) (sym (length-map h.stored head_in_numbers)) h.few) in
     let begins : begun pool_bytes ≡ begun_ok pool.page n hs =
-        ap number_begun (ap (number_at 4) h.begins ∙ four_taken n h.heads (with_width h.id pool.long low))
-        ∙ ap (page_begun n h.heads) (ap page_id (page_alone h.id pool.long low) ∙ h.page)
-        ∙ ap (heads_begun pool.page n) (heads_found (length h.heads) h.stored h.heads h.heads_are (omega arith))
-        ∙ ap (heads_tested pool.page n hs) few in
+    ap number_begun (ap (number_at 4) h.begins ∙ four_taken n h.heads (with_width h.id pool.long low))
+    ∙ ap (page_begun n h.heads) (ap page_id (page_alone h.id pool.long low) ∙ h.page)
+    ∙ ap (heads_begun pool.page n) (heads_found (length h.heads) h.stored h.heads h.heads_are (omega arith))
+    ∙ ap (heads_tested pool.page n hs) few in
     let texts : texts_at hs data_bytes ≡ Ok h.stored = ap (texts_at hs) h.joined ∙ texts_found h.stored h.unread in
     ap (λ r. r >>= λ b. pool_of b data_bytes) begins
     ∙ ap (λ r. (r >>= λ stored. places_ok stored) >>= λ places. pool_ok (width_of n) places) texts
@@ -170,16 +171,21 @@ pooled_pool_is_read pool_bytes data_bytes pool h =
   where
     less_tested : (a b : ℕ) → a < b → nat_lt a b ≡ true
     less_tested a b l = grind (arith, nat_tests)
+
     with_width : (id : ℕ) (long : Bool) → id < 2 ^ 31 → id + width_bit long < 2 ^ 32
     with_width id true l = omega arith
     with_width id false l = omega arith
+
     page_alone : (id : ℕ) (long : Bool) → id < 2 ^ 31 → page_number (id + width_bit long) ≡ id
     page_alone id true l = grind (arith, nat_tests)
     page_alone id false l = grind (arith, nat_tests)
+
     width_alone : (id : ℕ) (long : Bool) → id < 2 ^ 31 → width_of (id + width_bit long) ≡ long
     width_alone id true l = grind (arith, nat_tests)
     width_alone id false l = grind (arith, nat_tests)
+
     places_ok : List Stored → Result (List Place) Error
     places_ok stored = Ok (map (place_read pool.page) stored)
+
     pool_ok : Bool → List Place → Result Pool Error
     pool_ok long places = Ok (record { page = pool.page; long = long; places = places })

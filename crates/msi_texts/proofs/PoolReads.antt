@@ -1,5 +1,5 @@
 -- Reading a pool's two streams finds just the pools that they hold.
-use Rattle.std.proofs.Common.{◌≡◌, ℕ, zero, suc, ◌+◌, ◌-◌, ◌*◌, ◌/◌, ◌%◌, ◌^◌, ◌<◌, ◌≤◌, ◌⊎◌, inl, inr, Bool, true, false, cond, List, [], ◌∷◌, ◌++◌, map, length, take, drop, get_or, Option, Some, None, Result, Ok, Err, refl, ap, ap₂, sym, ◌∙◌, subst, arith, append_assoc, append-nil, length-drop}
+use Rattle.std.proofs.Common.{◌≡◌, ℕ, zero, suc, ◌+◌, ◌-◌, ◌*◌, ◌/◌, ◌%◌, ◌^◌, ◌<◌, ◌≤◌, inl, inr, Bool, true, false, cond, List, [], ◌∷◌, ◌++◌, map, length, take, drop, get_or, Option, Some, None, Result, Ok, Err, refl, ap, ap₂, sym, ◌∙◌, subst, arith, append_assoc}
 use Rattle.std.specs.Prelude.{nat_lt, nat_le, ◌==◌, ◌&&◌}
 use Rattle.std.specs.List.{flat_map}
 use Rattle.std.proofs.lemmas.Bool.Decides.{nat_tests}
@@ -10,7 +10,7 @@ use Rattle.msi_texts.specs.declared.codepage.CodePage.{CodePage}
 use Rattle.msi_texts.specs.Numbers.{le_bytes, le_number}
 use Rattle.msi_texts.specs.Results.{◌>>=◌, unless_not, or_refused}
 use Rattle.msi_texts.specs.Reading.{bytes_at, number_at}
-use Rattle.msi_texts.specs.Page.{page_id, decoded}
+use Rattle.msi_texts.specs.Page.{page_id}
 use Rattle.msi_texts.specs.Pool.{Pool, Place, Stored, IsHead, AreHeads, Pooled, width_bit}
 use Rattle.msi_texts.specs.PoolReading.{Heads, Begun, length_at, head_at, heads_at, page_number, begun, texts_at, place_read, places_at, pool_of}
 use Rattle.msi_texts.proofs.PoolHeads.{bind_cases, rest_of, head_at-rest}
@@ -73,9 +73,11 @@ took n m bytes rest h e =
     number_of : ℕ → Result (ℕ × List ℕ) Error → ℕ
     number_of d (Ok x) = x.0
     number_of d (Err e) = d
+
     front_of : Result (List ℕ × List ℕ) Error → List ℕ
     front_of (Ok x) = x.0
     front_of (Err e) = []
+
     go : (b : Bool) → nat_lt (length bytes) n ≡ b → (x : List ℕ × List ℕ) → cond b (Err UnexpectedEof) (pair_ok (take n bytes) (drop n bytes)) ≡ Ok x → le_number x.0 ≡ m → x.1 ≡ rest → Took n m bytes rest
     go true f x g num last = cc
     go false f x g num last =
@@ -103,6 +105,7 @@ head_taken len count own bytes mid last rest cut1 cut2 h small few e = go (len =
     number_of : Result (ℕ × List ℕ) Error → ℕ
     number_of (Ok x) = x.0
     number_of (Err e) = own
+
     short : len ≡ own → last ≡ rest → (len ≡ 0 → count ≡ 0) → TookHead (own, count) bytes rest
     short same end none = record {
       front = le_bytes 2 len ++ le_bytes 2 count;
@@ -110,6 +113,7 @@ head_taken len count own bytes mid last rest cut1 cut2 h small few e = go (len =
       cut = cut1 ∙ ap (λ x. le_bytes 2 len ++ x) (cut2 ∙ ap (λ x. le_bytes 2 count ++ x) end);
       are_bytes = subst AreBytes end h;
     }
+
     go : (a b : Bool) → (len == 0) ≡ a → nat_lt 0 count ≡ b → cond (a && b) (number_at 4 last) (pair_ok len last) ≡ Ok (own, rest) → TookHead (own, count) bytes rest
     go true true f g k =
         let t = took 4 own last rest h k in
@@ -137,6 +141,7 @@ took_head head bytes rest h e =
   where
     head_ok : ℕ → ℕ → List ℕ → Result ((ℕ × ℕ) × List ℕ) Error
     head_ok own count rest = Ok ((own, count), rest)
+
     head_in : ℕ × ℕ → Result ((ℕ × ℕ) × List ℕ) Error → ℕ × ℕ
     head_in d (Ok x) = x.0
     head_in d (Err e) = d
@@ -159,6 +164,7 @@ took_heads (suc most) bytes hs h few e = go (nat_lt (length bytes) 2) refl (λ r
     heads_in : Result Heads Error → Heads
     heads_in (Ok x) = x
     heads_in (Err e) = hs
+
     go : (b : Bool) → nat_lt (length bytes) 2 ≡ b → ((rest : List ℕ) (more : Heads) → AreBytes rest → length rest ≤ most → heads_at most rest ≡ Ok more → HeadsAre more rest) →
         cond b (Ok []) (head_at bytes >>= λ head. heads_at most head.1 >>= λ heads. Ok (head.0 ∷ heads)) ≡ Ok hs → HeadsAre hs bytes
     go true f ih k =
@@ -193,6 +199,7 @@ cut_bytes n bytes x e = go (nat_lt (length bytes) n) refl e
     front_of : Result (List ℕ × List ℕ) Error → List ℕ
     front_of (Ok x) = x.0
     front_of (Err e) = []
+
     go : (b : Bool) → nat_lt (length bytes) n ≡ b → cond b (Err UnexpectedEof) (pair_ok (take n bytes) (drop n bytes)) ≡ Ok x → (length x.0 ≡ n) × (bytes ≡ x.0 ++ x.1)
     go true f g = cc
     go false f g =
@@ -274,18 +281,24 @@ read_pool_is_pooled pool_bytes data_bytes b pool h e f =
   where
     begun_ok : CodePage → ℕ → Heads → Result Begun Error
     begun_ok page n heads = Ok (begun_with page n heads)
+
     begun_in : Begun → Result Begun Error → Begun
     begun_in d (Ok x) = x
     begun_in d (Err e) = d
+
     pool_with : CodePage → ℕ → List Place → Pool
     pool_with page n places = record { page = page; long = width_of n; places = places }
+
     pool_ok : CodePage → ℕ → List Place → Result Pool Error
     pool_ok page n places = Ok (pool_with page n places)
+
     pool_in : Pool → Result Pool Error → Pool
     pool_in d (Ok x) = x
     pool_in d (Err e) = d
+
     places_ok : CodePage → List Stored → Result (List Place) Error
     places_ok page stored = Ok (map (place_read page) stored)
+
     places_in : List Place → Result (List Place) Error → List Place
     places_in d (Ok x) = x
     places_in d (Err e) = d
