@@ -1,5 +1,5 @@
 // Laws of the definitions, each the contract of a function.
-ghost use Rattle.std.specs.Prelude.{◌≡◌, ◌↔◌, ◌<◌, ℕ, List, Bool, false, IsTrue, Ok, slice_index};
+ghost use Rattle.std.specs.Prelude.{◌≡◌, ◌↔◌, ◌<◌, ℕ, List, Bool, false, IsTrue, fold, Ok, slice_index};
 ghost use Rattle.msi_texts.specs.StreamName.{spelled, spelled_name, is_marked, name_of, is_plain_name};
 ghost use Rattle.msi_texts.specs.Datum.{datum_of};
 ghost use Rattle.msi_texts.specs.Pool.{Pool, Pooled, pool_stream, data_stream};
@@ -54,10 +54,11 @@ pub fn equal_values_hash_alike<H: Hasher>(one: &Value, other: &Value, first: &mu
     hash_both(one, other, first, second);
 }
 
+/// Equal values give their hashers the same.
 fn hash_both<T: Hash, H: Hasher>(one: &T, other: &T, first: &mut H, second: &mut H)
-    requires same { IsTrue (T.eq one.now other.now) }
-    requires alike { first.old ≡ second.old }
-    ensures { first.new ≡ second.new }
+    requires { IsTrue (T.eq one.now other.now) }
+    ensures first { first.new ≡ fold H.write first.old (T.hash_input one.now) }
+    ensures second { second.new ≡ fold H.write second.old (T.hash_input one.now) }
 {
     one.hash(first);
     other.hash(second);
