@@ -1,5 +1,5 @@
 -- Texts with commas: the first, and each further one behind a comma.
-use Rattle.std.proofs.Common.{◌≡◌, ℕ, List, [], ◌∷◌, ◌++◌, map, refl, ap, sym, ◌∙◌, append-nil}
+use Rattle.std.proofs.Common.{◌≡◌, ℕ, List, [], ◌∷◌, ◌++◌, map, ap, sym, append-nil}
 use Rattle.std.specs.List.{flat_map}
 use Rattle.msi_texts.specs.Datum.{with_commas}
 

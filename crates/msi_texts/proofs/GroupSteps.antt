@@ -1,8 +1,8 @@
 -- Testing the groups of a hyphenated identifier one by one.
-use Rattle.std.proofs.Common.{◌≡◌, ℕ, zero, suc, ◌+◌, ◌-◌, ◌<◌, ◌≤◌, Bool, true, false, List, [], ◌∷◌, length, drop, refl, ap, sym, ◌∙◌, arith}
+use Rattle.std.proofs.Common.{◌≡◌, ℕ, zero, suc, ◌+◌, ◌<◌, ◌≤◌, true, false, List, [], ◌∷◌, drop, refl, ap, sym, ◌∙◌, arith}
 use Rattle.std.specs.Prelude.{◌&&◌, ◌==◌}
 use Rattle.std.proofs.lemmas.List.{at_drop_all, drop-drop}
-use Rattle.msi_texts.specs.Category.{is_group, are_groups, group_lens}
+use Rattle.msi_texts.specs.Category.{are_groups, group_lens}
 use Rattle.msi_texts.specs.Groups.{is_first_group, is_group_at}
 
 groups_first : (g : List ℕ) (gs : List (List ℕ)) (ns : List ℕ) → are_groups (g ∷ gs) ns ≡ (is_first_group g ns && are_groups gs (drop 1 ns))

@@ -1,5 +1,5 @@
 -- A text that fits a page comes back from its bytes.
-use Rattle.std.proofs.Common.{◌≡◌, ℕ, ◌+◌, ◌-◌, ◌<◌, ◌≤◌, Bool, true, false, cond, IsTrue, List, [], ◌∷◌, map, get_or, Option, Some, None, unwrap_or, is_some, refl, ap, ap₂, sym, ◌∙◌, arith}
+use Rattle.std.proofs.Common.{◌≡◌, ℕ, ◌+◌, ◌-◌, ◌≤◌, Bool, true, false, cond, List, [], ◌∷◌, map, get_or, Option, Some, None, unwrap_or, is_some, refl, ap, ap₂, ◌∙◌, arith}
 use Rattle.std.specs.Prelude.{nat_lt, ◌==◌, ◌&&◌, chars, encode_utf8_all}
 use Rattle.std.specs.Str.{IsUtf8}
 use Rattle.std.specs.List.{list_all}
@@ -33,6 +33,7 @@ char_of-byte_of p c h = go (nat_lt c 128) refl h
     found (Some m) e h =
         let at = number_in-place c 128 (high_half p) m e in
         grind (arith, nat_tests, at.0, at.1)
+
     go : (b : Bool) → nat_lt c 128 ≡ b → is_some (cond b (Some c) (number_in c 128 (high_half p))) ≡ true → char_of p (unwrap_or (cond b (Some c) (number_in c 128 (high_half p))) 63) ≡ c
     go true e h = rw e refl
     go false e h = found (number_in c 128 (high_half p)) refl h

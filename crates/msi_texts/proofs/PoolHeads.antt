@@ -1,5 +1,5 @@
 -- Reading the heads of a pool one after the other.
-use Rattle.std.proofs.Common.{◌≡◌, ℕ, zero, suc, ◌+◌, ◌-◌, ◌<◌, ◌≤◌, Bool, true, false, cond, List, [], ◌∷◌, ◌++◌, length, take, drop, Result, Ok, Err, refl, ap, sym, ◌∙◌, arith, append_assoc, append-nil, length-drop}
+use Rattle.std.proofs.Common.{◌≡◌, ℕ, zero, suc, ◌+◌, ◌<◌, ◌≤◌, Bool, true, false, cond, List, [], ◌∷◌, ◌++◌, length, take, drop, Result, Ok, Err, refl, ap, sym, ◌∙◌, arith, append_assoc, append-nil, length-drop}
 use Rattle.std.specs.Prelude.{nat_lt, ◌==◌, ◌&&◌}
 use Rattle.std.proofs.lemmas.Bool.Decides.{nat_tests}
 use Rattle.cfb_medium.specs.declared.error.Error.{Error}
@@ -10,12 +10,12 @@ use Rattle.msi_texts.specs.Reading.{bytes_at, number_at}
 use Rattle.msi_texts.specs.PoolReading.{Heads, length_at, head_at, heads_at}
 
 -- what two calls in a row gave
-bind_cases : {A B : Type 0} (r : Result A Error) (f : A → Result B Error) (y : B) → (r >>= f) ≡ Ok y → (x : A) × (r ≡ Ok x) × (f x ≡ Ok y)
+pub bind_cases : {A B : Type 0} (r : Result A Error) (f : A → Result B Error) (y : B) → (r >>= f) ≡ Ok y → (x : A) × (r ≡ Ok x) × (f x ≡ Ok y)
 bind_cases (Ok x) f y h = (x, refl, h)
 bind_cases (Err e) f y h = cc
 
 -- the rest of what was read
-abbrev rest_of : {A : Type 0} → Result (A × List ℕ) Error → List ℕ
+abbrev pub rest_of : {A : Type 0} → Result (A × List ℕ) Error → List ℕ
 rest_of (Ok x) = x.1
 rest_of (Err e) = []
 
@@ -28,6 +28,7 @@ number_at-rest n m bytes rest h =
   where
     front : Result (List ℕ × List ℕ) Error
     front = Ok (take n bytes, drop n bytes)
+
     go : (b : Bool) → nat_lt (length bytes) n ≡ b → (x : List ℕ × List ℕ) → cond b (Err UnexpectedEof) front ≡ Ok x → x.1 ≡ rest → length rest + n ≡ length bytes
     go true e x f same = cc
     go false e x f same =
@@ -59,10 +60,12 @@ turn most none r hs = cond none (Ok []) (r >>= λ head. heads_at most head.1 >>=
 pub heads_step : (most : ℕ) (bytes rest : List ℕ) (head : ℕ × ℕ) (hs : Heads) → length bytes ≤ most → 2 ≤ length bytes → head_at bytes ≡ Ok (head, rest) →
     (less : ℕ) × (length rest ≤ less) × ((heads_at most bytes >>= λ more. Ok (hs ++ more)) ≡ (heads_at less rest >>= λ more. Ok ((hs ++ head ∷ []) ++ more)))
 heads_step zero bytes rest head hs few some h = absurd (omega arith)
-heads_step (suc most) bytes rest head hs few some h =
-    (most, omega (arith, head_at-rest bytes rest head h),
-     let long : nat_lt (length bytes) 2 ≡ false = grind (arith, nat_tests) in
-     ap (λ none. turn most none (head_at bytes) hs) long ∙ ap (λ r. turn most false r hs) h ∙ joined (heads_at most rest))
+heads_step (suc most) bytes rest head hs few some h = (
+  most,
+  omega (arith, head_at-rest bytes rest head h),
+  let long : nat_lt (length bytes) 2 ≡ false = grind (arith, nat_tests) in
+      ap (λ none. turn most none (head_at bytes) hs) long ∙ ap (λ r. turn most false r hs) h ∙ joined (heads_at most rest),
+)
   where
     joined : (r : Result Heads Error) → ((r >>= λ heads. Ok (head ∷ heads)) >>= λ more. Ok (hs ++ more)) ≡ (r >>= λ more. Ok ((hs ++ head ∷ []) ++ more))
     joined (Ok x) = ap Ok (sym (append_assoc hs (head ∷ []) x))

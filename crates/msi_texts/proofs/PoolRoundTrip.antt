@@ -1,6 +1,6 @@
 -- What a pool writes is read as it was.
-use Rattle.std.proofs.Common.{◌≡◌, ℕ, ◌+◌, ◌<◌, ◌≤◌, ◌^◌, ◌⊎◌, inl, inr, Bool, true, false, cond, IsTrue, List, [], ◌∷◌, ◌++◌, map, length, Some, refl, ap, ap₂, sym, ◌∙◌, arith}
-use Rattle.std.specs.Prelude.{nat_lt, nat_le, ◌==◌, ◌&&◌, ◌||◌}
+use Rattle.std.proofs.Common.{◌≡◌, ℕ, ◌<◌, ◌^◌, ◌⊎◌, inl, inr, Bool, true, false, cond, List, [], ◌∷◌, ◌++◌, map, length, Some, refl, ap₂, sym, arith}
+use Rattle.std.specs.Prelude.{nat_le, ◌==◌, ◌&&◌, ◌||◌}
 use Rattle.std.specs.List.{flat_map}
 use Rattle.std.specs.Str.{chars}
 use Rattle.std.proofs.lemmas.Bool.Decides.{nat_tests}
@@ -10,7 +10,7 @@ use Rattle.msi_texts.specs.declared.codepage.CodePage.{CodePage}
 use Rattle.msi_texts.specs.declared.codepage.CodePage.TheVariants as page
 use Rattle.msi_texts.specs.Numbers.{le_bytes}
 use Rattle.msi_texts.specs.Page.{encoded, decoded, page_id, id_of}
-use Rattle.msi_texts.specs.Pool.{Pool, Place, Stored, IsHead, AreHeads, Pooled, head_bytes, head_of, stored_place, stored_of, pool_stream, data_stream}
+use Rattle.msi_texts.specs.Pool.{Pool, Place, IsHead, AreHeads, Pooled, head_bytes, head_of, stored_place, stored_of, pool_stream, data_stream}
 use Rattle.msi_texts.specs.PoolKept.{IsKept, AreKept, IsWritable}
 use Rattle.msi_texts.proofs.PageRoundTrip.{fitting_text_comes_back}
 
@@ -48,9 +48,13 @@ no_bytes page p kept e = rw (kept.free e, empty_encoded page) refl
 -- all heads
 heads_read : (page : CodePage) (ps : List Place) → AreKept page ps → AreHeads (map (stored_place page) ps) (flat_map head_of (map (stored_place page) ps))
 heads_read page [] kept = omega arith
-heads_read page (p ∷ ps) kept =
-    (head_of (stored_place page p), flat_map head_of (map (stored_place page) ps),
-     head_numbers (length (encoded page p.text)) p.count kept.0.size kept.0.count (no_bytes page p kept.0), heads_read page ps kept.1, refl)
+heads_read page (p ∷ ps) kept = (
+  head_of (stored_place page p),
+  flat_map head_of (map (stored_place page) ps),
+  head_numbers (length (encoded page p.text)) p.count kept.0.size kept.0.count (no_bytes page p kept.0),
+  heads_read page ps kept.1,
+  refl,
+)
 
 texts_read : (page : CodePage) (ps : List Place) → AreKept page ps → ps ≡ map (λ s. record { text = decoded page s.0; count = s.1 }) (map (stored_place page) ps)
 texts_read page [] kept = refl
@@ -70,5 +74,5 @@ written_pool_is_read pool kept = record {
   heads_are = heads_read pool.page pool.places kept.0;
   few = rw length-map kept.1;
   joined = sym (append-nil (data_stream pool));
-  texts = texts_read pool.page pool.places kept.0
+  texts = texts_read pool.page pool.places kept.0;
 }

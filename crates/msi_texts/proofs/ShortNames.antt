@@ -1,5 +1,5 @@
 -- Short file names by the place of their last dot.
-use Rattle.std.proofs.Common.{◌≡◌, ◌≢◌, ℕ, ◌+◌, ◌-◌, ◌<◌, ◌≤◌, Bool, true, false, not, List, length, take, drop, get_or, refl, ap, ap₂, sym, ◌∙◌, arith, length-drop}
+use Rattle.std.proofs.Common.{◌≡◌, ◌≢◌, ℕ, ◌+◌, ◌-◌, ◌<◌, Bool, true, false, not, List, length, get_or, refl, ap, ap₂, ◌∙◌, arith, length-drop}
 use Rattle.std.specs.Prelude.{◌==◌, nat_le, ◌&&◌}
 use Rattle.std.specs.List.{list_any, suffix_len, before_last, after_last}
 use Rattle.std.proofs.lemmas.List.{length-take-le, get_or_default}
@@ -21,9 +21,9 @@ pub short_dotted : (bs : List ℕ) (i : ℕ) → i < length bs → get_or bs i 0
 short_dotted bs i inside dot last =
     let some : list_any is_dot bs ≡ true = list_any_at is_dot bs i 0 inside (rw dot refl) in
     let behind : suffix_len (λ b. not (is_dot b)) bs ≡ length bs - (i + 1) =
-        suffix_len_is (λ b. not (is_dot b)) bs (i + 1) 0 (omega arith)
-        (λ k l m. ap not (not_dot (get_or bs k 0) (last k (omega arith) m)))
-        (λ _. let same : i + 1 - 1 ≡ i = omega arith in rw (same, dot) refl) in
+    suffix_len_is (λ b. not (is_dot b)) bs (i + 1) 0 (omega arith)
+    (λ k l m. ap not (not_dot (get_or bs k 0) (last k (omega arith) m)))
+    (λ _. let same : i + 1 - 1 ≡ i = omega arith in rw (same, dot) refl) in
     let front : length (before_last is_dot bs) ≡ i = rw behind (length-take-le (length bs - (length bs - (i + 1)) - 1) bs (omega arith) ∙ omega arith) in
     let rest : length (after_last is_dot bs) ≡ length bs - (i + 1) = rw behind (length-drop (length bs - (length bs - (i + 1))) bs ∙ omega arith) in
     rw some (ap₂ (λ x y. is_between 1 8 x && nat_le y 3) front rest)

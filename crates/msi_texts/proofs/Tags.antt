@@ -1,5 +1,5 @@
 -- The languages by their identifiers alone.
-use Rattle.std.proofs.Common.{◌≡◌, ℕ, Bool, true, false, cond, List, [], ◌∷◌, map, Option, Some, None, option_map, unwrap_or, refl, ap, ◌∙◌}
+use Rattle.std.proofs.Common.{◌≡◌, ℕ, Bool, true, false, cond, List, [], ◌∷◌, map, Some, option_map, unwrap_or, refl, ap, ◌∙◌}
 use Rattle.std.specs.Prelude.{find, bytes_eq}
 use Rattle.msi_texts.specs.Language.{languages, tag_of, tagged}
 

@@ -1,5 +1,5 @@
 -- Language identifiers and their tags.
-use Rattle.std.specs.Prelude.{ℕ, ◌+◌, ◌*◌, ◌/◌, ◌%◌, List, [], ◌∷◌, ◌==◌, bit_or, Option, Some, None, option_map, unwrap_or, find, bytes_eq, codes}
+use Rattle.std.specs.Prelude.{ℕ, ◌*◌, ◌/◌, ◌%◌, List, [], ◌∷◌, ◌==◌, bit_or, option_map, unwrap_or, find, bytes_eq, codes}
 
 -- a primary and a sub-language in sixteen bits
 abbrev pub joined_id : ℕ → ℕ → ℕ

@@ -1,5 +1,5 @@
 -- Which pools their two streams give back.
-use Rattle.std.specs.Prelude.{◌≡◌, ℕ, ◌<◌, ◌^◌, IsTrue, List, [], ◌∷◌, length}
+use Rattle.std.specs.Prelude.{◌≡◌, ◌<◌, ◌^◌, IsTrue, List, [], ◌∷◌, length}
 use Rattle.std.specs.Str.{is_utf8}
 use Rattle.msi_texts.specs.declared.codepage.CodePage.{CodePage}
 use Rattle.msi_texts.specs.Page.{encoded, fits}

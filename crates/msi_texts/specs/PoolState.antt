@@ -1,5 +1,5 @@
 -- What is seen of a pool in memory.
-use Rattle.std.specs.Prelude.{◌≡◌, ℕ, ◌-◌, ◌^◌, Bool, true, false, ◌&&◌, List, [], map, length, nat_lt}
+use Rattle.std.specs.Prelude.{ℕ, Bool, true, ◌&&◌, length, nat_lt}
 use Rattle.std.specs.List.{list_all}
 use Rattle.msi_texts.specs.Pool.{Pool, pool_stream, stored_of}
 

@@ -1,5 +1,5 @@
 -- References to places as bytes, and cells that hold them.
-use Rattle.std.specs.Prelude.{ℕ, ◌+◌, ◌-◌, ◌^◌, Bool, true, false, not, List, [], ◌∷◌, ◌++◌, nat_lt, nat_le, ◌==◌, if◌then◌else◌, Option, Some, None, option_map, Result, Ok}
+use Rattle.std.specs.Prelude.{ℕ, ◌^◌, Bool, true, false, not, List, nat_lt, ◌==◌, if◌then◌else◌, Option, Some, None, option_map, Result, Ok}
 use Rattle.msi_texts.specs.declared.stringref.ValueRef.{ValueRef}
 use Rattle.msi_texts.specs.declared.stringref.ValueRef.TheVariants as cell
 use Rattle.msi_texts.specs.Results.{◌>>=◌}

@@ -144,10 +144,7 @@ fn tag_of(id: u16) -> &'static str
 fn tagged_id(tag: &str) -> Option<u16>
     ensures { result ≡ find (λ id. bytes_eq (tag_of id) tag.now) (map (λ l. l.0) languages) }
 {
-    TAGGED_IDS
-        .iter()
-        .find(|id| tag_of(**id) == tag)
-        .copied()
+    TAGGED_IDS.iter().find(|id| tag_of(**id) == tag).copied()
 }
 
 impl Default for LanguageId {

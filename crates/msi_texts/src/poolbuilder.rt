@@ -64,10 +64,7 @@ impl StringPoolBuilder {
     /// Reads the pool stream to its end. UnexpectedEof where bytes are missing, InvalidData for an
     /// unknown page or more than 4294967295 places; a rest of one byte is ignored. After an error the
     /// reader is where it was.
-    pub fn read_from_pool(
-        alloc: Global,
-        reader: &mut &[u8],
-    ) -> Result<StringPoolBuilder, Error>
+    pub fn read_from_pool(alloc: Global, reader: &mut &[u8]) -> Result<StringPoolBuilder, Error>
         ensures read { Answers (λ builder. builder) result (begun reader.old.now) }
         ensures end { OnOk result (reader.new.now ≡ []) }
         ensures err { OnErr result (reader.new.now ≡ reader.old.now) }
@@ -98,11 +95,7 @@ impl StringPoolBuilder {
         let mut rest = *reader;
         let strings = read_texts(alloc, self.codepage, self.heads.as_slice(), &mut rest)?;
         *reader = rest;
-        Ok(StringPool::from_strings(
-            self.codepage,
-            self.long_string_refs,
-            strings,
-        ))
+        Ok(StringPool::from_strings(self.codepage, self.long_string_refs, strings))
     }
 }
 

@@ -1,4 +1,4 @@
-use Rattle.std.proofs.Common.{◌≡◌, ◌+◌, ◌≤◌, rules, tests, sym, ap, ◌∙◌, length, drop, arith}
+use Rattle.std.proofs.Common.{◌+◌, rules, tests, sym, ap, ◌∙◌, length, drop, arith}
 use Rattle.std.specs.Prelude.{◌==◌}
 use Rattle.std.specs.List.{slice_split}
 use Rattle.std.proofs.lemmas.List.{length_push}
@@ -21,7 +21,7 @@ loop-group-preserved c =
     let few = few_groups c.in-Some.group.now c.loop-group.count passed in
     record {
       right = ap (λ n. are_groups (drop n (slice_split (λ b. b == 45) c.args.bytes.now)) (drop (c.loop-group.count + 1) group_lens)) (length_push c.loop-group.yielded c.in-Some.group)
-        ∙ sym (group_passed _ _ _ c.loop-group.count (rest_at _ _ _ t) passed) ∙ c.loop-group.invariant.right;
+          ∙ sym (group_passed _ _ _ c.loop-group.count (rest_at _ _ _ t) passed) ∙ c.loop-group.invariant.right;
       few = omega arith;
     }
 

@@ -1,4 +1,4 @@
-use Rattle.std.proofs.Common.{◌≡◌, ◌+◌, ◌-◌, arith, ◌∙◌, ap, sym, length}
+use Rattle.std.proofs.Common.{◌+◌, ◌-◌, ◌∙◌, ap, sym, length}
 use Rattle.std.specs.Prelude.{◌&&◌, nat_le}
 use Rattle.msi_texts.proofs.ShortNames.{short_dotted, short_plain}
 use Rattle.msi_texts.proofs.category.is_short_name.Goals as goal

@@ -1,4 +1,4 @@
-use Rattle.std.proofs.Common.{◌≡◌, ◌≤◌, ℕ, ◌++◌, [], ◌∷◌, length, Ok, Err, arith, ap, sym, ◌∙◌, inl, inr}
+use Rattle.std.proofs.Common.{◌++◌, Ok, arith, ap, sym, ◌∙◌}
 use Rattle.msi_texts.specs.Results.{◌>>=◌}
 use Rattle.msi_texts.specs.PoolReading.{heads_at}
 use Rattle.msi_texts.proofs.PoolHeads.{heads_step, heads_refused, heads_end, head_at-rest}

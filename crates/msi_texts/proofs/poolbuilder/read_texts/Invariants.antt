@@ -1,4 +1,4 @@
-use Rattle.std.proofs.Common.{◌≡◌, ◌+◌, ◌++◌, length, take, drop, Ok}
+use Rattle.std.proofs.Common.{◌≡◌, ◌++◌, length, drop, Ok}
 use Rattle.msi_texts.specs.Results.{◌>>=◌}
 use Rattle.msi_texts.specs.Pool.{places_of}
 use Rattle.msi_texts.specs.PoolReading.{places_at, text_len}

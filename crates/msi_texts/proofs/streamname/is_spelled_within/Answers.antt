@@ -1,10 +1,8 @@
-use Rattle.std.proofs.Common.{◌≡◌, ◌+◌, ◌≤◌, ◌++◌, ◌∷◌, [], true, length, drop, sym, ap, ◌∙◌, arith}
+use Rattle.std.proofs.Common.{◌++◌, ◌∷◌, [], length, drop, ap}
 use Rattle.std.specs.Prelude.{nat_le}
 use Rattle.std.specs.Str.{chars}
-use Rattle.std.proofs.lemmas.Bool.Decides.{nat_tests}
 use Rattle.std.proofs.lemmas.Iterator.{YieldsList-from_chars}
 use Rattle.std.proofs.lemmas.Iterator.Consumers.{YieldsList-turn, YieldsList-end}
-use Rattle.msi_texts.specs.StreamName.{spelled, spelled_after, unit_count}
 use Rattle.msi_texts.proofs.CharsLoop.{rest_before, rest_after}
 use Rattle.msi_texts.proofs.UnitSteps.{units_moved, too_many, units_last, units_none, few_units}
 use Rattle.msi_texts.proofs.streamname.is_spelled_within.Goals as goal

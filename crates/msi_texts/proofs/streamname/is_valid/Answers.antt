@@ -1,4 +1,4 @@
-use Rattle.std.proofs.Common.{◌≡◌, ◌<◌, true, not, sym, ap, ◌∙◌, length, arith}
+use Rattle.std.proofs.Common.{◌<◌, not, sym, ap, ◌∙◌, length, arith}
 use Rattle.std.specs.Prelude.{◌&&◌, nat_le}
 use Rattle.std.specs.Str.{chars}
 use Rattle.std.proofs.lemmas.Bool.Decides.{nat_tests}

@@ -1,8 +1,7 @@
-use Rattle.std.proofs.Common.{◌≡◌, ℕ, ◌+◌, ◌-◌, ◌<◌, length, ap, sym, ◌∙◌, arith, refl, rules}
-use Rattle.std.specs.Prelude.{string_bytes, slice_set}
+use Rattle.std.proofs.Common.{◌≡◌, ◌-◌, ◌<◌, length, ap, sym, ◌∙◌, arith}
+use Rattle.std.specs.Prelude.{slice_set}
 use Rattle.std.proofs.lemmas.List.{map-set, get_or-map, length-map}
-use Rattle.std.proofs.lemmas.Bool.Decides.{nat_tests}
-use Rattle.msi_texts.specs.Pool.{Place, places_of, place_of, one_less}
+use Rattle.msi_texts.specs.Pool.{places_of, place_of, one_less}
 use Rattle.msi_texts.proofs.PoolPlaces.{without_use-set, one_less-last, one_less-more}
 use Rattle.msi_texts.proofs.stringpool.uncount_at.Goals as goal
 

@@ -9,7 +9,7 @@ use Rattle.msi_texts.proofs.stringpool.write_heads.Given as goal
 abbrev pub invariant-loop-text : goal.invariant-loop-text
 invariant-loop-text l = record {
   bytes : l.bytes.items ++ flat_map head_of (map (stored_place l.codepage) (places_of (drop l.text-index l.strings)))
-    ≡ l.initial.bytes.items ++ flat_map head_of (map (stored_place l.codepage) (places_of l.strings));
+      ≡ l.initial.bytes.items ++ flat_map head_of (map (stored_place l.codepage) (places_of l.strings));
   in_size : list_all (λ s. nat_lt (length s.0) length_limit) (map (stored_place l.codepage) (places_of (drop l.text-index l.strings)))
-    ≡ list_all (λ s. nat_lt (length s.0) length_limit) (map (stored_place l.codepage) (places_of l.strings));
+      ≡ list_all (λ s. nat_lt (length s.0) length_limit) (map (stored_place l.codepage) (places_of l.strings));
 }

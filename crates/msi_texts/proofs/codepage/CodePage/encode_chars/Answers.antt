@@ -1,8 +1,7 @@
-use Rattle.std.proofs.Common.{ℕ, List, append_assoc, ◌≡◌, ◌++◌, [], ◌∷◌, length, drop, map, unwrap_or, sym, ap, ◌∙◌, arith, append-nil}
+use Rattle.std.proofs.Common.{ℕ, List, ◌≡◌, ◌++◌, [], ◌∷◌, length, map, unwrap_or, sym, ap, ◌∙◌, append-nil}
 use Rattle.std.specs.Str.{chars}
 use Rattle.std.proofs.lemmas.Iterator.{YieldsList-from_chars}
 use Rattle.std.proofs.lemmas.Iterator.Consumers.{YieldsList-turn, YieldsList-end}
-use Rattle.std.proofs.lemmas.Grind.{common_steps}
 use Rattle.msi_texts.specs.Page.{byte_of}
 use Rattle.msi_texts.proofs.CharsLoop.{rest_before, rest_after, moved}
 use Rattle.msi_texts.proofs.codepage.CodePage.encode_chars.Goals as goal

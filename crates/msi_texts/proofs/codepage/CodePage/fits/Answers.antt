@@ -1,4 +1,4 @@
-use Rattle.std.proofs.Common.{◌≡◌, sym, refl, ◌∙◌}
+use Rattle.std.proofs.Common.{sym, refl, ◌∙◌}
 use Rattle.msi_texts.proofs.PageRoundTrip.{fitting_text_comes_back}
 use Rattle.msi_texts.proofs.codepage.CodePage.fits.Goals as goal
 

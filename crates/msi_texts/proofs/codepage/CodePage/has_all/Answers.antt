@@ -1,4 +1,4 @@
-use Rattle.std.proofs.Common.{◌≡◌, rules, is_some}
+use Rattle.std.proofs.Common.{rules, is_some}
 use Rattle.std.proofs.lemmas.Iterator.{YieldsList-from_chars}
 use Rattle.std.proofs.lemmas.Iterator.Search.{all_from_yields_List}
 use Rattle.msi_texts.specs.Page.{byte_of}
