@@ -1,5 +1,5 @@
 -- Images grow as their packages do.
-use Rattle.std.proofs.Common.{◌≡◌, ℕ, suc, ◌+◌, ◌*◌, ◌<◌, ◌≤◌, Bool, true, false, cond, List, [], ◌∷◌, ◌++◌, map, length, refl, sym, ap, ◌∙◌, arith, Some, None, lit≤, lit<, length-append, ℤ, subst}
+use Rattle.std.proofs.Common.{◌≡◌, ℕ, suc, ◌+◌, ◌*◌, ◌<◌, ◌≤◌, ◌^◌, Bool, true, false, cond, List, [], ◌∷◌, ◌++◌, map, length, refl, sym, ap, ◌∙◌, arith, Some, None, lit≤, lit<, length-append, ℤ, subst}
 use Rattle.msi_tables.specs.Schema.{columns_name, tables_name}
 use Rattle.std.specs.Prelude.{Option, bytes_eq}
 use Rattle.std.specs.List.{AllByRecursion, sum_by}
@@ -8,7 +8,7 @@ use Rattle.std.specs.declared.cmp.Ordering.{Ordering}
 use Rattle.std.proofs.lemmas.List.Sums.{sum_by-cons}
 use Rattle.cfb_tree.specs.Names.{ascii_letters, name_cmp}
 use Rattle.plain.specs.WholeImage.{NamedStream, parts, counts, sum_of, image, AreFewShort}
-use Rattle.plain.proofs.ImageLength.{short_images_grow, short_image_small}
+use Rattle.plain.proofs.ImageLength.{short_images_grow, short_image_small, short_image_bound}
 use Rattle.msi_texts.specs.Pool.{pool_stream, data_stream, head_bytes}
 use Rattle.msi_texts.specs.Numbers.{le_bytes}
 use Rattle.msi.specs.Package.{stream_name, summary_name, pool_name, data_name}
@@ -99,6 +99,9 @@ few_short (Some t) kept = record {
       (omega (arith, keys_length t.keys, (kept.each t refl).few)) (own_are_short (Some t) kept);
   named = names_short (Some t) kept;
 }
+
+pub image_short : (o : Option Only) → AreKept o → length (image_of o) < 2 ^ 17
+image_short o kept = short_image_bound root_facts (streams_of o) (few_short o kept)
 
 -- ---- so the images grow
 

@@ -1,5 +1,5 @@
 // The package as plain lists.
-ghost use Rattle.std.specs.Prelude.{◌≡◌, ◌⊎◌, ◌||◌, ◌∷◌, ◌≤◌, [], ℕ, List, length, nat_lt, true, Err, string_bytes, IfOk, IfErr, MatchOption, Some, None, bytes_eq};
+ghost use Rattle.std.specs.Prelude.{◌≡◌, ◌⊎◌, ◌||◌, ◌∷◌, ◌≤◌, ◌<◌, ◌^◌, [], ℕ, List, length, nat_lt, true, Err, string_bytes, IfOk, IfErr, MatchOption, Some, None, bytes_eq};
 ghost use Rattle.msi_tables.specs.Schema.{columns_name, tables_name};
 ghost use Rattle.cfb_medium.specs.declared.error.Error.TheVariants.{Memory, InvalidData};
 ghost use Rattle.msi.specs.Package.{MeansPackage};
@@ -210,10 +210,11 @@ impl Contents {
         Ok(())
     }
 
-    /// The bytes of a whole compound file that means the package. `Memory` where there is no room for it.
+    /// The bytes of a whole compound file that means the package, less than 128 KiB. `Memory` where there is no room for it.
     pub fn image(&self) -> Result<Vec<u8>, Error>
         ensures image { IfOk result (λ bytes. bytes.items ≡ image_in self.now) }
         ensures meant { IfOk result (λ bytes. MeansPackage ascii_letters bytes.items (package_in self.now)) }
+        ensures short { length (image_in self.now) < 2 ^ 17 }
         ensures err { IfErr result (λ e. e ≡ Memory) }
     {
         let streams = all_streams(self.alloc, self.only.as_ref())?;

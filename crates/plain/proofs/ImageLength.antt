@@ -1,5 +1,5 @@
 -- How long an image is, and that the image of a few short streams grows with their number and their mini sectors.
-use Rattle.std.proofs.Common.{◌≡◌, ℕ, ◌+◌, ◌-◌, ◌*◌, ◌/◌, ◌<◌, ◌≤◌, List, [], ◌∷◌, ◌++◌, length, replicate, refl, ap, sym, subst, ◌∙◌, arith, append_assoc, length-append, inl, inr}
+use Rattle.std.proofs.Common.{◌^◌, ◌≡◌, ℕ, ◌+◌, ◌-◌, ◌*◌, ◌/◌, ◌<◌, ◌≤◌, List, [], ◌∷◌, ◌++◌, length, replicate, refl, ap, sym, subst, ◌∙◌, arith, append_assoc, length-append, inl, inr}
 use Rattle.std.specs.Prelude.{not}
 use Rattle.std.specs.List.{filter, flat_map, range_with_len, AllByRecursion}
 use Rattle.std.specs.Char.{IsScalar}
@@ -235,6 +235,15 @@ short_image_length root streams are =
     let one = one_fat_count streams are.short are.few in
     let none = ap sum_of plan.long_counts in
     image_length root streams are.named (short_image_small streams are.short are.few) ∙ omega arith
+
+few_sectors : (count minis : ℕ) → count ≤ 8 → minis ≤ count * 64 → 4096 * (3 + count / 32 + parts 1024 minis + parts 64 minis) < 2 ^ 17
+unfolding parts
+few_sectors count minis few less = omega arith
+
+-- it takes less than 128 KiB
+pub short_image_bound : (root : Facts) (streams : List NamedStream) → AreFewShort streams → length (image root streams) < 2 ^ 17
+short_image_bound root streams are =
+    rw (short_image_length root streams are) (few_sectors (length streams) (sum_of (counts 64 streams)) are.few (few_minis streams are.short))
 
 pub short_images_grow : ShortImagesGrow
 short_images_grow root few many few_are many_are streams minis =

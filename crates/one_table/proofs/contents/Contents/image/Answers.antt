@@ -1,6 +1,6 @@
 use Rattle.std.proofs.Common.{◌≡◌, sym, ◌∙◌, map, refl, arith, ⊎_elim}
 use Rattle.plain.proofs.ImageLength.{short_image_small}
-use Rattle.one_table.proofs.Growing.{few_short}
+use Rattle.one_table.proofs.Growing.{few_short, image_short}
 use Rattle.one_table.specs.Contents.{only_seen}
 use Rattle.one_table.specs.Streams.{streams_of}
 use Rattle.plain.specs.Views.{stream_views}
@@ -31,3 +31,12 @@ returns-clause-err c =
     let few = few_short o c.args.self.now.kept in
     let small = short_image_small (streams_of o) few.short few.few in
     ⊎_elim (λ full. absurd (let past = (rw streams at full.1) in omega (arith, past, small))) (λ want. want.0) c.in-Err.ensures.errors
+
+pub returns-in_err-streams-clause-short : goal.returns-in_err-streams-clause-short
+returns-in_err-streams-clause-short c = image_short (only_seen c.args.self.now.only) c.args.self.now.kept
+
+pub returns-in-Ok-clause-short : goal.returns-in-Ok-clause-short
+returns-in-Ok-clause-short c = image_short (only_seen c.args.self.now.only) c.args.self.now.kept
+
+pub returns-clause-short : goal.returns-clause-short
+returns-clause-short c = image_short (only_seen c.args.self.now.only) c.args.self.now.kept

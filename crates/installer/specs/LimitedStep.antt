@@ -1,0 +1,19 @@
+-- What each command answers, and what it makes of the package, while a session holds at most one table.
+use Rattle.std.specs.Prelude.{Result, Ok, Err}
+use Rattle.msi_texts.specs.Results.{◌>>=◌}
+use Rattle.cfb_tree.specs.Names.{ascii_letters}
+use Rattle.msi.specs.Package.{Package}
+use Rattle.one_table.specs.Limits.{CreatesBare, InsertsFew, selected_whole}
+use Rattle.installer.specs.Request.{Request}
+use Rattle.installer.specs.Request as command
+use Rattle.installer.specs.Reply.{Reply}
+use Rattle.installer.specs.Reply as told
+use Rattle.installer.specs.Step.{Tells, Becomes, Reads}
+
+-- from this package the request gives this reply, and leads to Q; the rest of the requests aren't taken yet
+abbrev pub LimitedStep : Package → Request → Reply → Package → Type 0
+LimitedStep P (command.create_table name columns) reply Q = Tells (CreatesBare ascii_letters P name columns) Q reply
+LimitedStep P (command.insert name new_rows) reply Q = Tells (InsertsFew P name new_rows) Q reply
+LimitedStep P (command.select asked) reply Q = Reads (selected_whole P asked >>= λ s. Ok (told.rows s.0 s.1)) P Q reply
+LimitedStep P command.commit reply Q = Becomes (Ok P) P Q reply
+LimitedStep P _ reply Q = ⊥
