@@ -16,7 +16,7 @@ pub data Phase : Type 0 where
 
 -- where a session is
 pub record Course : Type 0 where
-  pub package : Package
+  pub held : Package
   -- that of the last commit that was answered Ok, else none
   pub committed : Option Package
   -- how often the device has failed
@@ -25,7 +25,7 @@ pub record Course : Type 0 where
 
 -- a commit that was begun: its package, and whether it was answered Ok
 pub record Mark : Type 0 where
-  pub package : Package
+  pub held : Package
   pub done : Bool
 
 -- want of memory, or a fault of the device that was counted
@@ -34,13 +34,13 @@ IsFault old e new = (e ≡ Memory) ⊎ ((e ≡ Device) × (old.failures < 2 ^ 64
 
 -- the package that was committed last, after this request and its reply
 abbrev pub committed_after : Course → Request → Reply → Option Package
-committed_after old command.commit told.done = Some old.package
+committed_after old command.commit told.done = Some old.held
 committed_after old request reply = old.committed
 
 -- One command: its step; or a fault that leaves the package; or one by which the session fails, which no command that reads meets; and a
 -- session that has failed refuses.
 pub data Goes (old : Course) (request : Request) (reply : Reply) (new : Course) : Type 0 where
-  steps : old.phase ≡ running → LimitedStep old.package request reply new.package → new.committed ≡ committed_after old request reply
+  steps : old.phase ≡ running → LimitedStep old.held request reply new.held → new.committed ≡ committed_after old request reply
       → new.phase ≡ running → Goes old request reply new
   stays : (e : Error) → old.phase ≡ running → reply ≡ told.refused e → IsFault old e new → new ≡ record old { failures = new.failures }
       → Goes old request reply new
@@ -50,9 +50,9 @@ pub data Goes (old : Course) (request : Request) (reply : Reply) (new : Course) 
 
 -- the commit that this command begins, unless the session has failed before
 abbrev pub marks_of : Course → Request → Reply → List Mark
-marks_of old command.commit told.done = record { package = old.package; done = true } ∷ []
+marks_of old command.commit told.done = record { held = old.held; done = true } ∷ []
 marks_of old command.commit (told.refused Failed) = []
-marks_of old command.commit reply = record { package = old.package; done = false } ∷ []
+marks_of old command.commit reply = record { held = old.held; done = false } ∷ []
 marks_of old request reply = []
 
 -- one reply for each request, with the commits that they begin

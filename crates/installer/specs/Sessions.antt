@@ -29,7 +29,7 @@ phase_of false = running
 -- where it is, after a commit of such a package, or none
 abbrev pub course_of : {D : Type 0} {g : Ghosts D} → Session D g → Option Package → Course
 course_of {D} {g} s committed =
-    record { package = package_of s; committed = committed; failures = g.failures (device_below s); phase = phase_of (has_failed s) }
+    record { held = package_of s; committed = committed; failures = g.failures (device_below s); phase = phase_of (has_failed s) }
 
 -- the session is at this place of its course
 abbrev pub IsAt : {D : Type 0} {g : Ghosts D} → Session D g → Course → Type 0

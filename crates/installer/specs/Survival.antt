@@ -11,7 +11,7 @@ use Rattle.installer.specs.Course.{Mark}
 -- might be found before that commit, unless it was answered Ok.
 abbrev pub MayBeFound : (List ℕ → Type 0) → List Mark → List ℕ → Type 0
 MayBeFound lists [] bytes = lists bytes
-MayBeFound lists (m ∷ marks) bytes = MayBeFound (λ b. MeansPackage ascii_letters b m.package ⊎ ((m.done ≡ false) × lists b)) marks bytes
+MayBeFound lists (m ∷ marks) bytes = MayBeFound (λ b. MeansPackage ascii_letters b m.held ⊎ ((m.done ≡ false) × lists b)) marks bytes
 
 -- a recovery of these files gives one of the lists
 abbrev pub GivesOneOf : (List ℕ → Type 0) → Files → Type 0

@@ -1,18 +1,25 @@
 // A session on a package.
-ghost use Rattle.std.specs.Prelude.{◌≡◌, ◌⊎◌, ◌≤◌, ◌<◌, ◌-◌, ◌^◌, ℕ, List, [], ◌∷◌, ◌++◌, Option, Some, None, map, length, take, IsTrue, true, false, IfOk, IfErr, OnOk, OnErr, IsErrOf, refl};
+ghost use Rattle.std.specs.Prelude.{◌≡◌, ◌≢◌, ◌⊎◌, ◌≤◌, ◌<◌, ◌-◌, ◌^◌, ℕ, List, [], ◌∷◌, ◌++◌, Option, Some, None, map, length, take, IsTrue, true, false, IfOk, IfErr, OnOk, OnErr, IsErrOf, refl};
 ghost use Rattle.cfb_medium.specs.Calls.{Extends};
 ghost use Rattle.cfb_medium.specs.declared.error.Error.TheVariants as error;
 ghost use Rattle.cfb_tree.specs.Names.{ascii_letters};
 ghost use Rattle.msi.specs.Package.{Package, MeansPackage};
-ghost use Rattle.staged.specs.Device.{Rests, IsDeviceFault};
+ghost use Rattle.staged.specs.Device.{Rests, IsDeviceFault, IsMemoryOrFault};
 ghost use Rattle.staged.specs.Log.{recovered, logged, MalformedLog, IsPublished};
 ghost use Rattle.staged.specs.Settled.{IsSettled};
-ghost use Rattle.staged.specs.Staged.{device_of, staged_bytes, is_failed};
-ghost use Rattle.one_table.specs.Held.{image_in};
+ghost use Rattle.staged.specs.Staged.{device_of, staged_bytes, is_failed, Continues};
+ghost use Rattle.staged.specs.Recovery.{IsMalformedOrFault};
+ghost use Rattle.one_table.specs.Held.{image_in, package_in};
+ghost use Rattle.one_table.specs.Requests.{select_said};
 ghost use Rattle.one_table.specs.Contents.{package_of as bare};
 ghost use Rattle.installer.specs.Course.{Course, Mark, Runs, Goes, committed_after, marks_of, running};
 ghost use Rattle.installer.specs.Survival.{Survives};
+ghost use Rattle.installer.specs.Refusals.{IsCreateRefusal, IsReadRefusal};
 ghost use Rattle.installer.specs.Said.{said, told_by};
+ghost use Rattle.installer.specs.LimitedStep.{LimitedStep};
+ghost use Rattle.installer.specs.Step.{told_of};
+ghost use Rattle.installer.specs.Request as asked;
+ghost use Rattle.installer.specs.Reply as told;
 
 use crate::{Answer, Command};
 use cfb_medium::{Error, Medium, ReadMedium};
@@ -40,8 +47,13 @@ impl<D: Device> Session<D> {
         ensures sound { IfOk result (λ session. has_failed session ≡ false) }
         ensures empty { IsTrue (D.honest device) → IfOk result (λ session. recovered (D.content device) ≡ Some []) }
         ensures survives { IfOk result (λ session. Survives D.Device device (device_below session) []) }
+        ensures refused { IfErr result (λ refusal. IsCreateRefusal D.Device device refusal.0 refusal.1) }
+        ensures left { IfErr result (λ refusal. refusal.1 ≢ error.Device → Survives D.Device device refusal.0 []) }
     {
-        let mut medium = recovered_medium(alloc, device)?;
+        let mut medium = match recovered_medium(alloc, device) {
+            Ok(medium) => medium,
+            Err((device, error)) => return Err((device, error)),
+        };
         match medium.len() {
             Ok(0) => Ok(Session {
                 alloc,
@@ -59,8 +71,13 @@ impl<D: Device> Session<D> {
         ensures package { IsTrue (D.honest device) → IfOk result (λ session. (bytes : List ℕ) × (recovered (D.content device) ≡ Some bytes) × MeansPackage ascii_letters bytes (package_of session)) }
         ensures sound { IfOk result (λ session. has_failed session ≡ false) }
         ensures survives { IfOk result (λ session. Survives D.Device device (device_below session) []) }
+        ensures refused { IfErr result (λ refusal. IsReadRefusal D.failures device refusal.0 refusal.1) }
+        ensures left { IfErr result (λ refusal. refusal.1 ≢ error.Device → Survives D.Device device refusal.0 []) }
     {
-        let mut medium = recovered_medium(alloc, device)?;
+        let mut medium = match recovered_medium(alloc, device) {
+            Ok(medium) => medium,
+            Err((device, error)) => return Err((device, error)),
+        };
         match read_contents(alloc, &mut medium) {
             Ok(contents) => Ok(Session {
                 alloc,
@@ -104,7 +121,9 @@ impl<D: Device> Session<D> {
     }
 
     // Answers a select.
-    fn select(&self, select: &Select) -> Answer {
+    fn select(&self, select: &Select) -> Answer
+        ensures { LimitedStep (package_of self.now) (asked.select (select_said select.now)) (told_by result) (package_of self.now) ⊎ (told_by result ≡ told.refused error.Memory) }
+    {
         match self.contents.select(select) {
             Ok((names, rows)) => Answer::Rows(names, rows),
             Err(error) => Answer::Refused(error),
@@ -127,10 +146,13 @@ impl<D: Device> Session<D> {
         if self.has_failed() {
             return Err(Error::Failed);
         }
-        let image = self.contents.image()?;
-        self.medium.write_at(0, &image)?;
-        self.medium.commit()?;
-        Ok(())
+        match self.contents.image() {
+            Ok(image) => match publish(&mut self.medium, &image) {
+                Ok(()) => Ok(()),
+                Err(error) => Err(error),
+            },
+            Err(error) => Err(error),
+        }
     }
 
     /// Whether a fault has left the session in a state in which every command is refused.
@@ -150,7 +172,9 @@ impl<D: Device> Session<D> {
 }
 
 // The answer of a command that gives nothing but that it was done.
-fn answer_of(outcome: Result<(), Error>) -> Answer {
+fn answer_of(outcome: Result<(), Error>) -> Answer
+    ensures { told_by result ≡ told_of outcome }
+{
     match outcome {
         Ok(()) => Answer::Done,
         Err(error) => Answer::Refused(error),
@@ -158,22 +182,89 @@ fn answer_of(outcome: Result<(), Error>) -> Answer {
 }
 
 // The home file of a recovered device.
-fn recovered_medium<D: Device>(alloc: Global, device: D) -> Result<Staged<D>, (D, Error)> {
+fn recovered_medium<D: Device>(alloc: Global, device: D) -> Result<Staged<D>, (D, Error)>
+    ensures bytes { IsTrue (D.honest device) → IfOk result (λ medium. recovered (D.content device) ≡ Some (staged_bytes medium)) }
+    ensures home { IsTrue (D.honest device) → IfOk result (λ medium. (D.content (device_of medium)).home ≡ staged_bytes medium) }
+    ensures settled { IsTrue (D.honest device) → IfOk result (λ medium. IsSettled D.Device (device_of medium)) }
+    ensures sound { IfOk result (λ medium. is_failed medium ≡ false) }
+    ensures honest { IfOk result (λ medium. D.honest (device_of medium) ≡ D.honest device) }
+    ensures failures { IfOk result (λ medium. D.failures device ≤ D.failures (device_of medium)) }
+    ensures err { IfErr result (λ refusal. IsMalformedOrFault D.failures device refusal.0 refusal.1) }
+    ensures malformed { IsTrue (D.honest device) → IfErr result (λ refusal. refusal.1 ≡ error.InvalidData → logged (D.content device) ≡ MalformedLog) }
+    ensures left { IfErr result (λ refusal. refusal.1 ≡ error.InvalidData → Extends D.rests device refusal.0) }
+    ensures err_honest { IfErr result (λ refusal. D.honest refusal.0 ≡ D.honest device) }
+    ensures err_failures { IfErr result (λ refusal. D.failures device ≤ D.failures refusal.0) }
+{
     let mut device = device;
     match recover(&mut device) {
-        Ok(_) => Staged::new(alloc, device),
+        Ok(_) => match Staged::new(alloc, device) {
+            Ok(medium) => Ok(medium),
+            Err((device, error)) => Err((device, error)),
+        },
         Err(error) => Err((device, error)),
     }
 }
 
-// The package of a whole medium.
-fn read_contents<D: Device>(alloc: Global, medium: &mut Staged<D>) -> Result<Contents, Error> {
-    let len = medium.len()?;
-    if len > usize::MAX as u64 {
-        return Err(Error::Memory);
+// Writes an image over the whole medium, and commits it.
+fn publish<D: Device>(medium: &mut Staged<D>, image: &[u8]) -> Result<(), Error>
+    requires sound { is_failed medium.old ≡ false }
+    requires short { length image.now < 2 ^ 17 }
+    requires covers { IsTrue (D.honest (device_of medium.old)) → length (staged_bytes medium.old) ≤ length image.now }
+    ensures published { IsTrue (D.honest (device_of medium.old)) → OnOk result (IsPublished (D.content (device_of medium.new)) image.now) }
+    ensures covers { IsTrue (D.honest (device_of medium.old)) → is_failed medium.new ≡ false → length (staged_bytes medium.new) ≤ length image.now }
+    ensures settled { IsTrue (D.honest (device_of medium.old)) → is_failed medium.new ≡ false → IsSettled D.Device (device_of medium.old) → IsSettled D.Device (device_of medium.new) }
+    ensures sound { OnOk result (is_failed medium.new ≡ false) }
+    ensures left { OnErr result (is_failed medium.new ≡ false → Extends D.rests (device_of medium.old) (device_of medium.new)) }
+    ensures honest { D.honest (device_of medium.new) ≡ D.honest (device_of medium.old) }
+    ensures failures { D.failures (device_of medium.old) ≤ D.failures (device_of medium.new) }
+    ensures fault { IfErr result (IsMemoryOrFault D.failures (device_of medium.old) (device_of medium.new)) }
+{
+    match medium.write_at(0, image) {
+        Ok(()) => match medium.commit() {
+            Ok(()) => Ok(()),
+            Err(error) => Err(error),
+        },
+        Err(error) => Err(error),
     }
+}
+
+// All bytes of a medium.
+fn read_whole<D: Device>(alloc: Global, medium: &mut Staged<D>) -> Result<Vec<u8>, Error>
+    requires sound { is_failed medium.old ≡ false }
+    ensures whole { IsTrue (D.honest (device_of medium.old)) → IfOk result (λ read. read.items ≡ staged_bytes medium.old) }
+    ensures bytes { IsTrue (D.honest (device_of medium.old)) → staged_bytes medium.new ≡ staged_bytes medium.old }
+    ensures continues { Extends (λ a b. Continues a b) medium.old medium.new }
+    ensures honest { D.honest (device_of medium.new) ≡ D.honest (device_of medium.old) }
+    ensures err { IfErr result (IsMemoryOrFault D.failures (device_of medium.old) (device_of medium.new)) }
+{
+    let len = match medium.len() {
+        Ok(len) => len,
+        Err(error) => return Err(error),
+    };
     let mut bytes = Vec::new(alloc);
     bytes.resize(len as usize, 0)?;
-    medium.read_at(0, &mut bytes)?;
-    Contents::read(alloc, &bytes)
+    match medium.read_at(0, &mut bytes) {
+        Ok(_) => Ok(bytes),
+        Err(error) => Err(error),
+    }
+}
+
+// The package of a whole medium.
+fn read_contents<D: Device>(alloc: Global, medium: &mut Staged<D>) -> Result<Contents, Error>
+    requires sound { is_failed medium.old ≡ false }
+    ensures image { IsTrue (D.honest (device_of medium.old)) → IfOk result (λ contents. image_in contents ≡ staged_bytes medium.old) }
+    ensures meant { IsTrue (D.honest (device_of medium.old)) → IfOk result (λ contents. MeansPackage ascii_letters (staged_bytes medium.old) (package_in contents)) }
+    ensures bytes { IsTrue (D.honest (device_of medium.old)) → staged_bytes medium.new ≡ staged_bytes medium.old }
+    ensures continues { Extends (λ a b. Continues a b) medium.old medium.new }
+    ensures honest { D.honest (device_of medium.new) ≡ D.honest (device_of medium.old) }
+    ensures err { IfErr result (IsReadRefusal D.failures (device_of medium.old) (device_of medium.new)) }
+{
+    let bytes = match read_whole(alloc, medium) {
+        Ok(bytes) => bytes,
+        Err(error) => return Err(error),
+    };
+    match Contents::read(alloc, &bytes) {
+        Ok(contents) => Ok(contents),
+        Err(error) => Err(error),
+    }
 }
