@@ -7,8 +7,8 @@ use Rattle.msi_tables.specs.declared.column.ColumnType.{ColumnType}
 use Rattle.msi_query.specs.Query.{Query, query, table}
 use Rattle.one_table.specs.declared.column.Column.{Column}
 use Rattle.one_table.specs.declared.column.ColumnBuilder.{ColumnBuilder}
-use Rattle.one_table.specs.declared.query.Insert.{Insert}
-use Rattle.one_table.specs.declared.query.Select.{Select}
+use Rattle.one_table.specs.declared.insert.Insert.{Insert}
+use Rattle.one_table.specs.declared.select.Select.{Select}
 
 -- what a column says
 abbrev pub column_said : Column → Described

@@ -75,9 +75,8 @@ impl ColumnBuilder {
         ensures { builder_said result kind.Int16 ≡ but_null (builder_said self kind.Int16) }
     {
         ColumnBuilder {
-            name: self.name,
             is_nullable: true,
-            is_primary_key: self.is_primary_key,
+            ..self
         }
     }
 
@@ -86,9 +85,8 @@ impl ColumnBuilder {
         ensures { builder_said result kind.Int16 ≡ as_key (builder_said self kind.Int16) }
     {
         ColumnBuilder {
-            name: self.name,
-            is_nullable: self.is_nullable,
             is_primary_key: true,
+            ..self
         }
     }
 
@@ -123,11 +121,16 @@ impl ColumnBuilder {
     fn with_type(self, coltype: ColumnType) -> Column
         ensures { column_said result ≡ builder_said self coltype }
     {
+        let ColumnBuilder {
+            name,
+            is_nullable,
+            is_primary_key,
+        } = self;
         Column {
-            name: self.name,
+            name,
             coltype,
-            is_nullable: self.is_nullable,
-            is_primary_key: self.is_primary_key,
+            is_nullable,
+            is_primary_key,
         }
     }
 }

@@ -4,14 +4,16 @@
 
 mod column;
 mod contents;
+mod insert;
 mod keys;
 mod names;
-mod query;
 mod reading;
 mod rules;
+mod select;
 mod sheet;
 mod streams;
 
 pub use column::{Column, ColumnBuilder};
 pub use contents::Contents;
-pub use query::{Insert, Select};
+pub use insert::Insert;
+pub use select::Select;
