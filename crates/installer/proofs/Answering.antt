@@ -1,5 +1,5 @@
 -- How one command goes.
-use Rattle.std.proofs.Common.{◌≡◌, ◌⊎◌, inl, inr, ⊎_elim, Bool, true, false, refl, sym, ap, ◌∙◌, Some}
+use Rattle.std.proofs.Common.{◌≡◌, ◌⊎◌, inl, ⊎_elim, Bool, false, refl, sym, ap, ◌∙◌}
 use Rattle.std.specs.Prelude.{Result, Ok, Err, OnOk, IfErr}
 use Rattle.msi.specs.Package.{Package}
 use Rattle.one_table.specs.Answers.{Meets}
@@ -10,9 +10,9 @@ use Rattle.installer.specs.Reply as told
 use Rattle.installer.specs.Step.{Tells, told_of}
 use Rattle.installer.specs.LimitedStep.{LimitedStep}
 use Rattle.installer.specs.Sessions.{phase_of}
-use Rattle.installer.specs.Course.{Course, Phase, running, failed, Goes, steps, stays, fails, refuses, IsFault, committed_after}
+use Rattle.installer.specs.Course.{Course, Phase, running, failed, Goes, steps, stays, fails, IsFault, committed_after}
 use Rattle.cfb_medium.specs.declared.error.Error.{Error}
-use Rattle.cfb_medium.specs.declared.error.Error.TheVariants.{Memory, Device, Failed}
+use Rattle.cfb_medium.specs.declared.error.Error.TheVariants.{Memory}
 
 -- a course that has stayed but for the count of failures
 stayed : (old new : Course) → new.held ≡ old.held → new.committed ≡ old.committed → new.phase ≡ old.phase → new ≡ record old { failures = new.failures }
@@ -26,7 +26,7 @@ pub goes_meets : (old new : Course) (request : Request) (reply : Reply) (Call : 
 goes_meets old new request reply Call (Ok u) step meets is was now committed after = steps was (step new.held reply (Ok tt, meets, is)) (committed ∙ sym after) now
 goes_meets old new request reply Call (Err e) step meets is was now committed after =
     ⊎_elim (λ memory. stays e was is (inl memory.0) (stayed old new memory.1 committed (now ∙ sym was)))
-      (λ call. steps was (step new.held reply (Err e, call, is)) (committed ∙ sym after) now) meets
+    (λ call. steps was (step new.held reply (Err e, call, is)) (committed ∙ sym after) now) meets
 
 -- a select
 pub goes_select : (old new : Course) (request : Request) (reply : Reply)
@@ -34,7 +34,7 @@ pub goes_select : (old new : Course) (request : Request) (reply : Reply)
     → committed_after old request reply ≡ old.committed → Goes old request reply new
 goes_select old new request reply answer was same after =
     ⊎_elim (λ step. steps was step (ap (λ c. c.committed) same ∙ sym after) (ap (λ c. c.phase) same ∙ was))
-      (λ memory. stays Memory was memory (inl refl) (stayed old new (ap (λ c. c.held) same) (ap (λ c. c.committed) same) (ap (λ c. c.phase) same))) answer
+    (λ memory. stays Memory was memory (inl refl) (stayed old new (ap (λ c. c.held) same) (ap (λ c. c.committed) same) (ap (λ c. c.phase) same))) answer
 
 by_phase : (old new : Course) (reply : Reply) (e : Error) (p : Phase) → new.phase ≡ p → reply ≡ told.refused e → IsFault old e new → new.held ≡ old.held → old.phase ≡ running
     → new.committed ≡ old.committed → Goes old command.commit reply new

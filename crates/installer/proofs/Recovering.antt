@@ -1,7 +1,7 @@
 -- What a recovery gives.
 use Rattle.std.proofs.Common.{◌≡◌, ◌≤◌, ◌<◌, ◌-◌, ◌^◌, sym, ap, Some, arith, ⊎_elim}
 use Rattle.std.proofs.lemmas.Bool.{cases_lt}
-use Rattle.std.specs.Prelude.{ℕ, List, Option}
+use Rattle.std.specs.Prelude.{ℕ}
 use Rattle.staged.specs.Files.{Files}
 use Rattle.staged.specs.Log.{Logged, ClosedLog, MalformedLog, OpenLog, logged, recovered, recovered_by}
 use Rattle.staged.specs.Recovery.{Recovers, RecoversBy}

@@ -17,12 +17,20 @@ use Rattle.installer.proofs.Writing.{not_both}
 
 runs_more : (start mid end : Course) (requests : List Request) (replies : List Reply) (marks : List Mark) (request : Request) (reply : Reply)
     → Runs start requests replies marks mid → Goes mid request reply end → Runs start (requests ++ request ∷ []) (replies ++ reply ∷ []) (marks ++ marks_of mid request reply) end
-runs_more start mid end [] [] marks request reply runs goes =
-    (end, [], subst (λ m. Goes m request reply end) runs.1 goes, (refl, refl),
-      ap (λ ms. ms ++ marks_of mid request reply) runs.0 ∙ ap (λ m. marks_of m request reply) runs.1 ∙ sym (append-nil (marks_of start request reply)))
-runs_more start mid end (r ∷ rs) (p ∷ ps) marks request reply runs goes =
-    (runs.0, runs.1 ++ marks_of mid request reply, runs.2, runs_more runs.0 mid end rs ps runs.1 request reply runs.3 goes,
-      ap (λ ms. ms ++ marks_of mid request reply) runs.4 ∙ append_assoc (marks_of start r p) runs.1 (marks_of mid request reply))
+runs_more start mid end [] [] marks request reply runs goes = (
+  end,
+  [],
+  subst (λ m. Goes m request reply end) runs.1 goes,
+  (refl, refl),
+  ap (λ ms. ms ++ marks_of mid request reply) runs.0 ∙ ap (λ m. marks_of m request reply) runs.1 ∙ sym (append-nil (marks_of start request reply)),
+)
+runs_more start mid end (r ∷ rs) (p ∷ ps) marks request reply runs goes = (
+  runs.0,
+  runs.1 ++ marks_of mid request reply,
+  runs.2,
+  runs_more runs.0 mid end rs ps runs.1 request reply runs.3 goes,
+  ap (λ ms. ms ++ marks_of mid request reply) runs.4 ∙ append_assoc (marks_of start r p) runs.1 (marks_of mid request reply),
+)
 runs_more start mid end [] (p ∷ ps) marks request reply runs goes = absurd runs
 runs_more start mid end (r ∷ rs) [] marks request reply runs goes = absurd runs
 
@@ -60,11 +68,15 @@ module _ {D : Type 0} {g : Ghosts D} where
       let marks = reached.1 in
       let at : mid ≡ course_of last mid.committed = reached.3 in
       let end : Course = course_of next (committed_after (course_of last mid.committed) request reply) in
-      let goes_on : Goes mid request reply end = subst (λ (m : Course). Goes m request reply end) (sym at) (goes mid.committed) in
-      (end, marks ++ marks_of mid request reply, runs_more start mid end requests replies marks request reply reached.2 goes_on, refl,
+      let goes_on : Goes mid request reply end = subst (λ (m : Course). Goes m request reply end) (sym at) (goes mid.committed) in (
+        end,
+        marks ++ marks_of mid request reply,
+        runs_more start mid end requests replies marks request reply reached.2 goes_on,
+        refl,
         λ now. survives_then g (device_below first) (device_below last) (device_below next) marks (marks_of mid request reply)
-          (reached.4 (goes_running mid end request reply goes_on now))
-          (subst (λ (m : Course). Survives g (device_below last) (device_below next) (marks_of m request reply)) (sym at) (survives (running_sound (has_failed next) now) mid.committed)))
+            (reached.4 (goes_running mid end request reply goes_on now))
+            (subst (λ (m : Course). Survives g (device_below last) (device_below next) (marks_of m request reply)) (sym at) (survives (running_sound (has_failed next) now) mid.committed)),
+      )
 
 -- the items up to one more
 pub taken_more : {X Y : Type 0} (f : X → Y) (xs : List X) (i : ℕ) (x : X) → i < length xs → x ≡ get_or xs i x → map f (take (i + 1) xs) ≡ map f (take i xs) ++ f x ∷ []

@@ -1,10 +1,9 @@
 -- What a recovery gives after one call and another.
-use Rattle.std.proofs.Common.{◌≡◌, ◌⊎◌, ◌≤◌, inl, inr, ⊎_elim, ℕ, List, [], ◌∷◌, ◌++◌, Bool, false, true, Some, refl, sym, ap, subst, ◌∙◌, arith, rules}
+use Rattle.std.proofs.Common.{◌≡◌, ◌⊎◌, ◌≤◌, inl, inr, ⊎_elim, ℕ, List, [], ◌∷◌, ◌++◌, false, true, Some, refl, sym, ap, subst, ◌∙◌, arith}
 use Rattle.std.specs.Prelude.{IsTrue, Result, Ok, Err, OnOk, OnErr, IfErr}
 use Rattle.cfb_tree.specs.Names.{ascii_letters}
-use Rattle.msi.specs.Package.{Package, MeansPackage}
-use Rattle.staged.specs.Files.{Files}
-use Rattle.staged.specs.Log.{recovered, logged, ClosedLog, IsPublished}
+use Rattle.msi.specs.Package.{MeansPackage}
+use Rattle.staged.specs.Log.{recovered, IsPublished}
 use Rattle.staged.specs.Settled.{IsSettled}
 use Rattle.staged.specs.declared.device.Device.{Ghosts}
 use Rattle.installer.proofs.Recovering.{closed_home}
@@ -15,13 +14,13 @@ use Rattle.installer.specs.Reply as told
 use Rattle.installer.specs.Step.{told_of}
 use Rattle.cfb_medium.specs.declared.error.Error.{Error}
 use Rattle.cfb_medium.specs.declared.error.Error.TheVariants.{Memory, Device}
-use Rattle.installer.specs.Survival.{MayBeFound, GivesOneOf, Survives}
+use Rattle.installer.specs.Survival.{MayBeFound, Survives}
 
 found_sub : (few many : List ℕ → Type 0) (marks : List Mark) → ((b : List ℕ) → few b → many b) → (b : List ℕ) → MayBeFound few marks b → MayBeFound many marks b
 found_sub few many [] sub b found = sub b found
 found_sub few many (m ∷ marks) sub b found =
     found_sub (λ b. MeansPackage ascii_letters b m.held ⊎ ((m.done ≡ false) × few b)) (λ b. MeansPackage ascii_letters b m.held ⊎ ((m.done ≡ false) × many b)) marks
-      (λ b either. ⊎_elim (λ x. inl x) (λ x. inr (x.0, sub b x.1)) either) b found
+    (λ b either. ⊎_elim (λ x. inl x) (λ x. inr (x.0, sub b x.1)) either) b found
 
 found_then : (lists : List ℕ → Type 0) (own later : List Mark) (b : List ℕ) → MayBeFound (MayBeFound lists own) later b → MayBeFound lists (own ++ later) b
 found_then lists [] later b found = found
@@ -35,9 +34,12 @@ module _ {D : Type 0} (g : Ghosts D) where
     counted = omega (arith, first.counted, second.counted);
     at_return = λ honest given is.
         let one = first.at_return honest given is in
-        let two = second.at_return (rw first.honest honest) one.0 one.1 in
-        (two.0, two.1, found_then (λ b. b ≡ given) own later two.0
-          (found_sub (λ b. b ≡ one.0) (MayBeFound (λ b. b ≡ given) own) later (λ b same. subst (MayBeFound (λ b. b ≡ given) own) (sym same) one.2) two.0 two.2));
+        let two = second.at_return (rw first.honest honest) one.0 one.1 in (
+          two.0,
+          two.1,
+          found_then (λ b. b ≡ given) own later two.0
+              (found_sub (λ b. b ≡ one.0) (MayBeFound (λ b. b ≡ given) own) later (λ b same. subst (MayBeFound (λ b. b ≡ given) own) (sym same) one.2) two.0 two.2),
+        );
   }
 
   -- files that stay are found as they were

@@ -1,5 +1,5 @@
 -- Writing a whole medium over.
-use Rattle.std.proofs.Common.{◌≡◌, ◌≢◌, ◌≤◌, ◌<◌, ◌+◌, ◌-◌, ◌^◌, ℕ, List, [], ◌∷◌, ◌++◌, length, take, drop, replicate, ◌⊎◌, refl, sym, ap, ◌∙◌, arith, ⊎_elim, inl, inr, rules, Bool, true, false}
+use Rattle.std.proofs.Common.{◌≡◌, ◌≢◌, ◌≤◌, ◌+◌, ◌-◌, ℕ, List, [], ◌∷◌, ◌++◌, length, drop, replicate, ◌⊎◌, refl, sym, ap, ◌∙◌, arith, ⊎_elim, inl, inr, rules, Bool, true, false}
 use Rattle.std.proofs.lemmas.List.{drop_all, take_all, nil_from_length, append-nil}
 use Rattle.std.specs.Prelude.{Result, Err}
 use Rattle.cfb_medium.specs.Bytes.{overwritten, Serves}

@@ -1,5 +1,5 @@
 -- How a session goes along a list of commands.
-use Rattle.std.specs.Prelude.{◌≡◌, ◌⊎◌, ◌<◌, ◌-◌, ◌^◌, ℕ, Bool, true, false, List, [], ◌∷◌, ◌++◌, map, Option, Some, None}
+use Rattle.std.specs.Prelude.{◌≡◌, ◌⊎◌, ◌<◌, ◌-◌, ◌^◌, ℕ, Bool, true, false, List, [], ◌∷◌, ◌++◌, Option, Some}
 use Rattle.msi.specs.Package.{Package}
 use Rattle.installer.specs.Request.{Request, is_reading}
 use Rattle.installer.specs.Request as command

@@ -1,5 +1,5 @@
 -- What each command answers, and what it makes of the package, while a session holds at most one table.
-use Rattle.std.specs.Prelude.{Result, Ok, Err}
+use Rattle.std.specs.Prelude.{Ok}
 use Rattle.msi_texts.specs.Results.{◌>>=◌}
 use Rattle.cfb_tree.specs.Names.{ascii_letters}
 use Rattle.msi.specs.Package.{Package}

@@ -1,8 +1,7 @@
 -- A session as what is seen of it.
-use Rattle.std.specs.Prelude.{◌≡◌, ◌⊎◌, ◌<◌, ◌-◌, ◌^◌, ℕ, Bool, true, false, List, Option, IsTrue, Some, []}
+use Rattle.std.specs.Prelude.{◌≡◌, ◌⊎◌, ◌<◌, ◌-◌, ◌^◌, Bool, true, false, Option}
 use Rattle.msi.specs.Package.{Package}
 use Rattle.staged.specs.Staged.{device_of, is_failed}
-use Rattle.staged.specs.Log.{recovered, logged, MalformedLog}
 use Rattle.staged.specs.declared.device.Device.{Ghosts}
 use Rattle.one_table.specs.Held.{package_in}
 use Rattle.cfb_medium.specs.declared.error.Error.{Error}

@@ -1,7 +1,7 @@
 -- What a recovery gives after a call that returned.
-use Rattle.std.specs.Prelude.{◌≡◌, ◌⊎◌, ◌≤◌, ℕ, Bool, false, List, [], ◌∷◌, Option, Some, IsTrue}
+use Rattle.std.specs.Prelude.{◌≡◌, ◌⊎◌, ◌≤◌, ℕ, false, List, [], ◌∷◌, Some, IsTrue}
 use Rattle.cfb_tree.specs.Names.{ascii_letters}
-use Rattle.msi.specs.Package.{Package, MeansPackage}
+use Rattle.msi.specs.Package.{MeansPackage}
 use Rattle.staged.specs.Files.{Files}
 use Rattle.staged.specs.Log.{recovered}
 use Rattle.staged.specs.declared.device.Device.{Ghosts}

@@ -113,7 +113,9 @@ impl<D: Device> Session<D> {
             return Answer::Refused(Error::Failed);
         }
         match command {
-            Command::CreateTable(name, columns) => answer_of(self.contents.create_table(name, columns)),
+            Command::CreateTable(name, columns) => answer_of(
+                self.contents.create_table(name, columns),
+            ),
             Command::Insert(insert) => answer_of(self.contents.insert(insert)),
             Command::Select(select) => self.select(select),
             Command::Commit => answer_of(self.commit()),

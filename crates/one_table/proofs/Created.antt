@@ -1,29 +1,26 @@
 -- What a new table makes of the package, and why others are refused.
-use Rattle.std.proofs.Common.{◌≡◌, ℕ, zero, suc, ◌+◌, ◌*◌, ◌<◌, ◌≤◌, Bool, true, false, cond, List, [], ◌∷◌, ◌++◌, map, length, refl, sym, ap, ◌∙◌, arith, Ok, Err, Some, None, ℤ, pos, subst}
-use Rattle.std.specs.Prelude.{◌&&◌, ◌||◌, not, ◌==◌, Result, nat_le, bytes_eq, chars, Option, is_some, is_none}
+use Rattle.std.proofs.Common.{◌≡◌, ℕ, ◌<◌, ◌≤◌, Bool, true, false, cond, List, [], ◌∷◌, map, length, refl, sym, ap, ◌∙◌, arith, Ok, Err, Some, None}
+use Rattle.std.specs.Prelude.{◌&&◌, not, ◌==◌, Result, nat_le, bytes_eq, chars, Option, is_some}
 use Rattle.std.specs.List.{list_all, list_any}
 use Rattle.std.specs.Ordering.{is_lt}
 use Rattle.std.specs.declared.cmp.Ordering.{Ordering}
 use Rattle.std.proofs.lemmas.Bool.Decides.{nat_tests}
-use Rattle.std.proofs.lemmas.Str.{chars-IsAscii}
-use Rattle.std.specs.Str.{IsAscii}
 use Rattle.msi_texts.specs.Results.{◌>>=◌, unless_not}
-use Rattle.msi_texts.specs.Datum.{Datum, number, text, null}
-use Rattle.msi_texts.specs.Category.{is_identifier, begins_name, is_name_byte}
+use Rattle.msi_texts.specs.Datum.{text}
+use Rattle.msi_texts.specs.Category.{is_identifier}
 use Rattle.msi_texts.specs.Pool.{Pool, Place}
 use Rattle.msi_texts.specs.StreamName.{is_valid_name}
-use Rattle.msi_texts.specs.declared.stringref.ValueRef.TheVariants as cell
 use Rattle.msi_tables.specs.Column.{Column, plain, are_valid}
 use Rattle.msi_tables.specs.Rows.{Row, IsArranged, row_cmp}
 use Rattle.msi_tables.specs.Table.{Table, IsStoredByKeys, row_key_cmp, table_named}
-use Rattle.msi_tables.specs.Schema.{columns_name, tables_name, validation_name, columns_columns, tables_columns, validation_columns, validation_row}
+use Rattle.msi_tables.specs.Schema.{columns_name, tables_name, columns_columns, tables_columns, validation_columns, validation_row}
 use Rattle.msi_tables.specs.Schema.{columns_rows as rows_for}
 use Rattle.msi_tables.specs.declared.column.ColumnType.{ColumnType}
 use Rattle.msi_tables.specs.declared.column.ColumnType.TheVariants as kind
 use Rattle.msi_query.specs.Query.{rows_counted}
 use Rattle.cfb_tree.specs.Names.{ascii_letters}
-use Rattle.msi.specs.Package.{Package, table_name_cmp, stream_name, pool_name, data_name}
-use Rattle.msi.specs.Calls.{table_put, with_rows, rows_put, new_table, has_table, is_valid_table_name, names_distinct, is_system, is_kept}
+use Rattle.msi.specs.Package.{Package, table_name_cmp}
+use Rattle.msi.specs.Calls.{table_put, with_rows, rows_put, new_table, has_table, names_distinct, is_system, is_kept}
 use Rattle.one_table.proofs.Identifiers.{name_chars, short_is_valid}
 use Rattle.one_table.specs.declared.contents.OnlyTable.{OnlyTable}
 use Rattle.one_table.specs.Contents.{only_seen, only_of, Only, IsKept, AreKept, package_of, only_table, key_column, columns_row, tables_row, places_of, own_tables, all_tables, new_only, IsFirst, pool_with, columns_table, tables_table}
@@ -33,7 +30,7 @@ use Rattle.std.proofs.Common.{lit≤}
 use Rattle.one_table.specs.Requests.{columns_said}
 use Rattle.one_table.specs.declared.column.Column.{Column as HeldColumn}
 use Rattle.one_table.specs.Naming.{are_named}
-use Rattle.one_table.proofs.Found.{IsFree, is_free, bytes_same, bytes_swap, same_bytes, others_found, found_only, found_none}
+use Rattle.one_table.proofs.Found.{IsFree, is_free, bytes_same, same_bytes, others_found, found_only, found_none}
 use Rattle.cfb_medium.specs.declared.error.Error.{Error}
 use Rattle.cfb_medium.specs.declared.error.Error.TheVariants.{InvalidInput, AlreadyExists}
 

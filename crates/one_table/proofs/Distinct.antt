@@ -1,6 +1,6 @@
 -- Keys that an insert accepts stay distinct, in whatever order they are kept.
 use Rattle.std.proofs.Common.{◌≡◌, ℕ, ◌+◌, ◌≤◌, Bool, true, false, cond, List, [], ◌∷◌, ◌++◌, refl, sym, ap, ◌∙◌, arith, Ok, Err}
-use Rattle.std.specs.Prelude.{◌||◌, ◌&&◌, not, sum_by, Result, IsPermutation}
+use Rattle.std.specs.Prelude.{◌||◌, ◌&&◌, not, sum_by, IsPermutation}
 use Rattle.std.specs.List.{list_any}
 use Rattle.std.specs.Ordering.{is_eq}
 use Rattle.std.specs.declared.cmp.Ordering.{Ordering}
@@ -13,7 +13,6 @@ use Rattle.msi_texts.specs.Datum.{Datum}
 use Rattle.msi_tables.specs.Table.{key_cmp, has_key, are_distinct}
 use Rattle.msi_tables.proofs.Keys.{datum_cmp_total}
 use Rattle.msi_query.specs.Query.{new_keys}
-use Rattle.cfb_medium.specs.declared.error.Error.{Error}
 use Rattle.cfb_medium.specs.declared.error.Error.TheVariants.{InvalidInput, AlreadyExists}
 
 -- 1 for one key, else 0

@@ -1,11 +1,11 @@
 -- Which table a name finds.
-use Rattle.std.proofs.Common.{◌≡◌, ℕ, Bool, true, false, cond, List, [], ◌∷◌, refl, sym, ap, ◌∙◌, subst, Some, None, find, Option, arith}
+use Rattle.std.proofs.Common.{◌≡◌, ℕ, Bool, true, false, cond, List, [], ◌∷◌, refl, sym, ◌∙◌, subst, Some, None, find, Option, arith}
 use Rattle.std.specs.Prelude.{bytes_eq, ◌||◌}
 use Rattle.std.specs.Ordering.{is_lt}
 use Rattle.std.proofs.lemmas.Slice.Eq.{bytes_eq-Decides}
 use Rattle.msi_tables.specs.Table.{Table, table_named}
 use Rattle.msi_tables.specs.Schema.{columns_name, tables_name, validation_name}
-use Rattle.msi.specs.Package.{Package, table_name_cmp, pool_name, data_name}
+use Rattle.msi.specs.Package.{table_name_cmp, pool_name, data_name}
 use Rattle.msi.specs.Calls.{table_put}
 use Rattle.one_table.specs.Limits.{is_taken}
 use Rattle.one_table.specs.Contents.{Only, IsKept, AreKept, package_of, columns_table, tables_table, only_table, own_tables, own_places, places_of, pool_with}

@@ -1,19 +1,17 @@
 -- Images grow as their packages do.
-use Rattle.std.proofs.Common.{◌≡◌, ℕ, suc, ◌+◌, ◌*◌, ◌<◌, ◌≤◌, ◌^◌, Bool, true, false, cond, List, [], ◌∷◌, ◌++◌, map, length, refl, sym, ap, ◌∙◌, arith, Some, None, lit≤, lit<, length-append, ℤ, subst}
+use Rattle.std.proofs.Common.{◌≡◌, ℕ, ◌+◌, ◌<◌, ◌≤◌, ◌^◌, Bool, true, false, cond, List, [], ◌∷◌, ◌++◌, length, refl, sym, ◌∙◌, arith, Some, None, lit≤, lit<, length-append, ℤ, subst}
 use Rattle.msi_tables.specs.Schema.{columns_name, tables_name}
 use Rattle.std.specs.Prelude.{Option, bytes_eq}
-use Rattle.std.specs.List.{AllByRecursion, sum_by}
+use Rattle.std.specs.List.{AllByRecursion}
 use Rattle.std.specs.Ordering.{is_lt}
-use Rattle.std.specs.declared.cmp.Ordering.{Ordering}
 use Rattle.std.proofs.lemmas.List.Sums.{sum_by-cons}
 use Rattle.cfb_tree.specs.Names.{ascii_letters, name_cmp}
-use Rattle.plain.specs.WholeImage.{NamedStream, parts, counts, sum_of, image, AreFewShort}
-use Rattle.plain.proofs.ImageLength.{short_images_grow, short_image_small, short_image_bound}
+use Rattle.plain.specs.WholeImage.{NamedStream, parts, counts, sum_of, AreFewShort}
+use Rattle.plain.proofs.ImageLength.{short_images_grow, short_image_bound}
 use Rattle.msi_texts.specs.Pool.{pool_stream, data_stream, head_bytes}
-use Rattle.msi_texts.specs.Numbers.{le_bytes}
 use Rattle.msi.specs.Package.{stream_name, summary_name, pool_name, data_name}
 use Rattle.msi_props.specs.Props.{props_bytes}
-use Rattle.one_table.specs.Contents.{Only, IsKept, AreKept, package_of, pool_with, own_places, places_of, new_only}
+use Rattle.one_table.specs.Contents.{Only, IsKept, AreKept, package_of, pool_with, new_only}
 use Rattle.one_table.specs.Streams.{named, streams_of, own_streams, put_by, keys_bytes, columns_bytes, tables_bytes, image_of, root_facts}
 use Rattle.one_table.proofs.KeyRows.{keys_length}
 use Rattle.one_table.proofs.Packed.{head_small}

@@ -1,6 +1,6 @@
 -- Identifiers are ASCII, and short ones can name a table and its stream.
-use Rattle.std.proofs.Common.{◌≡◌, ℕ, zero, suc, ◌+◌, ◌*◌, ◌<◌, ◌≤◌, Bool, true, false, cond, List, [], ◌∷◌, ◌++◌, length, get_or, refl, sym, ap, ◌∙◌, arith, Some, None, ◌-◌, lit<}
-use Rattle.std.specs.Prelude.{◌&&◌, ◌||◌, not, ◌==◌, nat_le, nat_lt, chars, Option, is_some}
+use Rattle.std.proofs.Common.{◌≡◌, ℕ, zero, suc, ◌+◌, ◌*◌, ◌<◌, ◌≤◌, Bool, true, false, cond, List, [], ◌∷◌, length, refl, arith, Some, None, ◌-◌, lit<}
+use Rattle.std.specs.Prelude.{◌&&◌, ◌||◌, ◌==◌, nat_le, nat_lt, chars}
 use Rattle.std.specs.List.{list_all, flat_map, AllByRecursion}
 use Rattle.std.specs.Char.Escape.{encode_utf16}
 use Rattle.std.proofs.lemmas.Bool.Decides.{nat_tests}
@@ -8,11 +8,10 @@ use Rattle.std.proofs.lemmas.Str.{chars-IsAscii}
 use Rattle.std.specs.Str.{IsAscii}
 use Rattle.std.specs.Prelude.{encode_utf8_all}
 use Rattle.std.proofs.lemmas.Str.{chars-encodes}
-use Rattle.std.proofs.Common.{lit≤}
 use lib.Utf8.{scalars, scalar}
 use Rattle.msi.specs.Package.{stream_name}
-use Rattle.msi_texts.specs.Category.{is_identifier, begins_name, is_name_byte, is_upper, is_lower}
-use Rattle.msi_texts.specs.StreamName.{is_valid_name, is_between, spelled, spelled_name, letter_value, pair, pair_of, lone, lone_of, joined_or, is_plain_name, is_plain, table_prefix}
+use Rattle.msi_texts.specs.Category.{is_identifier, begins_name, is_name_byte}
+use Rattle.msi_texts.specs.StreamName.{is_valid_name, is_between, spelled, spelled_name, letter_value, table_prefix}
 
 and_true : (a b : Bool) → (a && b) ≡ true → (a ≡ true) × (b ≡ true)
 and_true true b e = (refl, e)

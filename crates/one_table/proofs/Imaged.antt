@@ -1,19 +1,17 @@
 -- The image of the package's streams can be written, and means the package.
-use Rattle.std.proofs.Common.{◌≡◌, ℕ, suc, ◌+◌, ◌*◌, ◌<◌, ◌≤◌, List, [], ◌∷◌, map, length, refl, sym, ap, ◌∙◌, arith, Some, None, lit≤, subst, true}
+use Rattle.std.proofs.Common.{◌≡◌, ℕ, ◌≤◌, List, length, refl, sym, arith, Some, None, lit≤, true}
 use Rattle.std.specs.Prelude.{Option, option_copied}
 use denote.Ref.{Bor}
 use Rattle.one_table.specs.declared.contents.OnlyTable.{OnlyTable}
 use Rattle.one_table.specs.Contents.{only_lent, only_seen}
-use Rattle.std.specs.List.{AllByRecursion, flat_map}
+use Rattle.std.specs.List.{AllByRecursion}
 use Rattle.cfb_tree.specs.Names.{ascii_letters, name_cmp, name_units}
 use Rattle.cfb.specs.Means.{Means}
-use Rattle.plain.specs.WholeImage.{NamedStream, content_of_streams}
 use Rattle.msi_texts.specs.Category.{is_identifier}
-use Rattle.msi_texts.specs.StreamName.{spelled, table_prefix}
 use Rattle.msi_tables.specs.Schema.{columns_name, tables_name}
-use Rattle.msi.specs.Package.{MeansPackage, stream_name, summary_name, pool_name, data_name}
+use Rattle.msi.specs.Package.{MeansPackage, stream_name, pool_name, data_name}
 use Rattle.one_table.specs.Contents.{Only, AreKept, package_of}
-use Rattle.one_table.specs.Streams.{named, streams_of, own_streams, keys_bytes, tree_of, root_facts}
+use Rattle.one_table.specs.Streams.{named, streams_of, own_streams, keys_bytes, tree_of}
 use Rattle.one_table.proofs.Identifiers.{name_bytes, name_chars, spelled_half, letter_units}
 use Rattle.one_table.proofs.Packed.{streams_pack, table_identifier}
 use Rattle.one_table.proofs.Put.{all_put}

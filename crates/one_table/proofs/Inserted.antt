@@ -1,6 +1,6 @@
 -- What an insert makes of a table, and why others are refused.
-use Rattle.std.proofs.Common.{◌≡◌, ℕ, ◌+◌, ◌≤◌, Bool, true, false, cond, List, [], ◌∷◌, ◌++◌, map, length, refl, sym, ap, ◌∙◌, arith, Ok, Err, Some, None, ℤ, pos, negsuc}
-use Rattle.std.specs.Prelude.{◌&&◌, ◌||◌, not, Result, nat_le, int_le}
+use Rattle.std.proofs.Common.{◌≡◌, ℕ, ◌+◌, ◌≤◌, Bool, true, false, cond, List, [], ◌∷◌, ◌++◌, map, length, refl, sym, ap, ◌∙◌, arith, Ok, Err, Some, None, ℤ}
+use Rattle.std.specs.Prelude.{◌&&◌, ◌||◌, not, Result, nat_le}
 use Rattle.std.specs.List.{list_all, list_any}
 use Rattle.std.proofs.lemmas.Bool.Decides.{nat_tests}
 use Rattle.std.proofs.lemmas.List.{length-map, map-append}
@@ -35,7 +35,7 @@ use Rattle.msi_tables.specs.Rows.{Row, max_rows}
 use Rattle.msi_tables.specs.Table.{Table, table_named, row_data, key_values, keys_of, are_distinct}
 use Rattle.msi_query.specs.Query.{inserted, new_keys, rows_counted}
 use Rattle.msi.specs.Package.{Package}
-use Rattle.msi.specs.Calls.{Change, may_insert}
+use Rattle.msi.specs.Calls.{may_insert}
 use Rattle.one_table.specs.Contents.{key_column, key_row, key_data, is_key, keys_said, key_said}
 use Rattle.one_table.specs.Limits.{inserted_few, most_rows}
 use Rattle.one_table.specs.Rules.{judged, keys_by}

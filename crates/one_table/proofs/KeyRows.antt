@@ -1,18 +1,18 @@
 -- The rows that the package's tables' streams hold.
-use Rattle.std.proofs.Common.{◌≡◌, ℕ, zero, suc, ◌+◌, ◌*◌, ◌/◌, ◌-◌, ◌<◌, ◌≤◌, ◌%◌, Bool, true, false, cond, List, [], ◌∷◌, ◌++◌, map, length, take, drop, refl, sym, ap, ◌∙◌, arith, Some, None, ℤ, pos, negsuc, append_assoc, length-append}
-use Rattle.std.specs.Prelude.{◌&&◌, slice_range, nat_le, int_le, bytes_eq, Option, ◌^◌, ◌-ℤ◌}
-use Rattle.std.specs.List.{list_all, flat_map}
+use Rattle.std.proofs.Common.{◌≡◌, ℕ, zero, suc, ◌+◌, ◌*◌, ◌/◌, ◌-◌, ◌<◌, ◌≤◌, Bool, true, false, cond, List, [], ◌∷◌, ◌++◌, map, length, refl, sym, ap, ◌∙◌, arith, Some, None, ℤ, pos, negsuc, append_assoc, length-append}
+use Rattle.std.specs.Prelude.{◌&&◌, slice_range, nat_le, bytes_eq, Option, ◌^◌, ◌-ℤ◌}
+use Rattle.std.specs.List.{list_all}
 use Rattle.std.proofs.lemmas.Bool.Decides.{nat_tests}
 use Rattle.std.proofs.lemmas.Int.{ints}
 use Rattle.msi_texts.specs.Numbers.{le_bytes, le_number}
 use Rattle.msi_texts.specs.declared.stringref.ValueRef.TheVariants as cell
 use Rattle.msi_tables.specs.Cell.{cell_value, above}
-use Rattle.msi_tables.specs.Rows.{rows_of, row_at, numbers_from, row_count}
+use Rattle.msi_tables.specs.Rows.{rows_of, row_at, numbers_from}
 use Rattle.msi_tables.specs.Rows.{kinds_of}
 use Rattle.msi_tables.specs.Schema.{columns_columns, tables_columns}
 use Rattle.msi_tables.specs.declared.column.ColumnType.TheVariants as kind
 use Rattle.plain.proofs.ImageParts.{take_exact, drop_exact}
-use Rattle.one_table.specs.Contents.{Only, key_row, is_key, columns_row, tables_row, columns_rows, tables_rows, column_place}
+use Rattle.one_table.specs.Contents.{Only, key_row, is_key, columns_rows, tables_rows}
 use Rattle.one_table.specs.Streams.{key_number, keys_bytes, columns_bytes, tables_bytes}
 
 -- a number of two bytes is read as it was written

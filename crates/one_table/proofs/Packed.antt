@@ -1,37 +1,33 @@
 -- The streams of a package pack it.
-use Rattle.std.proofs.Common.{◌≡◌, ◌⊎◌, inl, inr, ⊎_elim, ℕ, zero, suc, ◌+◌, ◌<◌, ◌≤◌, Bool, true, false, cond, List, [], ◌∷◌, ◌++◌, map, length, refl, sym, ap, ◌∙◌, subst, arith, Some, None, Ok, get_or, pos}
-use Rattle.msi_texts.specs.declared.stringref.ValueRef.TheVariants as cell
-use Rattle.std.specs.Prelude.{◌&&◌, ◌||◌, not, ◌↔◌, ◌^◌, IsTrue, Option, bytes_eq, find, filter, option_map, option_and_then, unwrap_or, All, Contains, is_some}
+use Rattle.std.proofs.Common.{◌≡◌, ℕ, zero, suc, ◌<◌, ◌≤◌, Bool, true, false, cond, List, [], ◌∷◌, ◌++◌, map, length, refl, sym, ap, ◌∙◌, subst, arith, Some, None, Ok, get_or, pos}
+use Rattle.std.specs.Prelude.{◌&&◌, ◌||◌, not, ◌↔◌, ◌^◌, IsTrue, Option, bytes_eq, find, filter, unwrap_or, All, Contains}
 use Rattle.std.specs.Str.{chars}
-use Rattle.std.specs.List.{list_all, list_any, AllByRecursion}
+use Rattle.std.specs.List.{list_any, AllByRecursion}
 use Rattle.std.specs.List.Sorted.{IsStrictlySortedBy}
 use Rattle.std.specs.Str.Lossy.{utf8_lossy}
 use Rattle.cfb_tree.specs.Names.{ascii_letters, name_cmp}
-use Rattle.cfb_tree.specs.Tree.{Tree}
-use Rattle.cfb.specs.TreeRules.{Object, is_same_name}
-use Rattle.cfb.specs.TreeRules.{name_of as object_name}
-use Rattle.plain.specs.WholeImage.{NamedStream, content_of_streams}
+use Rattle.cfb.specs.TreeRules.{is_same_name}
+use Rattle.plain.specs.WholeImage.{NamedStream}
 use Rattle.msi_texts.specs.Category.{is_identifier}
-use Rattle.msi_texts.specs.Pool.{Pool, Place, Pooled, pool_stream, data_stream, at_place}
+use Rattle.msi_texts.specs.Pool.{Place, pool_stream, data_stream, at_place}
 use Rattle.msi_texts.specs.PoolKept.{IsWritable}
 use Rattle.msi_texts.specs.PoolKept.{IsKept as IsKeptPlace}
 use Rattle.msi_texts.proofs.PoolRoundTrip.{written_pool_is_read}
 use Rattle.msi_texts.specs.Datum.{Datum, text, number}
 use Rattle.msi_texts.specs.StreamName.{is_valid_name}
-use Rattle.msi_tables.specs.Rows.{Row, rows_of, kinds_of}
-use Rattle.msi_tables.specs.Table.{Table, row_data, data_rows, table_named}
+use Rattle.msi_tables.specs.Rows.{rows_of, kinds_of}
+use Rattle.msi_tables.specs.Table.{Table, row_data}
 use Rattle.msi_tables.specs.Schema.{columns_name, tables_name, validation_name, validation_columns, columns_columns, tables_columns, columns_in, is_schema, begins_with}
 use Rattle.msi_props.specs.Props.{props_bytes, props_read}
-use Rattle.msi_props.specs.Summary.{summary_format}
-use Rattle.msi.specs.Package.{Packs, objects, stream_at, table_stream, stream_name, summary_name, pool_name, data_name, class_of, is_table_name, rows_named, table_name_cmp, is_own, is_stream}
+use Rattle.msi.specs.Package.{Packs, objects, stream_at, table_stream, stream_name, summary_name, pool_name, data_name, is_table_name, rows_named, table_name_cmp, is_own, is_stream}
 use Rattle.msi.specs.Calls.{table_put}
-use Rattle.one_table.specs.Contents.{Only, IsKept, AreKept, package_of, places_of, own_places, pool_with, only_table, columns_table, tables_table, own_tables, all_tables, key_column, columns_row, columns_rows, tables_rows, column_place}
-use Rattle.one_table.specs.Streams.{named, own_streams, streams_of, put_by, columns_bytes, tables_bytes, keys_bytes, tree_of, root_facts}
+use Rattle.one_table.specs.Contents.{Only, IsKept, AreKept, package_of, places_of, own_places, pool_with, only_table, columns_table, tables_table, own_tables, all_tables, key_column, columns_rows, tables_rows, column_place}
+use Rattle.one_table.specs.Streams.{named, own_streams, streams_of, put_by, columns_bytes, tables_bytes, keys_bytes, tree_of}
 use Rattle.one_table.proofs.Found.{IsFree, is_free, bytes_swap, bytes_same, same_bytes, found_columns, found_tables}
 use Rattle.one_table.proofs.StreamNames.{same_stream, not_summary, summary_not, same_itself}
 use Rattle.one_table.proofs.StreamsFound.{has_name, stream_found, own_found, own_summary, objects_of, object_of}
-use Rattle.one_table.proofs.Put.{find_others, find_new, all_put, any_put, none_pass, rises_put}
-use Rattle.std.specs.declared.cmp.Ordering.TheVariants.{Less, Equal, Greater}
+use Rattle.one_table.proofs.Put.{find_others, find_new, all_put, any_put, rises_put}
+use Rattle.std.specs.declared.cmp.Ordering.TheVariants.{Equal}
 use Rattle.std.proofs.lemmas.Cmp.{nat_list_cmp_total, nat_list_eq_equiv}
 use Rattle.std.proofs.lemmas.Map.Views.{Contains-from_any, list_any-from_Contains}
 use Rattle.cfb_tree.proofs.NameOrder.{slice_cmp_equal, name_cmp_total}

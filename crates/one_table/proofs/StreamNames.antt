@@ -1,6 +1,6 @@
 -- Names of the package's streams are told apart as the names of its tables are.
 use Rattle.std.proofs.Common.{◌≡◌, ℕ, zero, suc, ◌+◌, ◌<◌, ◌≤◌, Bool, true, false, List, [], ◌∷◌, map, refl, sym, ap, ◌∙◌, arith, lit≤}
-use Rattle.std.specs.Prelude.{◌==◌, ◌&&◌, bytes_eq, chars, codes}
+use Rattle.std.specs.Prelude.{◌==◌, ◌&&◌, bytes_eq, codes}
 use Rattle.std.specs.List.{list_all, flat_map, range_with_len, AllByRecursion}
 use Rattle.std.specs.Ordering.{is_eq}
 use Rattle.std.specs.Char.Escape.{encode_utf16}
@@ -8,7 +8,7 @@ use Rattle.std.specs.declared.cmp.Ordering.{Ordering}
 use Rattle.std.specs.declared.cmp.Ordering.TheVariants.{Less, Equal, Greater}
 use Rattle.std.proofs.lemmas.Bool.Decides.{nat_tests}
 use Rattle.msi_texts.specs.Category.{is_identifier, is_name_byte}
-use Rattle.msi_texts.specs.StreamName.{spelled, spelled_name, table_prefix, is_plain_name, is_plain, is_between}
+use Rattle.msi_texts.specs.StreamName.{spelled, table_prefix, is_plain_name, is_plain}
 use Rattle.msi_texts.proofs.NamesReadBack.{spelled_names_differ}
 use Rattle.cfb_tree.specs.Names.{Letters, letter, name_key, name_cmp, ascii_letters}
 use Rattle.cfb_tree.proofs.NameOrder.{name_cmp_equal}

@@ -1,21 +1,18 @@
 -- What stands at the names of a package's streams.
-use Rattle.std.proofs.Common.{◌≡◌, ℕ, Bool, true, false, cond, List, [], ◌∷◌, map, refl, sym, ap, ◌∙◌, Some, None}
-use Rattle.std.specs.Prelude.{bytes_eq, find, Option, option_map, option_and_then, unwrap_or, not, ◌&&◌}
-use Rattle.cfb_tree.specs.Names.{Letters, ascii_letters, name_cmp}
-use Rattle.cfb_tree.specs.Tree.{Content, nothing, stream, child_names}
+use Rattle.std.proofs.Common.{◌≡◌, ℕ, Bool, true, false, cond, List, [], ◌∷◌, map, refl, ap, Some, None}
+use Rattle.std.specs.Prelude.{bytes_eq, find, Option, option_map, option_and_then}
+use Rattle.cfb_tree.specs.Names.{ascii_letters}
+use Rattle.cfb_tree.specs.Tree.{child_names}
 use Rattle.cfb.specs.TreeRules.{Object, a_stream, is_same_name}
-use Rattle.cfb.specs.TreeRules.{name_of as object_name}
 use Rattle.plain.specs.WholeImage.{NamedStream, content_of_streams}
 use Rattle.msi_texts.specs.Category.{is_identifier}
 use Rattle.msi_texts.specs.Pool.{pool_stream, data_stream}
-use Rattle.msi_tables.specs.Schema.{columns_name, tables_name, validation_name}
+use Rattle.msi_tables.specs.Schema.{columns_name, tables_name}
 use Rattle.msi_props.specs.Props.{props_bytes}
-use Rattle.msi.specs.Package.{objects, at_name, stream_at, table_stream, object_bytes, stream_name, summary_name, pool_name, data_name}
-use Rattle.one_table.specs.Contents.{Only, IsKept, package_of}
-use Rattle.one_table.specs.Streams.{named, own_streams, streams_of, put_by, columns_bytes, tables_bytes, keys_bytes}
-use Rattle.one_table.proofs.Found.{IsFree, is_free, bytes_swap, bytes_same}
+use Rattle.msi.specs.Package.{objects, at_name, stream_at, object_bytes, stream_name, summary_name, pool_name, data_name}
+use Rattle.one_table.specs.Contents.{Only, package_of}
+use Rattle.one_table.specs.Streams.{named, own_streams, columns_bytes, tables_bytes}
 use Rattle.one_table.proofs.StreamNames.{same_stream, not_summary, summary_not, same_itself}
-use Rattle.one_table.proofs.Put.{find_others, find_new}
 
 -- a stream as an object
 abbrev pub object_of : NamedStream → Object

@@ -1,11 +1,10 @@
 -- Streams as they are held, and where they go.
-use Rattle.std.proofs.Common.{◌≡◌, ℕ, zero, suc, ◌+◌, ◌<◌, ◌≤◌, Bool, true, false, cond, List, [], ◌∷◌, ◌++◌, map, length, take, drop, refl, sym, ap, ◌∙◌, arith, string_bytes, add-one, get_or, drop-cons}
+use Rattle.std.proofs.Common.{◌≡◌, ℕ, suc, ◌+◌, ◌<◌, true, false, cond, List, [], ◌∷◌, length, drop, refl, sym, ap, ◌∙◌, string_bytes, add-one, get_or, drop-cons}
 use Rattle.std.specs.declared.cmp.Ordering.{Ordering}
 use Rattle.std.specs.Str.{chars}
 use Rattle.std.specs.Prelude.{codes, insert}
 use Rattle.std.specs.Ordering.{is_lt}
 use Rattle.cfb_tree.specs.Names.{ascii_letters, name_cmp}
-use Rattle.plain.specs.WholeImage.{NamedStream}
 use Rattle.plain.specs.declared.image.NamedStream.{NamedStream as HeldStream}
 use Rattle.plain.specs.Views.{stream_view, stream_views}
 use Rattle.msi.specs.Package.{summary_name}

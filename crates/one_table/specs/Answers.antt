@@ -1,5 +1,5 @@
 -- What a call answers and leaves.
-use Rattle.std.specs.Prelude.{◌≡◌, ◌⊎◌, Result, Ok, Err, List, map, string_bytes, Vec, String}
+use Rattle.std.specs.Prelude.{◌≡◌, ◌⊎◌, Result, Ok, Err, map, string_bytes, Vec, String}
 use Rattle.std.specs.declared.alloc.Global.{Global}
 use Rattle.cfb_medium.specs.declared.error.Error.{Error}
 use Rattle.cfb_medium.specs.declared.error.Error.TheVariants.{Memory}

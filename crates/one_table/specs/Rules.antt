@@ -1,5 +1,5 @@
 -- What an insert's rows must be, by the types of columns and the key alone.
-use Rattle.std.specs.Prelude.{◌≡◌, ℕ, List, [], ◌∷◌, map, length, Result, Ok}
+use Rattle.std.specs.Prelude.{List, [], map, Result}
 use Rattle.std.specs.List.{list_all}
 use Rattle.msi_texts.specs.Results.{◌>>=◌, unless_not}
 use Rattle.msi_texts.specs.Datum.{Datum, data_of}

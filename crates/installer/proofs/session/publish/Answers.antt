@@ -1,8 +1,7 @@
-use Rattle.std.proofs.Common.{◌≡◌, ◌≤◌, ◌<◌, ◌^◌, ◌+◌, sym, ap, ◌∙◌, refl, arith, inl, inr, length}
+use Rattle.std.proofs.Common.{◌≡◌, sym, ap, ◌∙◌, refl, arith, length}
 use Rattle.std.specs.Prelude.{IsTrue, Err}
 use Rattle.staged.specs.Staged.{device_of, staged_bytes, Continues}
 use Rattle.staged.specs.Log.{logged}
-use Rattle.installer.proofs.Recovering.{faults}
 use Rattle.installer.proofs.Writing.{written_over, fault_kind, not_both}
 use Rattle.installer.proofs.session.publish.Goals as goal
 
@@ -58,7 +57,7 @@ returns-in-Err-commit-clause-fault g c =
     let sound = c.write_at.ensures.kept ∙ c.requires.sound in
     record {
       kind = fault_kind c.in-Err-commit.error ⊥ c.in-Err-commit.ensures.refusal (λ no. no)
-        (λ is. not_both _ sound (c.in-Err-commit.ensures.earlier.0 (ap Err is)));
+          (λ is. not_both _ sound (c.in-Err-commit.ensures.earlier.0 (ap Err is)));
       counted = cause.device;
     }
 
@@ -68,6 +67,6 @@ returns-in-Err-clause-fault g c =
     let cause = c.in-Err.ensures.cause c.args.medium.now self in
     record {
       kind = fault_kind c.in-Err.error _ c.in-Err.ensures.refusal (λ past. omega (arith, past, c.requires.short))
-        (λ is. not_both _ c.requires.sound (c.in-Err.ensures.earlier.0 (ap Err is)));
+          (λ is. not_both _ c.requires.sound (c.in-Err.ensures.earlier.0 (ap Err is)));
       counted = cause.device;
     }

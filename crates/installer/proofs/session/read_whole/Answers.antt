@@ -1,4 +1,4 @@
-use Rattle.std.proofs.Common.{◌≡◌, refl}
+use Rattle.std.proofs.Common.{refl}
 use Rattle.staged.specs.Staged.{Continues}
 use Rattle.installer.proofs.Writing.{fault_kind, not_both}
 use Rattle.installer.proofs.session.read_whole.Goals as goal

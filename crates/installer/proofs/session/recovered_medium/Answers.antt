@@ -1,7 +1,7 @@
-use Rattle.std.proofs.Common.{◌≡◌, ◌≤◌, ◌<◌, sym, ap, ◌∙◌, Some, arith, inr}
+use Rattle.std.proofs.Common.{sym, ap, ◌∙◌, Some, arith, inr}
 use Rattle.std.specs.Prelude.{IsTrue}
 use Rattle.staged.specs.Files.{Files}
-use Rattle.staged.specs.Log.{logged, recovered}
+use Rattle.staged.specs.Log.{logged}
 use Rattle.installer.proofs.Recovering.{recovers_home, faults}
 use Rattle.installer.proofs.session.recovered_medium.Goals as goal
 

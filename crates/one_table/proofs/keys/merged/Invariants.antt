@@ -1,4 +1,4 @@
-use Rattle.std.proofs.Common.{◌≡◌, ◌++◌, map, take}
+use Rattle.std.proofs.Common.{◌≡◌, ◌++◌, take}
 use Rattle.one_table.specs.Contents.{keys_said}
 use Rattle.one_table.specs.Rules.{rows_said}
 use Rattle.one_table.proofs.keys.merged.Given as goal

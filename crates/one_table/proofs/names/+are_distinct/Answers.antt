@@ -1,4 +1,4 @@
-use Rattle.std.proofs.Common.{◌∷◌, sym, ◌∙◌, arith}
+use Rattle.std.proofs.Common.{sym, ◌∙◌}
 use Rattle.one_table.proofs.Naming.{distinct_front}
 use Rattle.one_table.proofs.names.+are_distinct.Goals as goal
 

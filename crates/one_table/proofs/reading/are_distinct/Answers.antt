@@ -1,4 +1,4 @@
-use Rattle.std.proofs.Common.{◌≡◌, sym, ◌∙◌, arith, true, false}
+use Rattle.std.proofs.Common.{sym, ◌∙◌}
 use Rattle.one_table.proofs.KeysRead.{turn_at}
 use Rattle.one_table.proofs.reading.are_distinct.Goals as goal
 

@@ -1,4 +1,4 @@
-use Rattle.std.proofs.Common.{◌≡◌, sym, ◌∙◌, arith, true, false}
+use Rattle.std.proofs.Common.{arith}
 use Rattle.one_table.specs.Contents.{only_of}
 use Rattle.one_table.proofs.KeysRead.{kept_by}
 use Rattle.one_table.proofs.reading.is_kept.Goals as goal

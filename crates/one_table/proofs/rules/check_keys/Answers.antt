@@ -1,4 +1,4 @@
-use Rattle.std.proofs.Common.{◌∙◌, sym, ap, false, true}
+use Rattle.std.proofs.Common.{◌∙◌, sym, false, true}
 use Rattle.one_table.specs.Rules.{unnamed_columns}
 use Rattle.one_table.proofs.KeyChecks.{turned}
 use Rattle.one_table.proofs.rules.check_keys.Goals as goal

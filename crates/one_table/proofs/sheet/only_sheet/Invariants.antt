@@ -1,4 +1,4 @@
-use Rattle.std.proofs.Common.{◌≡◌, map, string_bytes, take}
+use Rattle.std.proofs.Common.{◌≡◌, map, take}
 use Rattle.one_table.specs.Contents.{key_data}
 use Rattle.one_table.specs.Rules.{rows_said}
 use Rattle.one_table.proofs.sheet.only_sheet.Given as goal

@@ -1,4 +1,4 @@
-use Rattle.std.proofs.Common.{ap, refl, sym, ◌∙◌}
+use Rattle.std.proofs.Common.{ap, refl}
 use Rattle.one_table.specs.Contents.{only_lent, only_of}
 use Rattle.one_table.proofs.Packed.{pool_in_size, table_identifier}
 use Rattle.one_table.proofs.streams.all_streams.Goals as goal

@@ -1,8 +1,8 @@
-use Rattle.std.proofs.Common.{◌≡◌, ◌∙◌, sym, ap, refl, [], inl, inr, ⊎_elim, arith}
-use Rattle.std.specs.Prelude.{IsTrue, string_bytes}
+use Rattle.std.proofs.Common.{◌∙◌, sym, ap, refl, inl, inr, ⊎_elim, arith}
+use Rattle.std.specs.Prelude.{string_bytes}
 use Rattle.cfb_tree.specs.Names.{ascii_letters}
-use Rattle.one_table.specs.Limits.{CreatesBare, InsertsFew}
-use Rattle.one_table.specs.Requests.{columns_said, insert_table, insert_rows}
+use Rattle.one_table.specs.Limits.{CreatesBare}
+use Rattle.one_table.specs.Requests.{columns_said}
 use Rattle.one_table.specs.Answers.{Meets}
 use Rattle.one_table.specs.Held.{package_in}
 use Rattle.staged.specs.Staged.{device_of}
@@ -17,7 +17,7 @@ returns-in-CreateTable-clause-goes g c = λ committed.
     let P = package_in c.args.self.now.contents in
     let Call = CreatesBare ascii_letters P (string_bytes c.in-CreateTable.name) (columns_said c.in-CreateTable.columns.items) in
     let meets : Meets Call P (package_in c.create_table.new.self) c.create_table.result =
-          rw (sym c.deref.ensures, sym c.deref-in-CreateTable.ensures.value) c.create_table.ensures.meets in
+    rw (sym c.deref.ensures, sym c.deref-in-CreateTable.ensures.value) c.create_table.ensures.meets in
     rw c.in-CreateTable.is (goes_meets (course_of c.args.self.now committed) _ _ _ Call c.create_table.result (λ Q r tells. tells) meets c.answer_of.ensures was was refl refl)
 
 pub returns-in-CreateTable-clause-survives : goal.returns-in-CreateTable-clause-survives
@@ -46,15 +46,15 @@ pub returns-in-Commit-clause-goes : goal.returns-in-Commit-clause-goes
 returns-in-Commit-clause-goes g c = λ committed.
     let sound = sym c.has_failed.ensures ∙ c.if-has_failed.false in
     rw c.in-Commit.is (
-      goes_commit (course_of c.args.self.now committed) _ _ c.commit.result _ c.answer_of-in-Commit.ensures (ap phase_of sound) (phased _ c.commit.result c.commit.ensures.sound)
-        (c.commit.ensures.fault sound) (λ e fault. ⊎_elim (λ memory. inl memory) (λ device. inr (device, fault.counted device)) fault.kind) c.commit.ensures.package refl
+    goes_commit (course_of c.args.self.now committed) _ _ c.commit.result _ c.answer_of-in-Commit.ensures (ap phase_of sound) (phased _ c.commit.result c.commit.ensures.sound)
+    (c.commit.ensures.fault sound) (λ e fault. ⊎_elim (λ memory. inl memory) (λ device. inr (device, fault.counted device)) fault.kind) c.commit.ensures.package refl
     )
 
 pub returns-in-Commit-clause-survives : goal.returns-in-Commit-clause-survives
 returns-in-Commit-clause-survives g c = λ now committed.
     let sound = sym c.has_failed.ensures ∙ c.if-has_failed.false in
     rw c.in-Commit.is (
-      survives_commit g.D.Device (device_below c.args.self.now) (device_below c.commit.new.self) (course_of c.args.self.now committed) _ c.commit.result _ _ c.answer_of-in-Commit.ensures
-        c.commit.ensures.honest c.commit.ensures.failures c.commit.ensures.published (c.commit.ensures.fault sound) (λ e fault. fault.kind) c.commit.ensures.left
-        (λ left honest. (g.met.D.Device.rests_keeps _ _ (left now _ (g.met.D.Device.rests_refl _))).same honest)
+    survives_commit g.D.Device (device_below c.args.self.now) (device_below c.commit.new.self) (course_of c.args.self.now committed) _ c.commit.result _ _ c.answer_of-in-Commit.ensures
+    c.commit.ensures.honest c.commit.ensures.failures c.commit.ensures.published (c.commit.ensures.fault sound) (λ e fault. fault.kind) c.commit.ensures.left
+    (λ left honest. (g.met.D.Device.rests_keeps _ _ (left now _ (g.met.D.Device.rests_refl _))).same honest)
     )

@@ -1,4 +1,4 @@
-use Rattle.std.proofs.Common.{◌≡◌, sym, ap, ◌∙◌, refl, length, arith}
+use Rattle.std.proofs.Common.{sym, ap, ◌∙◌, length, arith}
 use Rattle.std.specs.Prelude.{IsTrue}
 use Rattle.staged.specs.Staged.{device_of}
 use Rattle.installer.proofs.Writing.{not_earlier, err_same}

@@ -1,4 +1,4 @@
-use Rattle.std.proofs.Common.{◌≡◌, sym, ◌∙◌, refl}
+use Rattle.std.proofs.Common.{sym, ◌∙◌, refl}
 use Rattle.staged.specs.Staged.{Continues}
 use Rattle.installer.proofs.session.Session.create.Goals as goal
 

@@ -1,10 +1,7 @@
-use Rattle.std.proofs.Common.{◌≡◌, ◌∙◌, sym, refl, [], inl, inr, ⊎_elim, arith}
-use Rattle.std.specs.Prelude.{IsTrue}
+use Rattle.std.proofs.Common.{◌∙◌, sym, refl, [], inl, inr, ⊎_elim}
 use Rattle.staged.specs.Staged.{Continues, device_of, staged_bytes}
-use Rattle.installer.specs.Survival.{Survives}
 use Rattle.installer.proofs.Recovering.{faults}
 use Rattle.installer.proofs.Surviving.{survives_then, survives_same, survives_recovered}
-use Rattle.installer.proofs.session.Session.open.Given.{Over}
 use Rattle.installer.proofs.session.Session.open.Goals as goal
 
 pub returns-in-Ok-read_contents-clause-sound : goal.returns-in-Ok-read_contents-clause-sound
@@ -17,17 +14,17 @@ returns-in-Ok-read_contents-clause-survives g c =
     let self : Continues c.in-Ok.medium c.in-Ok.medium = record { device = g.met.D.Device.rests_refl _; failed = refl } in
     let keeps = g.met.D.Device.rests_keeps _ _ (c.read_contents.ensures.continues _ self).device in
     survives_then g.D.Device c.args.device (device_of c.in-Ok.medium) (device_of c.read_contents.new.medium) [] []
-      (survives_recovered g.D.Device c.args.device (device_of c.in-Ok.medium) (staged_bytes c.in-Ok.medium) c.in-Ok.ensures.honest c.in-Ok.ensures.failures
-        c.in-Ok.ensures.bytes c.in-Ok.ensures.home c.in-Ok.ensures.settled)
-      (survives_same g.D.Device (device_of c.in-Ok.medium) (device_of c.read_contents.new.medium) (sym keeps.as_honest) keeps.counted keeps.same)
+    (survives_recovered g.D.Device c.args.device (device_of c.in-Ok.medium) (staged_bytes c.in-Ok.medium) c.in-Ok.ensures.honest c.in-Ok.ensures.failures
+    c.in-Ok.ensures.bytes c.in-Ok.ensures.home c.in-Ok.ensures.settled)
+    (survives_same g.D.Device (device_of c.in-Ok.medium) (device_of c.read_contents.new.medium) (sym keeps.as_honest) keeps.counted keeps.same)
 
 pub returns-in-Err-read_contents-clause-refused : goal.returns-in-Err-read_contents-clause-refused
 returns-in-Err-read_contents-clause-refused g c =
     let self : Continues c.in-Ok.medium c.in-Ok.medium = record { device = g.met.D.Device.rests_refl _; failed = refl } in
     let keeps = g.met.D.Device.rests_keeps _ _ (c.read_contents.ensures.continues _ self).device in
     rw c.into_device.ensures.device (
-      ⊎_elim (λ malformed. inl malformed) (λ more. inr (⊎_elim (λ memory. inl memory)
-        (λ fault. inr (fault.0, λ less. faults _ _ _ less c.in-Ok.ensures.failures keeps.counted fault.1)) more)) c.in-Err-read_contents.ensures.err
+    ⊎_elim (λ malformed. inl malformed) (λ more. inr (⊎_elim (λ memory. inl memory)
+    (λ fault. inr (fault.0, λ less. faults _ _ _ less c.in-Ok.ensures.failures keeps.counted fault.1)) more)) c.in-Err-read_contents.ensures.err
     )
 
 pub returns-in-Err-read_contents-clause-left : goal.returns-in-Err-read_contents-clause-left
@@ -35,8 +32,8 @@ returns-in-Err-read_contents-clause-left g c = λ other.
     let self : Continues c.in-Ok.medium c.in-Ok.medium = record { device = g.met.D.Device.rests_refl _; failed = refl } in
     let keeps = g.met.D.Device.rests_keeps _ _ (c.read_contents.ensures.continues _ self).device in
     rw c.into_device.ensures.device (
-      survives_then g.D.Device c.args.device (device_of c.in-Ok.medium) (device_of c.read_contents.new.medium) [] []
-      (survives_recovered g.D.Device c.args.device (device_of c.in-Ok.medium) (staged_bytes c.in-Ok.medium) c.in-Ok.ensures.honest c.in-Ok.ensures.failures
-        c.in-Ok.ensures.bytes c.in-Ok.ensures.home c.in-Ok.ensures.settled)
-      (survives_same g.D.Device (device_of c.in-Ok.medium) (device_of c.read_contents.new.medium) (sym keeps.as_honest) keeps.counted keeps.same)
+    survives_then g.D.Device c.args.device (device_of c.in-Ok.medium) (device_of c.read_contents.new.medium) [] []
+    (survives_recovered g.D.Device c.args.device (device_of c.in-Ok.medium) (staged_bytes c.in-Ok.medium) c.in-Ok.ensures.honest c.in-Ok.ensures.failures
+    c.in-Ok.ensures.bytes c.in-Ok.ensures.home c.in-Ok.ensures.settled)
+    (survives_same g.D.Device (device_of c.in-Ok.medium) (device_of c.read_contents.new.medium) (sym keeps.as_honest) keeps.counted keeps.same)
     )

@@ -1,4 +1,4 @@
-use Rattle.std.proofs.Common.{◌≡◌, ◌≤◌, ◌+◌, ◌-◌, ◌++◌, ◌∷◌, [], length, map, take, sym, ap, ◌∙◌, arith}
+use Rattle.std.proofs.Common.{◌≡◌, ◌++◌, ◌∷◌, [], map, take, ap, ◌∙◌, arith}
 use Rattle.std.proofs.lemmas.List.{map-append, take_all}
 use Rattle.installer.specs.Said.{said, told_by}
 use Rattle.installer.proofs.Running.{reaches_itself, reaches_more, taken_more}
@@ -16,10 +16,10 @@ loop-command-preserved g c = record {
   ran = λ start at.
       let asked = taken_more said c.args.commands.now c.loop-command.command-index c.command-item.result c.loop-command-test.true c.command-item.is in
       let told : map told_by c.push_reserved.new.self.items ≡ map told_by c.loop-command.answers.items ++ told_by c.answer.result ∷ [] =
-            ap (map told_by) c.push_reserved.ensures.items ∙ map-append told_by c.loop-command.answers.items (c.answer.result ∷ []) in
+      ap (map told_by) c.push_reserved.ensures.items ∙ map-append told_by c.loop-command.answers.items (c.answer.result ∷ []) in
       rw (asked, told) (
-        reaches_more c.args.self.now c.loop-command.self c.answer.new.self start _ _ (said c.command-item.result) (told_by c.answer.result)
-        (c.loop-command.invariant.ran start at) c.answer.ensures.goes c.answer.ensures.survives
+      reaches_more c.args.self.now c.loop-command.self c.answer.new.self start _ _ (said c.command-item.result) (told_by c.answer.result)
+      (c.loop-command.invariant.ran start at) c.answer.ensures.goes c.answer.ensures.survives
       );
 }
 

@@ -1,4 +1,4 @@
-use Rattle.std.proofs.Common.{◌≡◌, ◌≤◌, ◌+◌, ◌-◌, length, map, take}
+use Rattle.std.proofs.Common.{◌≤◌, ◌+◌, ◌-◌, length, map, take}
 use Rattle.std.specs.Prelude.{vec_len, vec_capacity}
 use Rattle.installer.specs.Course.{Course}
 use Rattle.installer.specs.Said.{said, told_by}

@@ -1,4 +1,4 @@
-use Rattle.std.proofs.Common.{ap, ◌∙◌}
+use Rattle.std.proofs.Common.{ap}
 use Rattle.one_table.specs.Contents.{only_seen, only_of}
 use Rattle.one_table.proofs.Created.{has_only}
 use Rattle.one_table.proofs.contents.Contents.has_table.Goals as goal

@@ -1,10 +1,9 @@
-use Rattle.std.proofs.Common.{◌≡◌, sym, ◌∙◌, map, refl, arith, ⊎_elim}
+use Rattle.std.proofs.Common.{◌≡◌, refl, arith, ⊎_elim}
 use Rattle.plain.proofs.ImageLength.{short_image_small}
 use Rattle.one_table.proofs.Growing.{few_short, image_short}
 use Rattle.one_table.specs.Contents.{only_seen}
 use Rattle.one_table.specs.Streams.{streams_of}
 use Rattle.plain.specs.Views.{stream_views}
-use Rattle.plain.specs.WholeImage.{content_of_streams}
 use Rattle.cfb_tree.specs.Names.{ascii_letters}
 use Rattle.one_table.proofs.Imaged.{names_short, means_package, lent_seen}
 use Rattle.one_table.proofs.Packed.{streams_rise}

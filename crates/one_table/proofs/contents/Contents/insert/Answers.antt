@@ -1,4 +1,4 @@
-use Rattle.std.proofs.Common.{inr, map, refl, sym, ap, ◌∙◌}
+use Rattle.std.proofs.Common.{inr, ap}
 use Rattle.one_table.specs.Contents.{only_seen, only_of}
 use Rattle.one_table.specs.Requests.{insert_rows, insert_table}
 use Rattle.one_table.proofs.Inserted.{missing}

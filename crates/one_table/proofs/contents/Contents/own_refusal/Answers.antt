@@ -1,4 +1,4 @@
-use Rattle.std.proofs.Common.{inr, map}
+use Rattle.std.proofs.Common.{inr}
 use Rattle.one_table.specs.Contents.{only_seen}
 use Rattle.one_table.specs.Requests.{insert_rows, insert_table}
 use Rattle.one_table.proofs.Inserted.{own_refused, own_taken}

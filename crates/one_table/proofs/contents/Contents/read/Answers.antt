@@ -1,4 +1,4 @@
-use Rattle.std.proofs.Common.{◌≡◌, sym, ◌∙◌, arith, true, false}
+use Rattle.std.proofs.Common.{sym, ◌∙◌}
 use Rattle.one_table.proofs.Found.{same_bytes}
 use Rattle.one_table.proofs.contents.Contents.read.Goals as goal
 

@@ -1,6 +1,6 @@
-use Rattle.std.proofs.Common.{◌≡◌, ap, ◌∙◌, sym, false, true, arith, Some, length, nat_lt, ◌<◌, ◌≤◌}
+use Rattle.std.proofs.Common.{◌≡◌, ◌∙◌, sym, false, true, arith, length, nat_lt}
 use Rattle.std.proofs.lemmas.Bool.Decides.{nat_tests}
-use Rattle.one_table.specs.Contents.{only_seen, only_of}
+use Rattle.one_table.specs.Contents.{only_seen}
 use Rattle.one_table.specs.Requests.{columns_said}
 use Rattle.one_table.proofs.Created.{again_refused, key_refused, second_refused, reserved_refused, long_refused, wide_refused, key_of_columns, first_by, some_seen, none_seen}
 use Rattle.one_table.proofs.contents.Contents.refusal.Goals as goal

@@ -1,6 +1,6 @@
-use Rattle.std.proofs.Common.{sym, ap, ◌∙◌}
+use Rattle.std.proofs.Common.{ap}
 use Rattle.one_table.specs.Contents.{only_seen, only_of}
-use Rattle.one_table.proofs.Found.{finds_only, finds_columns, finds_tables, finds_none}
+use Rattle.one_table.proofs.Found.{finds_only, finds_none}
 use Rattle.one_table.proofs.contents.Contents.sheet.Goals as goal
 
 pub returns-in_ok-only_sheet-in-Some-clause-sheet : goal.returns-in_ok-only_sheet-in-Some-clause-sheet
