@@ -1,5 +1,6 @@
 -- What a `Sectors` shows: its medium, its sectors, and whether a call failed; and what its calls do.
 use Rattle.std.specs.Prelude.{◌≡◌, ℕ, ◌+◌, ◌<◌, ◌≤◌, Bool, false, ◌||◌, List, IsTrue}
+use Rattle.cfb_medium.specs.Bytes.{overwritten}
 use Rattle.cfb_medium.specs.Calls.{Extends, HasCauseSince}
 use Rattle.cfb_medium.specs.declared.error.Error.{Error}
 use Rattle.cfb_medium.specs.declared.medium.ReadMedium.{Ghosts}
@@ -13,6 +14,9 @@ module _ {F : Type 0} {g : Ghosts F} where
 
   abbrev pub bytes_of : Sectors F g → List ℕ
   bytes_of it = g.bytes it.inner
+
+  abbrev pub is_honest : Sectors F g → Bool
+  is_honest it = g.honest it.inner
 
   -- what is said of bytes stands where this holds
   abbrev pub IsHonest : Sectors F g → Type 0
@@ -36,6 +40,10 @@ module _ {F : Type 0} {g : Ghosts F} where
   abbrev pub LiesIn : Sectors F g → ℕ → ℕ → ℕ → Type 0
   LiesIn it n offset count = (n < count_of it) × (sector_start (version_of it) n + offset + count ≤ sector_start (version_of it) (count_of it))
 
+  -- so many bytes from this place of the file on end in its sectors
+  abbrev pub EndsIn : Sectors F g → ℕ → ℕ → Type 0
+  EndsIn it place count = place + count ≤ sector_start (version_of it) (count_of it)
+
   -- nothing but reads and flushes was done
   pub record Rests (old new : Sectors F g) : Type 0 where
     pub honest : g.honest new.inner ≡ g.honest old.inner
@@ -52,6 +60,10 @@ module _ {F : Type 0} {g : Ghosts F} where
     pub version : version_of new ≡ version_of old
     pub live : has_failed_here new ≡ false → has_failed_here old ≡ false
     pub bytes : has_failed_here new ≡ false → IsHonest old → bytes_of new ≡ change (bytes_of old)
+
+  -- these bytes were written at this place, and as many sectors are there
+  abbrev pub Writes : ℕ → List ℕ → Sectors F g → Sectors F g → Type 0
+  Writes place bytes old new = Changes (λ b. overwritten b place bytes) old new × (count_of new ≡ count_of old)
 
   -- the error is one of the medium, with its cause there, or tells of an earlier fault here
   abbrev pub HasItsCause : Sectors F g → Sectors F g → Error → Type 0

@@ -2,11 +2,13 @@
 ghost use Rattle.cfb_medium.specs.Bytes.{overwritten};
 ghost use Rattle.cfb_medium.specs.Calls.{IsFaultUnless};
 ghost use Rattle.cfb_medium.specs.declared.error.Error.{Error};
-ghost use Rattle.cfb_medium.specs.declared.error.Error.TheVariants.{Failed};
+ghost use Rattle.cfb_medium.specs.declared.error.Error.TheVariants.{Failed, InvalidInput};
 ghost use Rattle.cfb_sectors.specs.Sectors.{filled_part};
-ghost use Rattle.std.specs.Prelude.{drop, false, length, min, take, true, Bool, IfErr, IfOk, IsErrOf, IsTrue, List, OnErr, OnOk, ℕ, ◌+◌, ◌++◌, ◌-◌, ◌<◌, ◌≡◌, ◌≤◌, ◌⊎◌, ◌^◌};
+ghost use Rattle.cfb_sectors.specs.Seeking.{Finds};
+ghost use Rattle.std.specs.Prelude.{drop, false, length, min, take, true, Bool, IfErr, IfOk, IsErrOf, IsTrue, List, MatchOption, OnErr, OnOk, ℕ, ◌+◌, ◌++◌, ◌-◌, ◌<◌, ◌≡◌, ◌≤◌, ◌⊎◌, ◌^◌};
 
 use cfb_medium::Error;
+use std::io::SeekFrom;
 
 /// A layer that has the sectors, at whatever height.
 pub trait HasSectors {
@@ -109,6 +111,63 @@ impl<'a, H: HasSectors> Sector<'a, H> {
         self.position += count;
         Ok(count)
     }
+
+    /// Moves the position to a place of the part or to its end, and gives it. `InvalidInput` where it is before the part or
+    /// behind its end, and then it stays.
+    pub fn seek(&mut self, from: SeekFrom) -> Result<u64, Error>
+        ensures ok { IfOk result (λ n. Finds from (len_of self.old) (position_of self.old) n × (position_of self.new ≡ n)) }
+        ensures none { OnErr result ((n : ℕ) → Finds from (len_of self.old) (position_of self.old) n → ⊥) }
+        ensures error { IfErr result (λ e. e ≡ InvalidInput) }
+        ensures stays { OnErr result (position_of self.new ≡ position_of self.old) }
+        ensures same { IsSame self.old self.new }
+        ensures holder { holder_of self.new ≡ holder_of self.old }
+    {
+        let Some(place) = place_found(from, self.len as u64, self.position as u64) else {
+            return Err(Error::InvalidInput);
+        };
+        self.position = place as usize;
+        Ok(place)
+    }
+
+    /// A part of this part, with so many bytes from this place of it on; the position stays where it is in the file.
+    pub fn subsector(self, start: usize, len: usize) -> Sector<'a, H>
+        requires { (start ≤ position_of self) × (position_of self ≤ start + len) × (start + len ≤ len_of self) }
+        ensures same_reference { result.holder.ghost_name ≡ self.entry.holder.ghost_name }
+        ensures holder { holder_of result ≡ holder_of self.entry }
+        ensures part { (start_of result ≡ start_of self.entry + start) × (len_of result ≡ len) × (position_of result + start ≡ position_of self.entry) }
+    {
+        let Sector {
+            holder,
+            start: outer,
+            len: _,
+            position,
+        } = self;
+        Sector {
+            holder,
+            start: outer + start as u64,
+            len,
+            position: position - start,
+        }
+    }
+}
+
+// The place that a seek finds in a part of so many bytes, from this position, if it is one.
+fn place_found(from: SeekFrom, len: u64, position: u64) -> Option<u64>
+    requires { len < 2 ^ 63 }
+    ensures { MatchOption result ((n : ℕ) → Finds from len position n → ⊥) (λ n. Finds from len position n) }
+{
+    let (base, by) = match from {
+        SeekFrom::Start(place) => (place, 0),
+        SeekFrom::End(by) => (len, by),
+        SeekFrom::Current(by) => (position, by),
+    };
+    let distance = by.unsigned_abs();
+    let place = if by < 0 {
+        base.checked_sub(distance)?
+    } else {
+        base.checked_add(distance)?
+    };
+    if place <= len { Some(place) } else { None }
 }
 
 impl<'a, H: ChangesSectors> Sector<'a, H> {

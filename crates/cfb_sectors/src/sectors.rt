@@ -7,8 +7,8 @@ ghost use Rattle.cfb_sectors.specs.Initial.{initial};
 ghost use Rattle.cfb_sectors.specs.Sectors.{filled_part, greatest_regular, sector_start, sectors_in};
 ghost use Rattle.std.specs.Prelude.{false, length, replicate, true, IfErr, IfOk, IsErrOf, IsTrue, MatchOption, OnErr, OnOk, ◌+◌, ◌<◌, ◌≡◌, ◌≤◌, ◌↔◌, ◌⊎◌, ◌||◌, ◌^◌};
 
-use crate::SectorInit;
-use crate::consts::MAX_REGULAR_SECTOR;
+use crate::consts::{HEADER_LEN, MAX_REGULAR_SECTOR};
+use crate::{ChangesSectors, HasSectors, Sector, SectorInit};
 use cfb_medium::{Error, Medium, ReadMedium, Version};
 
 // A sector of version 4 has so many bytes.
@@ -28,6 +28,7 @@ pub struct Sectors<F: ReadMedium> {
 
 impl<F: ReadMedium> Sectors<F> {
     ghost use Rattle.cfb_sectors.specs.Held.{bytes_of, count_of, has_failed_here, medium_of, version_of, HasItsCause, IsHonest, LiesIn, Rests};
+    ghost use Rattle.cfb_sectors.specs.SectorViews.{holder_of, len_of, position_of, start_of};
 
     /// The sectors of a medium of so many bytes.
     pub fn new(version: Version, len: u64, inner: F) -> Sectors<F>
@@ -85,6 +86,40 @@ impl<F: ReadMedium> Sectors<F> {
             failed: _,
         } = self;
         inner
+    }
+
+    /// The header, at this offset.
+    pub fn seek_within_header(&mut self, offset: usize) -> Sector<'_, Sectors<F>>
+        requires { offset ≤ 512 }
+        ensures same_reference { result.holder.ghost_name ≡ self.entry.ghost_name }
+        ensures holder { holder_of result ≡ self.old }
+        ensures part { (start_of result ≡ 0) × (len_of result ≡ 512) × (position_of result ≡ offset) }
+    {
+        Sector::new(self, 0, HEADER_LEN, offset)
+    }
+
+    /// A sector, at its first byte.
+    pub fn seek_to_sector(&mut self, sector_id: u32) -> Sector<'_, Sectors<F>>
+        requires { sector_id < count_of self.old }
+        ensures same_reference { result.holder.ghost_name ≡ self.entry.ghost_name }
+        ensures holder { holder_of result ≡ self.old }
+        ensures part { (start_of result ≡ sector_start (version_of self.old) sector_id) × (len_of result ≡ sector_len (version_of self.old)) × (position_of result ≡ 0) }
+    {
+        self.seek_within_sector(sector_id, 0)
+    }
+
+    /// A sector, at this offset.
+    #[tactic(auto, using(crate::proofs::Counts::ends_in_time))]
+    pub fn seek_within_sector(&mut self, sector_id: u32, offset: usize) -> Sector<'_, Sectors<F>>
+        requires there { sector_id < count_of self.old }
+        requires inside { offset ≤ sector_len (version_of self.old) }
+        ensures same_reference { result.holder.ghost_name ≡ self.entry.ghost_name }
+        ensures holder { holder_of result ≡ self.old }
+        ensures part { (start_of result ≡ sector_start (version_of self.old) sector_id) × (len_of result ≡ sector_len (version_of self.old)) × (position_of result ≡ offset) }
+    {
+        let start = self.start(sector_id);
+        let len = self.sector_len();
+        Sector::new(self, start, len, offset)
     }
 
     // Where a sector begins in the file.
@@ -294,5 +329,38 @@ impl<F: Medium> Sectors<F> {
         self.inner.commit()?;
         self.failed = false;
         Ok(())
+    }
+}
+
+impl<F: ReadMedium> HasSectors for Sectors<F> {
+    ghost use Rattle.cfb_sectors.specs.Held.{bytes_of, has_failed_here, is_honest, HasItsCause, Rests};
+
+    ghost bytes = { bytes_of };
+
+    ghost honest = { is_honest };
+
+    ghost failed = { has_failed_here };
+
+    ghost rests = { Rests };
+
+    ghost has_cause = { HasItsCause };
+
+    fn read_part(&mut self, place: u64, buffer: &mut [u8]) -> Result<(), Error> {
+        if self.failed {
+            return Err(Error::Failed);
+        }
+        self.read_filled(place, buffer)
+    }
+}
+
+impl<F: Medium> ChangesSectors for Sectors<F> {
+    ghost use Rattle.cfb_sectors.specs.Held.{EndsIn, Writes};
+
+    ghost may_write = { EndsIn };
+
+    ghost writes = { Writes };
+
+    fn write_part(&mut self, place: u64, bytes: &[u8]) -> Result<(), Error> {
+        self.write_at(place, bytes)
     }
 }
