@@ -2,7 +2,7 @@
 ghost use Rattle.cfb_medium.specs.declared.error.Error.TheVariants.{InvalidData, Memory, UnexpectedEof};
 ghost use Rattle.cfb_medium.specs.declared.version.Version.{Version};
 ghost use Rattle.cfb_sectors.specs.Appended.{Begins};
-ghost use Rattle.cfb_sectors.specs.Header.{header_bytes, HasFields, IsHeader};
+ghost use Rattle.cfb_sectors.specs.Header.{header_bytes, FitsHeader, HasFields, IsHeader};
 ghost use Rattle.cfb_sectors.specs.Readable.{IsReadable, IsTaken};
 ghost use Rattle.std.specs.Prelude.{drop, length, take, IfErr, IfOk, IsOk, IsTrue, List, MatchOption, OnErr, OnOk, ℕ, ◌++◌, ◌<◌, ◌≡◌, ◌≤◌, ◌↔◌, ◌⊎◌};
 
@@ -11,9 +11,11 @@ use crate::consts::{
     BYTE_ORDER_MARK, HEADER_LEN, MAGIC_NUMBER, MINI_SECTOR_SHIFT, MINI_STREAM_CUTOFF,
     MINOR_VERSION, NUM_DIFAT_ENTRIES_IN_HEADER,
 };
-use crate::numbers::{difat_numbers, push_u16s, push_u32s, push_zeros, u16_at, u32_at};
+use crate::numbers::{
+    difat_numbers, fit_their_type, push_u16s, push_u32s, push_zeros, u16_at, u32_at,
+};
 use cfb_medium::{Error, Version};
-use std::alloc::AllocError;
+use std::alloc::{AllocError, Global};
 
 /// What the header of a compound file says beside its constants.
 #[derive(Drop)]
@@ -111,6 +113,22 @@ impl Header {
         Ok(())
     }
 
+    // Its numbers fit into its bytes, as their types say.
+    fn fits(&self)
+        ensures { FitsHeader (fields_of self.now) }
+    {
+        fit_their_type(&[
+            self.num_dir_sectors,
+            self.num_fat_sectors,
+            self.first_dir_sector,
+            self.first_minifat_sector,
+            self.num_minifat_sectors,
+            self.first_difat_sector,
+            self.num_difat_sectors,
+        ]);
+        fit_their_type(&self.initial_difat_entries);
+    }
+
     // Appends the bytes, or a beginning of them.
     fn append_to(&self, out: &mut Vec<u8>) -> Result<(), AllocError>
         ensures ok { OnOk result (out.new.items ≡ out.old.items ++ header_bytes (fields_of self.now)) }
@@ -142,4 +160,19 @@ impl Header {
         push_u32s(out, &places)?;
         push_u32s(out, &self.initial_difat_entries)
     }
+}
+
+ghost use Rattle.cfb_sectors.specs.HeaderViews.{fields_of};
+
+/// A header that is written and read again is as it was, where such a reader takes it; it doesn't take a strange count of
+/// directory sectors (`InvalidData`).
+pub fn header_again(header: Header, alloc: Global, validation: Validation) -> Result<Header, Error>
+    ensures same { IfOk result (λ h. fields_of h ≡ fields_of header) }
+    ensures error { IfErr result (λ e. (e ≡ Memory) ⊎ ((e ≡ InvalidData) × (IsTaken validation header.version header.num_dir_sectors → ⊥))) }
+{
+    header.fits();
+    let mut bytes = Vec::new(alloc);
+    header.write_to(&mut bytes)?;
+    let mut reader = bytes.as_slice();
+    Header::read_from(&mut reader, validation)
 }

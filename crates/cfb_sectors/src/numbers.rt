@@ -2,8 +2,8 @@
 ghost use Rattle.cfb_medium.specs.Numbers.{number_bytes, numbers, u16_at, u32_at};
 ghost use Rattle.cfb_sectors.specs.Appended.{Begins};
 ghost use Rattle.std.specs.Int.{to_le_bytes, w16, w32};
-ghost use Rattle.std.specs.List.{flat_map};
-ghost use Rattle.std.specs.Prelude.{length, replicate, slice_range, OnOk, ◌*◌, ◌+◌, ◌++◌, ◌≡◌, ◌≤◌};
+ghost use Rattle.std.specs.List.{flat_map, AllByRecursion};
+ghost use Rattle.std.specs.Prelude.{length, replicate, slice_range, OnOk, ◌*◌, ◌+◌, ◌++◌, ◌<◌, ◌≡◌, ◌≤◌, ◌^◌};
 
 use crate::consts::NUM_DIFAT_ENTRIES_IN_HEADER;
 use std::alloc::AllocError;
@@ -69,4 +69,11 @@ pub(crate) fn push_u32s(out: &mut Vec<u8>, numbers: &[u32]) -> Result<(), AllocE
         out.extend_from_slice(&number.to_le_bytes())?;
     }
     Ok(())
+}
+
+/// Numbers of four bytes are below 2 ^ 32, which a proof can't know of those that nobody reads.
+pub(crate) fn fit_their_type(numbers: &[u32])
+    ensures { AllByRecursion (λ n. n < 2 ^ 32) numbers.now }
+{
+    let _numbers = numbers;
 }

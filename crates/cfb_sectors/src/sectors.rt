@@ -126,7 +126,7 @@ impl<F: ReadMedium> Sectors<F> {
     fn start(&self, sector_id: u32) -> u64
         ensures { result ≡ sector_start (version_of self.now) sector_id }
     {
-        (u64::from(sector_id) + 1) * self.version.sector_len() as u64
+        (u64::from(sector_id) + 1) * self.sector_len() as u64
     }
 
     // Where a part of the sectors begins in the file, if it lies in them.
@@ -349,7 +349,8 @@ impl<F: ReadMedium> HasSectors for Sectors<F> {
         if self.failed {
             return Err(Error::Failed);
         }
-        self.read_filled(place, buffer)
+        self.read_filled(place, buffer)?;
+        Ok(())
     }
 }
 
@@ -361,6 +362,7 @@ impl<F: Medium> ChangesSectors for Sectors<F> {
     ghost writes = { Writes };
 
     fn write_part(&mut self, place: u64, bytes: &[u8]) -> Result<(), Error> {
-        self.write_at(place, bytes)
+        self.write_at(place, bytes)?;
+        Ok(())
     }
 }
