@@ -1,5 +1,6 @@
 -- What a `Sectors` shows: its medium, its sectors, and whether a call failed; and what its calls do.
 use Rattle.std.specs.Prelude.{◌≡◌, ℕ, ◌+◌, ◌<◌, ◌≤◌, Bool, false, ◌||◌, List, IsTrue}
+use Rattle.std.specs.List.{AllByRecursion}
 use Rattle.cfb_medium.specs.Bytes.{overwritten}
 use Rattle.cfb_medium.specs.Calls.{Extends, HasCauseSince}
 use Rattle.cfb_medium.specs.declared.error.Error.{Error}
@@ -39,6 +40,10 @@ module _ {F : Type 0} {g : Ghosts F} where
   -- so many bytes from this offset of this sector on lie in the file's sectors
   abbrev pub LiesIn : Sectors F g → ℕ → ℕ → ℕ → Type 0
   LiesIn it n offset count = (n < count_of it) × (sector_start (version_of it) n + offset + count ≤ sector_start (version_of it) (count_of it))
+
+  -- each of these is a sector
+  abbrev pub AreCounted : Sectors F g → List ℕ → Type 0
+  AreCounted it sectors = AllByRecursion (λ n. n < count_of it) sectors
 
   -- so many bytes from this place of the file on end in its sectors
   abbrev pub EndsIn : Sectors F g → ℕ → ℕ → Type 0
