@@ -1,0 +1,136 @@
+// The FAT in memory, over the sectors that hold it.
+ghost use Rattle.cfb_medium.specs.Calls.{Extends, IsFaultUnless};
+ghost use Rattle.cfb_medium.specs.Versions.{sector_len};
+ghost use Rattle.cfb_medium.specs.declared.error.Error.TheVariants.{InvalidData, Memory};
+ghost use Rattle.cfb_sectors.specs.Held.{bytes_of as sectors_bytes, count_of as sectors_count, has_failed_here as sectors_failed, medium_of as sectors_medium, version_of as sectors_version, AreCounted, IsHonest as AreHonest, Rests};
+ghost use Rattle.cfb_sectors.specs.Sectors.{fat_in, Chain};
+ghost use Rattle.std.specs.Prelude.{false, length, slice_get, IfErr, IfOk, IsErrOf, IsTrue, List, None, Some, ℕ, ◌≡◌, ◌↔◌, ◌⊎◌};
+
+use crate::consts::{END_OF_CHAIN, MAX_REGULAR_SECTOR};
+use crate::{Sectors, read_table};
+use cfb_medium::{Error, ReadMedium, Version};
+use std::alloc::Global;
+
+/// The FAT in memory, over the sectors that hold it. What it keeps is true where the medium is honest and no write failed.
+#[derive(Drop)]
+pub struct Allocator<F: ReadMedium> {
+    sectors: Sectors<F>,
+    difat_sectors: Vec<u32>,
+    fat_sectors: Vec<u32>,
+    fat: Vec<u32>,
+    ghost same: { sectors_failed sectors ≡ false → AreHonest sectors → fat.items ≡ fat_in (sectors_version sectors) (sectors_bytes sectors) fat_sectors.items },
+}
+
+impl<F: ReadMedium> Allocator<F> {
+    ghost use Rattle.cfb_sectors.specs.Tables.{difat_sectors_of, fat_of, fat_sectors_of, medium_of, sectors_of, version_of};
+
+    /// Reads the FAT from its sectors, which the DIFAT names. `InvalidData` where one of them isn't there. A refusal gives
+    /// the medium back.
+    pub fn new(
+        mut sectors: Sectors<F>,
+        alloc: Global,
+        difat_sectors: Vec<u32>,
+        fat_sectors: Vec<u32>,
+    ) -> Result<Allocator<F>, (F, Error)>
+        ensures sectors { IfOk result (λ it. Rests sectors (sectors_of it)) }
+        ensures tables { IfOk result (λ it. (difat_sectors_of it ≡ difat_sectors.items) × (fat_sectors_of it ≡ fat_sectors.items)) }
+        ensures fat { IfOk result (λ it. AreHonest sectors → fat_of it ≡ fat_in (sectors_version sectors) (sectors_bytes sectors) fat_sectors.items) }
+        ensures there { IfOk result (λ _. AreCounted sectors fat_sectors.items) }
+        ensures missing { IfErr result (λ e. e.1 ≡ InvalidData → AreCounted sectors fat_sectors.items → ⊥) }
+        ensures fault { IfErr result (λ e. IsFaultUnless ⊥ e.1 ⊎ (e.1 ≡ InvalidData)) }
+        ensures honest { IfErr result (λ e. F.honest e.0 ≡ F.honest (sectors_medium sectors)) }
+        ensures continues { IfErr result (λ e. Extends F.continues (sectors_medium sectors) e.0) }
+        ensures bytes { IfErr result (λ e. AreHonest sectors → F.bytes e.0 ≡ sectors_bytes sectors) }
+    {
+        match read_table(&mut sectors, alloc, &fat_sectors) {
+            Ok(fat) => Ok(Allocator {
+                sectors,
+                difat_sectors,
+                fat_sectors,
+                fat,
+            }),
+            Err(error) => Err((sectors.into_inner(), error)),
+        }
+    }
+
+    /// The version.
+    pub fn version(&self) -> Version
+        ensures { result ≡ version_of self.now }
+    {
+        self.sectors.version()
+    }
+
+    /// A sector's bytes.
+    pub fn sector_len(&self) -> usize
+        ensures { result ≡ sector_len (version_of self.now) }
+    {
+        self.sectors.sector_len()
+    }
+
+    /// The medium.
+    pub fn inner(&self) -> &F
+        ensures { result.now ≡ medium_of self.now }
+    {
+        self.sectors.inner()
+    }
+
+    /// The medium, without the FAT.
+    pub fn into_inner(self) -> F
+        ensures { result ≡ medium_of self }
+    {
+        let Allocator {
+            sectors,
+            difat_sectors: _,
+            fat_sectors: _,
+            fat: _,
+        } = self;
+        sectors.into_inner()
+    }
+
+    /// The sectors of the DIFAT, in the order of its chain.
+    pub fn difat_sectors(&self) -> &[u32]
+        ensures { result.now ≡ difat_sectors_of self.now }
+    {
+        &self.difat_sectors
+    }
+
+    /// The sectors of the FAT, in the order of the DIFAT.
+    pub fn fat_sectors(&self) -> &[u32]
+        ensures { result.now ≡ fat_sectors_of self.now }
+    {
+        &self.fat_sectors
+    }
+
+    /// The FAT's entry for a sector. `InvalidData` where it has none.
+    pub fn next(&self, sector_id: u32) -> Result<u32, Error>
+        ensures entry { IfOk result (λ n. slice_get (fat_of self.now) sector_id ≡ Some n) }
+        ensures none { IfErr result (λ e. (e ≡ InvalidData) × (slice_get (fat_of self.now) sector_id ≡ None)) }
+    {
+        match self.fat.get(sector_id as usize) {
+            Some(next) => Ok(*next),
+            None => Err(Error::InvalidData),
+        }
+    }
+
+    /// The sectors of the chain from a start in the FAT. `InvalidData` where there is none.
+    pub fn chain_sectors(&self, alloc: Global, start: u32) -> Result<Vec<u32>, Error>
+        ensures chain { IfOk result (λ sectors. Chain (fat_of self.now) start sectors.items) }
+        ensures none { IsErrOf result InvalidData → (sectors : List ℕ) → Chain (fat_of self.now) start sectors → ⊥ }
+        ensures error { IfErr result (λ e. (e ≡ InvalidData) ⊎ (e ≡ Memory)) }
+    {
+        let table = self.fat.as_slice();
+        let mut sectors = Vec::new(alloc);
+        let mut at = start;
+        while at != END_OF_CHAIN {
+            if at > MAX_REGULAR_SECTOR
+                || at as usize >= table.len()
+                || sectors.len() >= table.len()
+            {
+                return Err(Error::InvalidData);
+            }
+            sectors.push(at)?;
+            at = table[at as usize];
+        }
+        Ok(sectors)
+    }
+}
