@@ -3,8 +3,8 @@ ghost use Rattle.cfb_medium.specs.Calls.{Extends, IsFaultUnless};
 ghost use Rattle.cfb_medium.specs.Versions.{sector_len};
 ghost use Rattle.cfb_medium.specs.declared.error.Error.TheVariants.{InvalidData, Memory};
 ghost use Rattle.cfb_sectors.specs.Held.{bytes_of as sectors_bytes, count_of as sectors_count, has_failed_here as sectors_failed, medium_of as sectors_medium, version_of as sectors_version, AreCounted, IsHonest as AreHonest, Rests};
-ghost use Rattle.cfb_sectors.specs.Sectors.{fat_in, Chain};
-ghost use Rattle.std.specs.Prelude.{false, length, slice_get, IfErr, IfOk, IsErrOf, IsTrue, List, None, Some, ℕ, ◌≡◌, ◌↔◌, ◌⊎◌};
+ghost use Rattle.cfb_sectors.specs.Sectors.{fat_in, greatest_regular, Chain};
+ghost use Rattle.std.specs.Prelude.{false, length, slice_get, vec_len, IfErr, IfOk, IsErrOf, IsTrue, List, None, Some, ℕ, ◌+◌, ◌≡◌, ◌≤◌, ◌⊎◌};
 
 use crate::consts::{END_OF_CHAIN, MAX_REGULAR_SECTOR};
 use crate::{Sectors, read_table};
@@ -115,6 +115,7 @@ impl<F: ReadMedium> Allocator<F> {
     /// The sectors of the chain from a start in the FAT. `InvalidData` where there is none.
     pub fn chain_sectors(&self, alloc: Global, start: u32) -> Result<Vec<u32>, Error>
         ensures chain { IfOk result (λ sectors. Chain (fat_of self.now) start sectors.items) }
+        ensures few { IfOk result (λ sectors. vec_len sectors ≤ greatest_regular + 1) }
         ensures none { IsErrOf result InvalidData → (sectors : List ℕ) → Chain (fat_of self.now) start sectors → ⊥ }
         ensures error { IfErr result (λ e. (e ≡ InvalidData) ⊎ (e ≡ Memory)) }
     {

@@ -2,7 +2,7 @@ use Rattle.std.proofs.Common.{◌<◌, length, arith, subst, sym, ap, ◌∙◌}
 use Rattle.std.specs.Prelude.{slice_index}
 use Rattle.std.proofs.lemmas.Option.{slice_get-get_or}
 use Rattle.cfb_sectors.specs.Sectors.{Chain}
-use Rattle.cfb_sectors.proofs.Chains.{leads_more, leads_end, leads_nowhere, Leads}
+use Rattle.cfb_sectors.proofs.Chains.{chain_few, leads_more, leads_end, leads_nowhere, Leads}
 use Rattle.cfb_sectors.proofs.allocator.Allocator.chain_sectors.Goals as goal
 use Rattle.cfb_sectors.proofs.allocator.Allocator.chain_sectors.Goals.{then-at-gt-MAX_REGULAR_SECTOR-via-then-at-gt-MAX_REGULAR_SECTOR, then-at-gt-MAX_REGULAR_SECTOR-via-else-at-gt-MAX_REGULAR_SECTOR+then-at-table, then-at-gt-MAX_REGULAR_SECTOR-via-else-at-gt-MAX_REGULAR_SECTOR+else-at-table+then-len-table}
 
@@ -30,3 +30,11 @@ returns-clause-chain g c =
     let table = c.as_slice-table.result.now in
     subst (λ t. Chain t c.args.start c.loop-at.sectors.items) c.as_slice-table.ensures.value
     (leads_end table c.args.start c.loop-at.sectors.items (subst (λ s. Leads table c.args.start c.loop-at.sectors.items s) c.loop-at-test.false c.loop-at.invariant))
+
+pub returns-clause-few : goal.returns-clause-few
+returns-clause-few g c =
+    let table = c.as_slice-table.result.now in
+    let list = c.loop-at.sectors.items in
+    let chain = leads_end table c.args.start list (subst (λ s. Leads table c.args.start list s) c.loop-at-test.false c.loop-at.invariant) in
+    let few = chain_few table c.args.start list chain in
+    omega (arith, few, c.loop-at.sectors.ok.0)
