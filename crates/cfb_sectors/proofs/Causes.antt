@@ -9,19 +9,6 @@ use Rattle.cfb_sectors.specs.declared.sectors.Sectors.{Sectors}
 use Rattle.cfb_sectors.specs.Held.{HasItsCause, Rests}
 
 module _ {F : Type 0} {g : Ghosts F} where
-  pub rests_refl : (a : Sectors F g) → Rests a a
-  rests_refl a = record { honest = λ i. g.honest a.inner; continues = λ start h. h; bytes = λ honest i. g.bytes a.inner; version = λ i. a.version; count = λ i. a.num_sectors; failed = λ i. a.failed }
-
-  pub rests_then : (a b c : Sectors F g) → Rests a b → Rests b c → Rests a c
-  rests_then a b c h k = record {
-    honest = k.honest ∙ h.honest;
-    continues = λ start from. k.continues start (h.continues start from);
-    bytes = λ honest. k.bytes (subst IsTrue (sym h.honest) honest) ∙ h.bytes honest;
-    version = k.version ∙ h.version;
-    count = k.count ∙ h.count;
-    failed = k.failed ∙ h.failed;
-  }
-
   -- an error has its cause also since a state from which only reads led on
   pub cause_after : (a b c : Sectors F g) (e : Error) → Rests a b → HasItsCause b c e → HasItsCause a c e
   cause_after a b c e h cause = λ start from. subst (λ f. HasCause g.failures (λ m. f || g.failed m) start c.inner e) h.failed (cause start (h.continues start from))

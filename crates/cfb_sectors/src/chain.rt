@@ -79,7 +79,7 @@ impl<'a, H: HasSectors> Chain<'a, H> {
         ensures moved { IfOk result (λ n. position_of self.new ≡ position_of self.old + n) }
         ensures stays { OnErr result (position_of self.new ≡ position_of self.old) }
         ensures same { IsSame self.old self.new }
-        ensures rests { IfErr result (λ _. H.rests (holder_of self.old) (holder_of self.new)) }
+        ensures rests { H.rests (holder_of self.old) (holder_of self.new) }
         ensures cause { IfErr result (H.has_cause (holder_of self.old) (holder_of self.new)) }
         ensures fault { IfErr result (IsFaultUnless ⊥) }
     {

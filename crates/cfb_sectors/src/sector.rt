@@ -34,6 +34,10 @@ pub trait HasSectors {
         ensures failed { failed self.old ≡ true → IsErrOf result Failed }
         ensures cause { IfErr result (has_cause self.old self.new) }
         ensures fault { IfErr result (IsFaultUnless ⊥) };
+
+    ghost rests_refl: { (it : Self) → rests it it };
+
+    ghost rests_then: { (a b c : Self) → rests a b → rests b c → rests a c };
 }
 
 /// Such a layer over a medium that is written too.

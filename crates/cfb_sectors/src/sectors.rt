@@ -8,7 +8,7 @@ ghost use Rattle.cfb_sectors.specs.Sectors.{filled_part, greatest_regular, secto
 ghost use Rattle.std.specs.Prelude.{false, length, replicate, true, IfErr, IfOk, IsErrOf, IsTrue, MatchOption, OnErr, OnOk, ◌+◌, ◌<◌, ◌≡◌, ◌≤◌, ◌↔◌, ◌⊎◌, ◌||◌, ◌^◌};
 
 use crate::consts::{HEADER_LEN, MAX_REGULAR_SECTOR};
-use crate::{ChangesSectors, HasSectors, Sector, SectorInit};
+use crate::{Sector, SectorInit};
 use cfb_medium::{Error, Medium, ReadMedium, Version};
 
 // A sector of version 4 has so many bytes.
@@ -122,6 +122,13 @@ impl<F: ReadMedium> Sectors<F> {
         Sector::new(self, start, len, offset)
     }
 
+    // Whether a fault in a write or a commit has left it failed.
+    pub(crate) fn is_failed(&self) -> bool
+        ensures { result ≡ has_failed_here self.now }
+    {
+        self.failed
+    }
+
     // Where a sector begins in the file.
     fn start(&self, sector_id: u32) -> u64
         ensures { result ≡ sector_start (version_of self.now) sector_id }
@@ -146,7 +153,7 @@ impl<F: ReadMedium> Sectors<F> {
     }
 
     // Fills the buffer with the bytes from a place on, and with zeros where there are no more.
-    fn read_filled(&mut self, place: u64, buffer: &mut [u8]) -> Result<(), Error>
+    pub(crate) fn read_filled(&mut self, place: u64, buffer: &mut [u8]) -> Result<(), Error>
         ensures read { OnOk result (IsHonest self.old → buffer.new ≡ filled_part (bytes_of self.old) place (length buffer.old)) }
         ensures rests { Rests self.old self.new }
         ensures cause { IfErr result (HasItsCause self.old self.new) }
@@ -211,7 +218,7 @@ impl<F: Medium> Sectors<F> {
 
     // Writes over a part of the header's sector or of those behind it.
     #[tactic(auto, using(crate::proofs::Counts::overwritten_count, crate::proofs::Counts::ends_in_time))]
-    fn write_at(&mut self, place: u64, bytes: &[u8]) -> Result<(), Error>
+    pub(crate) fn write_at(&mut self, place: u64, bytes: &[u8]) -> Result<(), Error>
         requires { place + length bytes.now ≤ sector_start (version_of self.old) (count_of self.old) }
         ensures changes { Changes (λ b. overwritten b place bytes.now) self.old self.new }
         ensures count { count_of self.new ≡ count_of self.old }
@@ -328,41 +335,6 @@ impl<F: Medium> Sectors<F> {
         self.failed = true;
         self.inner.commit()?;
         self.failed = false;
-        Ok(())
-    }
-}
-
-impl<F: ReadMedium> HasSectors for Sectors<F> {
-    ghost use Rattle.cfb_sectors.specs.Held.{bytes_of, has_failed_here, is_honest, HasItsCause, Rests};
-
-    ghost bytes = { bytes_of };
-
-    ghost honest = { is_honest };
-
-    ghost failed = { has_failed_here };
-
-    ghost rests = { Rests };
-
-    ghost has_cause = { HasItsCause };
-
-    fn read_part(&mut self, place: u64, buffer: &mut [u8]) -> Result<(), Error> {
-        if self.failed {
-            return Err(Error::Failed);
-        }
-        self.read_filled(place, buffer)?;
-        Ok(())
-    }
-}
-
-impl<F: Medium> ChangesSectors for Sectors<F> {
-    ghost use Rattle.cfb_sectors.specs.Held.{EndsIn, Writes};
-
-    ghost may_write = { EndsIn };
-
-    ghost writes = { Writes };
-
-    fn write_part(&mut self, place: u64, bytes: &[u8]) -> Result<(), Error> {
-        self.write_at(place, bytes)?;
         Ok(())
     }
 }

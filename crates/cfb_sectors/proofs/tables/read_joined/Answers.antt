@@ -4,7 +4,8 @@ use Rattle.std.specs.Prelude.{Err}
 use Rattle.cfb_medium.specs.declared.error.Error.TheVariants.{Memory, InvalidData}
 use Rattle.cfb_sectors.specs.Held.{bytes_of, count_of, version_of, HasItsCause, LiesIn}
 use Rattle.cfb_sectors.specs.Sectors.{filled_part, sector_start, joined, sector}
-use Rattle.cfb_sectors.proofs.Causes.{cause_after, err_same, memory_cause, passed_on, rests_then}
+use Rattle.cfb_sectors.proofs.Causes.{cause_after, err_same, memory_cause, passed_on}
+use Rattle.cfb_sectors.specs.Resting.{rests_then}
 use Rattle.cfb_sectors.proofs.Counts.{longest}
 use Rattle.cfb_sectors.proofs.Joining.{all_at, all_more, joined_step, whole_lies}
 use Rattle.cfb_sectors.proofs.tables.read_joined.Goals as goal
