@@ -1,13 +1,13 @@
 // The FAT in memory, over the sectors that hold it.
 ghost use Rattle.cfb_medium.specs.Calls.{Extends, IsFaultUnless};
 ghost use Rattle.cfb_medium.specs.Versions.{sector_len};
-ghost use Rattle.cfb_medium.specs.declared.error.Error.TheVariants.{InvalidData, Memory};
+ghost use Rattle.cfb_medium.specs.declared.error.Error.TheVariants.{Failed, InvalidData, Memory};
 ghost use Rattle.cfb_sectors.specs.Held.{bytes_of as sectors_bytes, count_of as sectors_count, has_failed_here as sectors_failed, medium_of as sectors_medium, version_of as sectors_version, AreCounted, IsHonest as AreHonest, Rests};
-ghost use Rattle.cfb_sectors.specs.Sectors.{fat_in, greatest_regular, Chain};
-ghost use Rattle.std.specs.Prelude.{false, length, slice_get, vec_len, IfErr, IfOk, IsErrOf, IsTrue, List, None, Some, ℕ, ◌+◌, ◌≡◌, ◌≤◌, ◌⊎◌};
+ghost use Rattle.cfb_sectors.specs.Sectors.{fat_in, filled_part, greatest_regular, Chain as IsChain};
+ghost use Rattle.std.specs.Prelude.{false, length, slice_get, vec_len, true, IfErr, IfOk, IsErrOf, IsTrue, List, None, OnOk, Some, ℕ, ◌+◌, ◌≡◌, ◌≤◌, ◌⊎◌};
 
 use crate::consts::{END_OF_CHAIN, MAX_REGULAR_SECTOR};
-use crate::{Sectors, read_table};
+use crate::{Chain, HasSectors, Sectors, read_table};
 use cfb_medium::{Error, ReadMedium, Version};
 use std::alloc::Global;
 
@@ -22,7 +22,8 @@ pub struct Allocator<F: ReadMedium> {
 }
 
 impl<F: ReadMedium> Allocator<F> {
-    ghost use Rattle.cfb_sectors.specs.Tables.{difat_sectors_of, fat_of, fat_sectors_of, medium_of, sectors_of, version_of};
+    ghost use Rattle.cfb_sectors.specs.Tables.{bytes_of, difat_sectors_of, fat_of, fat_sectors_of, has_failed_here, is_honest, medium_of, sectors_of, version_of, AllRests, HasCauseBelow};
+    ghost use Rattle.cfb_sectors.specs.ChainViews.{holder_of, position_of, sectors_of as chain_sectors_of, version_of as chain_version};
 
     /// Reads the FAT from its sectors, which the DIFAT names. `InvalidData` where one of them isn't there. A refusal gives
     /// the medium back.
@@ -87,6 +88,28 @@ impl<F: ReadMedium> Allocator<F> {
         sectors.into_inner()
     }
 
+    // Reads as the sectors do.
+    pub(crate) fn read_filled(&mut self, place: u64, buffer: &mut [u8]) -> Result<(), Error>
+        ensures read { OnOk result (IsTrue (is_honest self.old) → buffer.new ≡ filled_part (bytes_of self.old) place (length buffer.old)) }
+        ensures rests { AllRests self.old self.new }
+        ensures failed { has_failed_here self.old ≡ true → IsErrOf result Failed }
+        ensures cause { IfErr result (HasCauseBelow self.old self.new) }
+        ensures fault { IfErr result (IsFaultUnless ⊥) }
+    {
+        self.sectors.read_part(place, buffer)
+    }
+
+    /// The chain of these sectors, at its first byte.
+    pub fn open_chain(&mut self, sector_ids: Vec<u32>) -> Chain<'_, Allocator<F>>
+        requires { vec_len sector_ids ≤ greatest_regular + 1 }
+        ensures same_reference { result.holder.ghost_name ≡ self.entry.ghost_name }
+        ensures holder { holder_of result ≡ self.old }
+        ensures chain { (chain_version result ≡ version_of self.old) × (chain_sectors_of result ≡ sector_ids.items) × (position_of result ≡ 0) }
+    {
+        let version = self.version();
+        Chain::new(self, version, sector_ids)
+    }
+
     /// The sectors of the DIFAT, in the order of its chain.
     pub fn difat_sectors(&self) -> &[u32]
         ensures { result.now ≡ difat_sectors_of self.now }
@@ -114,9 +137,9 @@ impl<F: ReadMedium> Allocator<F> {
 
     /// The sectors of the chain from a start in the FAT. `InvalidData` where there is none.
     pub fn chain_sectors(&self, alloc: Global, start: u32) -> Result<Vec<u32>, Error>
-        ensures chain { IfOk result (λ sectors. Chain (fat_of self.now) start sectors.items) }
+        ensures chain { IfOk result (λ sectors. IsChain (fat_of self.now) start sectors.items) }
         ensures few { IfOk result (λ sectors. vec_len sectors ≤ greatest_regular + 1) }
-        ensures none { IsErrOf result InvalidData → (sectors : List ℕ) → Chain (fat_of self.now) start sectors → ⊥ }
+        ensures none { IsErrOf result InvalidData → (sectors : List ℕ) → IsChain (fat_of self.now) start sectors → ⊥ }
         ensures error { IfErr result (λ e. (e ≡ InvalidData) ⊎ (e ≡ Memory)) }
     {
         let table = self.fat.as_slice();
