@@ -1,9 +1,9 @@
 -- Calls one after the other on the sectors of a medium.
-use Rattle.std.proofs.Common.{◌≡◌, sym, ◌∙◌, subst, IsTrue}
-use Rattle.std.specs.Prelude.{Bool, ◌||◌, Result, Ok, Err, IfErr, IsErrAnd, IsErrOf}
+use Rattle.std.proofs.Common.{◌≡◌, sym, ◌∙◌, subst}
+use Rattle.std.specs.Prelude.{◌||◌, Result, Ok, Err, IfErr, IsErrAnd, IsErrOf}
 use Rattle.cfb_medium.specs.Calls.{HasCause}
 use Rattle.cfb_medium.specs.declared.error.Error.{Error}
-use Rattle.cfb_medium.specs.declared.error.Error.TheVariants.{Device, Failed, Memory, InvalidData, Full}
+use Rattle.cfb_medium.specs.declared.error.Error.TheVariants.{Memory, InvalidData}
 use Rattle.cfb_medium.specs.declared.medium.ReadMedium.{Ghosts}
 use Rattle.cfb_sectors.specs.declared.sectors.Sectors.{Sectors}
 use Rattle.cfb_sectors.specs.Held.{HasItsCause, Rests}

@@ -1,9 +1,9 @@
 -- Parts of a file, as reads serve them and writes leave them.
-use Rattle.std.proofs.Common.{rules, ◌≡◌, ℕ, ◌+◌, ◌-◌, ◌<◌, ◌≤◌, min, List, [], ◌∷◌, ◌++◌, length, take, drop, replicate, refl, sym, ◌∙◌, ap, arith, length-append, length-take, length-drop, ⊎_elim}
+use Rattle.std.proofs.Common.{◌≡◌, ℕ, ◌+◌, ◌-◌, ◌≤◌, min, List, [], ◌++◌, length, take, drop, replicate, sym, ◌∙◌, ap, arith, length-drop, ⊎_elim}
 use Rattle.std.proofs.lemmas.List.{drop_all, take_all, take-append-le, take-replicate, append-nil}
 use Rattle.std.proofs.lemmas.Bool.Decides.{leb_tells}
 use Rattle.std.proofs.Math.Seq.{take-append-add}
-use Rattle.cfb_medium.specs.Bytes.{overwritten, Serves}
+use Rattle.cfb_medium.specs.Bytes.{Serves}
 use Rattle.cfb_sectors.specs.Sectors.{filled_part}
 
 -- what a read served, and zeros behind it

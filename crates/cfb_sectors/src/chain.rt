@@ -1,12 +1,16 @@
 // The bytes of a chain of sectors, read from a position on.
 ghost use Rattle.cfb_medium.specs.Calls.{IsFaultUnless};
 ghost use Rattle.cfb_medium.specs.Versions.{sector_len};
-ghost use Rattle.cfb_medium.specs.declared.error.Error.TheVariants.{Failed};
-ghost use Rattle.cfb_sectors.specs.Sectors.{greatest_regular, joined};
-ghost use Rattle.std.specs.Prelude.{drop, length, take, true, vec_len, IfErr, IfOk, IsErrOf, IsTrue, OnErr, ◌*◌, ◌+◌, ◌-◌, ◌<◌, ◌≡◌, ◌≤◌};
+ghost use Rattle.cfb_medium.specs.declared.error.Error.TheVariants.{InvalidInput};
+ghost use Rattle.cfb_sectors.specs.Sectors.{end_of_chain, greatest_regular, joined};
+ghost use Rattle.cfb_sectors.specs.Seeking.{Finds};
+ghost use Rattle.std.specs.Prelude.{drop, length, slice_index_or, take, vec_len, IfErr, IfOk, IsTrue, OnErr, ℕ, ◌*◌, ◌+◌, ◌-◌, ◌<◌, ◌≡◌, ◌≤◌};
 
 use crate::HasSectors;
+use crate::consts::END_OF_CHAIN;
+use crate::sector::place_found;
 use cfb_medium::{Error, Version};
+use std::io::SeekFrom;
 
 /// The sectors of a chain, as one list of bytes, at a position.
 pub struct Chain<'a, H: HasSectors> {
@@ -43,6 +47,16 @@ impl<'a, H: HasSectors> Chain<'a, H> {
             version,
             sector_ids,
             position: 0,
+        }
+    }
+
+    /// Its first sector, or "end of chain" where it has none.
+    pub fn start_sector_id(&self) -> u32
+        ensures { result ≡ slice_index_or (sectors_of self.now) 0 end_of_chain }
+    {
+        match self.sector_ids.first() {
+            Some(sector_id) => *sector_id,
+            None => END_OF_CHAIN,
         }
     }
 
@@ -94,5 +108,23 @@ impl<'a, H: HasSectors> Chain<'a, H> {
         self.holder.read_part(place, &mut buffer[..count])?;
         self.position += count as u64;
         Ok(count)
+    }
+
+    /// Moves the position to a place of the chain or to its end, and gives it. `InvalidInput` where it is before the chain or
+    /// behind its end, and then it stays.
+    #[tactic(auto, using(crate::proofs::ChainParts::no_more_bytes))]
+    pub fn seek(&mut self, from: SeekFrom) -> Result<u64, Error>
+        ensures ok { IfOk result (λ n. Finds from (length (sectors_of self.old) * sector_len (version_of self.old)) (position_of self.old) n × (position_of self.new ≡ n)) }
+        ensures none { OnErr result ((n : ℕ) → Finds from (length (sectors_of self.old) * sector_len (version_of self.old)) (position_of self.old) n → ⊥) }
+        ensures error { IfErr result (λ e. e ≡ InvalidInput) }
+        ensures stays { OnErr result (position_of self.new ≡ position_of self.old) }
+        ensures same { IsSame self.old self.new }
+        ensures holder { holder_of self.new ≡ holder_of self.old }
+    {
+        let Some(place) = place_found(from, self.len(), self.position) else {
+            return Err(Error::InvalidInput);
+        };
+        self.position = place;
+        Ok(place)
     }
 }

@@ -156,7 +156,7 @@ impl<'a, H: HasSectors> Sector<'a, H> {
 }
 
 // The place that a seek finds in a part of so many bytes, from this position, if it is one.
-fn place_found(from: SeekFrom, len: u64, position: u64) -> Option<u64>
+pub(crate) fn place_found(from: SeekFrom, len: u64, position: u64) -> Option<u64>
     requires { len < 2 ^ 63 }
     ensures { MatchOption result ((n : ℕ) → Finds from len position n → ⊥) (λ n. Finds from len position n) }
 {

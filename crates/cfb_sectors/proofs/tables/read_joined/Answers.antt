@@ -1,9 +1,8 @@
-use Rattle.std.proofs.Common.{rules, ◌≡◌, ◌+◌, ◌<◌, ◌≤◌, ◌++◌, length, take, drop, get_or, ap, sym, subst, ◌∙◌, IsTrue, arith, length-append, length-take, length-drop, add-zero}
+use Rattle.std.proofs.Common.{rules, ◌≡◌, ◌<◌, ◌≤◌, length, take, drop, get_or, ap, sym, subst, ◌∙◌, IsTrue, arith, length-append, length-take, length-drop}
 use Rattle.cfb_medium.specs.Versions.{sector_len}
 use Rattle.std.specs.Prelude.{Err}
 use Rattle.cfb_medium.specs.declared.error.Error.TheVariants.{Memory, InvalidData}
-use Rattle.cfb_sectors.specs.Held.{bytes_of, count_of, version_of, HasItsCause, LiesIn}
-use Rattle.cfb_sectors.specs.Sectors.{filled_part, sector_start, joined, sector}
+use Rattle.cfb_sectors.specs.Held.{bytes_of, count_of, version_of, HasItsCause}
 use Rattle.cfb_sectors.proofs.Causes.{cause_after, err_same, memory_cause, passed_on}
 use Rattle.cfb_sectors.specs.Resting.{rests_then}
 use Rattle.cfb_sectors.proofs.Counts.{longest}

@@ -1,4 +1,4 @@
-use Rattle.std.proofs.Common.{◌<◌, length, arith, subst, sym, ap, ◌∙◌}
+use Rattle.std.proofs.Common.{◌<◌, length, arith, subst, sym}
 use Rattle.std.specs.Prelude.{slice_index}
 use Rattle.std.proofs.lemmas.Option.{slice_get-get_or}
 use Rattle.cfb_sectors.specs.Sectors.{Chain}

@@ -1,7 +1,6 @@
-use Rattle.std.proofs.Common.{rules, ◌≡◌, ◌+◌, ◌*◌, ◌<◌, ◌≤◌, length, take, drop, get_or, arith, ap, ◌∙◌, subst, vec_len, length-take}
+use Rattle.std.proofs.Common.{◌≡◌, ◌+◌, ◌*◌, ◌<◌, ◌≤◌, length, take, get_or, arith, ap, ◌∙◌, subst, vec_len, length-take}
 use Rattle.std.proofs.lemmas.List.{get_or_read}
 use Rattle.cfb_medium.specs.Versions.{sector_len}
-use Rattle.cfb_sectors.specs.Sectors.{sector_start}
 use Rattle.cfb_sectors.proofs.ChainParts.{index_below, part_read}
 use Rattle.cfb_sectors.proofs.chain.Chain.read.Goals as goal
 

@@ -1,9 +1,8 @@
-use Rattle.std.proofs.Common.{◌≡◌, ◌++◌, ◌∷◌, [], List, ℕ, replicate, ap, sym, ◌∙◌, append_assoc}
+use Rattle.std.proofs.Common.{◌≡◌, ◌++◌, ◌∷◌, [], replicate, ap, sym, ◌∙◌, append_assoc}
 use Rattle.std.specs.Int.{w16, to_le_bytes}
 use Rattle.std.specs.List.{flat_map}
 use Rattle.cfb_medium.specs.Numbers.{number_bytes}
 use Rattle.cfb_medium.specs.Versions.{major, sector_shift}
-use Rattle.cfb_sectors.specs.Appended.{Begins}
 use Rattle.cfb_sectors.specs.Header.{header_bytes, signature}
 use Rattle.cfb_sectors.specs.HeaderViews.{fields_of}
 use Rattle.cfb_sectors.proofs.Appending.{appended_5, header_parts, on_ok, Begins-append, Begins-then}

@@ -1,6 +1,5 @@
-use Rattle.std.proofs.Common.{drop, length, refl, arith, length-drop}
+use Rattle.std.proofs.Common.{drop, refl, arith, length-drop}
 use Rattle.std.proofs.lemmas.List.{take_all}
-use Rattle.cfb_sectors.specs.Readable.{IsTaken}
 use Rattle.cfb_sectors.proofs.header.Header.read_from.Goals as goal
 
 pub returns-clause-whole : goal.returns-clause-whole

@@ -1,5 +1,4 @@
-use Rattle.std.proofs.Common.{rules, ◌+◌, ◌≤◌, ◌^◌, length, IfErr, arith}
-use Rattle.cfb_medium.specs.Calls.{IsFaultUnless}
+use Rattle.std.proofs.Common.{arith}
 use Rattle.cfb_sectors.proofs.Counts.{faults_only}
 use Rattle.cfb_sectors.proofs.sectors.Sectors.begin_write.Goals as goal
 

@@ -1,4 +1,4 @@
-use Rattle.std.proofs.Common.{rules, length, replicate, ◌≡◌, ◌-◌, arith, length-take, length-drop, ap, ◌∙◌, sym}
+use Rattle.std.proofs.Common.{rules, length, replicate, ◌≡◌, ◌-◌, arith, length-take, length-drop, ap, ◌∙◌}
 use Rattle.cfb_sectors.proofs.Parts.{served_filled}
 use Rattle.cfb_sectors.proofs.sectors.Sectors.read_filled.Goals as goal
 
