@@ -13,6 +13,7 @@ use cfb_medium::{Error, Version};
 use std::io::SeekFrom;
 
 /// The sectors of a chain, as one list of bytes, at a position.
+#[derive(Drop)]
 pub struct Chain<'a, H: HasSectors> {
     holder: &'a mut H,
     version: Version,

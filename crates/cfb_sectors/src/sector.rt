@@ -61,6 +61,7 @@ pub trait ChangesSectors: HasSectors {
 }
 
 /// A part of the file, as a sector, that is read and written from a position on.
+#[derive(Drop)]
 pub struct Sector<'a, H: HasSectors> {
     holder: &'a mut H,
     start: u64,
