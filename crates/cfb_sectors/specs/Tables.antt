@@ -37,6 +37,10 @@ module _ {F : Type 0} {g : Ghosts F} where
   abbrev pub has_failed_here : Allocator F g → Bool
   has_failed_here it = held.has_failed_here it.sectors
 
+  -- so does a fault of the medium
+  abbrev pub has_failed : Allocator F g → Bool
+  has_failed it = held.has_failed it.sectors
+
   -- nothing but reads and flushes was done
   pub record AllRests (old new : Allocator F g) : Type 0 where
     pub sectors : held.Rests old.sectors new.sectors

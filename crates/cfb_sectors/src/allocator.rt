@@ -4,11 +4,11 @@ ghost use Rattle.cfb_medium.specs.Versions.{sector_len};
 ghost use Rattle.cfb_medium.specs.declared.error.Error.TheVariants.{Failed, InvalidData, Memory};
 ghost use Rattle.cfb_sectors.specs.Held.{bytes_of as sectors_bytes, count_of as sectors_count, has_failed_here as sectors_failed, medium_of as sectors_medium, version_of as sectors_version, AreCounted, IsHonest as AreHonest, Rests};
 ghost use Rattle.cfb_sectors.specs.Sectors.{fat_in, filled_part, greatest_regular, Chain as IsChain};
-ghost use Rattle.std.specs.Prelude.{false, length, slice_get, vec_len, true, IfErr, IfOk, IsErrOf, IsTrue, List, None, OnOk, Some, ℕ, ◌+◌, ◌≡◌, ◌≤◌, ◌⊎◌};
+ghost use Rattle.std.specs.Prelude.{false, length, slice_get, vec_len, true, IfErr, IfOk, IsErrOf, IsTrue, List, None, OnErr, OnOk, Some, ℕ, ◌+◌, ◌≡◌, ◌≤◌, ◌⊎◌};
 
 use crate::consts::{END_OF_CHAIN, MAX_REGULAR_SECTOR};
 use crate::{Chain, HasSectors, Sectors, read_table};
-use cfb_medium::{Error, ReadMedium, Version};
+use cfb_medium::{Error, Medium, ReadMedium, Version};
 use std::alloc::Global;
 
 /// The FAT in memory, over the sectors that hold it. What it keeps is true where the medium is honest and no write failed.
@@ -156,5 +156,43 @@ impl<F: ReadMedium> Allocator<F> {
             at = table[at as usize];
         }
         Ok(sectors)
+    }
+}
+
+impl<F: Medium> Allocator<F> {
+    ghost use Rattle.cfb_sectors.specs.Tables.{bytes_of, difat_sectors_of, fat_of, fat_sectors_of, has_failed, has_failed_here, medium_of, sectors_of, version_of, AllRests, HasCauseBelow};
+
+    /// Whether a fault in a write or a commit has left it, or the medium, in a state in which every call is refused.
+    pub fn has_failed(&self) -> bool
+        ensures { result ≡ has_failed self.now }
+    {
+        self.sectors.has_failed()
+    }
+
+    /// Passes on what the medium keeps back, and publishes nothing.
+    pub fn flush(&mut self) -> Result<(), Error>
+        ensures rests { AllRests self.old self.new }
+        ensures failed { has_failed_here self.old ≡ true → IsErrOf result Failed }
+        ensures cause { IfErr result (HasCauseBelow self.old self.new) }
+        ensures fault { IfErr result (IsFaultUnless ⊥) }
+    {
+        self.sectors.flush()
+    }
+
+    /// Publishes the bytes, by a commit of the medium. After a fault it has failed.
+    pub fn commit(&mut self) -> Result<(), Error>
+        ensures published { AreHonest (sectors_of self.old) → OnOk result (F.has_published (medium_of self.new) (bytes_of self.old)) }
+        ensures bytes { has_failed_here self.new ≡ false → AreHonest (sectors_of self.old) → bytes_of self.new ≡ bytes_of self.old }
+        ensures was_live { has_failed_here self.new ≡ false → has_failed_here self.old ≡ false }
+        ensures honest { F.honest (medium_of self.new) ≡ F.honest (medium_of self.old) }
+        ensures tables { (version_of self.new ≡ version_of self.old) × (fat_of self.new ≡ fat_of self.old) × (fat_sectors_of self.new ≡ fat_sectors_of self.old) × (difat_sectors_of self.new ≡ difat_sectors_of self.old) }
+        ensures live { OnOk result (has_failed_here self.new ≡ false) }
+        ensures err { OnErr result (has_failed_here self.new ≡ true) }
+        ensures failed { has_failed_here self.old ≡ true → IsErrOf result Failed × AllRests self.old self.new }
+        ensures cause { IfErr result (HasCauseBelow self.old self.new) }
+        ensures failures { F.failures (medium_of self.old) ≤ F.failures (medium_of self.new) }
+        ensures fault { IfErr result (IsFaultUnless ⊥) }
+    {
+        self.sectors.commit()
     }
 }

@@ -318,7 +318,8 @@ impl<F: Medium> Sectors<F> {
     /// Publishes the bytes, by a commit of the medium. After a fault it has failed.
     pub fn commit(&mut self) -> Result<(), Error>
         ensures published { IsHonest self.old → OnOk result (F.has_published (medium_of self.new) (bytes_of self.old)) }
-        ensures bytes { IsHonest self.old → OnOk result (bytes_of self.new ≡ bytes_of self.old) }
+        ensures bytes { has_failed_here self.new ≡ false → IsHonest self.old → bytes_of self.new ≡ bytes_of self.old }
+        ensures was_live { has_failed_here self.new ≡ false → has_failed_here self.old ≡ false }
         ensures honest { F.honest (medium_of self.new) ≡ F.honest (medium_of self.old) }
         ensures version { version_of self.new ≡ version_of self.old }
         ensures count { count_of self.new ≡ count_of self.old }
