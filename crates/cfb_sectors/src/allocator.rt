@@ -2,12 +2,12 @@
 ghost use Rattle.cfb_medium.specs.Calls.{Extends, IsFaultUnless};
 ghost use Rattle.cfb_medium.specs.Versions.{sector_len};
 ghost use Rattle.cfb_medium.specs.declared.error.Error.TheVariants.{Failed, InvalidData, Memory};
-ghost use Rattle.cfb_sectors.specs.Held.{bytes_of as sectors_bytes, count_of as sectors_count, has_failed_here as sectors_failed, medium_of as sectors_medium, version_of as sectors_version, AreCounted, IsHonest as AreHonest, Rests};
-ghost use Rattle.cfb_sectors.specs.Sectors.{fat_in, filled_part, greatest_regular, Chain as IsChain};
-ghost use Rattle.std.specs.Prelude.{false, length, slice_get, vec_len, true, IfErr, IfOk, IsErrOf, IsTrue, List, None, OnErr, OnOk, Some, ℕ, ◌+◌, ◌≡◌, ◌≤◌, ◌⊎◌};
+ghost use Rattle.cfb_sectors.specs.Held.{bytes_of as sectors_bytes, count_of as sectors_count, has_failed_here as sectors_failed, medium_of as sectors_medium, version_of as sectors_version, AreCounted, IsHonest as AreHonest, LiesIn, Rests};
+ghost use Rattle.cfb_sectors.specs.Sectors.{fat_in, filled_part, greatest_regular, sector_start, Chain as IsChain};
+ghost use Rattle.std.specs.Prelude.{false, length, slice_get, vec_len, true, IfErr, IfOk, IsErrOf, IsTrue, List, None, OnErr, OnOk, Some, ℕ, ◌+◌, ◌<◌, ◌≡◌, ◌≤◌, ◌↔◌, ◌⊎◌};
 
-use crate::consts::{END_OF_CHAIN, MAX_REGULAR_SECTOR};
-use crate::{Chain, HasSectors, Sectors, read_table};
+use crate::consts::{END_OF_CHAIN, HEADER_LEN, MAX_REGULAR_SECTOR};
+use crate::{Chain, HasSectors, Sector, Sectors, read_table};
 use cfb_medium::{Error, Medium, ReadMedium, Version};
 use std::alloc::Global;
 
@@ -24,6 +24,7 @@ pub struct Allocator<F: ReadMedium> {
 impl<F: ReadMedium> Allocator<F> {
     ghost use Rattle.cfb_sectors.specs.Tables.{bytes_of, difat_sectors_of, fat_of, fat_sectors_of, has_failed_here, is_honest, medium_of, sectors_of, version_of, AllRests, HasCauseBelow};
     ghost use Rattle.cfb_sectors.specs.ChainViews.{holder_of, position_of, sectors_of as chain_sectors_of, version_of as chain_version};
+    ghost use Rattle.cfb_sectors.specs.SectorViews.{holder_of as holder_in, len_of, position_of as place_of, start_of};
 
     /// Reads the FAT from its sectors, which the DIFAT names. `InvalidData` where one of them isn't there. A refusal gives
     /// the medium back.
@@ -97,6 +98,66 @@ impl<F: ReadMedium> Allocator<F> {
         ensures fault { IfErr result (IsFaultUnless ⊥) }
     {
         self.sectors.read_part(place, buffer)
+    }
+
+    /// Fills the buffer with the bytes from an offset of a sector on, also those of the sectors behind it; what a short
+    /// last sector lacks is zeros. `InvalidData` where so many bytes don't lie in the sectors. Nothing is changed.
+    pub fn read_contiguous(
+        &mut self,
+        sector_id: u32,
+        offset: usize,
+        buffer: &mut [u8],
+    ) -> Result<(), Error>
+        ensures read { OnOk result (IsTrue (is_honest self.old) → buffer.new ≡ filled_part (bytes_of self.old) (sector_start (version_of self.old) sector_id + offset) (length buffer.old)) }
+        ensures inside { OnOk result ((has_failed_here self.old ≡ false) × LiesIn (sectors_of self.old) sector_id offset (length buffer.old)) }
+        ensures failed { has_failed_here self.old ≡ true → IsErrOf result Failed }
+        ensures refused { IsErrOf result InvalidData ↔ ((has_failed_here self.old ≡ false) × (LiesIn (sectors_of self.old) sector_id offset (length buffer.old) → ⊥)) }
+        ensures rests { AllRests self.old self.new }
+        ensures cause { IfErr result (HasCauseBelow self.old self.new) }
+        ensures fault { IfErr result (λ e. IsFaultUnless ⊥ e ⊎ (e ≡ InvalidData)) }
+    {
+        self.sectors.read_contiguous(sector_id, offset, buffer)
+    }
+
+    /// The header, at this offset.
+    pub fn seek_within_header(&mut self, offset: usize) -> Sector<'_, Allocator<F>>
+        requires { offset ≤ 512 }
+        ensures same_reference { result.holder.ghost_name ≡ self.entry.ghost_name }
+        ensures holder { holder_in result ≡ self.old }
+        ensures part { (start_of result ≡ 0) × (len_of result ≡ 512) × (place_of result ≡ offset) }
+    {
+        Sector::new(self, 0, HEADER_LEN, offset)
+    }
+
+    /// A sector, at this offset.
+    #[tactic(auto, using(crate::proofs::Counts::ends_in_time))]
+    pub fn seek_within_sector(&mut self, sector_id: u32, offset: usize) -> Sector<'_, Allocator<F>>
+        requires there { sector_id < sectors_count (sectors_of self.old) }
+        requires inside { offset ≤ sector_len (version_of self.old) }
+        ensures same_reference { result.holder.ghost_name ≡ self.entry.ghost_name }
+        ensures holder { holder_in result ≡ self.old }
+        ensures part { (start_of result ≡ sector_start (version_of self.old) sector_id) × (len_of result ≡ sector_len (version_of self.old)) × (place_of result ≡ offset) }
+    {
+        let start = self.sectors.start(sector_id);
+        let len = self.sector_len();
+        Sector::new(self, start, len, offset)
+    }
+
+    /// A sector, at its first byte.
+    pub fn seek_to_sector(&mut self, sector_id: u32) -> Sector<'_, Allocator<F>>
+        requires { sector_id < sectors_count (sectors_of self.old) }
+        ensures same_reference { result.holder.ghost_name ≡ self.entry.ghost_name }
+        ensures holder { holder_in result ≡ self.old }
+        ensures part { (start_of result ≡ sector_start (version_of self.old) sector_id) × (len_of result ≡ sector_len (version_of self.old)) × (place_of result ≡ 0) }
+    {
+        self.seek_within_sector(sector_id, 0)
+    }
+
+    /// The sectors behind the header's. Their numbers begin at 0.
+    pub fn num_sectors(&self) -> u32
+        ensures { result ≡ sectors_count (sectors_of self.now) }
+    {
+        self.sectors.num_sectors()
     }
 
     /// The chain of these sectors, at its first byte.

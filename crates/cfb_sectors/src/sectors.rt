@@ -130,7 +130,7 @@ impl<F: ReadMedium> Sectors<F> {
     }
 
     // Where a sector begins in the file.
-    fn start(&self, sector_id: u32) -> u64
+    pub(crate) fn start(&self, sector_id: u32) -> u64
         ensures { result ≡ sector_start (version_of self.now) sector_id }
     {
         (u64::from(sector_id) + 1) * self.sector_len() as u64
