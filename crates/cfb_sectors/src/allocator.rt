@@ -14,6 +14,7 @@ use std::alloc::Global;
 /// The FAT in memory, over the sectors that hold it. What it keeps is true where the medium is honest and no write failed.
 #[derive(Drop)]
 pub struct Allocator<F: ReadMedium> {
+    alloc: Global,
     sectors: Sectors<F>,
     difat_sectors: Vec<u32>,
     fat_sectors: Vec<u32>,
@@ -29,8 +30,8 @@ impl<F: ReadMedium> Allocator<F> {
     /// Reads the FAT from its sectors, which the DIFAT names. `InvalidData` where one of them isn't there. A refusal gives
     /// the medium back.
     pub fn new(
-        mut sectors: Sectors<F>,
         alloc: Global,
+        mut sectors: Sectors<F>,
         difat_sectors: Vec<u32>,
         fat_sectors: Vec<u32>,
     ) -> Result<Allocator<F>, (F, Error)>
@@ -44,8 +45,9 @@ impl<F: ReadMedium> Allocator<F> {
         ensures continues { IfErr result (λ e. Extends F.continues (sectors_medium sectors) e.0) }
         ensures bytes { IfErr result (λ e. AreHonest sectors → F.bytes e.0 ≡ sectors_bytes sectors) }
     {
-        match read_table(&mut sectors, alloc, &fat_sectors) {
+        match read_table(alloc, &mut sectors, &fat_sectors) {
             Ok(fat) => Ok(Allocator {
+                alloc,
                 sectors,
                 difat_sectors,
                 fat_sectors,
@@ -81,6 +83,7 @@ impl<F: ReadMedium> Allocator<F> {
         ensures { result ≡ medium_of self }
     {
         let Allocator {
+            alloc: _,
             sectors,
             difat_sectors: _,
             fat_sectors: _,
@@ -197,14 +200,14 @@ impl<F: ReadMedium> Allocator<F> {
     }
 
     /// The sectors of the chain from a start in the FAT. `InvalidData` where there is none.
-    pub fn chain_sectors(&self, alloc: Global, start: u32) -> Result<Vec<u32>, Error>
+    pub fn chain_sectors(&self, start: u32) -> Result<Vec<u32>, Error>
         ensures chain { IfOk result (λ sectors. IsChain (fat_of self.now) start sectors.items) }
         ensures few { IfOk result (λ sectors. vec_len sectors ≤ greatest_regular + 1) }
         ensures none { IsErrOf result InvalidData → (sectors : List ℕ) → IsChain (fat_of self.now) start sectors → ⊥ }
         ensures error { IfErr result (λ e. (e ≡ InvalidData) ⊎ (e ≡ Memory)) }
     {
         let table = self.fat.as_slice();
-        let mut sectors = Vec::new(alloc);
+        let mut sectors = Vec::new(self.alloc);
         let mut at = start;
         while at != END_OF_CHAIN {
             if at > MAX_REGULAR_SECTOR

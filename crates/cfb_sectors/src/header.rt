@@ -166,7 +166,7 @@ ghost use Rattle.cfb_sectors.specs.HeaderViews.{fields_of};
 
 /// A header that is written and read again is as it was, where such a reader takes it; it doesn't take a strange count of
 /// directory sectors (`InvalidData`).
-pub fn header_again(header: Header, alloc: Global, validation: Validation) -> Result<Header, Error>
+pub fn header_again(alloc: Global, header: Header, validation: Validation) -> Result<Header, Error>
     ensures same { IfOk result (λ h. fields_of h ≡ fields_of header) }
     ensures error { IfErr result (λ e. (e ≡ Memory) ⊎ ((e ≡ InvalidData) × (IsTaken validation header.version header.num_dir_sectors → ⊥))) }
 {

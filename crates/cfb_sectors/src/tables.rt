@@ -16,8 +16,8 @@ const LONGEST: usize = 4096;
 
 /// The bytes of some sectors, joined; what a short last sector lacks is zeros. `InvalidData` where one of them isn't there.
 pub fn read_joined<F: ReadMedium>(
-    sectors: &mut Sectors<F>,
     alloc: Global,
+    sectors: &mut Sectors<F>,
     sector_ids: &[u32],
 ) -> Result<Vec<u8>, Error>
     ensures read { IfOk result (λ all. IsHonest sectors.old → all.items ≡ joined (version_of sectors.old) (bytes_of sectors.old) sector_ids.now) }
@@ -50,8 +50,8 @@ fn numbers_in(alloc: Global, bytes: &[u8]) -> Result<Vec<u32>, AllocError>
 
 /// The numbers that some sectors hold, joined, as the FAT's do. `InvalidData` where one of the sectors isn't there.
 pub fn read_table<F: ReadMedium>(
-    sectors: &mut Sectors<F>,
     alloc: Global,
+    sectors: &mut Sectors<F>,
     sector_ids: &[u32],
 ) -> Result<Vec<u32>, Error>
     ensures read { IfOk result (λ table. IsHonest sectors.old → table.items ≡ fat_in (version_of sectors.old) (bytes_of sectors.old) sector_ids.now) }
@@ -61,6 +61,6 @@ pub fn read_table<F: ReadMedium>(
     ensures cause { IfErr result (HasItsCause sectors.old sectors.new) }
     ensures fault { IfErr result (λ e. IsFaultUnless ⊥ e ⊎ (e ≡ InvalidData)) }
 {
-    let bytes = read_joined(sectors, alloc, sector_ids)?;
+    let bytes = read_joined(alloc, sectors, sector_ids)?;
     Ok(numbers_in(alloc, &bytes)?)
 }

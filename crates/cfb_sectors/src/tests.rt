@@ -14,7 +14,7 @@ fn sectors_over_memory(rt: HostRuntime) -> Result<(), Fail> {
     let mut read = [0; 4];
     sectors.read_contiguous(0, 510, &mut read)?;
     assert_eq!(rt; read, [0xFF, 0xFF, b's', b'o']);
-    let table = read_table(&mut sectors, alloc, &[0])?;
+    let table = read_table(alloc, &mut sectors, &[0])?;
     assert_eq!(rt; table.len(), 128);
     assert_eq!(rt; table[126], FREE_SECTOR);
     assert_eq!(rt; table[127], END_OF_CHAIN);
@@ -32,9 +32,9 @@ fn chain_over_memory(rt: HostRuntime) -> Result<(), Fail> {
     bytes[512..524].copy_from_slice(&[0xFD, 0xFF, 0xFF, 0xFF, 2, 0, 0, 0, 0xFE, 0xFF, 0xFF, 0xFF]);
     let sectors = Sectors::new(Version::V3, 2048, MemoryMedium::from_bytes(alloc, bytes));
     let fat_sectors = [0].to_vec(alloc)?;
-    let made = Allocator::new(sectors, alloc, Vec::new(alloc), fat_sectors);
+    let made = Allocator::new(alloc, sectors, Vec::new(alloc), fat_sectors);
     let mut allocator = made.map_err(|refused| refused.1)?;
-    let found = allocator.chain_sectors(alloc, 1)?;
+    let found = allocator.chain_sectors(1)?;
     assert_eq!(rt; found.as_slice(), [1, 2].as_slice());
     let mut chain = allocator.open_chain(found);
     assert_eq!(rt; chain.len(), 1024);
