@@ -1,0 +1,202 @@
+// One sector, or a part of it, read and written from a position on.
+ghost use Rattle.cfb_medium.specs.Bytes.{overwritten};
+ghost use Rattle.cfb_medium.specs.Calls.{IsFaultUnless};
+ghost use Rattle.cfb_medium.specs.declared.error.Error.{Error};
+ghost use Rattle.cfb_medium.specs.declared.error.Error.TheVariants.{Failed, InvalidInput};
+ghost use Rattle.cfb_sectors.specs.Sectors.{filled_part};
+ghost use Rattle.cfb_sectors.specs.Seeking.{Finds};
+ghost use Rattle.std.specs.Prelude.{drop, false, length, min, take, true, Bool, IfErr, IfOk, IsErrOf, IsTrue, List, MatchOption, OnErr, OnOk, ℕ, ◌+◌, ◌++◌, ◌-◌, ◌<◌, ◌≡◌, ◌≤◌, ◌⊎◌, ◌^◌};
+
+use cfb_medium::Error;
+use std::io::SeekFrom;
+
+/// A layer that has the sectors, at whatever height.
+pub trait HasSectors {
+    /// The bytes of the file.
+    ghost bytes: { Self → List ℕ };
+
+    /// What is said of bytes stands where this holds.
+    ghost honest: { Self → Bool };
+
+    /// A fault in a write has left it in a state in which every call is refused.
+    ghost failed: { Self → Bool };
+
+    /// The second state comes from the first by reads alone.
+    ghost rests: { Self → Self → Type 0 };
+
+    /// The error has its cause between the two states, or before them.
+    ghost has_cause: { Self → Self → Error → Type 0 };
+
+    /// Fills the buffer with the bytes from a place of the file on, and with zeros where there are no more.
+    fn read_part(&mut self, place: u64, buffer: &mut [u8]) -> Result<(), Error>
+        ensures read { OnOk result (IsTrue (honest self.old) → buffer.new ≡ filled_part (bytes self.old) place (length buffer.old)) }
+        ensures rests { rests self.old self.new }
+        ensures failed { failed self.old ≡ true → IsErrOf result Failed }
+        ensures cause { IfErr result (has_cause self.old self.new) }
+        ensures fault { IfErr result (IsFaultUnless ⊥) };
+
+    ghost rests_refl: { (it : Self) → rests it it };
+
+    ghost rests_then: { (a b c : Self) → rests a b → rests b c → rests a c };
+}
+
+/// Such a layer over a medium that is written too.
+pub trait ChangesSectors: HasSectors {
+    /// So many bytes from this place of the file on may be written.
+    ghost may_write: { Self → ℕ → ℕ → Type 0 };
+
+    /// The second state comes from the first by a write of these bytes at this place.
+    ghost writes: { ℕ → List ℕ → Self → Self → Type 0 };
+
+    /// Writes over the bytes from a place of the file on. After a fault it has failed.
+    fn write_part(&mut self, place: u64, bytes: &[u8]) -> Result<(), Error>
+        requires { may_write self.old place (length bytes.now) }
+        ensures writes { writes place bytes.now self.old self.new }
+        ensures still { (at count : ℕ) → may_write self.old at count → may_write self.new at count }
+        ensures live { OnOk result (Self.failed self.new ≡ false) }
+        ensures err { OnErr result (Self.failed self.new ≡ true) }
+        ensures failed { Self.failed self.old ≡ true → IsErrOf result Failed }
+        ensures cause { IfErr result (Self.has_cause self.old self.new) }
+        ensures fault { IfErr result (IsFaultUnless ⊥) };
+}
+
+/// A part of the file, as a sector, that is read and written from a position on.
+#[derive(Drop)]
+pub struct Sector<'a, H: HasSectors> {
+    holder: &'a mut H,
+    start: u64,
+    len: usize,
+    position: usize,
+    ghost inside: { position ≤ len },
+    ghost ends: { start + len < 2 ^ 63 },
+}
+
+impl<'a, H: HasSectors> Sector<'a, H> {
+    ghost use Rattle.cfb_sectors.specs.SectorViews.{holder_of, len_of, position_of, start_of, IsSame};
+
+    /// The part of so many bytes from this place of the file on, at this position.
+    pub fn new(holder: &'a mut H, start: u64, len: usize, position: usize) -> Sector<'a, H>
+        requires inside { position ≤ len }
+        requires ends { start + len < 2 ^ 63 }
+        ensures same_reference { result.holder.ghost_name ≡ holder.entry.ghost_name }
+        ensures holder { holder_of result ≡ holder.old }
+        ensures part { (start_of result ≡ start) × (len_of result ≡ len) × (position_of result ≡ position) }
+    {
+        Sector {
+            holder,
+            start,
+            len,
+            position,
+        }
+    }
+
+    /// The bytes of the whole part.
+    pub fn len(&self) -> usize
+        ensures { result ≡ len_of self.now }
+    {
+        self.len
+    }
+
+    /// Reads what the buffer takes and the part has from the position on, and moves the position behind it.
+    pub fn read(&mut self, buffer: &mut [u8]) -> Result<usize, Error>
+        ensures count { IfOk result (λ n. n ≡ min (length buffer.old) (len_of self.old - position_of self.old)) }
+        ensures read { IfOk result (λ n. IsTrue (H.honest (holder_of self.old))
+            → buffer.new ≡ filled_part (H.bytes (holder_of self.old)) (start_of self.old + position_of self.old) n ++ drop n buffer.old) }
+        ensures moved { IfOk result (λ n. position_of self.new ≡ position_of self.old + n) }
+        ensures stays { OnErr result (position_of self.new ≡ position_of self.old) }
+        ensures same { IsSame self.old self.new }
+        ensures rests { H.rests (holder_of self.old) (holder_of self.new) }
+        ensures failed { H.failed (holder_of self.old) ≡ true → IsErrOf result Failed }
+        ensures cause { IfErr result (H.has_cause (holder_of self.old) (holder_of self.new)) }
+        ensures fault { IfErr result (IsFaultUnless ⊥) }
+    {
+        let count = buffer.len().min(self.len - self.position);
+        let place = self.start + self.position as u64;
+        self.holder.read_part(place, &mut buffer[..count])?;
+        self.position += count;
+        Ok(count)
+    }
+
+    /// Moves the position to a place of the part or to its end, and gives it. `InvalidInput` where it is before the part or
+    /// behind its end, and then it stays.
+    pub fn seek(&mut self, from: SeekFrom) -> Result<u64, Error>
+        ensures ok { IfOk result (λ n. Finds from (len_of self.old) (position_of self.old) n × (position_of self.new ≡ n)) }
+        ensures none { OnErr result ((n : ℕ) → Finds from (len_of self.old) (position_of self.old) n → ⊥) }
+        ensures error { IfErr result (λ e. e ≡ InvalidInput) }
+        ensures stays { OnErr result (position_of self.new ≡ position_of self.old) }
+        ensures same { IsSame self.old self.new }
+        ensures holder { holder_of self.new ≡ holder_of self.old }
+    {
+        let Some(place) = place_found(from, self.len as u64, self.position as u64) else {
+            return Err(Error::InvalidInput);
+        };
+        self.position = place as usize;
+        Ok(place)
+    }
+
+    /// A part of this part, with so many bytes from this place of it on; the position stays where it is in the file.
+    pub fn subsector(self, start: usize, len: usize) -> Sector<'a, H>
+        requires { (start ≤ position_of self) × (position_of self ≤ start + len) × (start + len ≤ len_of self) }
+        ensures same_reference { result.holder.ghost_name ≡ self.entry.holder.ghost_name }
+        ensures holder { holder_of result ≡ holder_of self.entry }
+        ensures part { (start_of result ≡ start_of self.entry + start) × (len_of result ≡ len) × (position_of result + start ≡ position_of self.entry) }
+    {
+        let Sector {
+            holder,
+            start: outer,
+            len: _,
+            position,
+        } = self;
+        Sector {
+            holder,
+            start: outer + start as u64,
+            len,
+            position: position - start,
+        }
+    }
+}
+
+// The place that a seek finds in a part of so many bytes, from this position, if it is one.
+pub(crate) fn place_found(from: SeekFrom, len: u64, position: u64) -> Option<u64>
+    requires { len < 2 ^ 63 }
+    ensures { MatchOption result ((n : ℕ) → Finds from len position n → ⊥) (λ n. Finds from len position n) }
+{
+    let (base, by) = match from {
+        SeekFrom::Start(place) => (place, 0),
+        SeekFrom::End(by) => (len, by),
+        SeekFrom::Current(by) => (position, by),
+    };
+    let distance = by.unsigned_abs();
+    let place = if by < 0 {
+        base.checked_sub(distance)?
+    } else {
+        base.checked_add(distance)?
+    };
+    if place <= len { Some(place) } else { None }
+}
+
+impl<'a, H: ChangesSectors> Sector<'a, H> {
+    ghost use Rattle.cfb_sectors.specs.SectorViews.{holder_of, len_of, position_of, start_of, IsSame};
+
+    /// Writes what the part takes from the position on, and moves the position behind it.
+    pub fn write(&mut self, bytes: &[u8]) -> Result<usize, Error>
+        requires { (at count : ℕ) → start_of self.old ≤ at → at + count ≤ start_of self.old + len_of self.old → H.may_write (holder_of self.old) at count }
+        ensures count { IfOk result (λ n. n ≡ min (length bytes.now) (len_of self.old - position_of self.old)) }
+        ensures writes { H.writes (start_of self.old + position_of self.old) (take (len_of self.old - position_of self.old) bytes.now) (holder_of self.old) (holder_of self.new) }
+        ensures still { (at count : ℕ) → H.may_write (holder_of self.old) at count → H.may_write (holder_of self.new) at count }
+        ensures moved { IfOk result (λ n. position_of self.new ≡ position_of self.old + n) }
+        ensures stays { OnErr result (position_of self.new ≡ position_of self.old) }
+        ensures same { IsSame self.old self.new }
+        ensures live { OnOk result (H.failed (holder_of self.new) ≡ false) }
+        ensures err { OnErr result (H.failed (holder_of self.new) ≡ true) }
+        ensures failed { H.failed (holder_of self.old) ≡ true → IsErrOf result Failed }
+        ensures cause { IfErr result (H.has_cause (holder_of self.old) (holder_of self.new)) }
+        ensures fault { IfErr result (IsFaultUnless ⊥) }
+    {
+        let count = bytes.len().min(self.len - self.position);
+        let place = self.start + self.position as u64;
+        self.holder.write_part(place, &bytes[..count])?;
+        self.position += count;
+        Ok(count)
+    }
+}

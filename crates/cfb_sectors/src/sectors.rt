@@ -1,0 +1,341 @@
+// A medium seen as a header's sector and those behind it.
+ghost use Rattle.cfb_medium.specs.Bytes.{overwritten};
+ghost use Rattle.cfb_medium.specs.Calls.{Extends, IsFaultUnless};
+ghost use Rattle.cfb_medium.specs.Versions.{sector_len};
+ghost use Rattle.cfb_medium.specs.declared.error.Error.TheVariants.{Failed, Full, InvalidData};
+ghost use Rattle.cfb_sectors.specs.Initial.{initial};
+ghost use Rattle.cfb_sectors.specs.Sectors.{filled_part, greatest_regular, sector_start, sectors_in};
+ghost use Rattle.std.specs.Prelude.{false, length, replicate, true, IfErr, IfOk, IsErrOf, IsTrue, MatchOption, OnErr, OnOk, ◌+◌, ◌<◌, ◌≡◌, ◌≤◌, ◌↔◌, ◌⊎◌, ◌||◌, ◌^◌};
+
+use crate::consts::{HEADER_LEN, MAX_REGULAR_SECTOR};
+use crate::{Sector, SectorInit};
+use cfb_medium::{Error, Medium, ReadMedium, Version};
+
+// A sector of version 4 has so many bytes.
+const LONGEST: usize = 4096;
+
+/// A medium seen as a header's sector and numbered sectors behind it. What it keeps is true where the medium is honest and
+/// no write failed.
+#[derive(Drop)]
+pub struct Sectors<F: ReadMedium> {
+    inner: F,
+    version: Version,
+    num_sectors: u32,
+    failed: bool,
+    ghost few: { num_sectors ≤ greatest_regular + 1 },
+    ghost counted: { failed ≡ false → IsTrue (F.honest inner) → num_sectors ≡ sectors_in version (length (F.bytes inner)) },
+}
+
+impl<F: ReadMedium> Sectors<F> {
+    ghost use Rattle.cfb_sectors.specs.Held.{bytes_of, count_of, has_failed_here, medium_of, version_of, HasItsCause, IsHonest, LiesIn, Rests};
+    ghost use Rattle.cfb_sectors.specs.SectorViews.{holder_of, len_of, position_of, start_of};
+
+    /// The sectors of a medium of so many bytes.
+    pub fn new(version: Version, len: u64, inner: F) -> Sectors<F>
+        requires { IsTrue (F.honest inner) → len ≡ length (F.bytes inner) }
+        ensures medium { medium_of result ≡ inner }
+        ensures version { version_of result ≡ version }
+        ensures count { count_of result ≡ sectors_in version len }
+        ensures live { has_failed_here result ≡ false }
+    {
+        let whole = len.saturating_sub(1) / version.sector_len() as u64;
+        Sectors {
+            inner,
+            version,
+            num_sectors: whole.min(MAX_REGULAR_SECTOR as u64 + 1) as u32,
+            failed: false,
+        }
+    }
+
+    /// The version.
+    pub fn version(&self) -> Version
+        ensures { result ≡ version_of self.now }
+    {
+        self.version
+    }
+
+    /// A sector's bytes.
+    pub fn sector_len(&self) -> usize
+        ensures { result ≡ sector_len (version_of self.now) }
+    {
+        self.version.sector_len()
+    }
+
+    /// The sectors behind the header's. Their numbers begin at 0.
+    pub fn num_sectors(&self) -> u32
+        ensures { result ≡ count_of self.now }
+    {
+        self.num_sectors
+    }
+
+    /// The medium.
+    pub fn inner(&self) -> &F
+        ensures { result.now ≡ medium_of self.now }
+    {
+        &self.inner
+    }
+
+    /// The medium, without the sectors.
+    pub fn into_inner(self) -> F
+        ensures { result ≡ medium_of self }
+    {
+        let Sectors {
+            inner,
+            version: _,
+            num_sectors: _,
+            failed: _,
+        } = self;
+        inner
+    }
+
+    /// The header, at this offset.
+    pub fn seek_within_header(&mut self, offset: usize) -> Sector<'_, Sectors<F>>
+        requires { offset ≤ 512 }
+        ensures same_reference { result.holder.ghost_name ≡ self.entry.ghost_name }
+        ensures holder { holder_of result ≡ self.old }
+        ensures part { (start_of result ≡ 0) × (len_of result ≡ 512) × (position_of result ≡ offset) }
+    {
+        Sector::new(self, 0, HEADER_LEN, offset)
+    }
+
+    /// A sector, at its first byte.
+    pub fn seek_to_sector(&mut self, sector_id: u32) -> Sector<'_, Sectors<F>>
+        requires { sector_id < count_of self.old }
+        ensures same_reference { result.holder.ghost_name ≡ self.entry.ghost_name }
+        ensures holder { holder_of result ≡ self.old }
+        ensures part { (start_of result ≡ sector_start (version_of self.old) sector_id) × (len_of result ≡ sector_len (version_of self.old)) × (position_of result ≡ 0) }
+    {
+        self.seek_within_sector(sector_id, 0)
+    }
+
+    /// A sector, at this offset.
+    #[tactic(auto, using(crate::proofs::Counts::ends_in_time))]
+    pub fn seek_within_sector(&mut self, sector_id: u32, offset: usize) -> Sector<'_, Sectors<F>>
+        requires there { sector_id < count_of self.old }
+        requires inside { offset ≤ sector_len (version_of self.old) }
+        ensures same_reference { result.holder.ghost_name ≡ self.entry.ghost_name }
+        ensures holder { holder_of result ≡ self.old }
+        ensures part { (start_of result ≡ sector_start (version_of self.old) sector_id) × (len_of result ≡ sector_len (version_of self.old)) × (position_of result ≡ offset) }
+    {
+        let start = self.start(sector_id);
+        let len = self.sector_len();
+        Sector::new(self, start, len, offset)
+    }
+
+    // Whether a fault in a write or a commit has left it failed.
+    pub(crate) fn is_failed(&self) -> bool
+        ensures { result ≡ has_failed_here self.now }
+    {
+        self.failed
+    }
+
+    // Where a sector begins in the file.
+    pub(crate) fn start(&self, sector_id: u32) -> u64
+        ensures { result ≡ sector_start (version_of self.now) sector_id }
+    {
+        (u64::from(sector_id) + 1) * self.sector_len() as u64
+    }
+
+    // Where a part of the sectors begins in the file, if it lies in them.
+    fn place(&self, sector_id: u32, offset: usize, count: usize) -> Option<u64>
+        ensures { MatchOption result (LiesIn self.now sector_id offset count → ⊥)
+            (λ place. LiesIn self.now sector_id offset count × (place ≡ sector_start (version_of self.now) sector_id + offset)) }
+    {
+        if sector_id >= self.num_sectors {
+            return None;
+        }
+        let place = self.start(sector_id).saturating_add(offset as u64);
+        let end = self.start(self.num_sectors);
+        if place > end || count as u64 > end - place {
+            return None;
+        }
+        Some(place)
+    }
+
+    // Fills the buffer with the bytes from a place on, and with zeros where there are no more.
+    pub(crate) fn read_filled(&mut self, place: u64, buffer: &mut [u8]) -> Result<(), Error>
+        ensures read { OnOk result (IsHonest self.old → buffer.new ≡ filled_part (bytes_of self.old) place (length buffer.old)) }
+        ensures rests { Rests self.old self.new }
+        ensures cause { IfErr result (HasItsCause self.old self.new) }
+        ensures fault { IfErr result (IsFaultUnless ⊥) }
+    {
+        let count = self.inner.read_at(place, buffer)?;
+        buffer[count..].fill(0);
+        Ok(())
+    }
+
+    /// Fills the buffer with the bytes from an offset of a sector on, also those of the sectors behind it; what a short
+    /// last sector lacks is zeros. `InvalidData` where so many bytes don't lie in the sectors. Nothing is changed.
+    pub fn read_contiguous(
+        &mut self,
+        sector_id: u32,
+        offset: usize,
+        buffer: &mut [u8],
+    ) -> Result<(), Error>
+        ensures read { OnOk result (IsHonest self.old → buffer.new ≡ filled_part (bytes_of self.old) (sector_start (version_of self.old) sector_id + offset) (length buffer.old)) }
+        ensures inside { OnOk result ((has_failed_here self.old ≡ false) × LiesIn self.old sector_id offset (length buffer.old)) }
+        ensures failed { has_failed_here self.old ≡ true → IsErrOf result Failed }
+        ensures refused { IsErrOf result InvalidData ↔ ((has_failed_here self.old ≡ false) × (LiesIn self.old sector_id offset (length buffer.old) → ⊥)) }
+        ensures rests { Rests self.old self.new }
+        ensures cause { IfErr result (HasItsCause self.old self.new) }
+        ensures fault { IfErr result (λ e. IsFaultUnless ⊥ e ⊎ (e ≡ InvalidData)) }
+    {
+        if self.failed {
+            return Err(Error::Failed);
+        }
+        let Some(place) = self.place(sector_id, offset, buffer.len()) else {
+            return Err(Error::InvalidData);
+        };
+        self.read_filled(place, buffer)
+    }
+}
+
+impl<F: Medium> Sectors<F> {
+    ghost use Rattle.cfb_sectors.specs.Held.{bytes_of, count_of, has_failed, has_failed_here, medium_of, version_of, Changes, HasItsCause, IsHonest, LiesIn, Rests};
+
+    /// Whether a fault in a write or a commit has left it, or the medium, in a state in which every call is refused.
+    pub fn has_failed(&self) -> bool
+        ensures { result ≡ has_failed self.now }
+    {
+        self.failed || self.inner.has_failed()
+    }
+
+    // Writes, and leaves it failed.
+    fn begin_write(&mut self, place: u64, bytes: &[u8]) -> Result<(), Error>
+        requires { place + length bytes.now < 2 ^ 63 }
+        ensures written { IsHonest self.old → OnOk result (bytes_of self.new ≡ overwritten (bytes_of self.old) place bytes.now) }
+        ensures honest { F.honest (medium_of self.new) ≡ F.honest (medium_of self.old) }
+        ensures continues { Extends F.continues (medium_of self.old) (medium_of self.new) }
+        ensures version { version_of self.new ≡ version_of self.old }
+        ensures count { count_of self.new ≡ count_of self.old }
+        ensures failed { has_failed_here self.new ≡ true }
+        ensures cause { IfErr result (HasItsCause self.old self.new) }
+        ensures fault { IfErr result (IsFaultUnless ⊥) }
+    {
+        self.failed = true;
+        self.inner.write_at(place, bytes)
+    }
+
+    // Writes over a part of the header's sector or of those behind it.
+    #[tactic(auto, using(crate::proofs::Counts::overwritten_count, crate::proofs::Counts::ends_in_time))]
+    pub(crate) fn write_at(&mut self, place: u64, bytes: &[u8]) -> Result<(), Error>
+        requires { place + length bytes.now ≤ sector_start (version_of self.old) (count_of self.old) }
+        ensures changes { Changes (λ b. overwritten b place bytes.now) self.old self.new }
+        ensures count { count_of self.new ≡ count_of self.old }
+        ensures live { OnOk result (has_failed_here self.new ≡ false) }
+        ensures err { OnErr result (has_failed_here self.new ≡ true) }
+        ensures failed { has_failed_here self.old ≡ true → IsErrOf result Failed × Rests self.old self.new }
+        ensures cause { IfErr result (HasItsCause self.old self.new) }
+        ensures fault { IfErr result (IsFaultUnless ⊥) }
+    {
+        if self.failed {
+            return Err(Error::Failed);
+        }
+        self.begin_write(place, bytes)?;
+        self.failed = false;
+        Ok(())
+    }
+
+    /// Writes over the bytes from an offset of a sector on, also those of the sectors behind it. After a fault it has failed.
+    pub fn write_contiguous(
+        &mut self,
+        sector_id: u32,
+        offset: usize,
+        bytes: &[u8],
+    ) -> Result<(), Error>
+        requires { LiesIn self.old sector_id offset (length bytes.now) }
+        ensures changes { Changes (λ b. overwritten b (sector_start (version_of self.old) sector_id + offset) bytes.now) self.old self.new }
+        ensures count { count_of self.new ≡ count_of self.old }
+        ensures live { OnOk result (has_failed_here self.new ≡ false) }
+        ensures err { OnErr result (has_failed_here self.new ≡ true) }
+        ensures failed { has_failed_here self.old ≡ true → IsErrOf result Failed × Rests self.old self.new }
+        ensures cause { IfErr result (HasItsCause self.old self.new) }
+        ensures fault { IfErr result (IsFaultUnless ⊥) }
+    {
+        let place = self.start(sector_id) + offset as u64;
+        self.write_at(place, bytes)
+    }
+
+    /// Appends a sector of zeros, and gives its number. `Full` where no number is left. After a fault it has failed.
+    #[tactic(auto, using(crate::proofs::Counts::appended_count, crate::proofs::Counts::ends_in_time, crate::proofs::Counts::longest))]
+    pub fn reserve_sector(&mut self) -> Result<u32, Error>
+        ensures number { IfOk result (λ n. n ≡ count_of self.old) }
+        ensures changes { count_of self.old ≤ greatest_regular → Changes (λ b. overwritten b (sector_start (version_of self.old) (count_of self.old)) (replicate (sector_len (version_of self.old)) 0)) self.old self.new }
+        ensures count { has_failed_here self.new ≡ false → count_of self.old ≤ greatest_regular → count_of self.new ≡ count_of self.old + 1 }
+        ensures live { OnOk result (has_failed_here self.new ≡ false) }
+        ensures failed { has_failed_here self.old ≡ true → IsErrOf result Failed × Rests self.old self.new }
+        ensures full { IsErrOf result Full ↔ ((has_failed_here self.old ≡ false) × (greatest_regular < count_of self.old)) }
+        ensures rests { greatest_regular < count_of self.old → Rests self.old self.new }
+        ensures cause { IfErr result (HasItsCause self.old self.new) }
+        ensures fault { IfErr result (λ e. (IsFaultUnless ⊥ e × (has_failed_here self.new ≡ true)) ⊎ (e ≡ Full)) }
+    {
+        if self.failed {
+            return Err(Error::Failed);
+        }
+        let sector_id = self.num_sectors;
+        if sector_id > MAX_REGULAR_SECTOR {
+            return Err(Error::Full);
+        }
+        let zeros = [0; LONGEST];
+        let len = self.sector_len();
+        self.begin_write(self.start(sector_id), &zeros[..len])?;
+        self.num_sectors = sector_id + 1;
+        self.failed = false;
+        Ok(sector_id)
+    }
+
+    /// Fills a sector with what it holds when it is taken into use. After a fault it has failed.
+    #[tactic(auto, using(crate::proofs::Counts::longest))]
+    pub fn init_sector(&mut self, sector_id: u32, init: SectorInit) -> Result<(), Error>
+        requires { sector_id < count_of self.old }
+        ensures changes { Changes (λ b. overwritten b (sector_start (version_of self.old) sector_id) (initial init (sector_len (version_of self.old)))) self.old self.new }
+        ensures count { count_of self.new ≡ count_of self.old }
+        ensures live { OnOk result (has_failed_here self.new ≡ false) }
+        ensures err { OnErr result (has_failed_here self.new ≡ true) }
+        ensures failed { has_failed_here self.old ≡ true → IsErrOf result Failed × Rests self.old self.new }
+        ensures cause { IfErr result (HasItsCause self.old self.new) }
+        ensures fault { IfErr result (IsFaultUnless ⊥) }
+    {
+        let mut sector = [0; LONGEST];
+        let len = self.sector_len();
+        init.fill(&mut sector[..len]);
+        self.write_contiguous(sector_id, 0, &sector[..len])
+    }
+
+    /// Passes on what the medium keeps back, and publishes nothing.
+    pub fn flush(&mut self) -> Result<(), Error>
+        ensures rests { Rests self.old self.new }
+        ensures failed { has_failed_here self.old ≡ true → IsErrOf result Failed }
+        ensures cause { IfErr result (HasItsCause self.old self.new) }
+        ensures fault { IfErr result (IsFaultUnless ⊥) }
+    {
+        if self.failed {
+            return Err(Error::Failed);
+        }
+        self.inner.flush()
+    }
+
+    /// Publishes the bytes, by a commit of the medium. After a fault it has failed.
+    pub fn commit(&mut self) -> Result<(), Error>
+        ensures published { IsHonest self.old → OnOk result (F.has_published (medium_of self.new) (bytes_of self.old)) }
+        ensures bytes { has_failed_here self.new ≡ false → IsHonest self.old → bytes_of self.new ≡ bytes_of self.old }
+        ensures was_live { has_failed_here self.new ≡ false → has_failed_here self.old ≡ false }
+        ensures honest { F.honest (medium_of self.new) ≡ F.honest (medium_of self.old) }
+        ensures version { version_of self.new ≡ version_of self.old }
+        ensures count { count_of self.new ≡ count_of self.old }
+        ensures live { OnOk result (has_failed_here self.new ≡ false) }
+        ensures err { OnErr result (has_failed_here self.new ≡ true) }
+        ensures failed { has_failed_here self.old ≡ true → IsErrOf result Failed × Rests self.old self.new }
+        ensures cause { IfErr result (HasItsCause self.old self.new) }
+        ensures failures { F.failures (medium_of self.old) ≤ F.failures (medium_of self.new) }
+        ensures fault { IfErr result (IsFaultUnless ⊥) }
+    {
+        if self.failed {
+            return Err(Error::Failed);
+        }
+        self.failed = true;
+        self.inner.commit()?;
+        self.failed = false;
+        Ok(())
+    }
+}
