@@ -1,4 +1,4 @@
-//! Tests of the store from outside, over a device that fails one of its calls.
+//! Tests of the store and of sessions from outside, over a device that fails one of its calls.
 #![tactic(auto)]
 
 #[cfg(test)]
@@ -9,3 +9,5 @@ mod faults;
 mod faulty;
 #[cfg(test)]
 mod logs;
+#[cfg(test)]
+mod sessions;
