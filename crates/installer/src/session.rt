@@ -133,7 +133,7 @@ impl<D: Device> Session<D> {
     }
 
     /// Writes the package into the home file. `Memory` where there is no room and `Device` for a fault of the device: then either all is
-    /// as it was, or the session has failed. `Failed` after such a fault.
+    /// as it was, or the session has failed. `Failed` where it has failed before.
     pub fn commit(&mut self) -> Result<(), Error>
         ensures published { IsTrue (D.honest (device_below self.old)) → OnOk result ((bytes : List ℕ) × IsPublished (D.content (device_below self.new)) bytes × MeansPackage ascii_letters bytes (package_of self.old)) }
         ensures package { package_of self.new ≡ package_of self.old }

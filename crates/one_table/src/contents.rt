@@ -153,7 +153,8 @@ impl Contents {
         }
     }
 
-    /// The package of a file that `image` wrote. `InvalidData` for any other bytes, `Memory` where there is no room.
+    /// The package of a file, which means it and is its image. `InvalidData` where the bytes aren't such an image, `Memory` where there is
+    /// no room.
     pub fn read(alloc: Global, bytes: &[u8]) -> Result<Contents, Error>
         ensures read { IfOk result (λ contents. image_in contents ≡ bytes.now) }
         ensures meant { IfOk result (λ contents. MeansPackage ascii_letters bytes.now (package_in contents)) }
