@@ -1,4 +1,4 @@
-//! Tests of the store and of sessions from outside, over a device that fails one of its calls.
+//! Tests from outside: of the store and of sessions over a device that fails one of its calls, and of tables.
 #![tactic(auto)]
 
 #[cfg(test)]
@@ -11,3 +11,5 @@ mod faulty;
 mod logs;
 #[cfg(test)]
 mod sessions;
+#[cfg(test)]
+mod tables;

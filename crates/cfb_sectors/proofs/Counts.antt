@@ -72,3 +72,8 @@ pub zeros_written : (v : Version) (old new : List ℕ) (place len n : ℕ) → p
 zeros_written v old new place len n at long is =
     is ∙ ap (λ p. overwritten old p (take len (replicate 4096 0))) at ∙ ap (λ k. overwritten old (sector_start v n) (take k (replicate 4096 0))) long
     ∙ ap (λ l. overwritten old (sector_start v n) l) (take-replicate (sector_len v) 4096 0 (longest v))
+
+-- a whole sector lies in the sectors
+pub whole_lies : (v : Version) (n count : ℕ) → n < count → sector_start v n + sector_len v ≤ sector_start v count
+whole_lies V3 n count below = omega arith
+whole_lies V4 n count below = omega arith

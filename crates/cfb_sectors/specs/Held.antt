@@ -1,13 +1,18 @@
 -- What a `Sectors` shows: its medium, its sectors, and whether a call failed; and what its calls do.
-use Rattle.std.specs.Prelude.{◌≡◌, ℕ, ◌+◌, ◌<◌, ◌≤◌, Bool, false, ◌||◌, List, IsTrue}
+use Rattle.std.specs.Prelude.{◌≡◌, ℕ, ◌+◌, ◌<◌, ◌≤◌, ◌⊎◌, Bool, false, true, ◌||◌, List, IsTrue}
 use Rattle.std.specs.List.{AllByRecursion}
 use Rattle.cfb_medium.specs.Bytes.{overwritten}
 use Rattle.cfb_medium.specs.Calls.{Extends, HasCauseSince}
 use Rattle.cfb_medium.specs.declared.error.Error.{Error}
+use Rattle.cfb_medium.specs.declared.error.Error.TheVariants.{Failed, InvalidData}
 use Rattle.cfb_medium.specs.declared.medium.ReadMedium.{Ghosts}
 use Rattle.cfb_medium.specs.declared.version.Version.{Version}
 use Rattle.cfb_sectors.specs.declared.sectors.Sectors.{Sectors}
 use Rattle.cfb_sectors.specs.Sectors.{sector_start}
+
+-- why what was asked for isn't given: a fault before has left a state of failure, or what was asked for isn't there
+abbrev pub IsRefused : Bool → Type 0 → Error → Type 0
+IsRefused failed there error = ((error ≡ Failed) × (failed ≡ true)) ⊎ ((error ≡ InvalidData) × (failed ≡ false) × (there → ⊥))
 
 module _ {F : Type 0} {g : Ghosts F} where
   abbrev pub medium_of : Sectors F g → F

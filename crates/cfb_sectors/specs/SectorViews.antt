@@ -1,23 +1,32 @@
--- What a `Sector` shows: the layer behind it, which part of the file it is, and its position there.
+-- What a `Part` and a `Sector` show: which part of the file it is, the position there, and the layer behind it.
 use Rattle.std.specs.Prelude.{◌≡◌, ℕ}
-use Rattle.cfb_sectors.specs.declared.sector.HasSectors.{Ghosts}
+use Rattle.cfb_sectors.specs.declared.sector.Part.{Part}
 use Rattle.cfb_sectors.specs.declared.sector.Sector.{Sector}
 
-module _ {H : Type 0} {g : Ghosts H} where
-  abbrev pub holder_of : Sector H g → H
+abbrev pub part_start : Part → ℕ
+part_start it = it.start
+
+abbrev pub part_len : Part → ℕ
+part_len it = it.len
+
+abbrev pub part_position : Part → ℕ
+part_position it = it.position
+
+module _ {H : Type 0} where
+  abbrev pub holder_of : Sector H → H
   holder_of it = it.holder.now
 
-  abbrev pub start_of : Sector H g → ℕ
-  start_of it = it.start
+  abbrev pub start_of : Sector H → ℕ
+  start_of it = part_start it.part
 
-  abbrev pub len_of : Sector H g → ℕ
-  len_of it = it.len
+  abbrev pub len_of : Sector H → ℕ
+  len_of it = part_len it.part
 
-  abbrev pub position_of : Sector H g → ℕ
-  position_of it = it.position
+  abbrev pub position_of : Sector H → ℕ
+  position_of it = part_position it.part
 
   -- the same part, lent by the same layer
-  pub record IsSame (old new : Sector H g) : Type 0 where
+  pub record IsSame (old new : Sector H) : Type 0 where
     pub holder : new.holder.ghost_name ≡ old.holder.ghost_name
     pub start : start_of new ≡ start_of old
     pub len : len_of new ≡ len_of old

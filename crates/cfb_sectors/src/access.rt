@@ -1,7 +1,7 @@
 // The sectors of a medium, as what any layer above has.
 ghost use Rattle.cfb_sectors.specs.Resting as Resting;
 
-use crate::{Allocator, ChangesSectors, HasSectors, Sectors};
+use crate::{ChangesSectors, HasSectors, Sectors};
 use cfb_medium::{Error, Medium, ReadMedium};
 
 impl<F: ReadMedium> HasSectors for Sectors<F> {
@@ -38,29 +38,13 @@ impl<F: Medium> ChangesSectors for Sectors<F> {
     ghost writes = { Writes };
 
     fn write_part(&mut self, place: u64, bytes: &[u8]) -> Result<(), Error> {
+        if self.is_failed() {
+            return Err(Error::Failed);
+        }
+        if !self.ends_in(place, bytes.len()) {
+            return Err(Error::InvalidData);
+        }
         self.write_at(place, bytes)?;
         Ok(())
     }
-}
-
-impl<F: ReadMedium> HasSectors for Allocator<F> {
-    ghost use Rattle.cfb_sectors.specs.Tables.{bytes_of, has_failed_here, is_honest, AllRests, HasCauseBelow};
-
-    ghost bytes = { bytes_of };
-
-    ghost honest = { is_honest };
-
-    ghost failed = { has_failed_here };
-
-    ghost rests = { AllRests };
-
-    ghost has_cause = { HasCauseBelow };
-
-    fn read_part(&mut self, place: u64, buffer: &mut [u8]) -> Result<(), Error> {
-        self.read_filled(place, buffer)
-    }
-
-    ghost rests_refl = { Resting.all_rest_refl };
-
-    ghost rests_then = { Resting.all_rest_then };
 }

@@ -18,7 +18,7 @@ pub(crate) fn u16_at(bytes: &[u8], place: usize) -> u16
 }
 
 /// The number in the four bytes from this place on.
-pub(crate) fn u32_at(bytes: &[u8], place: usize) -> u32
+pub fn u32_at(bytes: &[u8], place: usize) -> u32
     requires { place + 4 ≤ length bytes.now }
     ensures { result ≡ u32_at bytes.now place }
 {

@@ -2,13 +2,16 @@
 ghost use Rattle.cfb_medium.specs.Bytes.{overwritten};
 ghost use Rattle.cfb_medium.specs.Calls.{IsFaultUnless};
 ghost use Rattle.cfb_medium.specs.declared.error.Error.{Error};
-ghost use Rattle.cfb_medium.specs.declared.error.Error.TheVariants.{Failed, InvalidInput};
+ghost use Rattle.cfb_medium.specs.declared.error.Error.TheVariants.{Failed, InvalidData, InvalidInput};
 ghost use Rattle.cfb_sectors.specs.Sectors.{filled_part};
 ghost use Rattle.cfb_sectors.specs.Seeking.{Finds};
-ghost use Rattle.std.specs.Prelude.{drop, false, length, min, take, true, Bool, IfErr, IfOk, IsErrOf, IsTrue, List, MatchOption, OnErr, OnOk, ℕ, ◌+◌, ◌++◌, ◌-◌, ◌<◌, ◌≡◌, ◌≤◌, ◌⊎◌, ◌^◌};
+ghost use Rattle.std.specs.Prelude.{drop, false, length, min, take, true, Bool, IfErr, IfOk, IsErrOf, IsTrue, List, MatchOption, OnErr, OnOk, ℕ, ◌+◌, ◌++◌, ◌-◌, ◌<◌, ◌≡◌, ◌≤◌, ◌↔◌, ◌⊎◌, ◌^◌};
 
 use cfb_medium::Error;
 use std::io::SeekFrom;
+
+// A part of a file ends before this.
+const LIMIT: u64 = 1 << 63;
 
 /// A layer that has the sectors, at whatever height.
 pub trait HasSectors {
@@ -48,22 +51,22 @@ pub trait ChangesSectors: HasSectors {
     /// The second state comes from the first by a write of these bytes at this place.
     ghost writes: { ℕ → List ℕ → Self → Self → Type 0 };
 
-    /// Writes over the bytes from a place of the file on. After a fault it has failed.
+    /// Writes over the bytes from a place of the file on. `InvalidData` where they may not be written, and then nothing is
+    /// changed. After a fault it has failed.
     fn write_part(&mut self, place: u64, bytes: &[u8]) -> Result<(), Error>
-        requires { may_write self.old place (length bytes.now) }
-        ensures writes { writes place bytes.now self.old self.new }
+        ensures writes { may_write self.old place (length bytes.now) → writes place bytes.now self.old self.new }
+        ensures rests { (may_write self.old place (length bytes.now) → ⊥) → Self.rests self.old self.new }
+        ensures refused { IsErrOf result InvalidData ↔ ((Self.failed self.old ≡ false) × (may_write self.old place (length bytes.now) → ⊥)) }
         ensures still { (at count : ℕ) → may_write self.old at count → may_write self.new at count }
-        ensures live { OnOk result (Self.failed self.new ≡ false) }
-        ensures err { OnErr result (Self.failed self.new ≡ true) }
-        ensures failed { Self.failed self.old ≡ true → IsErrOf result Failed }
+        ensures live { OnOk result ((Self.failed self.old ≡ false) × (Self.failed self.new ≡ false)) }
+        ensures failed { Self.failed self.old ≡ true → IsErrOf result Failed × Self.rests self.old self.new }
         ensures cause { IfErr result (Self.has_cause self.old self.new) }
-        ensures fault { IfErr result (IsFaultUnless ⊥) };
+        ensures fault { IfErr result (λ e. (IsFaultUnless ⊥ e × (Self.failed self.new ≡ true)) ⊎ (e ≡ InvalidData)) };
 }
 
-/// A part of the file, as a sector, that is read and written from a position on.
-#[derive(Drop)]
-pub struct Sector<'a, H: HasSectors> {
-    holder: &'a mut H,
+/// A part of a file, and a position in it or at its end.
+#[derive(Clone, Copy, Debug)]
+pub struct Part {
     start: u64,
     len: usize,
     position: usize,
@@ -71,30 +74,64 @@ pub struct Sector<'a, H: HasSectors> {
     ghost ends: { start + len < 2 ^ 63 },
 }
 
-impl<'a, H: HasSectors> Sector<'a, H> {
-    ghost use Rattle.cfb_sectors.specs.SectorViews.{holder_of, len_of, position_of, start_of, IsSame};
+impl Part {
+    ghost use Rattle.cfb_sectors.specs.SectorViews.{part_len, part_position, part_start};
 
-    /// The part of so many bytes from this place of the file on, at this position.
-    pub fn new(holder: &'a mut H, start: u64, len: usize, position: usize) -> Sector<'a, H>
-        requires inside { position ≤ len }
-        requires ends { start + len < 2 ^ 63 }
-        ensures same_reference { result.holder.ghost_name ≡ holder.entry.ghost_name }
-        ensures holder { holder_of result ≡ holder.old }
-        ensures part { (start_of result ≡ start) × (len_of result ≡ len) × (position_of result ≡ position) }
+    /// The part of so many bytes from this place of the file on, at this position. `InvalidData` where the position is past
+    /// its end, or that end isn't before 2^63.
+    pub fn new(start: u64, len: usize, position: usize) -> Result<Part, Error>
+        ensures part { IfOk result (λ it. (part_start it ≡ start) × (part_len it ≡ len) × (part_position it ≡ position)) }
+        ensures there { OnOk result ((position ≤ len) × (start + len < 2 ^ 63)) }
+        ensures none { IfErr result (λ e. (e ≡ InvalidData) × ((position ≤ len) × (start + len < 2 ^ 63) → ⊥)) }
     {
-        Sector {
-            holder,
+        if position > len || start >= LIMIT || len as u64 >= LIMIT - start {
+            return Err(Error::InvalidData);
+        }
+        Ok(Part {
             start,
             len,
             position,
+        })
+    }
+
+    /// The part of so many bytes from this place of it on, at this position. `InvalidData` where it doesn't lie in this part
+    /// or the position is past its end.
+    pub fn subpart(self, start: usize, len: usize, position: usize) -> Result<Part, Error>
+        ensures part { IfOk result (λ it. (part_start it ≡ part_start self + start) × (part_len it ≡ len) × (part_position it ≡ position)) }
+        ensures there { OnOk result ((start + len ≤ part_len self) × (position ≤ len)) }
+        ensures none { IfErr result (λ e. (e ≡ InvalidData) × ((start + len ≤ part_len self) × (position ≤ len) → ⊥)) }
+    {
+        if start > self.len || len > self.len - start {
+            return Err(Error::InvalidData);
         }
+        Part::new(self.start + start as u64, len, position)
+    }
+}
+
+/// A part of the file, as a sector, that is read and written from a position on.
+#[derive(Drop)]
+pub struct Sector<'a, H: HasSectors> {
+    holder: &'a mut H,
+    part: Part,
+}
+
+impl<'a, H: HasSectors> Sector<'a, H> {
+    ghost use Rattle.cfb_sectors.specs.SectorViews.{holder_of, len_of, part_len, part_position, part_start, position_of, start_of, IsSame};
+
+    /// This part of the file of a layer.
+    pub fn new(holder: &'a mut H, part: Part) -> Sector<'a, H>
+        ensures same_reference { result.holder.ghost_name ≡ holder.entry.ghost_name }
+        ensures holder { holder_of result ≡ holder.old }
+        ensures part { (start_of result ≡ part_start part) × (len_of result ≡ part_len part) × (position_of result ≡ part_position part) }
+    {
+        Sector { holder, part }
     }
 
     /// The bytes of the whole part.
     pub fn len(&self) -> usize
         ensures { result ≡ len_of self.now }
     {
-        self.len
+        self.part.len
     }
 
     /// Reads what the buffer takes and the part has from the position on, and moves the position behind it.
@@ -110,10 +147,10 @@ impl<'a, H: HasSectors> Sector<'a, H> {
         ensures cause { IfErr result (H.has_cause (holder_of self.old) (holder_of self.new)) }
         ensures fault { IfErr result (IsFaultUnless ⊥) }
     {
-        let count = buffer.len().min(self.len - self.position);
-        let place = self.start + self.position as u64;
+        let count = buffer.len().min(self.part.len - self.part.position);
+        let place = self.part.start + self.part.position as u64;
         self.holder.read_part(place, &mut buffer[..count])?;
-        self.position += count;
+        self.part.position += count;
         Ok(count)
     }
 
@@ -127,10 +164,10 @@ impl<'a, H: HasSectors> Sector<'a, H> {
         ensures same { IsSame self.old self.new }
         ensures holder { holder_of self.new ≡ holder_of self.old }
     {
-        let Some(place) = place_found(from, self.len as u64, self.position as u64) else {
+        let Some(place) = place_found(from, self.part.len as u64, self.part.position as u64) else {
             return Err(Error::InvalidInput);
         };
-        self.position = place as usize;
+        self.part.position = place as usize;
         Ok(place)
     }
 
@@ -141,23 +178,18 @@ impl<'a, H: HasSectors> Sector<'a, H> {
         ensures holder { holder_of result ≡ holder_of self.entry }
         ensures part { (start_of result ≡ start_of self.entry + start) × (len_of result ≡ len) × (position_of result + start ≡ position_of self.entry) }
     {
-        let Sector {
-            holder,
-            start: outer,
-            len: _,
-            position,
-        } = self;
-        Sector {
-            holder,
-            start: outer + start as u64,
+        let Sector { holder, part } = self;
+        let part = Part {
+            start: part.start + start as u64,
             len,
-            position: position - start,
-        }
+            position: part.position - start,
+        };
+        Sector::new(holder, part)
     }
 }
 
-// The place that a seek finds in a part of so many bytes, from this position, if it is one.
-pub(crate) fn place_found(from: SeekFrom, len: u64, position: u64) -> Option<u64>
+/// The place that a seek finds in a part of so many bytes, from this position, if it is one.
+pub fn place_found(from: SeekFrom, len: u64, position: u64) -> Option<u64>
     requires { len < 2 ^ 63 }
     ensures { MatchOption result ((n : ℕ) → Finds from len position n → ⊥) (λ n. Finds from len position n) }
 {
@@ -178,25 +210,26 @@ pub(crate) fn place_found(from: SeekFrom, len: u64, position: u64) -> Option<u64
 impl<'a, H: ChangesSectors> Sector<'a, H> {
     ghost use Rattle.cfb_sectors.specs.SectorViews.{holder_of, len_of, position_of, start_of, IsSame};
 
-    /// Writes what the part takes from the position on, and moves the position behind it.
+    /// Writes what the part takes from the position on, and moves the position behind it. `InvalidData` where the layer may
+    /// not write there, and then nothing is changed.
     pub fn write(&mut self, bytes: &[u8]) -> Result<usize, Error>
-        requires { (at count : ℕ) → start_of self.old ≤ at → at + count ≤ start_of self.old + len_of self.old → H.may_write (holder_of self.old) at count }
         ensures count { IfOk result (λ n. n ≡ min (length bytes.now) (len_of self.old - position_of self.old)) }
-        ensures writes { H.writes (start_of self.old + position_of self.old) (take (len_of self.old - position_of self.old) bytes.now) (holder_of self.old) (holder_of self.new) }
+        ensures writes { H.may_write (holder_of self.old) (start_of self.old + position_of self.old) (min (length bytes.now) (len_of self.old - position_of self.old)) → H.writes (start_of self.old + position_of self.old) (take (len_of self.old - position_of self.old) bytes.now) (holder_of self.old) (holder_of self.new) }
+        ensures rests { (H.may_write (holder_of self.old) (start_of self.old + position_of self.old) (min (length bytes.now) (len_of self.old - position_of self.old)) → ⊥) → H.rests (holder_of self.old) (holder_of self.new) }
+        ensures refused { IsErrOf result InvalidData ↔ ((H.failed (holder_of self.old) ≡ false) × (H.may_write (holder_of self.old) (start_of self.old + position_of self.old) (min (length bytes.now) (len_of self.old - position_of self.old)) → ⊥)) }
         ensures still { (at count : ℕ) → H.may_write (holder_of self.old) at count → H.may_write (holder_of self.new) at count }
         ensures moved { IfOk result (λ n. position_of self.new ≡ position_of self.old + n) }
         ensures stays { OnErr result (position_of self.new ≡ position_of self.old) }
         ensures same { IsSame self.old self.new }
-        ensures live { OnOk result (H.failed (holder_of self.new) ≡ false) }
-        ensures err { OnErr result (H.failed (holder_of self.new) ≡ true) }
-        ensures failed { H.failed (holder_of self.old) ≡ true → IsErrOf result Failed }
+        ensures live { OnOk result ((H.failed (holder_of self.old) ≡ false) × (H.failed (holder_of self.new) ≡ false)) }
+        ensures failed { H.failed (holder_of self.old) ≡ true → IsErrOf result Failed × H.rests (holder_of self.old) (holder_of self.new) }
         ensures cause { IfErr result (H.has_cause (holder_of self.old) (holder_of self.new)) }
-        ensures fault { IfErr result (IsFaultUnless ⊥) }
+        ensures fault { IfErr result (λ e. (IsFaultUnless ⊥ e × (H.failed (holder_of self.new) ≡ true)) ⊎ (e ≡ InvalidData)) }
     {
-        let count = bytes.len().min(self.len - self.position);
-        let place = self.start + self.position as u64;
+        let count = bytes.len().min(self.part.len - self.part.position);
+        let place = self.part.start + self.part.position as u64;
         self.holder.write_part(place, &bytes[..count])?;
-        self.position += count;
+        self.part.position += count;
         Ok(count)
     }
 }

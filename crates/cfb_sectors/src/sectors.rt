@@ -8,7 +8,7 @@ ghost use Rattle.cfb_sectors.specs.Sectors.{filled_part, greatest_regular, secto
 ghost use Rattle.std.specs.Prelude.{false, length, replicate, true, IfErr, IfOk, IsErrOf, IsTrue, MatchOption, OnErr, OnOk, ◌+◌, ◌<◌, ◌≡◌, ◌≤◌, ◌↔◌, ◌⊎◌, ◌||◌, ◌^◌};
 
 use crate::consts::{HEADER_LEN, MAX_REGULAR_SECTOR};
-use crate::{Sector, SectorInit};
+use crate::{Part, SectorInit};
 use cfb_medium::{Error, Medium, ReadMedium, Version};
 
 // A sector of version 4 has so many bytes.
@@ -27,8 +27,8 @@ pub struct Sectors<F: ReadMedium> {
 }
 
 impl<F: ReadMedium> Sectors<F> {
-    ghost use Rattle.cfb_sectors.specs.Held.{bytes_of, count_of, has_failed_here, medium_of, version_of, HasItsCause, IsHonest, LiesIn, Rests};
-    ghost use Rattle.cfb_sectors.specs.SectorViews.{holder_of, len_of, position_of, start_of};
+    ghost use Rattle.cfb_sectors.specs.Held.{bytes_of, count_of, has_failed_here, medium_of, version_of, EndsIn, HasItsCause, IsHonest, IsRefused, LiesIn, Rests};
+    ghost use Rattle.cfb_sectors.specs.SectorViews.{part_len, part_position, part_start};
 
     /// The sectors of a medium of so many bytes.
     pub fn new(version: Version, len: u64, inner: F) -> Sectors<F>
@@ -88,49 +88,52 @@ impl<F: ReadMedium> Sectors<F> {
         inner
     }
 
-    /// The header, at this offset.
-    pub fn seek_within_header(&mut self, offset: usize) -> Sector<'_, Sectors<F>>
-        requires { offset ≤ 512 }
-        ensures same_reference { result.holder.ghost_name ≡ self.entry.ghost_name }
-        ensures holder { holder_of result ≡ self.old }
-        ensures part { (start_of result ≡ 0) × (len_of result ≡ 512) × (position_of result ≡ offset) }
+    /// The header as a part of the file, at this offset. `InvalidData` where the offset is past its end.
+    pub fn seek_within_header(&self, offset: usize) -> Result<Part, Error>
+        ensures part { IfOk result (λ it. (part_start it ≡ 0) × (part_len it ≡ 512) × (part_position it ≡ offset)) }
+        ensures there { OnOk result ((has_failed_here self.now ≡ false) × (offset ≤ 512)) }
+        ensures error { IfErr result (IsRefused (has_failed_here self.now) (offset ≤ 512)) }
     {
-        Sector::new(self, 0, HEADER_LEN, offset)
+        if self.failed {
+            return Err(Error::Failed);
+        }
+        Part::new(0, HEADER_LEN, offset)
     }
 
-    /// A sector, at its first byte.
-    pub fn seek_to_sector(&mut self, sector_id: u32) -> Sector<'_, Sectors<F>>
-        requires { sector_id < count_of self.old }
-        ensures same_reference { result.holder.ghost_name ≡ self.entry.ghost_name }
-        ensures holder { holder_of result ≡ self.old }
-        ensures part { (start_of result ≡ sector_start (version_of self.old) sector_id) × (len_of result ≡ sector_len (version_of self.old)) × (position_of result ≡ 0) }
+    /// A sector as a part of the file, at its first byte. `InvalidData` where it isn't there.
+    pub fn seek_to_sector(&self, sector_id: u32) -> Result<Part, Error>
+        ensures part { IfOk result (λ it. (part_start it ≡ sector_start (version_of self.now) sector_id) × (part_len it ≡ sector_len (version_of self.now)) × (part_position it ≡ 0)) }
+        ensures there { OnOk result ((has_failed_here self.now ≡ false) × (sector_id < count_of self.now)) }
+        ensures error { IfErr result (IsRefused (has_failed_here self.now) (sector_id < count_of self.now)) }
     {
         self.seek_within_sector(sector_id, 0)
     }
 
-    /// A sector, at this offset.
+    /// A sector as a part of the file, at this offset. `InvalidData` where it isn't there or the offset is past its end.
     #[tactic(auto, using(crate::proofs::Counts::ends_in_time))]
-    pub fn seek_within_sector(&mut self, sector_id: u32, offset: usize) -> Sector<'_, Sectors<F>>
-        requires there { sector_id < count_of self.old }
-        requires inside { offset ≤ sector_len (version_of self.old) }
-        ensures same_reference { result.holder.ghost_name ≡ self.entry.ghost_name }
-        ensures holder { holder_of result ≡ self.old }
-        ensures part { (start_of result ≡ sector_start (version_of self.old) sector_id) × (len_of result ≡ sector_len (version_of self.old)) × (position_of result ≡ offset) }
+    pub fn seek_within_sector(&self, sector_id: u32, offset: usize) -> Result<Part, Error>
+        ensures part { IfOk result (λ it. (part_start it ≡ sector_start (version_of self.now) sector_id) × (part_len it ≡ sector_len (version_of self.now)) × (part_position it ≡ offset)) }
+        ensures there { OnOk result ((has_failed_here self.now ≡ false) × (sector_id < count_of self.now) × (offset ≤ sector_len (version_of self.now))) }
+        ensures error { IfErr result (IsRefused (has_failed_here self.now) ((sector_id < count_of self.now) × (offset ≤ sector_len (version_of self.now)))) }
     {
-        let start = self.start(sector_id);
-        let len = self.sector_len();
-        Sector::new(self, start, len, offset)
+        if self.failed {
+            return Err(Error::Failed);
+        }
+        if sector_id >= self.num_sectors {
+            return Err(Error::InvalidData);
+        }
+        Part::new(self.start(sector_id), self.sector_len(), offset)
     }
 
-    // Whether a fault in a write or a commit has left it failed.
-    pub(crate) fn is_failed(&self) -> bool
+    /// Whether a fault in a write or a commit here has left it in a state in which every call is refused.
+    pub fn is_failed(&self) -> bool
         ensures { result ≡ has_failed_here self.now }
     {
         self.failed
     }
 
-    // Where a sector begins in the file.
-    pub(crate) fn start(&self, sector_id: u32) -> u64
+    /// Where a sector begins in the file.
+    pub fn start(&self, sector_id: u32) -> u64
         ensures { result ≡ sector_start (version_of self.now) sector_id }
     {
         (u64::from(sector_id) + 1) * self.sector_len() as u64
@@ -145,11 +148,20 @@ impl<F: ReadMedium> Sectors<F> {
             return None;
         }
         let place = self.start(sector_id).saturating_add(offset as u64);
-        let end = self.start(self.num_sectors);
-        if place > end || count as u64 > end - place {
-            return None;
+        if self.ends_in(place, count) {
+            Some(place)
+        } else {
+            None
         }
-        Some(place)
+    }
+
+    /// Whether so many bytes from a place of the file on end in the sectors.
+    #[tactic(auto, using(crate::proofs::Counts::ends_in_time))]
+    pub fn ends_in(&self, place: u64, count: usize) -> bool
+        ensures { IsTrue result ↔ EndsIn self.now place count }
+    {
+        let end = self.start(self.num_sectors);
+        place <= end && count as u64 <= end - place
     }
 
     // Fills the buffer with the bytes from a place on, and with zeros where there are no more.
@@ -236,23 +248,29 @@ impl<F: Medium> Sectors<F> {
         Ok(())
     }
 
-    /// Writes over the bytes from an offset of a sector on, also those of the sectors behind it. After a fault it has failed.
+    /// Writes over the bytes from an offset of a sector on, also those of the sectors behind it. `InvalidData` where so many
+    /// bytes don't lie in the sectors, and then nothing is changed. After a fault it has failed.
     pub fn write_contiguous(
         &mut self,
         sector_id: u32,
         offset: usize,
         bytes: &[u8],
     ) -> Result<(), Error>
-        requires { LiesIn self.old sector_id offset (length bytes.now) }
-        ensures changes { Changes (λ b. overwritten b (sector_start (version_of self.old) sector_id + offset) bytes.now) self.old self.new }
+        ensures changes { LiesIn self.old sector_id offset (length bytes.now) → Changes (λ b. overwritten b (sector_start (version_of self.old) sector_id + offset) bytes.now) self.old self.new }
+        ensures rests { (LiesIn self.old sector_id offset (length bytes.now) → ⊥) → Rests self.old self.new }
+        ensures refused { IsErrOf result InvalidData ↔ ((has_failed_here self.old ≡ false) × (LiesIn self.old sector_id offset (length bytes.now) → ⊥)) }
         ensures count { count_of self.new ≡ count_of self.old }
         ensures live { OnOk result (has_failed_here self.new ≡ false) }
-        ensures err { OnErr result (has_failed_here self.new ≡ true) }
         ensures failed { has_failed_here self.old ≡ true → IsErrOf result Failed × Rests self.old self.new }
         ensures cause { IfErr result (HasItsCause self.old self.new) }
-        ensures fault { IfErr result (IsFaultUnless ⊥) }
+        ensures fault { IfErr result (λ e. (IsFaultUnless ⊥ e × (has_failed_here self.new ≡ true)) ⊎ (e ≡ InvalidData)) }
     {
-        let place = self.start(sector_id) + offset as u64;
+        if self.failed {
+            return Err(Error::Failed);
+        }
+        let Some(place) = self.place(sector_id, offset, bytes.len()) else {
+            return Err(Error::InvalidData);
+        };
         self.write_at(place, bytes)
     }
 
@@ -284,22 +302,29 @@ impl<F: Medium> Sectors<F> {
         Ok(sector_id)
     }
 
-    /// Fills a sector with what it holds when it is taken into use. After a fault it has failed.
-    #[tactic(auto, using(crate::proofs::Counts::longest))]
+    /// Fills a sector with what it holds when it is taken into use. `InvalidData` where it isn't there, and then nothing is
+    /// changed. After a fault it has failed.
+    #[tactic(auto, using(crate::proofs::Counts::longest, crate::proofs::Counts::whole_lies))]
     pub fn init_sector(&mut self, sector_id: u32, init: SectorInit) -> Result<(), Error>
-        requires { sector_id < count_of self.old }
-        ensures changes { Changes (λ b. overwritten b (sector_start (version_of self.old) sector_id) (initial init (sector_len (version_of self.old)))) self.old self.new }
+        ensures changes { sector_id < count_of self.old → Changes (λ b. overwritten b (sector_start (version_of self.old) sector_id) (initial init (sector_len (version_of self.old)))) self.old self.new }
+        ensures rests { count_of self.old ≤ sector_id → Rests self.old self.new }
+        ensures refused { IsErrOf result InvalidData ↔ ((has_failed_here self.old ≡ false) × (count_of self.old ≤ sector_id)) }
         ensures count { count_of self.new ≡ count_of self.old }
         ensures live { OnOk result (has_failed_here self.new ≡ false) }
-        ensures err { OnErr result (has_failed_here self.new ≡ true) }
         ensures failed { has_failed_here self.old ≡ true → IsErrOf result Failed × Rests self.old self.new }
         ensures cause { IfErr result (HasItsCause self.old self.new) }
-        ensures fault { IfErr result (IsFaultUnless ⊥) }
+        ensures fault { IfErr result (λ e. (IsFaultUnless ⊥ e × (has_failed_here self.new ≡ true)) ⊎ (e ≡ InvalidData)) }
     {
+        if self.failed {
+            return Err(Error::Failed);
+        }
+        if sector_id >= self.num_sectors {
+            return Err(Error::InvalidData);
+        }
         let mut sector = [0; LONGEST];
         let len = self.sector_len();
         init.fill(&mut sector[..len]);
-        self.write_contiguous(sector_id, 0, &sector[..len])
+        self.write_at(self.start(sector_id), &sector[..len])
     }
 
     /// Passes on what the medium keeps back, and publishes nothing.

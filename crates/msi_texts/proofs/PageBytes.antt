@@ -1,9 +1,6 @@
 -- Bytes that have characters come back from their text.
 use Rattle.std.proofs.Common.{◌≡◌, ◌≢◌, ℕ, zero, suc, ◌+◌, ◌-◌, ◌<◌, ◌≤◌, Bool, true, false, cond, not, List, [], ◌∷◌, map, length, get_or, Some, unwrap_or, refl, ap, ap₂, ◌∙◌, arith}
 use Rattle.std.specs.Prelude.{nat_lt, nat_le, ◌==◌, ◌&&◌, encode_utf8_all}
-use Rattle.std.specs.Prelude.{String, string_bytes, Result, IfOk}
-use Rattle.std.specs.declared.alloc.Global.{Global}
-use Rattle.std.proofs.lemmas.Result.{IfOk-weaker}
 use Rattle.std.specs.Str.{is_utf8, chars}
 use Rattle.std.specs.Str.Lossy.{utf8_lossy}
 use Rattle.std.specs.List.{list_all, list_any}
@@ -135,8 +132,5 @@ bytes_come_back p bytes h = go (is_utf8_page p) h
 abbrev read_as : CodePage → List ℕ → Bool → List ℕ
 read_as p bytes utf8 = cond utf8 (utf8_lossy bytes) (encode_utf8_all (map (char_of p) bytes))
 
-pub read_bytes_come_back : {E : Type 0} (p : CodePage) (bytes : List ℕ) (r : Result (String Global) E) (utf8 : Bool) → utf8 ≡ is_utf8_page p → IfOk r (λ text. string_bytes text ≡ read_as p bytes utf8) →
-    IfOk r (λ text. has_characters p bytes ≡ true → encoded p (string_bytes text) ≡ bytes)
-read_bytes_come_back p bytes r utf8 is h =
-    IfOk-weaker r (λ text. string_bytes text ≡ read_as p bytes utf8) (λ text. has_characters p bytes ≡ true → encoded p (string_bytes text) ≡ bytes)
-    (λ text e k. ap (encoded p) (e ∙ ap (read_as p bytes) is) ∙ bytes_come_back p bytes k) h
+pub read_bytes_come_back : (p : CodePage) (bytes text : List ℕ) (utf8 : Bool) → utf8 ≡ is_utf8_page p → text ≡ read_as p bytes utf8 → has_characters p bytes ≡ true → encoded p text ≡ bytes
+read_bytes_come_back p bytes text utf8 is e h = ap (encoded p) (e ∙ ap (read_as p bytes) is) ∙ bytes_come_back p bytes h

@@ -6,8 +6,8 @@ use Rattle.std.specs.Ordering.{is_lt, int_cmp, ordering_then}
 use Rattle.std.specs.declared.cmp.Ordering.{Ordering}
 use Rattle.std.specs.declared.cmp.Ordering.TheVariants.{Less, Equal, Greater}
 use Rattle.std.proofs.lemmas.List.{length-map}
-use Rattle.msi_texts.specs.Pool.{Pool}
-use Rattle.msi_texts.specs.declared.stringref.ValueRef.TheVariants as cell
+use Rattle.msi_pool.specs.Pool.{Pool}
+use Rattle.msi_pool.specs.declared.stringref.ValueRef.TheVariants as cell
 use Rattle.msi_tables.specs.Rows.{Row, IsArranged, row_cmp}
 use Rattle.msi_tables.specs.Table.{row_key_cmp, IsStoredByKeys}
 use Rattle.one_table.specs.Contents.{key_column, key_row}

@@ -6,9 +6,9 @@ use Rattle.std.specs.Ordering.{is_lt}
 use Rattle.std.specs.declared.cmp.Ordering.{Ordering}
 use Rattle.std.proofs.lemmas.Bool.Decides.{nat_tests}
 use Rattle.msi_texts.specs.Results.{◌>>=◌, unless_not}
-use Rattle.msi_texts.specs.Datum.{text}
+use Rattle.msi_pool.specs.Datum.{text}
 use Rattle.msi_texts.specs.Category.{is_identifier}
-use Rattle.msi_texts.specs.Pool.{Pool, Place}
+use Rattle.msi_pool.specs.Pool.{Pool, Place}
 use Rattle.msi_texts.specs.StreamName.{is_valid_name}
 use Rattle.msi_tables.specs.Column.{Column, plain, are_valid}
 use Rattle.msi_tables.specs.Rows.{Row, IsArranged, row_cmp}

@@ -9,7 +9,7 @@ use Rattle.std.specs.Cmp.{IsTotalOrder}
 use Rattle.std.proofs.lemmas.Cmp.{tied_itself, alike_right, lists_total}
 use Rattle.std.proofs.lemmas.List.Sorted.{sum_by-IsPermutation}
 use Rattle.std.proofs.lemmas.List.Sums.{sum_by-append, sum_by-cons}
-use Rattle.msi_texts.specs.Datum.{Datum}
+use Rattle.msi_pool.specs.Datum.{Datum}
 use Rattle.msi_tables.specs.Table.{key_cmp, has_key, are_distinct}
 use Rattle.msi_tables.proofs.Keys.{datum_cmp_total}
 use Rattle.msi_query.specs.Query.{new_keys}

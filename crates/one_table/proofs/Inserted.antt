@@ -28,8 +28,8 @@ use Rattle.msi_tables.specs.Table.{IsStoredByKeys}
 use Rattle.std.proofs.Common.{subst}
 use Rattle.one_table.specs.Limits.{InsertsFew}
 use Rattle.msi_texts.specs.Results.{◌>>=◌, unless_not}
-use Rattle.msi_texts.specs.Datum.{Datum, null, number, text, binary}
-use Rattle.msi_texts.specs.Pool.{Pool}
+use Rattle.msi_pool.specs.Datum.{Datum, null, number, text, binary}
+use Rattle.msi_pool.specs.Pool.{Pool}
 use Rattle.msi_tables.specs.Column.{Column, is_valid, are_valid}
 use Rattle.msi_tables.specs.Rows.{Row, max_rows}
 use Rattle.msi_tables.specs.Table.{Table, table_named, row_data, key_values, keys_of, are_distinct}

@@ -9,11 +9,11 @@ use Rattle.cfb_tree.specs.Names.{ascii_letters, name_cmp}
 use Rattle.cfb.specs.TreeRules.{is_same_name}
 use Rattle.plain.specs.WholeImage.{NamedStream}
 use Rattle.msi_texts.specs.Category.{is_identifier}
-use Rattle.msi_texts.specs.Pool.{Place, pool_stream, data_stream, at_place}
-use Rattle.msi_texts.specs.PoolKept.{IsWritable}
-use Rattle.msi_texts.specs.PoolKept.{IsKept as IsKeptPlace}
-use Rattle.msi_texts.proofs.PoolRoundTrip.{written_pool_is_read}
-use Rattle.msi_texts.specs.Datum.{Datum, text, number}
+use Rattle.msi_pool.specs.Pool.{Place, pool_stream, data_stream, at_place}
+use Rattle.msi_pool.specs.PoolKept.{IsWritable}
+use Rattle.msi_pool.specs.PoolKept.{IsKept as IsKeptPlace}
+use Rattle.msi_pool.proofs.PoolRoundTrip.{written_pool_is_read}
+use Rattle.msi_pool.specs.Datum.{Datum, text, number}
 use Rattle.msi_texts.specs.StreamName.{is_valid_name}
 use Rattle.msi_tables.specs.Rows.{rows_of, kinds_of}
 use Rattle.msi_tables.specs.Table.{Table, row_data}
@@ -36,8 +36,8 @@ use Rattle.std.proofs.Common.{lit<, lit≤, length-append}
 use Rattle.std.specs.Prelude.{nat_lt, nat_le, ◌==◌}
 use Rattle.std.proofs.lemmas.Bool.Decides.{nat_tests}
 use Rattle.msi_texts.specs.Numbers.{le_bytes}
-use Rattle.msi_texts.specs.Pool.{head_bytes}
-use Rattle.msi_texts.specs.PoolState.{is_in_size}
+use Rattle.msi_pool.specs.Pool.{head_bytes}
+use Rattle.msi_pool.specs.PoolState.{is_in_size}
 use Rattle.std.specs.Str.Lossy.{utf8_valid_len}
 use Rattle.std.specs.Str.{is_utf8}
 use lib.Utf8.{encode}

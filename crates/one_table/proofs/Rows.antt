@@ -2,7 +2,7 @@
 use Rattle.std.proofs.Common.{◌≡◌, ℕ, ◌<◌, Bool, true, false, List, [], ◌∷◌, map, length, get_or, refl, sym, ap, ◌∙◌, ℤ}
 use Rattle.std.specs.List.{list_all}
 use Rattle.std.proofs.lemmas.List.Folds.{list_all_at}
-use Rattle.msi_texts.specs.Pool.{Pool}
+use Rattle.msi_pool.specs.Pool.{Pool}
 use Rattle.msi_tables.specs.Table.{row_data}
 use Rattle.one_table.specs.Contents.{key_data, key_row, is_key}
 

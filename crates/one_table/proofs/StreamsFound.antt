@@ -6,7 +6,7 @@ use Rattle.cfb_tree.specs.Tree.{child_names}
 use Rattle.cfb.specs.TreeRules.{Object, a_stream, is_same_name}
 use Rattle.plain.specs.WholeImage.{NamedStream, content_of_streams}
 use Rattle.msi_texts.specs.Category.{is_identifier}
-use Rattle.msi_texts.specs.Pool.{pool_stream, data_stream}
+use Rattle.msi_pool.specs.Pool.{pool_stream, data_stream}
 use Rattle.msi_tables.specs.Schema.{columns_name, tables_name}
 use Rattle.msi_props.specs.Props.{props_bytes}
 use Rattle.msi.specs.Package.{objects, at_name, stream_at, object_bytes, stream_name, summary_name, pool_name, data_name}

@@ -1,18 +1,18 @@
 -- A package of at most one table beside its own two, as plain lists, and the package that it stands for.
 use Rattle.std.specs.Prelude.{◌≡◌, ℕ, ◌≤◌, Bool, true, false, List, [], ◌∷◌, map, length, Option, Some, None, ℤ, pos, negsuc, ◌&&◌, int_le, bytes_eq, if◌then◌else◌, string_bytes, option_map, Ok}
 use Rattle.std.specs.List.{list_all}
-use Rattle.msi_texts.specs.Datum.{Datum, number}
+use Rattle.msi_pool.specs.Datum.{Datum, number}
 use Rattle.msi_texts.specs.Category.{is_identifier}
-use Rattle.msi_texts.specs.Pool.{Pool, Place}
+use Rattle.msi_pool.specs.Pool.{Pool, Place}
 use Rattle.msi_texts.specs.declared.codepage.CodePage.TheVariants as page
-use Rattle.msi_texts.specs.declared.stringref.ValueRef.TheVariants as cell
+use Rattle.msi_pool.specs.declared.stringref.ValueRef.TheVariants as cell
 use Rattle.msi_tables.specs.Column.{Column, plain}
 use Rattle.msi_tables.specs.Rows.{Row}
 use Rattle.msi_tables.specs.Schema.{as_key, columns_name, tables_name, columns_columns, tables_columns}
-use Rattle.msi_tables.specs.Table.{Table, are_distinct}
+use Rattle.msi_tables.specs.Table.{Table, is_valid_table_name, are_distinct}
 use Rattle.msi_tables.specs.declared.column.ColumnType.TheVariants as kind
 use Rattle.msi.specs.Package.{Package}
-use Rattle.msi.specs.Calls.{is_valid_table_name, table_put, title_of}
+use Rattle.msi.specs.Calls.{table_put, title_of}
 use Rattle.msi.specs.declared.kind.PackageType.TheVariants.{Installer}
 use Rattle.msi_props.specs.Summary.{edited, set_text, new_summary}
 use denote.Ref.{Bor}

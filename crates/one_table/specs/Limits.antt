@@ -3,19 +3,19 @@
 use Rattle.std.specs.Prelude.{◌≡◌, ℕ, Bool, true, false, not, ◌&&◌, ◌||◌, List, [], ◌∷◌, ◌++◌, map, length, nat_le, ◌==◌, Some, None, Result, Ok, bytes_eq, is_none}
 use Rattle.std.specs.List.{list_all, list_any}
 use Rattle.msi_texts.specs.Results.{◌>>=◌, unless_not}
-use Rattle.msi_texts.specs.Datum.{Datum, text}
+use Rattle.msi_pool.specs.Datum.{Datum, text}
 use Rattle.msi_texts.specs.Category.{is_identifier}
-use Rattle.msi_texts.specs.Pool.{Pool}
+use Rattle.msi_pool.specs.Pool.{Pool}
 use Rattle.msi_tables.specs.Column.{Column, are_valid}
 use Rattle.msi_tables.specs.Rows.{Row}
-use Rattle.msi_tables.specs.Table.{IsStoredByKeys}
+use Rattle.msi_tables.specs.Table.{is_valid_table_name, IsStoredByKeys}
 use Rattle.msi_tables.specs.Schema.{tables_name, columns_name, tables_columns, columns_columns, validation_columns, columns_rows, validation_row}
 use Rattle.msi_tables.specs.declared.column.ColumnType.{ColumnType}
 use Rattle.msi_tables.specs.declared.column.ColumnType.TheVariants as kind
 use Rattle.msi_query.specs.Query.{Query, query, table, inner_join, left_join, inserted, rows_counted}
 use Rattle.cfb_tree.specs.Names.{Letters}
 use Rattle.msi.specs.Package.{Package, at_name, stream_name, pool_name, data_name}
-use Rattle.msi.specs.Calls.{Ends, Change, change, Puts, Shown, is_system, may_insert, has_table, stored_rows, rows_put, table_put, new_table, is_valid_table_name, names_distinct, is_kept, selected_in}
+use Rattle.msi.specs.Calls.{Ends, Change, change, Puts, Shown, is_system, may_insert, has_table, stored_rows, rows_put, table_put, new_table, names_distinct, is_kept, selected_in}
 use Rattle.cfb_medium.specs.declared.error.Error.{Error}
 use Rattle.cfb_medium.specs.declared.error.Error.TheVariants.{InvalidInput, AlreadyExists}
 

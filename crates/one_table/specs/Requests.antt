@@ -1,6 +1,6 @@
 -- Columns, inserts and selects as what they say.
 use Rattle.std.specs.Prelude.{ℕ, List, map, None, string_bytes}
-use Rattle.msi_texts.specs.Datum.{Datum, data_of}
+use Rattle.msi_pool.specs.Datum.{Datum, data_of}
 use Rattle.msi_tables.specs.Column.{plain}
 use Rattle.msi_tables.specs.Column.{Column as Described}
 use Rattle.msi_tables.specs.declared.column.ColumnType.{ColumnType}

@@ -4,7 +4,7 @@ use Rattle.std.specs.List.{flat_map}
 use Rattle.std.specs.Ordering.{is_lt}
 use Rattle.std.specs.declared.cmp.Ordering.{Ordering}
 use Rattle.msi_texts.specs.Numbers.{le_bytes}
-use Rattle.msi_texts.specs.Pool.{pool_stream, data_stream}
+use Rattle.msi_pool.specs.Pool.{pool_stream, data_stream}
 use Rattle.msi_tables.specs.Schema.{columns_name, tables_name}
 use Rattle.msi_props.specs.Props.{props_bytes}
 use Rattle.cfb_tree.specs.Names.{ascii_letters, name_cmp}

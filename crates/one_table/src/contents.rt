@@ -21,7 +21,7 @@ use crate::sheet::{Sheet, columns_sheet, only_sheet, tables_sheet};
 use crate::streams::{ASCII_LETTERS, all_streams};
 use crate::{Column, Insert, Select};
 use cfb_medium::Error;
-use msi_texts::Value;
+use msi_pool::Value;
 use plain::{Facts, read_tree, write_image};
 use std::alloc::Global;
 

@@ -7,8 +7,8 @@ ghost use Rattle.one_table.specs.Sheets.{IsSheet};
 use crate::contents::OnlyTable;
 use crate::rules::KeyedType;
 use cfb_medium::Error;
+use msi_pool::Value;
 use msi_tables::ColumnType;
-use msi_texts::Value;
 use std::alloc::Global;
 
 // The names and types of a table's columns, and its rows as values.

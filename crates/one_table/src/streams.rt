@@ -3,8 +3,8 @@ ghost use Rattle.std.specs.Prelude.{◌≡◌, ◌⊎◌, ◌++◌, ◌∷◌, �
 ghost use Rattle.cfb_medium.specs.declared.error.Error.TheVariants.{Memory, Full};
 ghost use Rattle.cfb_tree.specs.Names.{ascii_letters, name_cmp};
 ghost use Rattle.msi_texts.specs.Category.{is_identifier};
-ghost use Rattle.msi_texts.specs.Pool.{pool_stream, data_stream, used};
-ghost use Rattle.msi_texts.specs.PoolState.{changed_to, is_in_size};
+ghost use Rattle.msi_pool.specs.Pool.{pool_stream, data_stream, used};
+ghost use Rattle.msi_pool.specs.PoolState.{changed_to, is_in_size};
 ghost use Rattle.msi_texts.specs.Numbers.{le_bytes};
 ghost use Rattle.std.specs.List.{list_all};
 ghost use Rattle.msi_props.specs.Props.{props_bytes};
@@ -15,7 +15,8 @@ ghost use Rattle.one_table.specs.Streams.{named, own_streams, streams_of, put_by
 
 use crate::contents::{OnlyTable, is_same};
 use cfb_medium::Error;
-use msi_texts::{CodePage, SUMMARY_INFO_STREAM_NAME, StringPool, encode};
+use msi_pool::StringPool;
+use msi_texts::{CodePage, SUMMARY_INFO_STREAM_NAME, encode};
 use plain::{NamedStream, compare_names};
 use std::alloc::Global;
 

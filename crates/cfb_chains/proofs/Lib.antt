@@ -1,0 +1,7 @@
+pub mod ChainParts
+pub mod Entering
+pub mod EntryChanges
+pub mod FatEntries
+pub mod Joining
+pub mod Overwriting
+pub mod Staying

@@ -1,0 +1,25 @@
+-- What a `Chain` shows: the layer behind it, its sectors, and the position in their bytes.
+use Rattle.std.specs.Prelude.{◌≡◌, ℕ, List}
+use Rattle.cfb_medium.specs.declared.version.Version.{Version}
+use Rattle.cfb_sectors.specs.declared.sector.HasSectors.{Ghosts}
+use Rattle.cfb_chains.specs.declared.chain.Chain.{Chain}
+use Rattle.cfb_chains.specs.LinkViews.{ids_of, links_version}
+
+module _ {H : Type 0} {g : Ghosts H} where
+  abbrev pub holder_of : Chain H g → H
+  holder_of it = it.holder.now
+
+  abbrev pub version_of : Chain H g → Version
+  version_of it = links_version it.links
+
+  abbrev pub sectors_of : Chain H g → List ℕ
+  sectors_of it = ids_of it.links
+
+  abbrev pub position_of : Chain H g → ℕ
+  position_of it = it.position
+
+  -- the same chain, lent by the same layer
+  pub record IsSame (old new : Chain H g) : Type 0 where
+    pub holder : new.holder.ghost_name ≡ old.holder.ghost_name
+    pub version : version_of new ≡ version_of old
+    pub sectors : sectors_of new ≡ sectors_of old

@@ -1,0 +1,6 @@
+pub mod ChainViews
+pub mod Changing
+pub mod LinkViews
+pub mod Orderly
+pub mod Resting
+pub mod Tables

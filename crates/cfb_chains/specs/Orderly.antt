@@ -1,0 +1,47 @@
+-- When tables can be changed, and what a change of the FAT leaves.
+use Rattle.std.specs.Prelude.{◌≡◌, ℕ, ◌+◌, ◌<◌, ◌≤◌, ◌⊎◌, List, ◌++◌, length, slice_index}
+use Rattle.std.specs.List.{AllByRecursion}
+use Rattle.cfb_medium.specs.declared.version.Version.{Version}
+use Rattle.cfb_medium.specs.Versions.{sector_len}
+use Rattle.cfb_sectors.specs.Sectors.{sector_start}
+
+-- no number stands twice
+abbrev pub AreOnce : List ℕ → Type 0
+AreOnce xs = (k l : ℕ) → k < length xs → l < length xs → slice_index xs k ≡ slice_index xs l → k ≡ l
+
+-- each is below this
+abbrev pub AreBelow : ℕ → List ℕ → Type 0
+AreBelow limit xs = (k : ℕ) → k < length xs → slice_index xs k < limit
+
+-- the tables of a file of so many sectors can be changed: no sector holds two parts of them, and the FAT has an entry for
+-- each sector
+pub record IsOrderly (count : ℕ) (fat fat_sectors difat_sectors : List ℕ) : Type 0 where
+  pub once : AreOnce (difat_sectors ++ fat_sectors)
+  pub covered : length fat ≡ count
+
+-- the part has no byte of these sectors
+abbrev pub IsBeside : Version → List ℕ → ℕ → ℕ → Type 0
+IsBeside version sectors place count =
+    (k : ℕ) → k < length sectors → (sector_start version (slice_index sectors k) + sector_len version ≤ place) ⊎ (place + count ≤ sector_start version (slice_index sectors k))
+
+-- the part has no byte of what the header says of the tables: how many FAT sectors there are (byte 44), and from byte 68
+-- on where the DIFAT is ([MS-CFB] 2.2)
+abbrev pub IsBesideWords : ℕ → ℕ → Type 0
+IsBesideWords place count = (place + count ≤ 44) ⊎ ((48 ≤ place) × (place + count ≤ 68)) ⊎ (512 ≤ place)
+
+-- none of these is the number
+abbrev pub IsNoneOf : List ℕ → ℕ → Type 0
+IsNoneOf xs n = (k : ℕ) → k < length xs → slice_index xs k ≡ n → ⊥
+
+-- the lists have no number in common
+abbrev pub AreNoneOf : List ℕ → List ℕ → Type 0
+AreNoneOf xs ns = AllByRecursion (IsNoneOf xs) ns
+
+-- two tables differ at these entries alone
+pub record DifferAt (entries old new : List ℕ) : Type 0 where
+  pub size : length new ≡ length old
+  pub others : (n : ℕ) → IsNoneOf entries n → slice_index new n ≡ slice_index old n
+
+-- each of these sectors has this entry in the table
+abbrev pub HaveEntry : ℕ → List ℕ → List ℕ → Type 0
+HaveEntry entry table sectors = (k : ℕ) → k < length sectors → slice_index table (slice_index sectors k) ≡ entry

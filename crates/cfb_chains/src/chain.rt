@@ -1,0 +1,128 @@
+// The bytes of a chain of sectors, read from a position on.
+ghost use Rattle.cfb_medium.specs.Calls.{IsFaultUnless};
+ghost use Rattle.cfb_medium.specs.Versions.{sector_len};
+ghost use Rattle.cfb_medium.specs.declared.error.Error.TheVariants.{InvalidInput};
+ghost use Rattle.cfb_chains.specs.LinkViews.{ids_of, links_version};
+ghost use Rattle.cfb_sectors.specs.Sectors.{end_of_chain, greatest_regular, joined};
+ghost use Rattle.cfb_sectors.specs.Seeking.{Finds};
+ghost use Rattle.std.specs.Prelude.{drop, length, slice_index_or, take, vec_len, IfErr, IfOk, IsTrue, OnErr, ℕ, ◌*◌, ◌+◌, ◌-◌, ◌<◌, ◌≡◌, ◌≤◌};
+
+use crate::Links;
+use cfb_medium::{Error, Version};
+use cfb_sectors::{END_OF_CHAIN, HasSectors, place_found};
+use std::io::SeekFrom;
+
+/// The sectors of a chain, as one list of bytes, at a position.
+#[derive(Drop)]
+pub struct Chain<'a, H: HasSectors> {
+    pub(crate) holder: &'a mut H,
+    pub(crate) links: Links,
+    pub(crate) position: u64,
+    ghost inside: { position ≤ length (ids_of links) * sector_len (links_version links) },
+}
+
+// The sector of a chain in which a position lies, and its offset there.
+#[tactic(auto, using(crate::proofs::ChainParts::some_bytes))]
+fn sector_and_offset(version: Version, position: u64) -> (u64, u64)
+    ensures whole { result.0 * sector_len version + result.1 ≡ position }
+    ensures inside { result.1 < sector_len version }
+{
+    let len = version.sector_len() as u64;
+    (position / len, position % len)
+}
+
+impl<'a, H: HasSectors> Chain<'a, H> {
+    ghost use Rattle.cfb_chains.specs.ChainViews.{holder_of, position_of, sectors_of, version_of, IsSame};
+
+    /// The chain of these sectors, at its first byte.
+    pub fn new(holder: &'a mut H, links: Links) -> Chain<'a, H>
+        ensures same_reference { result.holder.ghost_name ≡ holder.entry.ghost_name }
+        ensures holder { holder_of result ≡ holder.old }
+        ensures chain { (version_of result ≡ links_version links) × (sectors_of result ≡ ids_of links) × (position_of result ≡ 0) }
+    {
+        Chain {
+            holder,
+            links,
+            position: 0,
+        }
+    }
+
+    /// Its first sector, or "end of chain" where it has none.
+    pub fn start_sector_id(&self) -> u32
+        ensures { result ≡ slice_index_or (sectors_of self.now) 0 end_of_chain }
+    {
+        match self.links.sector_ids().first() {
+            Some(sector_id) => *sector_id,
+            None => END_OF_CHAIN,
+        }
+    }
+
+    /// How many sectors it has.
+    pub fn num_sectors(&self) -> usize
+        ensures { result ≡ length (sectors_of self.now) }
+    {
+        self.links.sector_ids().len()
+    }
+
+    /// Its sectors, in order.
+    pub fn sector_ids(&self) -> &[u32]
+        ensures { result.now ≡ sectors_of self.now }
+    {
+        self.links.sector_ids()
+    }
+
+    /// How many bytes its sectors have.
+    #[tactic(auto, using(crate::proofs::ChainParts::no_more_bytes))]
+    pub fn len(&self) -> u64
+        ensures { result ≡ length (sectors_of self.now) * sector_len (version_of self.now) }
+    {
+        self.links.sector_ids().len() as u64 * self.links.version().sector_len() as u64
+    }
+
+    /// Reads from the position on what the buffer takes of the sector in which it lies, and moves the position behind that.
+    /// 0 bytes are read at the end alone, or into an empty buffer.
+    pub fn read(&mut self, buffer: &mut [u8]) -> Result<usize, Error>
+        ensures read { IfOk result (λ n. IsTrue (H.honest (holder_of self.old))
+            → take n buffer.new ≡ take n (drop (position_of self.old) (joined (version_of self.old) (H.bytes (holder_of self.old)) (sectors_of self.old)))) }
+        ensures rest { IfOk result (λ n. drop n buffer.new ≡ drop n buffer.old) }
+        ensures count { IfOk result (λ n. (n ≤ length buffer.old) × (position_of self.old + n ≤ length (sectors_of self.old) * sector_len (version_of self.old))) }
+        ensures some { IfOk result (λ n. 0 < length buffer.old → position_of self.old < length (sectors_of self.old) * sector_len (version_of self.old) → 0 < n) }
+        ensures moved { IfOk result (λ n. position_of self.new ≡ position_of self.old + n) }
+        ensures stays { OnErr result (position_of self.new ≡ position_of self.old) }
+        ensures same { IsSame self.old self.new }
+        ensures rests { H.rests (holder_of self.old) (holder_of self.new) }
+        ensures cause { IfErr result (H.has_cause (holder_of self.old) (holder_of self.new)) }
+        ensures fault { IfErr result (IsFaultUnless ⊥) }
+    {
+        if self.position == self.len() {
+            return Ok(0);
+        }
+        let version = self.links.version();
+        let (index, offset) = sector_and_offset(version, self.position);
+        let len = version.sector_len() as u64;
+        let count = buffer.len().min((len - offset) as usize);
+        let sector_id = self.links.sector_ids()[index as usize];
+        let place = (u64::from(sector_id) + 1) * len + offset;
+        self.holder.read_part(place, &mut buffer[..count])?;
+        self.position += count as u64;
+        Ok(count)
+    }
+
+    /// Moves the position to a place of the chain or to its end, and gives it. `InvalidInput` where it is before the chain or
+    /// behind its end, and then it stays.
+    #[tactic(auto, using(crate::proofs::ChainParts::no_more_bytes))]
+    pub fn seek(&mut self, from: SeekFrom) -> Result<u64, Error>
+        ensures ok { IfOk result (λ n. Finds from (length (sectors_of self.old) * sector_len (version_of self.old)) (position_of self.old) n × (position_of self.new ≡ n)) }
+        ensures none { OnErr result ((n : ℕ) → Finds from (length (sectors_of self.old) * sector_len (version_of self.old)) (position_of self.old) n → ⊥) }
+        ensures error { IfErr result (λ e. e ≡ InvalidInput) }
+        ensures stays { OnErr result (position_of self.new ≡ position_of self.old) }
+        ensures same { IsSame self.old self.new }
+        ensures holder { holder_of self.new ≡ holder_of self.old }
+    {
+        let Some(place) = place_found(from, self.len(), self.position) else {
+            return Err(Error::InvalidInput);
+        };
+        self.position = place;
+        Ok(place)
+    }
+}

@@ -1,0 +1,73 @@
+// Chains that are freed, at whatever height.
+ghost use Rattle.cfb_chains.specs.Orderly.{HaveEntry};
+ghost use Rattle.cfb_medium.specs.Calls.{IsFaultUnless};
+ghost use Rattle.cfb_medium.specs.declared.error.Error.TheVariants.{Failed, InvalidData};
+ghost use Rattle.cfb_sectors.specs.Sectors.{end_of_chain, free, Chain as IsChain};
+ghost use Rattle.std.specs.Prelude.{false, slice_index_or, true, Bool, IfErr, IsErrOf, IsTrue, List, OnErr, OnOk, ℕ, [], ◌≡◌, ◌⊎◌};
+
+use crate::{Allocator, Chain};
+use cfb_medium::{Error, Medium};
+use cfb_sectors::ChangesSectors;
+
+/// A layer that has chains and frees them.
+pub trait FreesChains: ChangesSectors {
+    /// The FAT, an entry for each sector.
+    ghost fat: { Self → List ℕ };
+
+    /// Its tables can be changed.
+    ghost orderly: { Self → Bool };
+
+    /// The second state comes from the first by a change of at most these entries of the FAT.
+    ghost changes_fat: { List ℕ → Self → Self → Type 0 };
+
+    /// Frees the sectors of the chain from a start. `InvalidData` where the FAT has none or the tables can't be changed, and
+    /// then nothing is changed. After a fault in a write it has failed.
+    fn free_chain(&mut self, start: u32) -> Result<(), Error>
+        ensures frees { (ids : List ℕ) × OnOk result (IsChain (fat self.old) start ids × HaveEntry free (fat self.new) ids) × changes_fat ids self.old self.new }
+        ensures live { OnOk result ((Self.failed self.old ≡ false) × IsTrue (orderly self.old) × (Self.failed self.new ≡ false)) }
+        ensures refused { IsErrOf result InvalidData → (IsTrue (orderly self.old) → (ids : List ℕ) → IsChain (fat self.old) start ids → ⊥) × Self.rests self.old self.new }
+        ensures failed { Self.failed self.old ≡ true → IsErrOf result Failed × Self.rests self.old self.new }
+        ensures cause { IfErr result (Self.has_cause self.old self.new) }
+        ensures fault { IfErr result (λ e. (IsFaultUnless ⊥ e × ((Self.failed self.new ≡ true) ⊎ Self.rests self.old self.new)) ⊎ (e ≡ InvalidData)) };
+}
+
+impl<F: Medium> FreesChains for Allocator<F> {
+    ghost use Rattle.cfb_chains.specs.Changing.{ChangesFat};
+    ghost use Rattle.cfb_chains.specs.Tables.{fat_of, orderly_of};
+
+    ghost fat = { fat_of };
+
+    ghost orderly = { orderly_of };
+
+    ghost changes_fat = { ChangesFat };
+
+    fn free_chain(&mut self, start: u32) -> Result<(), Error> {
+        Allocator::free_chain(self, start)
+    }
+}
+
+impl<'a, H: FreesChains> Chain<'a, H> {
+    ghost use Rattle.cfb_chains.specs.ChainViews.{holder_of, position_of, sectors_of, version_of};
+
+    /// Frees the sectors of the chain from its first on, as the FAT has it; it has none then. `InvalidData` where the FAT has
+    /// none or the tables can't be changed, and then nothing is changed. After a fault in a write the layer has failed.
+    pub fn free(&mut self) -> Result<(), Error>
+        ensures frees { (ids : List ℕ) × OnOk result (IsChain (H.fat (holder_of self.old)) (slice_index_or (sectors_of self.old) 0 end_of_chain) ids × HaveEntry free (H.fat (holder_of self.new)) ids)
+            × H.changes_fat ids (holder_of self.old) (holder_of self.new) }
+        ensures emptied { OnOk result ((sectors_of self.new ≡ []) × (position_of self.new ≡ 0)) }
+        ensures kept { OnErr result ((sectors_of self.new ≡ sectors_of self.old) × (position_of self.new ≡ position_of self.old)) }
+        ensures same { (self.new.holder.ghost_name ≡ self.old.holder.ghost_name) × (version_of self.new ≡ version_of self.old) }
+        ensures live { OnOk result ((H.failed (holder_of self.old) ≡ false) × IsTrue (H.orderly (holder_of self.old)) × (H.failed (holder_of self.new) ≡ false)) }
+        ensures refused { IsErrOf result InvalidData → (IsTrue (H.orderly (holder_of self.old)) → (ids : List ℕ) → IsChain (H.fat (holder_of self.old)) (slice_index_or (sectors_of self.old) 0 end_of_chain) ids → ⊥)
+            × H.rests (holder_of self.old) (holder_of self.new) }
+        ensures failed { H.failed (holder_of self.old) ≡ true → IsErrOf result Failed × H.rests (holder_of self.old) (holder_of self.new) }
+        ensures cause { IfErr result (H.has_cause (holder_of self.old) (holder_of self.new)) }
+        ensures fault { IfErr result (λ e. (IsFaultUnless ⊥ e × ((H.failed (holder_of self.new) ≡ true) ⊎ H.rests (holder_of self.old) (holder_of self.new))) ⊎ (e ≡ InvalidData)) }
+    {
+        let start = self.start_sector_id();
+        self.holder.free_chain(start)?;
+        self.position = 0;
+        self.links.clear();
+        Ok(())
+    }
+}

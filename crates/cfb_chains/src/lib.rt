@@ -1,0 +1,25 @@
+//! Tables and chains of a compound file.
+#![tactic(auto)]
+
+mod access;
+mod allocator;
+mod beside;
+mod chain;
+mod changes;
+mod entries;
+mod freeing;
+mod laws;
+mod links;
+mod once;
+mod tables;
+mod writes;
+
+pub use allocator::Allocator;
+pub use chain::Chain;
+pub use freeing::FreesChains;
+pub use laws::{freed_sectors_are_in_no_chain, other_chains_stay};
+pub use links::{Links, chain_in};
+pub use tables::{read_joined, read_table};
+
+#[cfg(test)]
+mod tests;

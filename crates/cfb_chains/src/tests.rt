@@ -1,0 +1,102 @@
+ghost use Rattle.std.specs.Prelude.{length, ◌≤◌};
+
+use crate::{Allocator, Chain};
+use cfb_medium::{Error, MemoryMedium, Version};
+use cfb_sectors::{END_OF_CHAIN, FAT_SECTOR, FREE_SECTOR, Sector, Sectors};
+use std::alloc::Global;
+use std::test::Fail;
+
+// A file of version 3 whose FAT, in sector 0, has these entries for its sectors; all else is sevens.
+fn file_with(alloc: Global, entries: &[u32]) -> Result<Allocator<MemoryMedium>, Error>
+    requires { length entries.now ≤ 100 }
+{
+    let mut bytes = Vec::new(alloc);
+    bytes.resize(512, 7)?;
+    for entry in entries {
+        bytes.extend_from_slice(&entry.to_le_bytes())?;
+    }
+    bytes.resize(512 * (entries.len() + 1), 7)?;
+    let len = bytes.len() as u64;
+    let sectors = Sectors::new(Version::V3, len, MemoryMedium::from_bytes(alloc, bytes));
+    let fat_sectors = [0].to_vec(alloc)?;
+    Allocator::new(alloc, sectors, Vec::new(alloc), fat_sectors).map_err(|refused| refused.1)
+}
+
+#[test]
+fn chain_is_read(rt: HostRuntime) -> Result<(), Fail> {
+    let mut allocator = file_with(rt.alloc(), &[FAT_SECTOR, 2, END_OF_CHAIN])?;
+    let links = allocator.open_chain(1)?;
+    assert_eq!(rt; links.sector_ids(), [1, 2].as_slice());
+    let mut chain = Chain::new(&mut allocator, links);
+    assert_eq!(rt; chain.len(), 1024);
+    let mut read = [0; 8];
+    assert_eq!(rt; chain.read(&mut read)?, 8);
+    assert_eq!(rt; read, [7; 8]);
+    Ok(())
+}
+
+#[test]
+fn chains_are_freed(rt: HostRuntime) -> Result<(), Fail> {
+    let mut allocator = file_with(rt.alloc(), &[FAT_SECTOR, 2, 3, END_OF_CHAIN, END_OF_CHAIN])?;
+    assert!(rt; allocator.is_orderly());
+    allocator.free_chain_after(1)?;
+    assert_eq!(rt; allocator.next(1)?, END_OF_CHAIN);
+    assert_eq!(rt; allocator.next(2)?, FREE_SECTOR);
+    assert_eq!(rt; allocator.next(3)?, FREE_SECTOR);
+    allocator.free_chain(1)?;
+    assert_eq!(rt; allocator.next(1)?, FREE_SECTOR);
+    assert_eq!(rt; allocator.next(4)?, END_OF_CHAIN);
+    let bytes = allocator.into_inner().into_bytes();
+    assert_eq!(rt; bytes.len(), 3072);
+    assert!(rt; bytes[516..528] == [0xFF; 12]);
+    Ok(())
+}
+
+#[test]
+fn chain_frees_itself(rt: HostRuntime) -> Result<(), Fail> {
+    let mut allocator = file_with(rt.alloc(), &[FAT_SECTOR, 2, END_OF_CHAIN])?;
+    let links = allocator.open_chain(1)?;
+    let mut chain = Chain::new(&mut allocator, links);
+    chain.free()?;
+    assert_eq!(rt; chain.len(), 0);
+    drop(chain);
+    assert_eq!(rt; allocator.next(1)?, FREE_SECTOR);
+    assert_eq!(rt; allocator.next(2)?, FREE_SECTOR);
+    Ok(())
+}
+
+#[test]
+fn tables_are_not_written_over(rt: HostRuntime) -> Result<(), Fail> {
+    let mut allocator = file_with(rt.alloc(), &[FAT_SECTOR, END_OF_CHAIN])?;
+    assert!(rt;
+        matches!(
+            allocator.write_contiguous(0, 8, b"some"),
+            Err(Error::InvalidData)
+        )
+    );
+    assert!(rt;
+        matches!(
+            allocator.write_contiguous(1, 510, b"some"),
+            Err(Error::InvalidData)
+        )
+    );
+    let count = allocator.seek_within_header(44)?;
+    let refused = Sector::new(&mut allocator, count).write(&[9]);
+    assert!(rt; matches!(refused, Err(Error::InvalidData)));
+    let place = allocator.seek_within_subsector(1, 3, 64, 2)?;
+    assert_eq!(rt; Sector::new(&mut allocator, place).write(b"some")?, 4);
+    let mut read = [0; 4];
+    allocator.read_contiguous(1, 194, &mut read)?;
+    assert_eq!(rt; &read, b"some");
+    Ok(())
+}
+
+#[test]
+fn wrong_chains_are_refused(rt: HostRuntime) -> Result<(), Fail> {
+    let mut allocator = file_with(rt.alloc(), &[FAT_SECTOR, 2, 1, 9])?;
+    assert!(rt; matches!(allocator.free_chain(1), Err(Error::InvalidData)));
+    assert!(rt; matches!(allocator.free_chain(3), Err(Error::InvalidData)));
+    assert!(rt; matches!(allocator.free_chain_after(2), Err(Error::InvalidData)));
+    assert_eq!(rt; allocator.next(2)?, 1);
+    Ok(())
+}

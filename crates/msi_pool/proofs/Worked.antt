@@ -1,0 +1,70 @@
+-- Worked places and pools, computed from the definitions.
+use Rattle.std.proofs.Common.{◌≡◌, ℕ, true, false, List, [], ◌∷◌, refl}
+use Rattle.std.specs.Prelude.{Some, codes, Result, Ok, Err}
+use Rattle.std.specs.Str.{chars, is_utf8}
+use Rattle.std.specs.Str.Lossy.{utf8_valid_len, utf8_lossy}
+use Rattle.std.proofs.Math.Utf8.{encode}
+use Rattle.msi_pool.specs.Pool.{Pool, Place, place, with_use, without_use, pool_stream}
+use Rattle.msi_pool.specs.PoolReading.{begun, pool_of}
+use Rattle.msi_texts.specs.Results.{◌>>=◌}
+use Rattle.cfb_medium.specs.declared.error.Error.{Error}
+use Rattle.cfb_medium.specs.declared.error.Error.TheVariants.{InvalidData, UnexpectedEof}
+use Rattle.msi_texts.specs.declared.codepage.CodePage.TheVariants as page
+
+abbrev empty_pool : Pool
+empty_pool = record { page = page.Utf8; long = false; places = [] }
+
+empty_text_written : pool_stream (record empty_pool { places = with_use [] [] }) ≡ 0xE9 ∷ 0xFD ∷ 0 ∷ 0 ∷ 0 ∷ 0 ∷ 1 ∷ 0 ∷ 0 ∷ 0 ∷ 0 ∷ 0 ∷ []
+empty_text_written = refl
+
+abbrev foobar : ℕ → Place
+foobar n = record { text = codes "Foobar"; count = n }
+
+second_place : place (record empty_pool { places = with_use (codes "Foobar") (foobar 65534 ∷ []) }) (codes "Foobar") ≡ Some 2
+second_place = refl
+
+second_use : with_use (codes "Foobar") (with_use (codes "Foobar") (foobar 65534 ∷ [])) ≡ foobar 65535 ∷ foobar 1 ∷ []
+second_use = refl
+
+-- a place that three uses left free is the least that is taken next
+abbrev used_once : List ℕ → Place
+used_once t = record { text = t; count = 1 }
+
+abbrev three_left : List Place
+three_left = without_use 3 (without_use 1 (without_use 2 (used_once (codes "Foo") ∷ used_once (codes "Bar") ∷ used_once (codes "Quux") ∷ [])))
+
+least_taken : with_use (codes "Qux") (with_use (codes "Baz") three_left) ≡ used_once (codes "Baz") ∷ used_once (codes "Qux") ∷ record { text = []; count = 0 } ∷ []
+least_taken = refl
+
+-- reading the two streams
+abbrev read_both : List ℕ → List ℕ → Result Pool Error
+read_both heads texts = begun heads >>= λ b. pool_of b texts
+
+abbrev two_texts : Pool
+two_texts = record { page = page.Utf8; long = false; places = record { text = codes "Foo"; count = 2 } ∷ record { text = codes "Quux"; count = 7 } ∷ [] }
+
+two_read : read_both (0xE9 ∷ 0xFD ∷ 0 ∷ 0 ∷ 3 ∷ 0 ∷ 2 ∷ 0 ∷ 4 ∷ 0 ∷ 7 ∷ 0 ∷ []) (codes "FooQuux") ≡ Ok two_texts
+unfolding utf8_lossy utf8_valid_len is_utf8 chars encode
+two_read = refl
+
+three_bytes_read : read_both (0xE4 ∷ 4 ∷ 0 ∷ 0x80 ∷ 3 ∷ 0 ∷ 2 ∷ 0 ∷ 4 ∷ 0 ∷ 7 ∷ 0 ∷ []) (codes "FooQuux") ≡ Ok (record two_texts { page = page.Windows1252; long = true })
+unfolding chars encode
+three_bytes_read = refl
+
+rest_ignored : read_both (0xE4 ∷ 4 ∷ 0 ∷ 0 ∷ 9 ∷ []) [] ≡ Ok (record { page = page.Windows1252; long = false; places = [] })
+rest_ignored = refl
+
+longer_rest : read_both (0xE4 ∷ 4 ∷ 0 ∷ 0 ∷ 3 ∷ 0 ∷ 2 ∷ []) [] ≡ Err UnexpectedEof
+longer_rest = refl
+
+texts_missing : read_both (0xE4 ∷ 4 ∷ 0 ∷ 0 ∷ 3 ∷ 0 ∷ 2 ∷ 0 ∷ []) (codes "Fo") ≡ Err UnexpectedEof
+texts_missing = refl
+
+empty_text_read : read_both (0xE4 ∷ 4 ∷ 0 ∷ 0 ∷ 0 ∷ 0 ∷ 1 ∷ 0 ∷ 0 ∷ 0 ∷ 0 ∷ 0 ∷ []) [] ≡ Ok (record { page = page.Windows1252; long = false; places = record { text = []; count = 1 } ∷ [] })
+empty_text_read = refl
+
+long_head_read : begun (0xE4 ∷ 4 ∷ 0 ∷ 0 ∷ 0 ∷ 0 ∷ 1 ∷ 0 ∷ 0x70 ∷ 0x11 ∷ 1 ∷ 0 ∷ []) ≡ Ok (record { page = page.Windows1252; long = false; heads = (70000, 1) ∷ [] })
+long_head_read = refl
+
+unknown_page : read_both (0x40 ∷ 0xE2 ∷ 1 ∷ 0 ∷ []) [] ≡ Err InvalidData
+unknown_page = refl

@@ -1,0 +1,7 @@
+pub mod Datum
+pub mod Layout
+pub mod Pool
+pub mod PoolKept
+pub mod PoolState
+pub mod PoolReading
+pub mod Refs

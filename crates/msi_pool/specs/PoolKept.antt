@@ -1,0 +1,23 @@
+-- Which pools their two streams give back.
+use Rattle.std.specs.Prelude.{◌≡◌, ◌<◌, ◌^◌, IsTrue, List, [], ◌∷◌, length}
+use Rattle.std.specs.Str.{is_utf8}
+use Rattle.msi_texts.specs.declared.codepage.CodePage.{CodePage}
+use Rattle.msi_texts.specs.Page.{encoded, fits}
+use Rattle.msi_pool.specs.Pool.{Pool, Place}
+
+-- a place whose text fits the page, with a length and a count that fit their fields; a free one holds the empty text
+pub record IsKept (page : CodePage) (p : Place) : Type 0 where
+  pub utf8 : IsTrue (is_utf8 p.text)
+  pub fit : IsTrue (fits page p.text)
+  pub count : p.count < 2 ^ 16
+  pub size : length (encoded page p.text) < 2 ^ 32
+  pub free : p.count ≡ 0 → p.text ≡ []
+
+-- each of these places is
+abbrev pub AreKept : CodePage → List Place → Type 0
+AreKept page [] = Unit {0}
+AreKept page (p ∷ ps) = IsKept page p × AreKept page ps
+
+-- all places are, and there are not too many
+abbrev pub IsWritable : Pool → Type 0
+IsWritable pool = AreKept pool.page pool.places × (length pool.places < 2 ^ 32)

@@ -1,0 +1,337 @@
+// The string pool: texts, each with the number of its uses.
+ghost use Rattle.std.specs.Prelude.{◌≡◌, ◌↔◌, ◌⊎◌, ◌+◌, ◌<◌, ◌≤◌, ◌^◌, ◌++◌, ℕ, [], true, false, IsTrue, nat_lt, map, length, Some, None, IfOk, OnOk, OnErr, IfErr, IsErrOf, string_bytes, slice_get};
+ghost use Rattle.std.specs.List.{flat_map, list_all};
+ghost use Rattle.msi_texts.specs.Numbers.{le_bytes};
+ghost use Rattle.msi_texts.specs.Page.{encoded, id_of};
+ghost use Rattle.msi_pool.specs.Pool.{place, place_among, last_place, with_use, without_use, at_place, places_of, used, head_bytes, head_of, stored_place, pool_stream, data_stream, width_bit};
+ghost use Rattle.msi_pool.specs.PoolState.{changed_to, is_in_size, length_limit};
+ghost use Rattle.cfb_medium.specs.declared.error.Error.TheVariants.{InvalidInput, InvalidData, Memory};
+
+use crate::numbers::{write_u16, write_u32};
+use crate::stringref::StringRef;
+use cfb_medium::Error;
+use msi_texts::CodePage;
+use std::alloc::{AllocError, Global};
+use std::marker::Model;
+
+/// The greatest number that a reference of two bytes names.
+const LAST_SHORT_REF: usize = 65535;
+
+/// The greatest number that a reference of three bytes names.
+const LAST_LONG_REF: usize = 16777215;
+
+/// The bit of the page's number that tells of references of three bytes.
+pub(crate) const LONG_STRING_REFS_BIT: u32 = 0x8000_0000;
+
+/// No text and no pool stream may have so many bytes.
+const LENGTH_LIMIT: usize = 4294967295;
+
+/// The string pool of a package: texts at places from 1 on, each with the number of its uses. A place
+/// without a use is free.
+#[derive(Drop)]
+pub struct StringPool {
+    codepage: CodePage,
+    long_string_refs: bool,
+    strings: Vec<(String, u16)>,
+    is_modified: bool,
+}
+
+impl Model for StringPool {
+    ghost use Rattle.msi_pool.specs.Pool.{Pool, places_of};
+    ghost use Rattle.msi_pool.specs.PoolState.{PoolState};
+    ghost use Rattle.std.specs.Prelude.{length, ◌<◌, ◌^◌};
+
+    ghost Value = { PoolState };
+
+    ghost view = { λ p. record { pool = record { page = p.codepage; long = p.long_string_refs; places = places_of p.strings.items }; modified = p.is_modified } };
+
+    ghost invariant = { λ p. length p.strings.items < 2 ^ 32 };
+}
+
+/// The first place that takes a use of the text, or the length.
+fn first_place(strings: &[(String, u16)], text: &str) -> usize
+    ensures place { result + 1 ≡ place_among text.now (places_of strings.now) }
+    ensures bound { result ≤ length strings.now }
+{
+    for (index, (kept, count)) in strings.iter().enumerate() {
+        if *count == 0 || kept.as_str() == text && *count < 65535 {
+            return index;
+        }
+    }
+    strings.len()
+}
+
+/// Counts a use of the text at the first place that takes it.
+fn count_at(strings: &mut Vec<(String, u16)>, index: usize, text: String) -> Result<(), Error>
+    requires place { index + 1 ≡ place_among (string_bytes text) (places_of strings.old.items) }
+    requires inside { index ≤ length strings.old.items }
+    ensures ok { OnOk result (places_of strings.new.items ≡ with_use (string_bytes text) (places_of strings.old.items)) }
+    ensures err { OnErr result (strings.new.items ≡ strings.old.items) }
+    ensures kinds { IfErr result (λ e. e ≡ Memory) }
+    ensures bound { (length strings.new.items ≡ length strings.old.items) ⊎ (length strings.new.items ≡ index + 1) }
+{
+    if index < strings.len() {
+        let entry = &mut strings[index];
+        entry.1 += 1;
+        entry.0 = text;
+    } else {
+        strings.push((text, 1))?;
+    }
+    Ok(())
+}
+
+impl StringPool {
+    /// An empty pool, whose references take two bytes.
+    pub fn new(alloc: Global, codepage: CodePage) -> StringPool
+        ensures { result ≡ changed_to (record { page = codepage; long = false; places = [] }) }
+    {
+        StringPool {
+            codepage,
+            long_string_refs: false,
+            strings: Vec::new(alloc),
+            is_modified: true,
+        }
+    }
+
+    /// The pool of these strings, as it was read.
+    pub(crate) fn from_strings(
+        codepage: CodePage,
+        long_string_refs: bool,
+        strings: Vec<(String, u16)>,
+    ) -> StringPool
+        requires { length strings.items < 2 ^ 32 }
+        ensures { result ≡ record { pool = record { page = codepage; long = long_string_refs; places = places_of strings.items }; modified = false } }
+    {
+        StringPool {
+            codepage,
+            long_string_refs,
+            strings,
+            is_modified: false,
+        }
+    }
+
+    /// The page under which the texts are written.
+    pub fn codepage(&self) -> CodePage
+        ensures { result ≡ self.now.pool.page }
+    {
+        self.codepage
+    }
+
+    /// Sets the page under which the texts are written.
+    pub fn set_codepage(&mut self, codepage: CodePage)
+        ensures { self.new ≡ changed_to (record self.old.pool { page = codepage }) }
+    {
+        self.mark_modified();
+        self.codepage = codepage;
+    }
+
+    /// The number of places, with the free ones.
+    pub fn num_strings(&self) -> u32
+        ensures { result ≡ length self.now.pool.places }
+    {
+        self.strings.len() as u32
+    }
+
+    /// Whether references take three bytes instead of two.
+    pub fn long_string_refs(&self) -> bool
+        ensures { result ≡ self.now.pool.long }
+    {
+        self.long_string_refs
+    }
+
+    /// Whether the pool may differ from its streams.
+    pub fn is_modified(&self) -> bool
+        ensures { result ≡ self.now.modified }
+    {
+        self.is_modified
+    }
+
+    /// Notes that the pool's streams are written.
+    pub fn mark_unmodified(&mut self)
+        ensures { self.new ≡ record self.old { modified = false } }
+    {
+        self.is_modified = false;
+    }
+
+    /// Notes that the pool may differ from its streams.
+    fn mark_modified(&mut self)
+        ensures { self.new ≡ changed_to self.old.pool }
+    {
+        self.is_modified = true;
+    }
+
+    /// The text at a place; past the last the empty text.
+    pub fn get(&self, string_ref: StringRef) -> &str
+        ensures { result.now ≡ (at_place self.now.pool.places string_ref).text }
+    {
+        match self.strings.get(string_ref.index()) {
+            Some((text, _)) => text.as_str(),
+            None => "",
+        }
+    }
+
+    /// The number of uses at a place; past the last 0.
+    pub fn refcount(&self, string_ref: StringRef) -> u16
+        ensures { result ≡ (at_place self.now.pool.places string_ref).count }
+    {
+        match self.strings.get(string_ref.index()) {
+            Some((_, count)) => *count,
+            None => 0,
+        }
+    }
+
+    /// Counts a use of the text at the least place that is free or holds it with a count below 65535,
+    /// else at a new place, and tells where. InvalidInput where no reference could name that place;
+    /// then, and after Memory, nothing changed.
+    pub fn incref(&mut self, text: String) -> Result<StringRef, Error>
+        ensures place { IfOk result (λ n. place self.old.pool (string_bytes text) ≡ Some n) }
+        ensures counted { OnOk result (self.new ≡ changed_to (used self.old.pool (string_bytes text))) }
+        ensures full { IsErrOf result InvalidInput ↔ (place self.old.pool (string_bytes text) ≡ None) }
+        ensures kinds { IfErr result (λ e. (e ≡ Memory) ⊎ (e ≡ InvalidInput)) }
+        ensures err { OnErr result (self.new ≡ self.old) }
+    {
+        let index = first_place(self.strings.as_slice(), text.as_str());
+        if last_place(self.long_string_refs) <= index {
+            return Err(Error::InvalidInput);
+        }
+        count_at(&mut self.strings, index, text)?;
+        self.mark_modified();
+        Ok(StringRef::new((index + 1) as u32))
+    }
+
+    /// Takes back a use at a place. The last takes the text with it. InvalidData where the place has no
+    /// use; then nothing changed.
+    pub fn decref(&mut self, string_ref: StringRef) -> Result<(), Error>
+        ensures ok { OnOk result (self.new ≡ changed_to (record self.old.pool { places = without_use string_ref self.old.pool.places })) }
+        ensures unused { IsErrOf result InvalidData ↔ ((at_place self.old.pool.places string_ref).count ≡ 0) }
+        ensures kinds { IfErr result (λ e. e ≡ InvalidData) }
+        ensures err { OnErr result (self.new ≡ self.old) }
+    {
+        uncount_at(&mut self.strings, string_ref)?;
+        self.mark_modified();
+        Ok(())
+    }
+
+    /// Appends the pool stream: the page, the width of references, and the length and the count of each
+    /// place. InvalidInput where the stream or a text would reach 4294967295 bytes; then, and after
+    /// Memory, nothing is appended.
+    pub fn write_pool(&self, writer: &mut Vec<u8>) -> Result<(), Error>
+        ensures ok { OnOk result (writer.new.items ≡ writer.old.items ++ pool_stream self.now.pool) }
+        ensures in_size { OnOk result (IsTrue (is_in_size self.now.pool)) }
+        ensures kinds { IfErr result (λ e. (e ≡ Memory) ⊎ ((e ≡ InvalidInput) × (is_in_size self.now.pool ≡ false))) }
+        ensures err { OnErr result (writer.new.items ≡ writer.old.items) }
+    {
+        let width_bit = if self.long_string_refs {
+            LONG_STRING_REFS_BIT
+        } else {
+            0
+        };
+        let mut bytes = Vec::new(*self.strings.allocator());
+        write_u32(&mut bytes, self.codepage.id() as u32 + width_bit)?;
+        write_heads(&mut bytes, self.codepage, self.strings.as_slice())?;
+        if LENGTH_LIMIT <= bytes.len() {
+            return Err(Error::InvalidInput);
+        }
+        writer.extend_from_slice(bytes.as_slice())?;
+        Ok(())
+    }
+
+    /// Appends the bytes of the texts, one after the other. After Memory nothing is appended.
+    pub fn write_data(&self, writer: &mut Vec<u8>) -> Result<(), Error>
+        ensures ok { OnOk result (writer.new.items ≡ writer.old.items ++ data_stream self.now.pool) }
+        ensures kinds { IfErr result (λ e. e ≡ Memory) }
+        ensures err { OnErr result (writer.new.items ≡ writer.old.items) }
+    {
+        let bytes = text_bytes(
+            *self.strings.allocator(),
+            self.codepage,
+            self.strings.as_slice(),
+        )?;
+        writer.extend_from_slice(bytes.as_slice())?;
+        Ok(())
+    }
+}
+
+/// Appends how a length and a count are written: a length of 0 with a count stands for the one behind it.
+fn write_head(bytes: &mut Vec<u8>, len: u32, count: u16) -> Result<(), AllocError>
+    ensures { OnOk result (bytes.new.items ≡ bytes.old.items ++ head_bytes len count) }
+{
+    if len == 0 && count == 0 {
+        return write_u32(bytes, 0);
+    }
+    if len == 0 || 65536 <= len {
+        write_u16(bytes, 0)?;
+        write_u16(bytes, count)?;
+        write_u32(bytes, len)
+    } else {
+        write_u16(bytes, len as u16)?;
+        write_u16(bytes, count)
+    }
+}
+
+/// Appends the length and the count of each place.
+fn write_heads(
+    bytes: &mut Vec<u8>,
+    codepage: CodePage,
+    strings: &[(String, u16)],
+) -> Result<(), Error>
+    ensures ok { OnOk result (bytes.new.items ≡ bytes.old.items ++ flat_map head_of (map (stored_place codepage) (places_of strings.now))) }
+    ensures in_size { OnOk result (IsTrue (list_all (λ s. nat_lt (length s.0) length_limit) (map (stored_place codepage) (places_of strings.now)))) }
+    ensures kinds { IfErr result (λ e. (e ≡ Memory) ⊎ ((e ≡ InvalidInput) × (list_all (λ s. nat_lt (length s.0) length_limit) (map (stored_place codepage) (places_of strings.now)) ≡ false))) }
+{
+    for (text, count) in strings {
+        let len = codepage.encoded_len(text.as_str());
+        if LENGTH_LIMIT <= len {
+            return Err(Error::InvalidInput);
+        }
+        write_head(bytes, len as u32, *count)?;
+    }
+    Ok(())
+}
+
+/// The bytes of the texts, one after the other.
+fn text_bytes(
+    alloc: Global,
+    codepage: CodePage,
+    strings: &[(String, u16)],
+) -> Result<Vec<u8>, Error>
+    ensures bytes { IfOk result (λ bytes. bytes.items ≡ flat_map (λ s. s.0) (map (stored_place codepage) (places_of strings.now))) }
+    ensures kinds { IfErr result (λ e. e ≡ Memory) }
+{
+    let mut bytes = Vec::new(alloc);
+    for (text, _) in strings {
+        let encoded = codepage.encode(alloc, text.as_str())?;
+        bytes.extend_from_slice(encoded.as_slice())?;
+    }
+    Ok(bytes)
+}
+
+/// The greatest number of a place.
+fn last_place(long: bool) -> usize
+    ensures { result ≡ last_place long }
+{
+    if long { LAST_LONG_REF } else { LAST_SHORT_REF }
+}
+
+/// Takes back a use at a place.
+fn uncount_at(strings: &mut Vec<(String, u16)>, string_ref: StringRef) -> Result<(), Error>
+    ensures ok { OnOk result (places_of strings.new.items ≡ without_use string_ref (places_of strings.old.items)) }
+    ensures unused { IsErrOf result InvalidData ↔ ((at_place (places_of strings.old.items) string_ref).count ≡ 0) }
+    ensures kinds { IfErr result (λ e. e ≡ InvalidData) }
+    ensures err { OnErr result (strings.new.items ≡ strings.old.items) }
+    ensures length { length strings.new.items ≡ length strings.old.items }
+{
+    let index = string_ref.index();
+    if strings.len() <= index {
+        return Err(Error::InvalidData);
+    }
+    let entry = &mut strings[index];
+    if entry.1 == 0 {
+        return Err(Error::InvalidData);
+    }
+    entry.1 -= 1;
+    if entry.1 == 0 {
+        entry.0.clear();
+    }
+    Ok(())
+}

@@ -1,0 +1,5 @@
+use Rattle.std.proofs.Common.{◌≡◌, map, string_bytes, take}
+use Rattle.msi_query.proofs.select.Select.columns.Given as goal
+
+abbrev pub invariant-loop-name : goal.invariant-loop-name
+invariant-loop-name l = map string_bytes l.names.items ≡ map (λ name. name.now) (take l.name-index l.column_names)

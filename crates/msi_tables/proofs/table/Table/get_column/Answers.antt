@@ -1,0 +1,8 @@
+use Rattle.std.specs.Prelude.{bytes_eq}
+use Rattle.msi_tables.specs.Held.{column_of, heading_of}
+use Rattle.msi_tables.proofs.Searches.{found_says}
+use Rattle.msi_tables.proofs.table.Table.get_column.Goals as goal
+
+pub returns : goal.returns
+unfolding heading_of
+returns c = found_says _ column_of c.found.result (λ column. bytes_eq column.name c.args.column_name.now) c.args.self.now.columns.items (rw c.deref.ensures.value at c.found.ensures)

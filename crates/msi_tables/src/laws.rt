@@ -1,0 +1,19 @@
+// Laws of the definitions, each the contract of a function.
+ghost use Rattle.std.specs.Prelude.{◌≡◌, ◌≤◌, ◌<◌, ℕ, Bool, List, Some, length};
+ghost use Rattle.msi_pool.specs.Pool.{Pool};
+ghost use Rattle.msi_tables.specs.Column.{Column};
+ghost use Rattle.msi_tables.specs.Rows.{Row, IsStored, ReadBack, rows_of, rows_bytes};
+ghost use Rattle.msi_tables.specs.Table.{IsStoredByKeys};
+ghost use Rattle.msi_tables.specs.declared.column.ColumnType.{ColumnType};
+
+/// Rows have one stored order; and where they are first listed by their keys, as after an insert, too.
+pub fn rows_have_one_stored_order()
+    ensures stored { (columns : List Column) (rows one other : List Row) → IsStored columns rows one → IsStored columns rows other → one ≡ other }
+    ensures by_keys { (pool : Pool) (columns : List Column) (rows one other : List Row) → IsStoredByKeys pool columns rows one → IsStoredByKeys pool columns rows other → one ≡ other }
+{}
+
+/// Rows that are written are read as they were: at most 65536 rows of a table with columns, each with a cell for each
+/// column, of whose texts the places take three bytes at most.
+pub fn written_rows_are_read()
+    ensures { (long : Bool) (kinds : List ColumnType) (rows : List Row) (bytes : List ℕ) → ReadBack kinds rows → rows_bytes long kinds rows ≡ Some bytes → rows_of long kinds bytes ≡ Some rows }
+{}
