@@ -5,8 +5,8 @@ ghost use Rattle.msi_tables.specs.Held.{heading_of};
 ghost use Rattle.msi_tables.specs.Row.{ValueRow};
 
 use cfb_medium::Error;
-use msi_tables::{Column, ColumnType, Row, Rows, Table};
 use msi_pool::{StringRef, Value, ValueRef};
+use msi_tables::{Column, ColumnType, Row, Rows, Table};
 use msi_texts::Category;
 use std::alloc::Global;
 use std::rc::Rc;
