@@ -61,6 +61,19 @@ fn first_place(strings: &[(String, u16)], text: &str) -> usize
     strings.len()
 }
 
+/// Copies of texts with their counts.
+fn copied_strings(alloc: Global, strings: &[(String, u16)]) -> Result<Vec<(String, u16)>, Error>
+    ensures ok { IfOk result (λ copies. places_of copies.items ≡ places_of strings.now) }
+    ensures size { IfOk result (λ copies. length copies.items ≡ length strings.now) }
+    ensures err { IfErr result (λ e. e ≡ Memory) }
+{
+    let mut copies = Vec::new(alloc);
+    for (text, count) in strings {
+        copies.push((String::from_str(alloc, text)?, *count))?;
+    }
+    Ok(copies)
+}
+
 /// Counts a use of the text at the first place that takes it.
 fn count_at(strings: &mut Vec<(String, u16)>, index: usize, text: String) -> Result<(), Error>
     requires place { index + 1 ≡ place_among (string_bytes text) (places_of strings.old.items) }
@@ -108,6 +121,19 @@ impl StringPool {
             strings,
             is_modified: false,
         }
+    }
+
+    /// A copy of its own.
+    pub fn clone(&self, alloc: Global) -> Result<StringPool, Error>
+        ensures ok { IfOk result (λ pool. pool ≡ self.now) }
+        ensures err { IfErr result (λ e. e ≡ Memory) }
+    {
+        Ok(StringPool {
+            codepage: self.codepage,
+            long_string_refs: self.long_string_refs,
+            strings: copied_strings(alloc, &self.strings)?,
+            is_modified: self.is_modified,
+        })
     }
 
     /// The page under which the texts are written.
