@@ -1,11 +1,12 @@
 // Keys of rows.
 ghost use Rattle.cfb_medium.specs.declared.error.Error.TheVariants.{Memory};
+ghost use Rattle.std.specs.List.{list_any};
 ghost use Rattle.std.specs.Ordering.{is_eq};
 ghost use Rattle.std.specs.Prelude.{◌≡◌, ◌++◌, [], map, OnOk, IfErr, IfOk, MatchResult, Err, Ok};
 ghost use Rattle.msi_pool.specs.Datum.{data_of};
 ghost use Rattle.msi_query.specs.Query.{new_keys};
 ghost use Rattle.msi_tables.specs.Held.{columns_of, rows_held};
-ghost use Rattle.msi_tables.specs.Table.{are_distinct, has_key, key_cmp, key_values, row_data};
+ghost use Rattle.msi_tables.specs.Table.{are_distinct, key_cmp, key_values, row_data};
 
 use cfb_medium::Error;
 use msi_pool::{StringPool, Value, ValueRef};
@@ -117,9 +118,9 @@ fn is_same_key(key: &[Value], other: &[Value]) -> bool
 }
 
 // Whether the key is one of these.
-#[tactic(auto, using(msi_expr::proofs::Names::list_any_map))]
+
 fn has_key(keys: &[Vec<Value>], key: &[Value]) -> bool
-    ensures { result ≡ has_key (map (λ key. data_of key.items) keys.now) (data_of key.now) }
+    ensures { result ≡ list_any (λ other. is_eq (key_cmp (data_of other.items) (data_of key.now))) keys.now }
 {
     keys.iter().any(|other| is_same_key(other, key))
 }
@@ -128,10 +129,12 @@ fn has_key(keys: &[Vec<Value>], key: &[Value]) -> bool
 pub(crate) fn are_distinct(keys: &[Vec<Value>]) -> bool
     ensures { result ≡ are_distinct (map (λ key. data_of key.items) keys.now) }
 {
-    for at in 0..keys.len() {
-        if has_key(&keys[at + 1..], &keys[at]) {
+    let mut left = keys;
+    while let [key, rest @ ..] = left {
+        if has_key(rest, key) {
             return false;
         }
+        left = rest;
     }
     true
 }
@@ -142,10 +145,11 @@ pub(crate) fn check_new_keys(stored: &[Vec<Value>], new: &[Vec<Value>]) -> Resul
         (λ e. new_keys (map (λ key. data_of key.items) stored.now) [] (map (λ key. data_of key.items) new.now) ≡ Err e) }
 {
     for at in 0..new.len() {
-        if has_key(stored, &new[at]) {
+        let key = new[at].as_slice();
+        if has_key(stored, key) {
             return Err(Error::AlreadyExists);
         }
-        if has_key(&new[..at], &new[at]) {
+        if has_key(&new[..at], key) {
             return Err(Error::InvalidInput);
         }
     }

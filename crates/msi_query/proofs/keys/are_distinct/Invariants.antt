@@ -1,7 +1,10 @@
-use Rattle.std.proofs.Common.{◌≡◌, drop, map}
-use Rattle.msi_pool.specs.Datum.{data_of}
+use Rattle.std.proofs.Common.{◌≡◌, length}
 use Rattle.msi_tables.specs.Table.{are_distinct}
+use Rattle.msi_query.proofs.NewKeys.{keys_said}
 use Rattle.msi_query.proofs.keys.are_distinct.Given as goal
 
-abbrev pub invariant-loop-at : goal.invariant-loop-at
-invariant-loop-at l = are_distinct (map (λ key. data_of key.items) (drop l.at l.keys)) ≡ are_distinct (map (λ key. data_of key.items) l.keys)
+abbrev pub invariant-loop-left : goal.invariant-loop-left
+invariant-loop-left l = are_distinct (keys_said l.left) ≡ are_distinct (keys_said l.keys)
+
+abbrev pub decreases-loop-left : goal.decreases-loop-left
+decreases-loop-left l = length l.left
