@@ -1,14 +1,25 @@
 // Inserts.
-ghost use Rattle.std.specs.Prelude.{◌≡◌, ◌++◌, [], ◌∷◌, IfOk, Ok, map};
+ghost use Rattle.cfb_medium.specs.declared.error.Error.TheVariants.{Memory};
+ghost use Rattle.std.specs.Prelude.{◌≡◌, ◌⊎◌, ◌++◌, [], ◌∷◌, false, true, IfErr, IfOk, OnErr, OnOk, Err, Ok, map};
 ghost use Rattle.msi_texts.specs.Results.{Answers};
 ghost use Rattle.msi_pool.specs.Datum.{data_of};
+ghost use Rattle.msi_query.specs.Applied.{with_rows, IsAccepted};
+ghost use Rattle.msi_query.specs.Query.{inserted};
 ghost use Rattle.msi_query.specs.Said.{insert_name, insert_rows};
+ghost use Rattle.msi_tables.specs.Held.{heading_of, rows_held};
 
+use crate::counting::count_rows;
+use crate::keys::{are_distinct, check_new_keys, keys_of, keys_of_values};
 use crate::printing::fmt_rows;
+use crate::validity::are_rows;
 use cfb_medium::Error;
-use msi_pool::Value;
+use msi_pool::{StringPool, Value, ValueRef};
+use msi_tables::Table;
 use std::alloc::Global;
 use std::fmt;
+
+// A table has so many rows at most.
+const MAX_ROWS: usize = 65536;
 
 /// Adds rows to a table.
 #[derive(Drop)]
@@ -68,6 +79,66 @@ impl Insert {
     {
         self.table_name.as_str()
     }
+
+    /// The rows of a table with the new ones behind them, whose texts are counted in the pool row by row. In this order:
+    /// `InvalidInput` for a row that has not a value for each column, or one that its column doesn't take; `InvalidData` where
+    /// a key is stored twice; for each new key in turn `AlreadyExists` where it is stored, `InvalidInput` where an earlier
+    /// new row has it; `InvalidInput` for more than 65536 rows, and where the pool is full. After an error the pool is as it was.
+    pub fn apply(
+        &self,
+        alloc: Global,
+        table: &Table,
+        rows: Vec<Vec<ValueRef>>,
+        pool: &mut StringPool,
+    ) -> Result<Vec<Vec<ValueRef>>, Error>
+        ensures inserts { Answers (λ all. (rows_held all.items, pool.new.pool)) result (inserted true pool.old.pool (with_rows (heading_of table.now) (rows_held rows.items)) (insert_rows self.now)) }
+        ensures marked { pool.new.modified ≡ false → pool.new ≡ pool.old }
+        ensures err { OnErr result (pool.new ≡ pool.old) }
+    {
+        match judge(alloc, table, &rows, pool, &self.new_rows) {
+            Err(error) => return Err(error),
+            Ok(()) => {}
+        }
+        let mut counted = pool.clone(alloc)?;
+        let mut new_rows = match count_rows(alloc, &mut counted, &self.new_rows) {
+            Err(error) => return Err(error),
+            Ok(new_rows) => new_rows,
+        };
+        let mut rows = rows;
+        rows.append(&mut new_rows)?;
+        *pool = counted;
+        Ok(rows)
+    }
+}
+
+// Whether the table takes the rows behind those that it has, as far as no text is counted.
+fn judge(
+    alloc: Global,
+    table: &Table,
+    rows: &[Vec<ValueRef>],
+    pool: &StringPool,
+    new_rows: &[Vec<Value>],
+) -> Result<(), Error>
+    ensures accepted { OnOk result (IsAccepted pool.now.pool (with_rows (heading_of table.now) (rows_held rows.now)) (map (λ row. data_of row.items) new_rows.now)) }
+    ensures refused { IfErr result (λ e. (e ≡ Memory) ⊎ (inserted true pool.now.pool (with_rows (heading_of table.now) (rows_held rows.now)) (map (λ row. data_of row.items) new_rows.now) ≡ Err e)) }
+{
+    let columns = table.columns();
+    if !are_rows(columns, new_rows) {
+        return Err(Error::InvalidInput);
+    }
+    let stored = keys_of(alloc, pool, columns, rows)?;
+    if !are_distinct(&stored) {
+        return Err(Error::InvalidData);
+    }
+    let new = keys_of_values(alloc, columns, new_rows)?;
+    match check_new_keys(&stored, &new) {
+        Err(error) => return Err(error),
+        Ok(()) => {}
+    }
+    if rows.len() + new_rows.len() > MAX_ROWS {
+        return Err(Error::InvalidInput);
+    }
+    Ok(())
 }
 
 impl fmt::Display for Insert {
