@@ -1,12 +1,14 @@
 -- Queries that are applied to a table in memory and its rows.
-use Rattle.std.specs.Prelude.{◌≡◌, ◌+◌, true, List, [], map, length, nat_le, Ok}
+use Rattle.std.specs.Prelude.{◌≡◌, ◌+◌, Bool, true, not, List, [], map, filter, flat_map, length, nat_le, Result, Ok}
 use Rattle.std.specs.List.{list_all}
 use Rattle.msi_pool.specs.Datum.{Datum}
 use Rattle.msi_pool.specs.Pool.{Pool}
 use Rattle.msi_tables.specs.Column.{are_valid}
 use Rattle.msi_tables.specs.Rows.{Row, max_rows}
 use Rattle.msi_tables.specs.Table.{Heading, Table, are_distinct, key_values, keys_of}
-use Rattle.msi_query.specs.Query.{new_keys}
+use Rattle.cfb_medium.specs.declared.error.Error.{Error}
+use Rattle.msi_texts.specs.Results.{◌>>=◌}
+use Rattle.msi_query.specs.Query.{all_taken_back, new_keys}
 
 -- the table of this heading that has these rows
 abbrev pub with_rows : Heading → List Row → Table
@@ -18,3 +20,7 @@ pub record IsAccepted (pool : Pool) (t : Table) (new_rows : List (List Datum)) :
   pub distinct : are_distinct (keys_of pool t) ≡ true
   pub new : new_keys (keys_of pool t) [] (map (key_values t.columns) new_rows) ≡ Ok tt
   pub few : nat_le (length t.rows + length new_rows) max_rows ≡ true
+
+-- the rows that don't match, and the pool without the uses of the others
+abbrev pub left_of : (Row → Bool) → Pool → List Row → Result (List Row × Pool) Error
+left_of matching pool rows = all_taken_back pool (flat_map (λ row. row) (filter matching rows)) >>= λ p. Ok (filter (λ row. not (matching row)) rows, p)

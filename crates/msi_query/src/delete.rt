@@ -1,14 +1,23 @@
 // Deletes.
-ghost use Rattle.std.specs.Prelude.{◌≡◌, IfOk, None, Ok};
+ghost use Rattle.std.specs.Prelude.{◌≡◌, false, true, IfOk, IsTrue, None, Ok, OnErr};
+ghost use Rattle.std.specs.Rc.{rc_value};
 ghost use Rattle.msi_texts.specs.Results.{Answers};
 ghost use Rattle.msi_expr.specs.Formula.{formula_of};
-ghost use Rattle.msi_query.specs.Said.{delete_condition, delete_name, narrowed};
+ghost use Rattle.msi_query.specs.Applied.{left_of, with_rows};
+ghost use Rattle.msi_query.specs.Query.{deleted, knows_condition, matches};
+ghost use Rattle.msi_query.specs.Said.{condition_of, delete_condition, delete_name, narrowed};
+ghost use Rattle.msi_tables.specs.Held.{heading_of, rows_held};
 
 use crate::condition::{fmt_condition, narrowed};
+use crate::counting::take_back;
+use crate::matching::{knows_condition, matches};
 use cfb_medium::Error;
 use msi_expr::Expr;
+use msi_pool::{StringPool, ValueRef};
+use msi_tables::Table;
 use std::alloc::Global;
 use std::fmt;
+use std::rc::Rc;
 
 /// Takes rows out of a table.
 #[derive(Drop)]
@@ -47,6 +56,61 @@ impl Delete {
     {
         self.table_name.as_str()
     }
+
+    /// The rows of a table for which the condition counts as false; the texts of the others are taken back from the pool.
+    /// `InvalidInput` where the condition names a column that isn't there, `InvalidData` where a text has no use to take back.
+    /// After an error the pool is as it was.
+    pub fn apply(
+        &self,
+        alloc: Global,
+        table: &Rc<Table>,
+        rows: Vec<Vec<ValueRef>>,
+        pool: &mut StringPool,
+    ) -> Result<Vec<Vec<ValueRef>>, Error>
+        ensures deletes { Answers (λ left. (rows_held left.items, pool.new.pool)) result (deleted true pool.old.pool (with_rows (heading_of (rc_value table.now)) (rows_held rows.items)) (delete_condition self.now)) }
+        ensures marked { pool.new.modified ≡ false → pool.new ≡ pool.old }
+        ensures err { OnErr result (pool.new ≡ pool.old) }
+    {
+        if !knows_condition(alloc, table, &self.condition)? {
+            return Err(Error::InvalidInput);
+        }
+        let mut counted = pool.clone(alloc)?;
+        let left = match rows_left(alloc, pool, table, &self.condition, rows, &mut counted) {
+            Err(error) => return Err(error),
+            Ok(left) => left,
+        };
+        *pool = counted;
+        Ok(left)
+    }
+}
+
+// The rows for which the condition counts as false; the texts of the others are taken back. `InvalidData` where one has no
+// use to take back.
+#[tactic(auto, using(crate::proofs::Deleting::kept, crate::proofs::Deleting::taken, crate::proofs::Deleting::unused, crate::proofs::Deleting::done, crate::proofs::Deleting::at_first))]
+fn rows_left(
+    alloc: Global,
+    pool: &StringPool,
+    table: &Rc<Table>,
+    condition: &Option<Expr>,
+    rows: Vec<Vec<ValueRef>>,
+    counted: &mut StringPool,
+) -> Result<Vec<Vec<ValueRef>>, Error>
+    requires { IsTrue (knows_condition (heading_of (rc_value table.now)).columns (condition_of condition.now)) }
+    ensures left { Answers (λ left. (rows_held left.items, counted.new.pool)) result (left_of (matches pool.now.pool (heading_of (rc_value table.now)).columns (condition_of condition.now)) counted.old.pool (rows_held rows.items)) }
+    ensures marked { counted.new.modified ≡ false → counted.new ≡ counted.old }
+{
+    let mut left = Vec::new(alloc);
+    for row in rows {
+        if matches(alloc, pool, table, condition, &row)? {
+            match take_back(counted, &row) {
+                Err(error) => return Err(error),
+                Ok(()) => {}
+            }
+        } else {
+            left.push(row)?;
+        }
+    }
+    Ok(left)
 }
 
 impl fmt::Display for Delete {
