@@ -1,5 +1,5 @@
 -- Uses of texts in a pool, as the queries count them.
-use Rattle.std.proofs.Common.{◌≡◌, Bool, true, false, refl, Option, Some, None, Result, Ok, Err, ◌==◌, not, ℕ, rules, option_map, if◌then◌else◌}
+use Rattle.std.proofs.Common.{◌≡◌, Bool, true, false, refl, Option, Some, None, Ok, Err, ◌==◌, not, ℕ, rules, option_map, if◌then◌else◌}
 use Rattle.cfb_medium.specs.declared.error.Error.TheVariants.{InvalidData, InvalidInput}
 use Rattle.msi_pool.specs.Datum.{Datum, null, number, text, binary}
 use Rattle.msi_texts.specs.Results.{or_refused}

@@ -1,5 +1,5 @@
 -- Queries that are applied to a table in memory and its rows.
-use Rattle.std.specs.Prelude.{◌≡◌, ◌+◌, Bool, true, not, List, [], map, filter, flat_map, length, nat_le, Result, Ok}
+use Rattle.std.specs.Prelude.{◌≡◌, ℕ, ◌+◌, ◌||◌, Option, Bool, true, not, List, [], map, filter, flat_map, length, nat_le, Result, Ok}
 use Rattle.std.specs.List.{list_all}
 use Rattle.msi_pool.specs.Datum.{Datum}
 use Rattle.msi_pool.specs.Pool.{Pool}
@@ -8,7 +8,8 @@ use Rattle.msi_tables.specs.Rows.{Row, max_rows}
 use Rattle.msi_tables.specs.Table.{Heading, Table, are_distinct, key_values, keys_of}
 use Rattle.cfb_medium.specs.declared.error.Error.{Error}
 use Rattle.msi_texts.specs.Results.{◌>>=◌}
-use Rattle.msi_query.specs.Query.{all_taken_back, new_keys}
+use Rattle.msi_expr.specs.Formula.{Formula}
+use Rattle.msi_query.specs.Query.{all_taken_back, is_valid_set, keys_after, knows_condition, new_keys, sets_key}
 
 -- the table of this heading that has these rows
 abbrev pub with_rows : Heading → List Row → Table
@@ -24,3 +25,13 @@ pub record IsAccepted (pool : Pool) (t : Table) (new_rows : List (List Datum)) :
 -- the rows that don't match, and the pool without the uses of the others
 abbrev pub left_of : (Row → Bool) → Pool → List Row → Result (List Row × Pool) Error
 left_of matching pool rows = all_taken_back pool (flat_map (λ row. row) (filter matching rows)) >>= λ p. Ok (filter (λ row. not (matching row)) rows, p)
+
+-- each row with whether it matches
+abbrev pub judged : (Row → Bool) → List Row → List (Row × Bool)
+judged matching rows = map (λ row. (row, matching row)) rows
+
+-- nothing but the pool stands against an update
+pub record MaySet (pool : Pool) (t : Table) (sets : List (List ℕ × Datum)) (condition : Option Formula) : Type 0 where
+  pub valid : list_all (is_valid_set t.columns) sets ≡ true
+  pub known : knows_condition t.columns condition ≡ true
+  pub distinct : (not (sets_key t.columns sets) || are_distinct (keys_after pool t sets condition)) ≡ true

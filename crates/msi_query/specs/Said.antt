@@ -44,9 +44,13 @@ insert_rows i = map (λ row. data_of row.items) i.new_rows.items
 abbrev pub update_name : Update → List ℕ
 update_name u = string_bytes u.table_name
 
+-- a column with its new value
+abbrev pub set_of : String Global × Value → List ℕ × Datum
+set_of s = (string_bytes s.0, datum_of s.1)
+
 -- columns with their new values
 abbrev pub sets_of : List (String Global × Value) → List (List ℕ × Datum)
-sets_of sets = map (λ s. (string_bytes s.0, datum_of s.1)) sets
+sets_of sets = map set_of sets
 
 abbrev pub update_sets : Update → List (List ℕ × Datum)
 update_sets u = sets_of u.updates.items

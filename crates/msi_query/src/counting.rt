@@ -9,9 +9,13 @@ use cfb_medium::Error;
 use msi_pool::{StringPool, Value, ValueRef};
 use std::alloc::Global;
 
-// A value as a cell, with its text counted in the pool. `InvalidInput` where the pool is full.
+/// A value as a cell, with its text counted in the pool. `InvalidInput` where the pool is full.
 #[tactic(auto, using(crate::proofs::Uses::counted_so, crate::proofs::Uses::full_so, crate::proofs::Uses::marked))]
-fn count_value(alloc: Global, pool: &mut StringPool, value: &Value) -> Result<ValueRef, Error>
+pub(crate) fn count_value(
+    alloc: Global,
+    pool: &mut StringPool,
+    value: &Value,
+) -> Result<ValueRef, Error>
     ensures counts { Answers (λ cell. (cell, pool.new.pool)) result (counted pool.old.pool (datum_of value.now)) }
     ensures marked { pool.new.modified ≡ false → pool.new ≡ pool.old }
 {
@@ -53,9 +57,9 @@ pub(crate) fn count_rows(
     Ok(cells)
 }
 
-// Takes the use of a cell's text back. `InvalidData` where its place has no use.
+/// Takes the use of a cell's text back. `InvalidData` where its place has no use.
 #[tactic(auto, using(crate::proofs::Uses::taken_so, crate::proofs::Uses::unused_so, crate::proofs::Uses::taken_marked))]
-fn take_back_cell(pool: &mut StringPool, cell: ValueRef) -> Result<(), Error>
+pub(crate) fn take_back_cell(pool: &mut StringPool, cell: ValueRef) -> Result<(), Error>
     ensures takes { Answers (λ _. pool.new.pool) result (taken_back pool.old.pool cell) }
     ensures marked { pool.new.modified ≡ false → pool.new ≡ pool.old }
 {

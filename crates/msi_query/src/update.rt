@@ -1,17 +1,27 @@
 // Updates.
-ghost use Rattle.std.specs.Prelude.{◌≡◌, ◌++◌, [], ◌∷◌, IfOk, None, Ok};
+ghost use Rattle.cfb_medium.specs.declared.error.Error.TheVariants.{Memory};
+ghost use Rattle.std.specs.Prelude.{◌≡◌, ◌⊎◌, ◌++◌, [], ◌∷◌, false, true, map, Err, IfErr, IfOk, IsTrue, None, Ok, OnErr, OnOk};
+ghost use Rattle.std.specs.Rc.{rc_value};
 ghost use Rattle.msi_texts.specs.Results.{Answers};
-ghost use Rattle.msi_pool.specs.Datum.{datum_of};
+ghost use Rattle.msi_pool.specs.Datum.{data_of, datum_of};
 ghost use Rattle.msi_expr.specs.Formula.{formula_of};
-ghost use Rattle.msi_query.specs.Said.{narrowed, update_condition, update_name, update_sets};
+ghost use Rattle.msi_query.specs.Applied.{judged, with_rows, MaySet};
+ghost use Rattle.msi_query.specs.Query.{key_after, keys_after, knows_condition, matches, rows_set, updated};
+ghost use Rattle.msi_query.specs.Said.{condition_of, narrowed, sets_of, update_condition, update_name, update_sets};
+ghost use Rattle.msi_tables.specs.Held.{heading_of, rows_held};
 
 use crate::condition::{fmt_condition, narrowed};
+use crate::keys::{are_distinct, key_of, values_of};
+use crate::matching::{knows_condition, matches};
 use crate::printing::fmt_sets;
+use crate::setting::{are_sets, set_cells, set_values, sets_key};
 use cfb_medium::Error;
 use msi_expr::Expr;
-use msi_pool::Value;
+use msi_pool::{StringPool, Value, ValueRef};
+use msi_tables::Table;
 use std::alloc::Global;
 use std::fmt;
+use std::rc::Rc;
 
 /// Gives cells of a table new values.
 #[derive(Drop)]
@@ -74,6 +84,130 @@ impl Update {
     {
         self.table_name.as_str()
     }
+
+    /// The rows of a table, with new values in the cells for which the condition counts as true: the use of each old text is
+    /// taken back and the new one is counted, row by row and cell by cell. In this order: `InvalidInput` for a column that
+    /// isn't there or doesn't take its value, or where the condition names a column that isn't there; `AlreadyExists` where a
+    /// column of the key is set and a key would stand twice; `InvalidData` for a text that has no use to take back, and
+    /// `InvalidInput` where the pool is full. After an error the pool is as it was.
+    pub fn apply(
+        &self,
+        alloc: Global,
+        table: &Rc<Table>,
+        rows: Vec<Vec<ValueRef>>,
+        pool: &mut StringPool,
+    ) -> Result<Vec<Vec<ValueRef>>, Error>
+        ensures updates { Answers (λ after. (rows_held after.items, pool.new.pool)) result (updated true pool.old.pool (with_rows (heading_of (rc_value table.now)) (rows_held rows.items)) (update_sets self.now) (update_condition self.now)) }
+        ensures marked { pool.new.modified ≡ false → pool.new ≡ pool.old }
+        ensures err { OnErr result (pool.new ≡ pool.old) }
+    {
+        let sets = self.updates.as_slice();
+        let condition = &self.condition;
+        match judge(alloc, table, &rows, pool, sets, condition) {
+            Err(error) => return Err(error),
+            Ok(()) => {}
+        }
+        let mut counted = pool.clone(alloc)?;
+        let after = match set_rows(alloc, pool, table, rows, &mut counted, sets, condition) {
+            Err(error) => return Err(error),
+            Ok(after) => after,
+        };
+        *pool = counted;
+        Ok(after)
+    }
+}
+
+// Whether the cells may be set, as far as no text is counted.
+fn judge(
+    alloc: Global,
+    table: &Rc<Table>,
+    rows: &[Vec<ValueRef>],
+    pool: &StringPool,
+    sets: &[(String, Value)],
+    condition: &Option<Expr>,
+) -> Result<(), Error>
+    ensures accepted { OnOk result (MaySet pool.now.pool (with_rows (heading_of (rc_value table.now)) (rows_held rows.now)) (sets_of sets.now) (condition_of condition.now)) }
+    ensures refused { IfErr result (λ e. (e ≡ Memory) ⊎ (updated true pool.now.pool (with_rows (heading_of (rc_value table.now)) (rows_held rows.now)) (sets_of sets.now) (condition_of condition.now) ≡ Err e)) }
+{
+    if !are_sets(table, sets) {
+        return Err(Error::InvalidInput);
+    }
+    if !knows_condition(alloc, table, condition)? {
+        return Err(Error::InvalidInput);
+    }
+    if !sets_key(table, sets) {
+        return Ok(());
+    }
+    let keys = keys_after(alloc, pool, table, rows, sets, condition)?;
+    if !are_distinct(&keys) {
+        return Err(Error::AlreadyExists);
+    }
+    Ok(())
+}
+
+// The keys that the rows would have. The one error is `Memory`.
+fn keys_after(
+    alloc: Global,
+    pool: &StringPool,
+    table: &Rc<Table>,
+    rows: &[Vec<ValueRef>],
+    sets: &[(String, Value)],
+    condition: &Option<Expr>,
+) -> Result<Vec<Vec<Value>>, Error>
+    requires { IsTrue (knows_condition (heading_of (rc_value table.now)).columns (condition_of condition.now)) }
+    ensures ok { IfOk result (λ keys. map (λ key. data_of key.items) keys.items ≡ keys_after pool.now.pool (with_rows (heading_of (rc_value table.now)) (rows_held rows.now)) (sets_of sets.now) (condition_of condition.now)) }
+    ensures err { IfErr result (λ e. e ≡ Memory) }
+{
+    let mut keys = Vec::new(alloc);
+    for row in rows {
+        keys.push(key_after(alloc, pool, table, row, sets, condition)?)?;
+    }
+    Ok(keys)
+}
+
+// The key that a row would have. The one error is `Memory`.
+fn key_after(
+    alloc: Global,
+    pool: &StringPool,
+    table: &Rc<Table>,
+    row: &[ValueRef],
+    sets: &[(String, Value)],
+    condition: &Option<Expr>,
+) -> Result<Vec<Value>, Error>
+    requires { IsTrue (knows_condition (heading_of (rc_value table.now)).columns (condition_of condition.now)) }
+    ensures ok { IfOk result (λ key. data_of key.items ≡ key_after pool.now.pool (heading_of (rc_value table.now)).columns (sets_of sets.now) (condition_of condition.now) row.now) }
+    ensures err { IfErr result (λ e. e ≡ Memory) }
+{
+    let mut values = values_of(alloc, pool, row)?;
+    if matches(alloc, pool, table, condition, row)? {
+        set_values(alloc, table, &mut values, sets)?;
+    }
+    key_of(alloc, table.columns(), &values)
+}
+
+// The rows with new values in the cells of those for which the condition counts as true.
+fn set_rows(
+    alloc: Global,
+    pool: &StringPool,
+    table: &Rc<Table>,
+    rows: Vec<Vec<ValueRef>>,
+    counted: &mut StringPool,
+    sets: &[(String, Value)],
+    condition: &Option<Expr>,
+) -> Result<Vec<Vec<ValueRef>>, Error>
+    requires { IsTrue (knows_condition (heading_of (rc_value table.now)).columns (condition_of condition.now)) }
+    ensures sets { Answers (λ after. (rows_held after.items, counted.new.pool)) result (rows_set (heading_of (rc_value table.now)).columns counted.old.pool (sets_of sets.now) (judged (matches pool.now.pool (heading_of (rc_value table.now)).columns (condition_of condition.now)) (rows_held rows.items))) }
+    ensures marked { counted.new.modified ≡ false → counted.new ≡ counted.old }
+{
+    let mut after = Vec::new(alloc);
+    for row in rows {
+        let mut row = row;
+        if matches(alloc, pool, table, condition, &row)? {
+            set_cells(alloc, table, counted, &mut row, sets)?;
+        }
+        after.push(row)?;
+    }
+    Ok(after)
 }
 
 impl fmt::Display for Update {

@@ -1,4 +1,4 @@
-use Rattle.std.proofs.Common.{rules, ◌≡◌, ◌∙◌, sym, ap, inl, inr, ⊎_elim}
+use Rattle.std.proofs.Common.{◌∙◌, sym, ap, inl, inr, ⊎_elim}
 use Rattle.std.specs.Rc.{rc_value}
 use Rattle.msi_tables.specs.Held.{heading_of, rows_held}
 use Rattle.msi_query.specs.Query.{matches}

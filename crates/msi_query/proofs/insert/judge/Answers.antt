@@ -1,4 +1,4 @@
-use Rattle.std.proofs.Common.{◌≡◌, ◌∙◌, sym, refl, inr, arith, rules}
+use Rattle.std.proofs.Common.{◌∙◌, sym, inr}
 use Rattle.std.proofs.lemmas.Bool.{lt-leb, le-leb}
 use Rattle.msi_tables.specs.Held.{heading_of, rows_held}
 use Rattle.msi_query.specs.Applied.{with_rows}

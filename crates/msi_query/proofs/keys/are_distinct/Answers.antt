@@ -1,4 +1,4 @@
-use Rattle.std.proofs.Common.{◌≡◌, ◌∙◌, sym}
+use Rattle.std.proofs.Common.{◌∙◌, sym}
 use Rattle.msi_query.proofs.NewKeys.{distinct_then}
 use Rattle.msi_query.proofs.keys.are_distinct.Goals as goal
 

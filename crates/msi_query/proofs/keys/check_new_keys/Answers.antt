@@ -1,4 +1,4 @@
-use Rattle.std.proofs.Common.{◌≡◌, ◌∙◌, sym, refl, take}
+use Rattle.std.proofs.Common.{◌∙◌, sym, refl, take}
 use Rattle.msi_query.proofs.NewKeys.{is_among, turn_at}
 use Rattle.msi_query.proofs.keys.check_new_keys.Goals as goal
 

@@ -1,0 +1,12 @@
+use Rattle.std.proofs.Common.{◌≡◌, ◌++◌, drop, map}
+use Rattle.std.specs.Rc.{rc_value}
+use Rattle.msi_pool.specs.Datum.{data_of}
+use Rattle.msi_tables.specs.Held.{heading_of, rows_held}
+use Rattle.msi_query.specs.Query.{key_after}
+use Rattle.msi_query.specs.Said.{condition_of, sets_of}
+use Rattle.msi_query.proofs.update.keys_after.Given as goal
+
+abbrev pub invariant-loop-row : goal.invariant-loop-row
+invariant-loop-row l =
+    let key = key_after l.pool.pool (heading_of (rc_value l.table)).columns (sets_of l.sets) (condition_of l.condition) in
+    map (λ key. data_of key.items) l.keys.items ++ map key (rows_held (drop l.row-index l.rows)) ≡ map key (rows_held l.rows)
