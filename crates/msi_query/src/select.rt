@@ -3,14 +3,22 @@ ghost use Rattle.std.specs.Prelude.{◌≡◌, [], Ok, Some, None, codes, map};
 ghost use Rattle.std.specs.Fmt.{DisplaysOnOk, ◌++?◌};
 ghost use Rattle.msi_texts.specs.Results.{Answers};
 ghost use Rattle.msi_expr.specs.Formula.{formula_of};
+ghost use Rattle.msi_query.specs.Answered.{answered};
 ghost use Rattle.msi_query.specs.Printed.{is_bare, select_text, side_text, source_text};
-ghost use Rattle.msi_query.specs.Query.{inner_join, left_join, query, table};
+ghost use Rattle.msi_query.specs.Query.{inner_join, left_join, query, selected, source_rows, table};
 ghost use Rattle.msi_query.specs.Said.{condition_in, names_in, narrowed, query_of, source_in, source_of};
+ghost use Rattle.msi_query.specs.Sources.{AnswersOf};
 
 use crate::condition::{fmt_condition, narrowed};
+use crate::cutting::cut;
+use crate::joining::{inner_joined, left_joined};
 use crate::printing::fmt_names;
+use crate::source::TableSource;
+use crate::stored::stored;
 use cfb_medium::Error;
 use msi_expr::Expr;
+use msi_pool::{StringPool, ValueRef};
+use msi_tables::Table;
 use std::alloc::Global;
 use std::fmt;
 
@@ -97,6 +105,24 @@ impl Select {
         })
     }
 
+    /// The table and the rows that it asks for: those of its source that the condition lets through, cut to its columns. Of
+    /// a join the left side is judged first, then the right one. `NotFound` where a table isn't there; `InvalidInput` where a
+    /// column isn't there that is asked for or that a condition names. Other errors are faults of the source, or `Memory`;
+    /// the source is only read.
+    #[cycle(applied)]
+    pub fn apply<S: TableSource>(
+        &self,
+        alloc: Global,
+        source: &mut S,
+        pool: &StringPool,
+    ) -> Result<(Table, Vec<Vec<ValueRef>>), Error>
+        ensures answer { AnswersOf (S.has_tables source.old) (S.has_cause source.old source.new) answered result (λ tables. selected tables pool.now.pool (query_of self.now)) }
+        ensures rests { S.rests source.old source.new }
+    {
+        let found = self.from.found(alloc, source, pool)?;
+        cut(alloc, pool, &self.column_names, &self.condition, found)
+    }
+
     // Whether it is a table and nothing else.
     fn is_bare(&self) -> bool
         ensures { result ≡ is_bare (source_in (query_of self.now)) (names_in (query_of self.now)) (condition_in (query_of self.now)) }
@@ -144,6 +170,32 @@ impl Select {
 }
 
 impl Join {
+    // The table, or the tables joined, with the rows.
+    #[cycle(applied)]
+    fn found<S: TableSource>(
+        &self,
+        alloc: Global,
+        source: &mut S,
+        pool: &StringPool,
+    ) -> Result<(Table, Vec<Vec<ValueRef>>), Error>
+        ensures answer { AnswersOf (S.has_tables source.old) (S.has_cause source.old source.new) answered result (λ tables. source_rows tables pool.now.pool (source_of self.now)) }
+        ensures rests { S.rests source.old source.new }
+    {
+        match self {
+            Join::Table(name) => stored(alloc, source, name),
+            Join::Inner(left, right, on) => {
+                let first = left.apply(alloc, source, pool)?;
+                let second = right.apply(alloc, source, pool)?;
+                inner_joined(alloc, pool, on, first, second)
+            }
+            Join::Left(left, right, on) => {
+                let first = left.apply(alloc, source, pool)?;
+                let second = right.apply(alloc, source, pool)?;
+                left_joined(alloc, pool, on, first, second)
+            }
+        }
+    }
+
     // Writes where the rows are taken from.
     #[cycle(printed)]
     fn fmt_source<W: fmt::Write>(&self, f: &mut fmt::Formatter<W>) -> fmt::Result

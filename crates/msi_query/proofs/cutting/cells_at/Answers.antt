@@ -1,0 +1,22 @@
+use Rattle.std.proofs.Common.{rules, ◌<◌, length, arith}
+use Rattle.std.proofs.lemmas.Grind.{common_steps}
+use Rattle.msi_query.proofs.Parts.{parts_next, parts_skip}
+use Rattle.std.proofs.lemmas.List.{map-append}
+use Rattle.msi_query.proofs.cutting.cells_at.Goals as goal
+use Rattle.msi_query.proofs.cutting.cells_at.Goals.{in-Some+in_ok-push, in_default}
+
+pub loop-place-preserved : goal.loop-place-preserved
+loop-place-preserved c =
+    let before = c.loop-place.invariant in
+    let below : c.loop-place.place-index < length c.args.places.now = c.loop-place-test.true in
+    elim c.match-get.branch [
+      | in-Some+in_ok-push w ↦
+          let next = parts_next c.args.places.now c.loop-place.place-index c.args.row.now w.in-Some.cell.now below (search (rules, w.in-Some.ensures.lookup)) (search (rules, w.in-Some.ensures.lookup)) in
+          let same = w.cells-is in
+          let items = w.in_ok-push.ensures.items in
+          grind (arith, common_steps, map-append)
+      | in_default w ↦
+          let skip = parts_skip c.args.places.now c.loop-place.place-index c.args.row.now below (search (rules, w.in_default.ensures.lookup)) in
+          let same = w.cells-is in
+          grind (arith, common_steps)
+    ]

@@ -1,0 +1,191 @@
+// Tables joined: each left row with the right rows for which a condition counts as true.
+ghost use Rattle.cfb_medium.specs.declared.error.Error.TheVariants.{Memory};
+ghost use Rattle.msi_expr.specs.Formula.{formula_of};
+ghost use Rattle.msi_pool.specs.declared.stringref.ValueRef.TheVariants as cell;
+ghost use Rattle.msi_query.specs.Answered.{answered};
+ghost use Rattle.msi_query.specs.Query.{inner_joined, knows, left_joined, or_once, pairs_with};
+ghost use Rattle.msi_tables.specs.Column.{side_column};
+ghost use Rattle.msi_tables.specs.Held.{columns_of, heading_of, rows_held};
+ghost use Rattle.msi_tables.specs.Schema.{but_null};
+ghost use Rattle.msi_texts.specs.Results.{Answers};
+ghost use Rattle.std.specs.List.{flat_map};
+ghost use Rattle.std.specs.Prelude.{◌≡◌, ◌++◌, map, replicate, IfErr, IfOk, IsTrue, OnOk};
+ghost use Rattle.std.specs.Rc.{rc_value};
+
+use crate::matching::{holds, knows};
+use cfb_medium::Error;
+use msi_expr::Expr;
+use msi_pool::{StringPool, ValueRef};
+use msi_tables::{Column, Table};
+use std::alloc::Global;
+use std::rc::Rc;
+
+/// The pairs of rows for which the expression counts as true, left row by left row. `InvalidInput` where it names a column
+/// that neither side has.
+pub(crate) fn inner_joined(
+    alloc: Global,
+    pool: &StringPool,
+    on: &Expr,
+    left: (Table, Vec<Vec<ValueRef>>),
+    right: (Table, Vec<Vec<ValueRef>>),
+) -> Result<(Table, Vec<Vec<ValueRef>>), Error>
+    ensures { Answers answered result (inner_joined pool.now.pool (formula_of on.now) (answered left) (answered right)) }
+{
+    let mut columns = prefixed(alloc, left.0.name(), left.0.columns())?;
+    let mut others = prefixed(alloc, right.0.name(), right.0.columns())?;
+    columns.append(&mut others)?;
+    let table = Table::from_parts(String::new(alloc), columns, left.0.long_string_refs());
+    if !knows(alloc, &table, on)? {
+        return Err(Error::InvalidInput);
+    }
+    let shared = Rc::new(alloc, table.clone(alloc)?)?;
+    let rows = inner_rows(alloc, pool, &shared, on, &left.1, &right.1)?;
+    Ok((table, rows))
+}
+
+/// The same, and a left row without a partner once, with nulls; the columns of the right side take null.
+pub(crate) fn left_joined(
+    alloc: Global,
+    pool: &StringPool,
+    on: &Expr,
+    left: (Table, Vec<Vec<ValueRef>>),
+    right: (Table, Vec<Vec<ValueRef>>),
+) -> Result<(Table, Vec<Vec<ValueRef>>), Error>
+    ensures { Answers answered result (left_joined pool.now.pool (formula_of on.now) (answered left) (answered right)) }
+{
+    let width = right.0.columns().len();
+    let mut columns = prefixed(alloc, left.0.name(), left.0.columns())?;
+    let mut others = prefixed_nullable(alloc, right.0.name(), right.0.columns())?;
+    columns.append(&mut others)?;
+    let table = Table::from_parts(String::new(alloc), columns, left.0.long_string_refs());
+    if !knows(alloc, &table, on)? {
+        return Err(Error::InvalidInput);
+    }
+    let shared = Rc::new(alloc, table.clone(alloc)?)?;
+    let rows = left_rows(alloc, pool, &shared, on, &left.1, &right.1, width)?;
+    Ok((table, rows))
+}
+
+// Copies of columns under a prefix.
+fn prefixed(alloc: Global, prefix: &str, columns: &[Column]) -> Result<Vec<Column>, Error>
+    ensures ok { IfOk result (λ copies. columns_of copies.items ≡ map (side_column prefix.now) (columns_of columns.now)) }
+    ensures err { IfErr result (λ e. e ≡ Memory) }
+{
+    let mut copies = Vec::new(alloc);
+    for column in columns {
+        copies.push(column.with_name_prefix(alloc, prefix)?)?;
+    }
+    Ok(copies)
+}
+
+// Copies of columns under a prefix, each of which takes null.
+fn prefixed_nullable(alloc: Global, prefix: &str, columns: &[Column]) -> Result<Vec<Column>, Error>
+    ensures ok { IfOk result (λ copies. columns_of copies.items ≡ map but_null (map (side_column prefix.now) (columns_of columns.now))) }
+    ensures err { IfErr result (λ e. e ≡ Memory) }
+{
+    let mut copies = Vec::new(alloc);
+    for column in columns {
+        let copy = column.with_name_prefix(alloc, prefix)?;
+        copies.push(copy.but_nullable())?;
+    }
+    Ok(copies)
+}
+
+// The pairs of each left row.
+fn inner_rows(
+    alloc: Global,
+    pool: &StringPool,
+    table: &Rc<Table>,
+    on: &Expr,
+    left: &[Vec<ValueRef>],
+    right: &[Vec<ValueRef>],
+) -> Result<Vec<Vec<ValueRef>>, Error>
+    requires { IsTrue (knows (heading_of (rc_value table.now)).columns (formula_of on.now)) }
+    ensures ok { IfOk result (λ rows. rows_held rows.items ≡ flat_map (pairs_with pool.now.pool (heading_of (rc_value table.now)).columns (formula_of on.now) (rows_held right.now)) (rows_held left.now)) }
+    ensures err { IfErr result (λ e. e ≡ Memory) }
+{
+    let mut rows = Vec::new(alloc);
+    for row in left {
+        add_pairs(alloc, pool, table, on, row, right, &mut rows)?;
+    }
+    Ok(rows)
+}
+
+// The pairs of each left row; one without pairs once, with so many nulls.
+fn left_rows(
+    alloc: Global,
+    pool: &StringPool,
+    table: &Rc<Table>,
+    on: &Expr,
+    left: &[Vec<ValueRef>],
+    right: &[Vec<ValueRef>],
+    width: usize,
+) -> Result<Vec<Vec<ValueRef>>, Error>
+    requires { IsTrue (knows (heading_of (rc_value table.now)).columns (formula_of on.now)) }
+    ensures ok { IfOk result (λ rows. rows_held rows.items ≡ flat_map (λ row. or_once (row ++ replicate width cell.Null) (pairs_with pool.now.pool (heading_of (rc_value table.now)).columns (formula_of on.now) (rows_held right.now) row)) (rows_held left.now)) }
+    ensures err { IfErr result (λ e. e ≡ Memory) }
+{
+    let mut rows = Vec::new(alloc);
+    for row in left {
+        add_or_once(alloc, pool, table, on, row, right, width, &mut rows)?;
+    }
+    Ok(rows)
+}
+
+// Appends the pairs of a left row; where there are none, the row with so many nulls.
+#[tactic(auto, using(crate::proofs::Pairs::once_alone, crate::proofs::Pairs::once_paired))]
+fn add_or_once(
+    alloc: Global,
+    pool: &StringPool,
+    table: &Rc<Table>,
+    on: &Expr,
+    left: &[ValueRef],
+    right: &[Vec<ValueRef>],
+    width: usize,
+    rows: &mut Vec<Vec<ValueRef>>,
+) -> Result<(), Error>
+    requires { IsTrue (knows (heading_of (rc_value table.now)).columns (formula_of on.now)) }
+    ensures ok { OnOk result (rows_held rows.new.items ≡ rows_held rows.old.items ++ or_once (left.now ++ replicate width cell.Null) (pairs_with pool.now.pool (heading_of (rc_value table.now)).columns (formula_of on.now) (rows_held right.now) left.now)) }
+    ensures err { IfErr result (λ e. e ≡ Memory) }
+{
+    let before = rows.len();
+    add_pairs(alloc, pool, table, on, left, right, rows)?;
+    if rows.len() == before {
+        let nulls = vec![in alloc; ValueRef::Null; width]?;
+        rows.push(beside(alloc, left, &nulls)?)?;
+    }
+    Ok(())
+}
+
+// Appends the pairs of a left row.
+fn add_pairs(
+    alloc: Global,
+    pool: &StringPool,
+    table: &Rc<Table>,
+    on: &Expr,
+    left: &[ValueRef],
+    right: &[Vec<ValueRef>],
+    rows: &mut Vec<Vec<ValueRef>>,
+) -> Result<(), Error>
+    requires { IsTrue (knows (heading_of (rc_value table.now)).columns (formula_of on.now)) }
+    ensures ok { OnOk result (rows_held rows.new.items ≡ rows_held rows.old.items ++ pairs_with pool.now.pool (heading_of (rc_value table.now)).columns (formula_of on.now) (rows_held right.now) left.now) }
+    ensures err { IfErr result (λ e. e ≡ Memory) }
+{
+    for other in right {
+        let row = beside(alloc, left, other)?;
+        if holds(alloc, pool, table, on, &row)? {
+            rows.push(row)?;
+        }
+    }
+    Ok(())
+}
+
+// A row of the cells of both.
+fn beside(alloc: Global, left: &[ValueRef], right: &[ValueRef]) -> Result<Vec<ValueRef>, Error>
+    ensures ok { IfOk result (λ row. row.items ≡ left.now ++ right.now) }
+    ensures err { IfErr result (λ e. e ≡ Memory) }
+{
+    let mut row = Vec::from_slice(alloc, left)?;
+    row.extend_from_slice(right)?;
+    Ok(row)
+}
