@@ -22,9 +22,8 @@ fn row(alloc: Global, id: i32, name: &str) -> Result<Vec<Value>, Error> {
 }
 
 // A row of cells for it.
-fn cells(alloc: Global, id: i32, place: u32) -> Result<Vec<ValueRef>, Error> {
-    let place = ValueRef::Str(StringRef::new(place));
-    Ok(vec![in alloc; ValueRef::Int(id), place]?)
+fn cells(alloc: Global, id: i32, place: StringRef) -> Result<Vec<ValueRef>, Error> {
+    Ok(vec![in alloc; ValueRef::Int(id), ValueRef::Str(place)]?)
 }
 
 // The rows two and one, inserted in this order.
@@ -46,8 +45,14 @@ fn inserts_count_texts(rt: HostRuntime) -> Result<(), Fail> {
     let mut pool = StringPool::new(alloc, CodePage::Utf8);
     let rows = two_rows(alloc, &table, &mut pool)?;
     assert_eq!(rt; rows.len(), 2);
-    assert_eq!(rt; rows[0].as_slice(), cells(alloc, 2, 1)?.as_slice());
-    assert_eq!(rt; rows[1].as_slice(), cells(alloc, 1, 2)?.as_slice());
+    assert_eq!(rt;
+        rows[0].as_slice(),
+        cells(alloc, 2, StringRef::new(1))?.as_slice()
+    );
+    assert_eq!(rt;
+        rows[1].as_slice(),
+        cells(alloc, 1, StringRef::new(2))?.as_slice()
+    );
     let stored = Insert::into(alloc, "Names")?.row(row(alloc, 1, "three")?)?;
     let refused = stored.apply(alloc, &table, rows, &mut pool);
     assert!(rt; matches!(refused, Err(Error::AlreadyExists)));
@@ -78,8 +83,14 @@ fn updates_keep_keys_apart(rt: HostRuntime) -> Result<(), Fail> {
         .set(alloc, "Name", Value::text(alloc, "two")?)?
         .with(alloc, first)?;
     let rows = renamed.apply(alloc, &table, rows, &mut pool)?;
-    assert_eq!(rt; rows[0].as_slice(), cells(alloc, 2, 1)?.as_slice());
-    assert_eq!(rt; rows[1].as_slice(), cells(alloc, 1, 1)?.as_slice());
+    assert_eq!(rt;
+        rows[0].as_slice(),
+        cells(alloc, 2, StringRef::new(1))?.as_slice()
+    );
+    assert_eq!(rt;
+        rows[1].as_slice(),
+        cells(alloc, 1, StringRef::new(1))?.as_slice()
+    );
     assert_eq!(rt; pool.refcount(StringRef::new(1)), 2);
     assert_eq!(rt; pool.refcount(StringRef::new(2)), 0);
     Ok(())
@@ -95,11 +106,16 @@ fn deletes_take_texts_back(rt: HostRuntime) -> Result<(), Fail> {
     let delete = Delete::from(alloc, "Names")?.with(alloc, second)?;
     let left = delete.apply(alloc, &table, rows, &mut pool)?;
     assert_eq!(rt; left.len(), 1);
-    assert_eq!(rt; left[0].as_slice(), cells(alloc, 1, 2)?.as_slice());
+    assert_eq!(rt;
+        left[0].as_slice(),
+        cells(alloc, 1, StringRef::new(2))?.as_slice()
+    );
     assert_eq!(rt; pool.refcount(StringRef::new(1)), 0);
     assert_eq!(rt; pool.refcount(StringRef::new(2)), 1);
     let strange = Expr::col(alloc, "Nobody")?;
-    let refused = Delete::from(alloc, "Names")?.with(alloc, strange)?.apply(alloc, &table, left, &mut pool);
+    let refused = Delete::from(alloc, "Names")?
+        .with(alloc, strange)?
+        .apply(alloc, &table, left, &mut pool);
     assert!(rt; matches!(refused, Err(Error::InvalidInput)));
     Ok(())
 }
