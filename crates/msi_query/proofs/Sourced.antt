@@ -1,21 +1,10 @@
 -- What is answered of a source, step by step.
-use Rattle.std.proofs.Common.{◌≡◌, ◌∙◌, sym, ap, ℕ, List, refl, inl, inr}
-use Rattle.std.specs.Prelude.{option_map, IfSome, Option, Some, None, Result, Ok, Err}
+use Rattle.std.proofs.Common.{◌≡◌, ◌∙◌, ap, refl, inl, inr}
+use Rattle.std.specs.Prelude.{option_map, Option, Some, None, Result, Ok, Err}
 use Rattle.cfb_medium.specs.declared.error.Error.{Error}
 use Rattle.msi_query.specs.Sources.{AnswersOf, Tables}
-use Rattle.msi_tables.specs.Column.{Column}
-use Rattle.msi_tables.specs.Rows.{Row}
 use Rattle.msi_tables.specs.Table.{Table}
 use Rattle.msi_texts.specs.Results.{Answers, or_refused, ◌>>=◌}
-
--- a table of this name, these columns and these rows
-pub found_there : (found : Option Table) (refusal : Error) (name : List ℕ) (columns : List Column) (rows : List Row) → Some name ≡ option_map (λ t. t.name) found →
-    Some columns ≡ option_map (λ t. t.columns) found → IfSome found (λ t. t.rows ≡ rows) → or_refused found refusal ≡ Ok (record { name = name; columns = columns; rows = rows })
-found_there None refusal name columns rows named has are = absurd (cc named)
-found_there (Some t) refusal name columns rows named has are =
-    let same : name ≡ t.name = cc named in
-    let like : columns ≡ t.columns = cc has in
-    rw same (rw like (rw (sym are) refl))
 
 -- no table
 pub found_none : {X : Type 0} (found : Option Table) (refusal : Error) (f : Table → X) → None ≡ option_map f found → or_refused found refusal ≡ Err refusal
@@ -23,13 +12,6 @@ found_none None refusal f none = refl
 found_none (Some t) refusal f none = absurd (cc none)
 
 -- ---- one step after another
-
--- the last step
-pub then_one : {X : Type 0} (has : Tables → Type 0) (is_fault : Error → Type 0) (see : X → Table) (r : Result X Error) (one : Tables → Result Table Error)
-    (f : Table → Result Table Error) (a : Table) → ((ts : Tables) → has ts → one ts ≡ Ok a) → Answers see r (f a) → AnswersOf has is_fault see r (λ ts. one ts >>= f)
-then_one has is_fault see (Ok x) one f a first last = λ ts h. ap (λ m. m >>= f) (first ts h) ∙ last
-then_one has is_fault see (Err e) one f a first (inl memory) = inl memory
-then_one has is_fault see (Err e) one f a first (inr refused) = inr (inr (λ ts h. ap (λ m. m >>= f) (first ts h) ∙ refused))
 
 -- the last of three
 pub then_both : {X : Type 0} (has : Tables → Type 0) (is_fault : Error → Type 0) (see : X → Table) (r : Result X Error) (one two : Tables → Result Table Error)
