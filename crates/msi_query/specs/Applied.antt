@@ -1,11 +1,12 @@
 -- Queries that are applied to a table in memory and its rows.
-use Rattle.std.specs.Prelude.{◌≡◌, ℕ, ◌+◌, ◌||◌, Option, Bool, true, not, List, [], map, filter, flat_map, length, nat_le, Result, Ok}
+use Rattle.std.specs.Prelude.{◌≡◌, ℕ, ◌+◌, ◌||◌, Option, Bool, true, not, List, [], ◌++◌, map, filter, flat_map, length, nat_le, Result, Ok}
 use Rattle.std.specs.List.{list_all}
 use Rattle.msi_pool.specs.Datum.{Datum}
 use Rattle.msi_pool.specs.Pool.{Pool}
+use Rattle.msi_pool.specs.Refs.{is_counted}
 use Rattle.msi_tables.specs.Column.{are_valid}
 use Rattle.msi_tables.specs.Rows.{Row, max_rows}
-use Rattle.msi_tables.specs.Table.{Heading, Table, are_distinct, key_values, keys_of}
+use Rattle.msi_tables.specs.Table.{Heading, Table, are_distinct, key_values, keys_of, row_data}
 use Rattle.cfb_medium.specs.declared.error.Error.{Error}
 use Rattle.msi_texts.specs.Results.{◌>>=◌}
 use Rattle.msi_expr.specs.Formula.{Formula}
@@ -35,3 +36,12 @@ pub record MaySet (pool : Pool) (t : Table) (sets : List (List ℕ × Datum)) (c
   pub valid : list_all (is_valid_set t.columns) sets ≡ true
   pub known : knows_condition t.columns condition ≡ true
   pub distinct : (not (sets_key t.columns sets) || are_distinct (keys_after pool t sets condition)) ≡ true
+
+-- each text of these rows has a use in the pool
+abbrev pub AreCounted : Pool → List Row → Type 0
+AreCounted pool rows = list_all (λ row. list_all (is_counted pool) row) rows ≡ true
+
+-- the table is read with these rows behind its own, and no key stands twice
+pub record AddsRows (pool : Pool) (t : Table) (new_rows : List (List Datum)) (after : List Row × Pool) : Type 0 where
+  pub rows : map (row_data after.1) after.0 ≡ map (row_data pool) t.rows ++ new_rows
+  pub distinct : are_distinct (keys_of after.1 (record t { rows = after.0 })) ≡ true
