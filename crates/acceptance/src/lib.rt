@@ -12,6 +12,9 @@ mod faulty;
 #[cfg(test)]
 mod logs;
 #[cfg(test)]
+mod queries;
+#[cfg(test)]
 mod sessions;
+pub mod shelf;
 #[cfg(test)]
 mod tables;
