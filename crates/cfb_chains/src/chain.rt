@@ -1,11 +1,11 @@
 // The bytes of a chain of sectors, read from a position on.
 ghost use Rattle.cfb_medium.specs.Calls.{IsFaultUnless};
 ghost use Rattle.cfb_medium.specs.Versions.{sector_len};
-ghost use Rattle.cfb_medium.specs.declared.error.Error.TheVariants.{InvalidInput};
+ghost use Rattle.cfb_medium.specs.declared.error.Error.TheVariants.{Failed};
 ghost use Rattle.cfb_chains.specs.LinkViews.{ids_of, links_version};
 ghost use Rattle.cfb_sectors.specs.Sectors.{end_of_chain, greatest_regular, joined};
-ghost use Rattle.cfb_sectors.specs.Seeking.{Finds};
-ghost use Rattle.std.specs.Prelude.{drop, length, slice_index_or, take, vec_len, IfErr, IfOk, IsTrue, OnErr, ℕ, ◌*◌, ◌+◌, ◌-◌, ◌<◌, ◌≡◌, ◌≤◌};
+ghost use Rattle.cfb_sectors.specs.Seeking.{Finds, IsNotFound};
+ghost use Rattle.std.specs.Prelude.{drop, false, length, slice_index_or, take, true, vec_len, IfErr, IfOk, IsErrOf, IsTrue, OnErr, OnOk, ℕ, ◌*◌, ◌+◌, ◌-◌, ◌<◌, ◌≡◌, ◌≤◌};
 
 use crate::Links;
 use cfb_medium::{Error, Version};
@@ -90,10 +90,15 @@ impl<'a, H: HasSectors> Chain<'a, H> {
         ensures moved { IfOk result (λ n. position_of self.new ≡ position_of self.old + n) }
         ensures stays { OnErr result (position_of self.new ≡ position_of self.old) }
         ensures same { IsSame self.old self.new }
+        ensures live { OnOk result (H.failed (holder_of self.old) ≡ false) }
+        ensures failed { H.failed (holder_of self.old) ≡ true → IsErrOf result Failed }
         ensures rests { H.rests (holder_of self.old) (holder_of self.new) }
         ensures cause { IfErr result (H.has_cause (holder_of self.old) (holder_of self.new)) }
         ensures fault { IfErr result (IsFaultUnless ⊥) }
     {
+        if self.holder.is_failed() {
+            return Err(Error::Failed);
+        }
         if self.position == self.len() {
             return Ok(0);
         }
@@ -109,16 +114,20 @@ impl<'a, H: HasSectors> Chain<'a, H> {
     }
 
     /// Moves the position to a place of the chain or to its end, and gives it. `InvalidInput` where it is before the chain or
-    /// behind its end, and then it stays.
+    /// behind its end, and `Failed` where the layer has failed; then the position stays.
     #[tactic(auto, using(crate::proofs::ChainParts::no_more_bytes))]
     pub fn seek(&mut self, from: SeekFrom) -> Result<u64, Error>
         ensures ok { IfOk result (λ n. Finds from (length (sectors_of self.old) * sector_len (version_of self.old)) (position_of self.old) n × (position_of self.new ≡ n)) }
-        ensures none { OnErr result ((n : ℕ) → Finds from (length (sectors_of self.old) * sector_len (version_of self.old)) (position_of self.old) n → ⊥) }
-        ensures error { IfErr result (λ e. e ≡ InvalidInput) }
+        ensures live { OnOk result (H.failed (holder_of self.old) ≡ false) }
+        ensures error { IfErr result (IsNotFound (H.failed (holder_of self.old)) from (length (sectors_of self.old) * sector_len (version_of self.old)) (position_of self.old)) }
+        ensures failed { H.failed (holder_of self.old) ≡ true → IsErrOf result Failed }
         ensures stays { OnErr result (position_of self.new ≡ position_of self.old) }
         ensures same { IsSame self.old self.new }
         ensures holder { holder_of self.new ≡ holder_of self.old }
     {
+        if self.holder.is_failed() {
+            return Err(Error::Failed);
+        }
         let Some(place) = place_found(from, self.len(), self.position) else {
             return Err(Error::InvalidInput);
         };
