@@ -1,4 +1,5 @@
 pub mod ChainParts
+pub mod ChainWriting
 pub mod Entering
 pub mod EntryChanges
 pub mod FatEntries

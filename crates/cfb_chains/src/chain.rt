@@ -2,6 +2,7 @@
 ghost use Rattle.cfb_medium.specs.Calls.{IsFaultUnless};
 ghost use Rattle.cfb_medium.specs.Versions.{sector_len};
 ghost use Rattle.cfb_medium.specs.declared.error.Error.TheVariants.{Failed};
+ghost use Rattle.cfb_chains.specs.Positions.{left_in, place_in};
 ghost use Rattle.cfb_chains.specs.LinkViews.{ids_of, links_version};
 ghost use Rattle.cfb_sectors.specs.Sectors.{end_of_chain, greatest_regular, joined};
 ghost use Rattle.cfb_sectors.specs.Seeking.{Finds, IsNotFound};
@@ -19,16 +20,6 @@ pub struct Chain<'a, H: HasSectors> {
     pub(crate) links: Links,
     pub(crate) position: u64,
     ghost inside: { position ≤ length (ids_of links) * sector_len (links_version links) },
-}
-
-// The sector of a chain in which a position lies, and its offset there.
-#[tactic(auto, using(crate::proofs::ChainParts::some_bytes))]
-fn sector_and_offset(version: Version, position: u64) -> (u64, u64)
-    ensures whole { result.0 * sector_len version + result.1 ≡ position }
-    ensures inside { result.1 < sector_len version }
-{
-    let len = version.sector_len() as u64;
-    (position / len, position % len)
 }
 
 impl<'a, H: HasSectors> Chain<'a, H> {
@@ -79,6 +70,21 @@ impl<'a, H: HasSectors> Chain<'a, H> {
         self.links.sector_ids().len() as u64 * self.links.version().sector_len() as u64
     }
 
+    // The place in the file of the byte at the position, and how many bytes its sector has from there on.
+    #[tactic(auto, using(crate::proofs::ChainWriting::split, crate::proofs::ChainWriting::split_below, crate::proofs::ChainParts::some_bytes, crate::proofs::ChainParts::starts_early))]
+    pub(crate) fn place(&self) -> (u64, usize)
+        requires { position_of self.now < length (sectors_of self.now) * sector_len (version_of self.now) }
+        ensures place { result.0 ≡ place_in (version_of self.now) (sectors_of self.now) (position_of self.now) }
+        ensures left { result.1 ≡ left_in (version_of self.now) (position_of self.now) }
+    {
+        let version = self.links.version();
+        let len = version.sector_len() as u64;
+        let offset = self.position % len;
+        let index = (self.position / len) as usize;
+        let sector_id = self.links.sector_ids()[index];
+        ((u64::from(sector_id) + 1) * len + offset, (len - offset) as usize)
+    }
+
     /// Reads from the position on what the buffer takes of the sector in which it lies, and moves the position behind that.
     /// 0 bytes are read at the end alone, or into an empty buffer.
     pub fn read(&mut self, buffer: &mut [u8]) -> Result<usize, Error>
@@ -102,12 +108,8 @@ impl<'a, H: HasSectors> Chain<'a, H> {
         if self.position == self.len() {
             return Ok(0);
         }
-        let version = self.links.version();
-        let (index, offset) = sector_and_offset(version, self.position);
-        let len = version.sector_len() as u64;
-        let count = buffer.len().min((len - offset) as usize);
-        let sector_id = self.links.sector_ids()[index as usize];
-        let place = (u64::from(sector_id) + 1) * len + offset;
+        let (place, left) = self.place();
+        let count = buffer.len().min(left);
         self.holder.read_part(place, &mut buffer[..count])?;
         self.position += count as u64;
         Ok(count)

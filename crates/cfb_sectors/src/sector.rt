@@ -67,6 +67,7 @@ pub trait ChangesSectors: HasSectors {
     fn write_part(&mut self, place: u64, bytes: &[u8]) -> Result<(), Error>
         ensures writes { may_write self.old place (length bytes.now) → writes place bytes.now self.old self.new }
         ensures rests { (may_write self.old place (length bytes.now) → ⊥) → Self.rests self.old self.new }
+        ensures there { OnOk result (may_write self.old place (length bytes.now)) }
         ensures refused { IsErrOf result InvalidData ↔ ((Self.failed self.old ≡ false) × (may_write self.old place (length bytes.now) → ⊥)) }
         ensures still { (at count : ℕ) → may_write self.old at count → may_write self.new at count }
         ensures live { OnOk result ((Self.failed self.old ≡ false) × (Self.failed self.new ≡ false)) }
@@ -236,6 +237,7 @@ impl<'a, H: ChangesSectors> Sector<'a, H> {
         ensures count { IfOk result (λ n. n ≡ min (length bytes.now) (len_of self.old - position_of self.old)) }
         ensures writes { H.may_write (holder_of self.old) (start_of self.old + position_of self.old) (min (length bytes.now) (len_of self.old - position_of self.old)) → H.writes (start_of self.old + position_of self.old) (take (len_of self.old - position_of self.old) bytes.now) (holder_of self.old) (holder_of self.new) }
         ensures rests { (H.may_write (holder_of self.old) (start_of self.old + position_of self.old) (min (length bytes.now) (len_of self.old - position_of self.old)) → ⊥) → H.rests (holder_of self.old) (holder_of self.new) }
+        ensures there { OnOk result (H.may_write (holder_of self.old) (start_of self.old + position_of self.old) (min (length bytes.now) (len_of self.old - position_of self.old))) }
         ensures refused { IsErrOf result InvalidData ↔ ((H.failed (holder_of self.old) ≡ false) × (H.may_write (holder_of self.old) (start_of self.old + position_of self.old) (min (length bytes.now) (len_of self.old - position_of self.old)) → ⊥)) }
         ensures still { (at count : ℕ) → H.may_write (holder_of self.old) at count → H.may_write (holder_of self.new) at count }
         ensures moved { IfOk result (λ n. position_of self.new ≡ position_of self.old + n) }
