@@ -1,6 +1,7 @@
 pub mod ChainViews
 pub mod Changing
 pub mod Growing
+pub mod Grown
 pub mod Keeping
 pub mod LinkViews
 pub mod Orderly

@@ -10,7 +10,7 @@ ghost use Rattle.std.specs.Prelude.{drop, false, length, slice_index_or, take, t
 
 use crate::Links;
 use cfb_medium::{Error, Version};
-use cfb_sectors::{END_OF_CHAIN, HasSectors, place_found};
+use cfb_sectors::{END_OF_CHAIN, HasSectors, SectorInit, place_found};
 use std::io::SeekFrom;
 
 /// The sectors of a chain, as one list of bytes, at a position.
@@ -19,22 +19,24 @@ pub struct Chain<'a, H: HasSectors> {
     pub(crate) holder: &'a mut H,
     pub(crate) links: Links,
     pub(crate) position: u64,
+    pub(crate) init: SectorInit,
     ghost inside: { position ≤ length (ids_of links) * sector_len (links_version links) },
 }
 
 impl<'a, H: HasSectors> Chain<'a, H> {
-    ghost use Rattle.cfb_chains.specs.ChainViews.{holder_of, position_of, sectors_of, version_of, IsSame};
+    ghost use Rattle.cfb_chains.specs.ChainViews.{holder_of, init_of, position_of, sectors_of, version_of, IsSame};
 
-    /// The chain of these sectors, at its first byte.
-    pub fn new(holder: &'a mut H, links: Links) -> Chain<'a, H>
+    /// The chain of these sectors, at its first byte. What it takes in later holds at first what `init` says.
+    pub fn new(holder: &'a mut H, links: Links, init: SectorInit) -> Chain<'a, H>
         ensures same_reference { result.holder.ghost_name ≡ holder.entry.ghost_name }
         ensures holder { holder_of result ≡ holder.old }
-        ensures chain { (version_of result ≡ links_version links) × (sectors_of result ≡ ids_of links) × (position_of result ≡ 0) }
+        ensures chain { (version_of result ≡ links_version links) × (sectors_of result ≡ ids_of links) × (position_of result ≡ 0) × (init_of result ≡ init) }
     {
         Chain {
             holder,
             links,
             position: 0,
+            init,
         }
     }
 

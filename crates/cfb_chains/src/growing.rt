@@ -9,7 +9,7 @@ ghost use Rattle.cfb_medium.specs.declared.version.Version.{Version};
 ghost use Rattle.cfb_sectors.specs.Initial.{initial};
 ghost use Rattle.cfb_sectors.specs.Sectors.{filled_part, sector, sector_start, Chain as IsChain};
 ghost use Rattle.std.specs.List.{AllByRecursion};
-ghost use Rattle.std.specs.Prelude.{false, true, IfErr, IfOk, IsErrOf, IsTrue, List, OnOk, ℕ, [], ◌++◌, ◌∷◌, ◌≡◌, ◌⊎◌};
+ghost use Rattle.std.specs.Prelude.{false, true, IfErr, IfOk, IsErrOf, IsTrue, List, OnErr, OnOk, ℕ, [], ◌++◌, ◌∷◌, ◌≡◌, ◌⊎◌};
 
 use crate::FreesChains;
 use cfb_medium::Error;
@@ -31,7 +31,8 @@ pub trait GrowsChains: FreesChains {
     /// `InvalidData` where the tables can't be changed, `Full` where no sector's number is left, and then nothing is changed.
     /// After a fault in a write it has failed.
     fn begin_chain(&mut self, init: SectorInit) -> Result<u32, Error>
-        ensures begins { (n : ℕ) × IfOk result (λ id. (id ≡ n) × IsChain (Self.fat self.new) n (n ∷ [])) × grows (n ∷ []) (n ∷ []) self.old self.new }
+        ensures begins { IfOk result (λ n. IsChain (Self.fat self.new) n (n ∷ []) × grows (n ∷ []) (n ∷ []) self.old self.new) }
+        ensures none { OnErr result (grows [] [] self.old self.new) }
         ensures filled { IfOk result (λ n. IsTrue (Self.honest self.old) → sector (version self.old) (Self.bytes self.new) n ≡ initial init (sector_len (version self.old))) }
         ensures writable { IfOk result (λ n. Self.may_write self.new (sector_start (version self.old) n) (sector_len (version self.old))) }
         ensures live { OnOk result ((Self.failed self.old ≡ false) × IsTrue (Self.orderly self.old) × (Self.failed self.new ≡ false)) }
@@ -45,8 +46,9 @@ pub trait GrowsChains: FreesChains {
     /// sector, or the tables can't be changed, `Full` where no sector's number is left, and then nothing is changed. After a
     /// fault in a write it has failed.
     fn extend_chain(&mut self, start: u32, init: SectorInit) -> Result<u32, Error>
-        ensures extends { (ids : List ℕ) × (last n : ℕ) × IfOk result (λ id. (id ≡ n) × IsChain (Self.fat self.old) start (ids ++ last ∷ []) × IsChain (Self.fat self.new) start (ids ++ last ∷ n ∷ []))
-            × grows (n ∷ []) (last ∷ n ∷ []) self.old self.new }
+        ensures extends { IfOk result (λ n. (ids : List ℕ) × (last : ℕ) × IsChain (Self.fat self.old) start (ids ++ last ∷ []) × IsChain (Self.fat self.new) start (ids ++ last ∷ n ∷ [])
+            × grows (n ∷ []) (last ∷ n ∷ []) self.old self.new) }
+        ensures none { OnErr result (grows [] [] self.old self.new) }
         ensures filled { IfOk result (λ n. IsTrue (Self.honest self.old) → sector (version self.old) (Self.bytes self.new) n ≡ initial init (sector_len (version self.old))) }
         ensures writable { IfOk result (λ n. Self.may_write self.new (sector_start (version self.old) n) (sector_len (version self.old))) }
         ensures live { OnOk result ((Self.failed self.old ≡ false) × IsTrue (Self.orderly self.old) × (Self.failed self.new ≡ false)) }
@@ -67,9 +69,6 @@ pub trait GrowsChains: FreesChains {
     ghost grows_then: { (taken more entries : List ℕ) (a b c : Self) → grows taken entries a b → grows more entries b c → grows (taken ++ more) entries a c };
 
     ghost grows_among: { (taken entries all : List ℕ) (a b : Self) → AreAmong all entries → grows taken entries a b → grows taken all a b };
-
-    // after a fault nothing is told of the tables
-    ghost grows_failed: { (taken entries more all : List ℕ) (a b : Self) → Self.failed b ≡ true → grows taken entries a b → grows more all a b };
 
     ghost grows_cause: { (taken entries : List ℕ) (a b c : Self) (e : Error) → grows taken entries a b → Self.failed b ≡ false → Self.has_cause b c e → Self.has_cause a c e };
 }
