@@ -9,6 +9,7 @@ use Rattle.std.proofs.lemmas.Option.{slice_get_within, slice_get-get_or, get_or_
 use Rattle.std.proofs.lemmas.Grind.{flat_map-append}
 use Rattle.cfb_medium.specs.declared.version.Version.{Version}
 use Rattle.cfb_medium.specs.declared.version.Version.TheVariants.{V3, V4}
+use Rattle.cfb_medium.specs.Bytes.{overwritten}
 use Rattle.cfb_medium.specs.Versions.{sector_len}
 use Rattle.cfb_sectors.specs.Sectors.{end_of_chain, filled_part, free, joined, sector, sector_start, Chain as IsChain}
 use Rattle.cfb_sectors.proofs.Chains.{chain_from}
@@ -16,6 +17,7 @@ use Rattle.cfb_sectors.proofs.OneChain.{chain_unique}
 use Rattle.cfb_chains.specs.Growing.{AreAmong, IsFreeIn, StayBut}
 use Rattle.cfb_chains.specs.Grown.{AreWritable, IsLinked}
 use Rattle.cfb_chains.specs.Orderly.{AreOnce, IsBeside, IsNoneOf}
+use Rattle.cfb_chains.specs.Positions.{left_in, place_in}
 use Rattle.cfb_chains.proofs.Staying.{apart, goes_on}
 
 -- a chain goes through no free sector, and through none behind the table
@@ -157,3 +159,20 @@ pub bytes_more : (may : ℕ → ℕ → Type 0) (v : Version) (old new ids fill 
 bytes_more may v old new ids fill n same all none filled =
     flat_map-append (sector v new) ids (n ∷ []) ∙ ap (λ l. joined v new ids ++ l) (append-nil (sector v new n) ∙ filled)
     ∙ ap (λ l. l ++ fill) (bytes_before may v old new ids n same all none)
+
+pub writable_still : (may then : ℕ → ℕ → Type 0) (v : Version) (ids : List ℕ) → ((place count : ℕ) → may place count → then place count) → AreWritable may v ids → AreWritable then v ids
+writable_still may then v [] still all = tt
+writable_still may then v (x ∷ ids) still all = (still _ _ all.0, writable_still may then v ids still all.1)
+
+-- a write in the chain as it is, told of the chain as it was
+pub either_there : (W : ℕ → List ℕ → Type 0) (R : Type 0) (v w : Version) (s t bytes : List ℕ) (p q : ℕ) → w ≡ v → t ≡ s → q ≡ p
+    → W (place_in w t q) (take (left_in w q) bytes) ⊎ R → W (place_in v s p) (take (left_in v p) bytes) ⊎ R
+either_there W R v w s t bytes p q same_version same_sectors same_position h =
+    subst (λ u. W (place_in u s p) (take (left_in u p) bytes) ⊎ R) same_version
+    (subst (λ l. W (place_in w l p) (take (left_in w p) bytes) ⊎ R) same_sectors (subst (λ k. W (place_in w t k) (take (left_in w k) bytes) ⊎ R) same_position h))
+
+pub written_there : (v w : Version) (new mid s t all xs : List ℕ) (p q : ℕ) → w ≡ v → t ≡ s → q ≡ p → joined v mid t ≡ all
+    → joined w new t ≡ overwritten (joined w mid t) q xs → joined v new s ≡ overwritten all p xs
+written_there v w new mid s t all xs p q same_version same_sectors same_position before h =
+    ap (joined v new) (sym same_sectors) ∙ subst (λ u. joined u new t ≡ overwritten (joined u mid t) q xs) same_version h
+    ∙ ap (λ k. overwritten (joined v mid t) k xs) same_position ∙ ap (λ l. overwritten l p xs) before

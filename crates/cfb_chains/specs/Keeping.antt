@@ -48,3 +48,6 @@ module _ {F : Type 0} {g : Ghosts F} where
 
   pub rests_keep_tables : (a b : Allocator F g) → AllRests a b → (fat_of b ≡ fat_of a) × (orderly_of b ≡ orderly_of a) × ((place count : ℕ) → MayWrite a place count → MayWrite b place count)
   rests_keep_tables a b h = (h.fat, h.orderly, may_still a b h.sectors.version h.sectors.count h.fat_sectors h.difat_sectors)
+
+  pub writes_keep_tables : (place : ℕ) (written : List ℕ) (a b : Allocator F g) → WritesBeside place written a b → (fat_of b ≡ fat_of a) × (orderly_of b ≡ orderly_of a)
+  writes_keep_tables place written a b h = (h.fat, h.orderly)

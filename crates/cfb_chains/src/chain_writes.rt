@@ -9,7 +9,7 @@ ghost use Rattle.cfb_medium.specs.Versions.{sector_len};
 ghost use Rattle.cfb_medium.specs.declared.error.Error.TheVariants.{Failed, Full, InvalidData};
 ghost use Rattle.cfb_sectors.specs.Initial.{initial};
 ghost use Rattle.cfb_sectors.specs.Sectors.{greatest_regular, joined};
-ghost use Rattle.std.specs.Prelude.{false, length, min, take, true, IfErr, IfOk, IsErrOf, IsTrue, List, OnErr, OnOk, ℕ, [], ◌*◌, ◌+◌, ◌++◌, ◌<◌, ◌∷◌, ◌≡◌, ◌↔◌, ◌⊎◌};
+ghost use Rattle.std.specs.Prelude.{false, length, min, take, true, IfErr, IfOk, IsErrOf, IsTrue, List, OnErr, OnOk, ℕ, [], ◌*◌, ◌+◌, ◌++◌, ◌<◌, ◌∷◌, ◌≡◌, ◌≤◌, ◌↔◌, ◌⊎◌};
 
 use crate::{Chain, GrowsChains};
 use cfb_medium::Error;
@@ -30,6 +30,8 @@ impl<'a, H: ChangesSectors> Chain<'a, H> {
             → H.writes (place_in (version_of self.old) (sectors_of self.old) (position_of self.old)) (take (left_in (version_of self.old) (position_of self.old)) bytes.now) (holder_of self.old) (holder_of self.new) }
         ensures rests { (H.may_write (holder_of self.old) (place_in (version_of self.old) (sectors_of self.old) (position_of self.old)) (min (length bytes.now) (left_in (version_of self.old) (position_of self.old))) → ⊥)
             → H.rests (holder_of self.old) (holder_of self.new) }
+        ensures either { H.writes (place_in (version_of self.old) (sectors_of self.old) (position_of self.old)) (take (left_in (version_of self.old) (position_of self.old)) bytes.now) (holder_of self.old) (holder_of self.new)
+            ⊎ H.rests (holder_of self.old) (holder_of self.new) }
         ensures there { OnOk result (H.may_write (holder_of self.old) (place_in (version_of self.old) (sectors_of self.old) (position_of self.old)) (min (length bytes.now) (left_in (version_of self.old) (position_of self.old)))) }
         ensures refused { IsErrOf result InvalidData ↔ ((H.failed (holder_of self.old) ≡ false)
             × (H.may_write (holder_of self.old) (place_in (version_of self.old) (sectors_of self.old) (position_of self.old)) (min (length bytes.now) (left_in (version_of self.old) (position_of self.old))) → ⊥)) }
@@ -118,6 +120,42 @@ impl<'a, H: GrowsChains> Chain<'a, H> {
                 self.links.push_reserved(sector_id);
                 Ok(())
             }
+            Err(error) => Err(error),
+        }
+    }
+
+    // At the end: takes in a sector, and writes what it takes.
+    fn write_behind(&mut self, bytes: &[u8]) -> Result<usize, Error>
+        requires { position_of self.old ≡ length (sectors_of self.old) * sector_len (version_of self.old) }
+        ensures count { IfOk result (λ n. n ≡ min (length bytes.now) (left_in (version_of self.old) (position_of self.old))) }
+        ensures grows { (more : List ℕ) × (changed : List ℕ) × (mid : H) × (sectors_of self.new ≡ sectors_of self.old ++ more) × H.grows more changed (holder_of self.old) mid
+            × (IsLinked (H.fat (holder_of self.old)) (sectors_of self.old) → AreAmong (sectors_of self.new) changed)
+            × (H.writes (place_in (version_of self.old) (sectors_of self.new) (position_of self.old)) (take (left_in (version_of self.old) (position_of self.old)) bytes.now) mid (holder_of self.new) ⊎ H.rests mid (holder_of self.new)) }
+        ensures longer { length (sectors_of self.new) ≤ length (sectors_of self.old) + 1 }
+        ensures linked { OnOk result (IsLinked (H.fat (holder_of self.old)) (sectors_of self.old) → IsLinked (H.fat (holder_of self.new)) (sectors_of self.new)) }
+        ensures writable { OnOk result (H.version (holder_of self.old) ≡ version_of self.old → AreWritable (H.may_write (holder_of self.old)) (version_of self.old) (sectors_of self.old)
+            → AreWritable (H.may_write (holder_of self.new)) (version_of self.old) (sectors_of self.new)) }
+        ensures written { IfOk result (λ n. IsTrue (H.honest (holder_of self.old)) → H.version (holder_of self.old) ≡ version_of self.old → IsLinked (H.fat (holder_of self.old)) (sectors_of self.old)
+            → AreWritable (H.may_write (holder_of self.old)) (version_of self.old) (sectors_of self.old)
+            → joined (version_of self.old) (H.bytes (holder_of self.new)) (sectors_of self.new)
+                ≡ overwritten (joined (version_of self.old) (H.bytes (holder_of self.old)) (sectors_of self.old) ++ initial (init_of self.old) (sector_len (version_of self.old))) (position_of self.old) (take n bytes.now)) }
+        ensures moved { IfOk result (λ n. position_of self.new ≡ position_of self.old + n) }
+        ensures stays { OnErr result (position_of self.new ≡ position_of self.old) }
+        ensures same { IsSameBut self.old self.new }
+        ensures live { OnOk result ((H.failed (holder_of self.old) ≡ false) × (H.failed (holder_of self.new) ≡ false)) }
+        ensures refused { IsErrOf result InvalidData → ((IsTrue (H.orderly (holder_of self.old)) → IsLinked (H.fat (holder_of self.old)) (sectors_of self.old) → ⊥) × H.rests (holder_of self.old) (holder_of self.new) × (sectors_of self.new ≡ sectors_of self.old))
+            ⊎ ((mid : H) × (more : List ℕ) × (changed : List ℕ) × (sectors_of self.new ≡ sectors_of self.old ++ more) × H.grows more changed (holder_of self.old) mid
+                × (H.may_write mid (place_in (version_of self.old) (sectors_of self.new) (position_of self.old)) (min (length bytes.now) (left_in (version_of self.old) (position_of self.old))) → ⊥) × H.rests mid (holder_of self.new)) }
+        ensures full { IsErrOf result Full → (H.is_full (holder_of self.old) ⊎ (greatest_regular < length (sectors_of self.old))) × H.rests (holder_of self.old) (holder_of self.new) × (sectors_of self.new ≡ sectors_of self.old) }
+        ensures failed { H.failed (holder_of self.old) ≡ true → IsErrOf result Failed × H.rests (holder_of self.old) (holder_of self.new) × (sectors_of self.new ≡ sectors_of self.old) }
+        ensures cause { IfErr result (H.has_cause (holder_of self.old) (holder_of self.new)) }
+        ensures fault { IfErr result (λ e. (IsFaultUnless ⊥ e × ((H.failed (holder_of self.new) ≡ true) ⊎ (H.rests (holder_of self.old) (holder_of self.new) × (sectors_of self.new ≡ sectors_of self.old)))) ⊎ (e ≡ InvalidData) ⊎ (e ≡ Full)) }
+    {
+        if let Err(error) = self.append_sector() {
+            return Err(error);
+        }
+        match self.write_inside(bytes) {
+            Ok(count) => Ok(count),
             Err(error) => Err(error),
         }
     }

@@ -1,5 +1,5 @@
 // Chains that are freed, at whatever height.
-ghost use Rattle.cfb_chains.specs.Keeping.{changes_keep, rests_keep_tables};
+ghost use Rattle.cfb_chains.specs.Keeping.{changes_keep, rests_keep_tables, writes_keep_tables};
 ghost use Rattle.cfb_chains.specs.Orderly.{DifferAt, HaveEntry};
 ghost use Rattle.cfb_medium.specs.Calls.{IsFaultUnless};
 ghost use Rattle.cfb_medium.specs.declared.error.Error.TheVariants.{Failed, InvalidData};
@@ -48,6 +48,8 @@ pub trait FreesChains: ChangesSectors {
             × ((place count : ℕ) → Self.may_write a place count → Self.may_write b place count)
             × (IsTrue (Self.honest a) → (place count : ℕ) → Self.may_write a place count → filled_part (Self.bytes b) place count ≡ filled_part (Self.bytes a) place count)) };
 
+    ghost writes_keep_tables: { (place : ℕ) (written : List ℕ) (a b : Self) → Self.writes place written a b → (fat b ≡ fat a) × (orderly b ≡ orderly a) };
+
     ghost rests_keep_tables: { (a b : Self) → Self.rests a b → (fat b ≡ fat a) × (orderly b ≡ orderly a) × ((place count : ℕ) → Self.may_write a place count → Self.may_write b place count) };
 }
 
@@ -70,6 +72,8 @@ impl<F: Medium> FreesChains for Allocator<F> {
     }
 
     ghost changes_keep = { changes_keep };
+
+    ghost writes_keep_tables = { writes_keep_tables };
 
     ghost rests_keep_tables = { rests_keep_tables };
 }

@@ -67,6 +67,7 @@ pub trait ChangesSectors: HasSectors {
     fn write_part(&mut self, place: u64, bytes: &[u8]) -> Result<(), Error>
         ensures writes { may_write self.old place (length bytes.now) → writes place bytes.now self.old self.new }
         ensures rests { (may_write self.old place (length bytes.now) → ⊥) → Self.rests self.old self.new }
+        ensures either { writes place bytes.now self.old self.new ⊎ Self.rests self.old self.new }
         ensures there { OnOk result (may_write self.old place (length bytes.now)) }
         ensures refused { IsErrOf result InvalidData ↔ ((Self.failed self.old ≡ false) × (may_write self.old place (length bytes.now) → ⊥)) }
         ensures still { (at count : ℕ) → may_write self.old at count → may_write self.new at count }
