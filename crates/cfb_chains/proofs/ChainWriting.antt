@@ -1,6 +1,6 @@
 -- A write in one sector of a chain is that write in the chain's bytes.
 use Rattle.std.proofs.Common.{◌≡◌, ℕ, inl, inr, ◌+◌, ◌-◌, ◌*◌, ◌/◌, ◌%◌, ◌<◌, ◌≤◌, ◌⊎◌, List, [], ◌∷◌, ◌++◌, length, take, drop, replicate, get_or, zero, suc, refl, sym, ap, subst, ◌∙◌, arith, ⊎_elim, length-take, length-append, length-drop}
-use Rattle.std.proofs.lemmas.List.{ext_get_or, get_or-drop, get_or-take, length-replicate}
+use Rattle.std.proofs.lemmas.List.{ext_get_or, get_or-drop, get_or-take, length-replicate, take-replicate}
 use Rattle.std.proofs.lemmas.Bool.Decides.{eqb_tells, leb_tells}
 use Rattle.cfb_medium.specs.Bytes.{overwritten}
 use Rattle.cfb_medium.specs.declared.version.Version.{Version}
@@ -8,7 +8,7 @@ use Rattle.cfb_medium.specs.declared.version.Version.TheVariants.{V3, V4}
 use Rattle.cfb_medium.specs.Versions.{sector_len}
 use Rattle.cfb_sectors.specs.Sectors.{filled_part, joined, sector, sector_start}
 use Rattle.cfb_chains.specs.Orderly.{AreOnce}
-use Rattle.cfb_chains.specs.Positions.{left_in, place_in}
+use Rattle.cfb_chains.specs.Positions.{left_in, place_in, tail_in}
 use Rattle.cfb_chains.proofs.ChainParts.{chain_part, some_bytes}
 use Rattle.cfb_chains.proofs.Overwriting.{get_before, get_behind, get_filled, get_written}
 
@@ -134,3 +134,25 @@ written_at v b after ids xs position place inside fits once at is =
     ap (λ l. joined v l ids) (is ∙ ap (λ p. overwritten b p xs) at)
     ∙ joined_overwritten v b ids xs (position / sector_len v) (position % sector_len v) (split_below v position (length ids) inside) room once
     ∙ ap (λ p. overwritten (joined v b ids) p xs) parts.0
+
+pub longest : (v : Version) → sector_len v ≤ 4096
+longest V3 = omega arith
+longest V4 = omega arith
+
+-- where a sector ends within there is a tail, else none
+pub tail_left : (v : Version) (len : ℕ) → (len % sector_len v ≡ 0 → ⊥) → tail_in v len ≡ left_in v len
+tail_left V3 len some = omega arith
+tail_left V4 len some = omega arith
+
+pub no_tail : (v : Version) (len : ℕ) → len % sector_len v ≡ 0 → tail_in v len ≡ 0
+no_tail V3 len none = omega arith
+no_tail V4 len none = omega arith
+
+pub inside_yet : (v : Version) (len n : ℕ) → len ≤ n * sector_len v → (len % sector_len v ≡ 0 → ⊥) → len < n * sector_len v
+inside_yet V3 len n most some = omega arith
+inside_yet V4 len n most some = omega arith
+
+pub zeros_there : (v : Version) (len left : ℕ) → left ≡ left_in v len → (len % sector_len v ≡ 0 → ⊥) → take {A = ℕ} left (replicate 4096 0) ≡ replicate (tail_in v len) 0
+zeros_there v len left is some =
+    let few = longest v in
+    take-replicate left 4096 0 (omega (arith, is, few)) ∙ ap (λ n. replicate n 0) (is ∙ sym (tail_left v len some))

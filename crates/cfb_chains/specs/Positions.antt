@@ -11,3 +11,7 @@ place_in version sectors position = sector_start version (slice_index sectors (p
 -- how many bytes its sector has from there on
 abbrev pub left_in : Version → ℕ → ℕ
 left_in version position = sector_len version - position % sector_len version
+
+-- how many bytes lie behind a length in the sector in which it ends
+abbrev pub tail_in : Version → ℕ → ℕ
+tail_in version len = left_in version len % sector_len version

@@ -72,17 +72,17 @@ impl<'a, H: HasSectors> Chain<'a, H> {
         self.links.sector_ids().len() as u64 * self.links.version().sector_len() as u64
     }
 
-    // The place in the file of the byte at the position, and how many bytes its sector has from there on.
+    // The place in the file of the byte at a position, and how many bytes its sector has from there on.
     #[tactic(auto, using(crate::proofs::ChainWriting::split, crate::proofs::ChainWriting::split_below, crate::proofs::ChainParts::some_bytes, crate::proofs::ChainParts::starts_early))]
-    pub(crate) fn place(&self) -> (u64, usize)
-        requires { position_of self.now < length (sectors_of self.now) * sector_len (version_of self.now) }
-        ensures place { result.0 ≡ place_in (version_of self.now) (sectors_of self.now) (position_of self.now) }
-        ensures left { result.1 ≡ left_in (version_of self.now) (position_of self.now) }
+    pub(crate) fn place(&self, position: u64) -> (u64, usize)
+        requires { position < length (sectors_of self.now) * sector_len (version_of self.now) }
+        ensures place { result.0 ≡ place_in (version_of self.now) (sectors_of self.now) position }
+        ensures left { result.1 ≡ left_in (version_of self.now) position }
     {
         let version = self.links.version();
         let len = version.sector_len() as u64;
-        let offset = self.position % len;
-        let index = (self.position / len) as usize;
+        let offset = position % len;
+        let index = (position / len) as usize;
         let sector_id = self.links.sector_ids()[index];
         ((u64::from(sector_id) + 1) * len + offset, (len - offset) as usize)
     }
@@ -110,7 +110,7 @@ impl<'a, H: HasSectors> Chain<'a, H> {
         if self.position == self.len() {
             return Ok(0);
         }
-        let (place, left) = self.place();
+        let (place, left) = self.place(self.position);
         let count = buffer.len().min(left);
         self.holder.read_part(place, &mut buffer[..count])?;
         self.position += count as u64;

@@ -2,18 +2,21 @@
 ghost use Rattle.cfb_chains.specs.Growing.{AreAmong};
 ghost use Rattle.cfb_chains.specs.Grown.{AreWritable, IsLinked};
 ghost use Rattle.cfb_chains.specs.Orderly.{AreOnce};
-ghost use Rattle.cfb_chains.specs.Positions.{left_in, place_in};
+ghost use Rattle.cfb_chains.specs.Positions.{left_in, place_in, tail_in};
 ghost use Rattle.cfb_medium.specs.Bytes.{overwritten};
 ghost use Rattle.cfb_medium.specs.Calls.{IsFaultUnless};
 ghost use Rattle.cfb_medium.specs.Versions.{sector_len};
-ghost use Rattle.cfb_medium.specs.declared.error.Error.TheVariants.{Failed, Full, InvalidData};
+ghost use Rattle.cfb_medium.specs.declared.error.Error.TheVariants.{Failed, Full, InvalidData, InvalidInput};
 ghost use Rattle.cfb_sectors.specs.Initial.{initial};
 ghost use Rattle.cfb_sectors.specs.Sectors.{greatest_regular, joined};
-ghost use Rattle.std.specs.Prelude.{false, length, min, take, true, IfErr, IfOk, IsErrOf, IsTrue, List, OnErr, OnOk, ℕ, [], ◌*◌, ◌+◌, ◌++◌, ◌<◌, ◌∷◌, ◌≡◌, ◌≤◌, ◌↔◌, ◌⊎◌};
+ghost use Rattle.std.specs.Prelude.{false, length, min, replicate, take, true, IfErr, IfOk, IsErrOf, IsTrue, List, OnErr, OnOk, ℕ, [], ◌*◌, ◌+◌, ◌++◌, ◌<◌, ◌∷◌, ◌≡◌, ◌≤◌, ◌↔◌, ◌⊎◌};
 
 use crate::{Chain, GrowsChains};
 use cfb_medium::Error;
 use cfb_sectors::ChangesSectors;
+
+// A sector of version 4 has so many bytes.
+const LONGEST: usize = 4096;
 
 impl<'a, H: ChangesSectors> Chain<'a, H> {
     ghost use Rattle.cfb_chains.specs.ChainViews.{holder_of, position_of, sectors_of, version_of, IsSame};
@@ -44,11 +47,49 @@ impl<'a, H: ChangesSectors> Chain<'a, H> {
         ensures cause { IfErr result (H.has_cause (holder_of self.old) (holder_of self.new)) }
         ensures fault { IfErr result (λ e. (IsFaultUnless ⊥ e × (H.failed (holder_of self.new) ≡ true)) ⊎ (e ≡ InvalidData)) }
     {
-        let (place, left) = self.place();
+        let (place, left) = self.place(self.position);
         let count = bytes.len().min(left);
         self.holder.write_part(place, &bytes[..count])?;
         self.position += count as u64;
         Ok(count)
+    }
+
+    /// Fills the sector in which a length ends with zeros from there on; what lies before stays. `InvalidInput` where the
+    /// length is past the chain's end, `InvalidData` where the layer may not write there, and then nothing is changed. After a
+    /// fault in the write the layer has failed. The position stays.
+    #[tactic(auto, using(crate::proofs::ChainParts::no_more_bytes, crate::proofs::ChainWriting::longest))]
+    pub fn zero_tail(&mut self, len: u64) -> Result<(), Error>
+        ensures zeroed { OnOk result (IsTrue (H.honest (holder_of self.old)) → AreOnce (sectors_of self.old)
+            → joined (version_of self.old) (H.bytes (holder_of self.new)) (sectors_of self.old)
+                ≡ overwritten (joined (version_of self.old) (H.bytes (holder_of self.old)) (sectors_of self.old)) len (replicate (tail_in (version_of self.old) len) 0)) }
+        ensures there { OnOk result (len ≤ length (sectors_of self.old) * sector_len (version_of self.old)) }
+        ensures either { H.writes (place_in (version_of self.old) (sectors_of self.old) len) (replicate (tail_in (version_of self.old) len) 0) (holder_of self.old) (holder_of self.new) ⊎ H.rests (holder_of self.old) (holder_of self.new) }
+        ensures past { IsErrOf result InvalidInput ↔ ((H.failed (holder_of self.old) ≡ false) × (length (sectors_of self.old) * sector_len (version_of self.old) < len)) }
+        ensures refused { IsErrOf result InvalidData → (H.may_write (holder_of self.old) (place_in (version_of self.old) (sectors_of self.old) len) (tail_in (version_of self.old) len) → ⊥) × H.rests (holder_of self.old) (holder_of self.new) }
+        ensures rests { IsErrOf result InvalidInput → H.rests (holder_of self.old) (holder_of self.new) }
+        ensures still { (at count : ℕ) → H.may_write (holder_of self.old) at count → H.may_write (holder_of self.new) at count }
+        ensures position { position_of self.new ≡ position_of self.old }
+        ensures same { IsSame self.old self.new }
+        ensures live { OnOk result ((H.failed (holder_of self.old) ≡ false) × (H.failed (holder_of self.new) ≡ false)) }
+        ensures failed { H.failed (holder_of self.old) ≡ true → IsErrOf result Failed × H.rests (holder_of self.old) (holder_of self.new) }
+        ensures cause { IfErr result (H.has_cause (holder_of self.old) (holder_of self.new)) }
+        ensures fault { IfErr result (λ e. (IsFaultUnless ⊥ e × (H.failed (holder_of self.new) ≡ true)) ⊎ (e ≡ InvalidData) ⊎ (e ≡ InvalidInput)) }
+    {
+        if self.holder.is_failed() {
+            return Err(Error::Failed);
+        }
+        if len > self.len() {
+            return Err(Error::InvalidInput);
+        }
+        if len % self.links.version().sector_len() as u64 == 0 {
+            return Ok(());
+        }
+        let (place, left) = self.place(len);
+        let zeros = [0; LONGEST];
+        match self.holder.write_part(place, &zeros[..left]) {
+            Ok(()) => Ok(()),
+            Err(error) => Err(error),
+        }
     }
 }
 
