@@ -1,5 +1,5 @@
 -- A chain that took in a sector behind its last.
-use Rattle.std.proofs.Common.{◌≡◌, ℕ, inl, inr, ◌+◌, ◌-◌, ◌*◌, ◌<◌, ◌≤◌, ◌⊎◌, List, [], ◌∷◌, ◌++◌, length, take, drop, replicate, get_or, zero, suc, refl, sym, ap, subst, ◌∙◌, arith, ⊎_elim, append_assoc, drop-cons, length-append, length-drop, length-take}
+use Rattle.std.proofs.Common.{◌≡◌, ℕ, Bool, true, false, inl, inr, ◌+◌, ◌-◌, ◌*◌, ◌<◌, ◌≤◌, ◌⊎◌, List, [], ◌∷◌, ◌++◌, length, take, drop, replicate, get_or, zero, suc, refl, sym, ap, subst, ◌∙◌, arith, ⊎_elim, append_assoc, drop-cons, length-append, length-drop, length-take}
 use Rattle.std.specs.Prelude.{slice_get, slice_index, slice_index_or, Some}
 use Rattle.std.specs.List.{AllByRecursion}
 use Rattle.std.proofs.Math.Seq.{take-suc, get_or-append_right}
@@ -11,6 +11,9 @@ use Rattle.cfb_medium.specs.declared.version.Version.{Version}
 use Rattle.cfb_medium.specs.declared.version.Version.TheVariants.{V3, V4}
 use Rattle.cfb_medium.specs.Bytes.{overwritten}
 use Rattle.cfb_medium.specs.Versions.{sector_len}
+use Rattle.cfb_sectors.specs.Copies.{copies}
+use Rattle.cfb_sectors.specs.Initial.{initial}
+use Rattle.cfb_sectors.specs.declared.initial.SectorInit.{SectorInit}
 use Rattle.cfb_sectors.specs.Sectors.{end_of_chain, filled_part, free, joined, sector, sector_start, Chain as IsChain}
 use Rattle.cfb_sectors.proofs.Chains.{chain_from}
 use Rattle.cfb_sectors.proofs.OneChain.{chain_unique}
@@ -176,3 +179,34 @@ pub written_there : (v w : Version) (new mid s t all xs : List ℕ) (p q : ℕ) 
 written_there v w new mid s t all xs p q same_version same_sectors same_position before h =
     ap (joined v new) (sym same_sectors) ∙ subst (λ u. joined u new t ≡ overwritten (joined u mid t) q xs) same_version h
     ∙ ap (λ k. overwritten (joined v mid t) k xs) same_position ∙ ap (λ l. overwritten l p xs) before
+
+-- copies, and one more
+copies_more : (k : ℕ) (piece : List ℕ) → copies k piece ++ piece ≡ copies (suc k) piece
+copies_more zero piece = sym (append-nil piece)
+copies_more (suc k) piece = append_assoc piece (copies k piece) piece ∙ ap (λ l. piece ++ l) (copies_more k piece)
+
+pub filled_step : (v w : Version) (i j : SectorInit) (old mid new a b c : List ℕ) → w ≡ v → j ≡ i → length c ≡ length b + 1 → length a ≤ length b
+    → joined v mid b ≡ joined v old a ++ copies (length b - length a) (initial i (sector_len v)) → joined w new c ≡ joined w mid b ++ initial j (sector_len w)
+    → joined v new c ≡ joined v old a ++ copies (length c - length a) (initial i (sector_len v))
+filled_step v w i j old mid new a b c same_version same_init longer before was step =
+    let piece = initial i (sector_len v) in
+    let count : suc (length b - length a) ≡ length c - length a = omega (arith, longer, before) in
+    subst (λ u. joined u new c ≡ joined u mid b ++ initial i (sector_len u)) same_version (subst (λ k. joined w new c ≡ joined w mid b ++ initial k (sector_len w)) same_init step)
+    ∙ ap (λ l. l ++ piece) was ∙ append_assoc (joined v old a) (copies (length b - length a) piece) piece
+    ∙ ap (λ l. joined v old a ++ l) (copies_more (length b - length a) piece ∙ ap (λ k. copies k piece) count)
+
+-- none of both is none of either
+pub among_both : (all xs ys : List ℕ) → AreAmong all xs → AreAmong all ys → AreAmong all (xs ++ ys)
+among_both all xs ys first second n none k below same =
+    ⊎_elim (λ behind. second n none (k - length xs) (let size : length (xs ++ ys) ≡ length xs + length ys = simp length-append in omega (arith, below, size, behind.1)) (sym (get_or-append_right xs ys k 0 behind.1) ∙ same))
+    (λ within. first n none k within.1 (sym (get_or_append_left xs ys 0 k within.1) ∙ same)) (leb_tells (length xs) k)
+
+pub among_more : (all more xs : List ℕ) → AreAmong all xs → AreAmong (all ++ more) xs
+among_more all more xs h n none = h n (λ k below same. none k (simp length-append (omega (arith, below))) (get_or_append_left all more 0 k below ∙ same))
+
+-- where a refusal has left no state of failure nothing was changed
+pub rests_yet : {A R I U : Type 0} (failed : Bool) → (A × ((failed ≡ true) ⊎ R)) ⊎ I ⊎ U → (I → R) → (U → R) → failed ≡ false → R
+rests_yet failed (inl (a, inl wrong)) refused full live = absurd (let clash : true ≡ false = sym wrong ∙ live in cc)
+rests_yet failed (inl (a, inr rests)) refused full live = rests
+rests_yet failed (inr (inl is)) refused full live = refused is
+rests_yet failed (inr (inr is)) refused full live = full is

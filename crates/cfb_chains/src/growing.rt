@@ -1,5 +1,5 @@
 // Chains that take sectors into use, at whatever height.
-ghost use Rattle.cfb_chains.specs.Growing.{AreAmong, IsFreeIn, StayBut};
+ghost use Rattle.cfb_chains.specs.Growing.{IsFreeIn, StayBut};
 ghost use Rattle.cfb_chains.specs.Orderly.{IsBeside};
 ghost use Rattle.cfb_medium.specs.Calls.{IsFaultUnless};
 ghost use Rattle.cfb_medium.specs.Versions.{sector_len};
@@ -62,13 +62,12 @@ pub trait GrowsChains: FreesChains {
     ghost grows_keep: { (taken entries : List ℕ) (a b : Self) → grows taken entries a b → (Self.honest b ≡ Self.honest a) × (version b ≡ version a)
         × (Self.failed b ≡ false → (Self.failed a ≡ false) × AllByRecursion (IsFreeIn (Self.fat a)) taken × StayBut entries (Self.fat a) (Self.fat b)
             × ((place count : ℕ) → Self.may_write a place count → Self.may_write b place count)
-            × (IsTrue (Self.honest a) → (place count : ℕ) → Self.may_write a place count → IsBeside (version a) taken place count → filled_part (Self.bytes b) place count ≡ filled_part (Self.bytes a) place count)) };
+            × (IsTrue (Self.honest a) → (place count : ℕ) → Self.may_write a place count → IsBeside (version a) taken place count → filled_part (Self.bytes b) place count ≡ filled_part (Self.bytes a) place count)
+            × (Self.orderly b ≡ Self.orderly a)) };
 
     ghost grows_rest: { (entries : List ℕ) (a b : Self) → Self.rests a b → grows [] entries a b };
 
-    ghost grows_then: { (taken more entries : List ℕ) (a b c : Self) → grows taken entries a b → grows more entries b c → grows (taken ++ more) entries a c };
-
-    ghost grows_among: { (taken entries all : List ℕ) (a b : Self) → AreAmong all entries → grows taken entries a b → grows taken all a b };
+    ghost grows_then: { (taken entries more others : List ℕ) (a b c : Self) → grows taken entries a b → grows more others b c → grows (taken ++ more) (entries ++ others) a c };
 
     ghost grows_cause: { (taken entries : List ℕ) (a b c : Self) (e : Error) → grows taken entries a b → Self.failed b ≡ false → Self.has_cause b c e → Self.has_cause a c e };
 }
