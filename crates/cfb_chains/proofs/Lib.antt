@@ -1,3 +1,4 @@
+pub mod ChainCutting
 pub mod ChainGrowing
 pub mod ChainParts
 pub mod ChainWriting

@@ -5,6 +5,7 @@ mod access;
 mod allocator;
 mod beside;
 mod chain;
+mod chain_cuts;
 mod chain_growth;
 mod chain_writes;
 mod changes;
