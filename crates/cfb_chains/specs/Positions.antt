@@ -15,3 +15,7 @@ left_in version position = sector_len version - position % sector_len version
 -- how many bytes lie behind a length in the sector in which it ends
 abbrev pub tail_in : Version → ℕ → ℕ
 tail_in version len = left_in version len % sector_len version
+
+-- how many sectors so many bytes need
+abbrev pub sectors_for : Version → ℕ → ℕ
+sectors_for version len = (len + (sector_len version - 1)) / sector_len version

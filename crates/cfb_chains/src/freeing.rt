@@ -79,7 +79,7 @@ impl<F: Medium> FreesChains for Allocator<F> {
 }
 
 impl<'a, H: FreesChains> Chain<'a, H> {
-    ghost use Rattle.cfb_chains.specs.ChainViews.{holder_of, position_of, sectors_of, version_of};
+    ghost use Rattle.cfb_chains.specs.ChainViews.{holder_of, position_of, sectors_of, IsSameBut};
 
     /// Frees the sectors of the chain from its first on, as the FAT has it; it has none then. `InvalidData` where the FAT has
     /// none or the tables can't be changed, and then nothing is changed. After a fault in a write the layer has failed.
@@ -88,7 +88,7 @@ impl<'a, H: FreesChains> Chain<'a, H> {
             × H.changes_fat ids (holder_of self.old) (holder_of self.new) }
         ensures emptied { OnOk result ((sectors_of self.new ≡ []) × (position_of self.new ≡ 0)) }
         ensures kept { OnErr result ((sectors_of self.new ≡ sectors_of self.old) × (position_of self.new ≡ position_of self.old)) }
-        ensures same { (self.new.holder.ghost_name ≡ self.old.holder.ghost_name) × (version_of self.new ≡ version_of self.old) }
+        ensures same { IsSameBut self.old self.new }
         ensures live { OnOk result ((H.failed (holder_of self.old) ≡ false) × IsTrue (H.orderly (holder_of self.old)) × (H.failed (holder_of self.new) ≡ false)) }
         ensures refused { IsErrOf result InvalidData → (IsTrue (H.orderly (holder_of self.old)) → (ids : List ℕ) → IsChain (H.fat (holder_of self.old)) (slice_index_or (sectors_of self.old) 0 end_of_chain) ids → ⊥)
             × H.rests (holder_of self.old) (holder_of self.new) }
