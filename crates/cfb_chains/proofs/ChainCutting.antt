@@ -1,18 +1,18 @@
 -- A chain that was cut behind a sector.
-use Rattle.std.proofs.Common.{◌≡◌, ℕ, ◌+◌, ◌-◌, ◌*◌, ◌/◌, ◌%◌, ◌<◌, ◌≤◌, min, List, [], ◌∷◌, ◌++◌, length, take, drop, get_or, zero, suc, refl, sym, ap, subst, ◌∙◌, arith, drop-cons, length-drop, length-take}
-use Rattle.std.specs.Prelude.{slice_get, slice_index, slice_index_or, Some}
+use Rattle.std.proofs.Common.{◌≡◌, ℕ, ◌+◌, ◌*◌, ◌/◌, ◌%◌, ◌<◌, ◌≤◌, min, List, [], ◌∷◌, ◌++◌, length, take, drop, get_or, zero, suc, refl, sym, ap, subst, ◌∙◌, arith, drop-cons, length-drop, length-take}
+use Rattle.std.specs.Prelude.{slice_index, slice_index_or, Some}
 use Rattle.std.proofs.Math.Seq.{take-suc}
 use Rattle.std.proofs.lemmas.List.{get_or-drop, get_or-take, take-append-drop}
 use Rattle.std.proofs.lemmas.Option.{slice_get_within, slice_get-get_or}
 use Rattle.cfb_medium.specs.declared.version.Version.{Version}
 use Rattle.cfb_medium.specs.declared.version.Version.TheVariants.{V3, V4}
 use Rattle.cfb_medium.specs.Versions.{sector_len}
-use Rattle.cfb_sectors.specs.Sectors.{end_of_chain, filled_part, free, joined, sector_start, Chain as IsChain}
+use Rattle.cfb_sectors.specs.Sectors.{end_of_chain, filled_part, joined, sector_start, Chain as IsChain}
 use Rattle.cfb_sectors.proofs.Chains.{chain_from}
 use Rattle.cfb_sectors.proofs.OneChain.{chain_unique}
 use Rattle.cfb_chains.specs.Growing.{AreAmong, StayBut}
 use Rattle.cfb_chains.specs.Grown.{AreWritable, IsLinked}
-use Rattle.cfb_chains.specs.Orderly.{DifferAt, HaveEntry, IsNoneOf}
+use Rattle.cfb_chains.specs.Orderly.{DifferAt, IsNoneOf}
 use Rattle.cfb_chains.specs.Positions.{sectors_for}
 use Rattle.cfb_chains.proofs.ChainGrowing.{chain_goes_on, chain_once}
 

@@ -1,14 +1,12 @@
 -- A chain that took in a sector behind its last.
-use Rattle.std.proofs.Common.{◌≡◌, ℕ, Bool, true, false, inl, inr, ◌+◌, ◌-◌, ◌*◌, ◌<◌, ◌≤◌, ◌⊎◌, List, [], ◌∷◌, ◌++◌, length, take, drop, replicate, get_or, zero, suc, refl, sym, ap, subst, ◌∙◌, arith, ⊎_elim, append_assoc, drop-cons, length-append, length-drop, length-take}
+use Rattle.std.proofs.Common.{◌≡◌, ℕ, Bool, true, false, inl, inr, ◌+◌, ◌-◌, ◌<◌, ◌≤◌, ◌⊎◌, List, [], ◌∷◌, ◌++◌, length, take, drop, get_or, zero, suc, refl, sym, ap, subst, ◌∙◌, arith, ⊎_elim, append_assoc, drop-cons, length-append, length-drop, length-take}
 use Rattle.std.specs.Prelude.{slice_get, slice_index, slice_index_or, Some}
-use Rattle.std.specs.List.{AllByRecursion}
 use Rattle.std.proofs.Math.Seq.{take-suc, get_or-append_right}
 use Rattle.std.proofs.lemmas.List.{append-nil, drop_all, get_or_append_left, get_or-take, take_all}
-use Rattle.std.proofs.lemmas.Bool.Decides.{eqb_tells, leb_tells}
+use Rattle.std.proofs.lemmas.Bool.Decides.{leb_tells}
 use Rattle.std.proofs.lemmas.Option.{slice_get_within, slice_get-get_or, get_or_from_slice_get}
 use Rattle.std.proofs.lemmas.Grind.{flat_map-append}
 use Rattle.cfb_medium.specs.declared.version.Version.{Version}
-use Rattle.cfb_medium.specs.declared.version.Version.TheVariants.{V3, V4}
 use Rattle.cfb_medium.specs.Bytes.{overwritten}
 use Rattle.cfb_medium.specs.Versions.{sector_len}
 use Rattle.cfb_sectors.specs.Copies.{copies}
@@ -47,9 +45,13 @@ kept_entry entries old new stay n next none found =
 pub chain_goes_on : (entries old new : List ℕ) → StayBut entries old new → (start : ℕ) (front tail rest : List ℕ) (last : ℕ) → ((k : ℕ) → k < length front → IsNoneOf entries (get_or front k 0))
     → IsChain old start (front ++ last ∷ tail) → IsChain new last (last ∷ rest) → IsChain new start (front ++ last ∷ rest)
 chain_goes_on entries old new stay start [] tail rest last none chain goes = subst (λ s. IsChain new s (last ∷ rest)) chain.0 goes
-chain_goes_on entries old new stay start (x ∷ front) tail rest last none (is, regular, next, found, more) goes =
-    (is, regular, next, kept_entry entries old new stay start next (subst (IsNoneOf entries) is (none 0 (omega arith))) found,
-    chain_goes_on entries old new stay next front tail rest last (λ k below. none (suc k) (omega arith)) more goes)
+chain_goes_on entries old new stay start (x ∷ front) tail rest last none (is, regular, next, found, more) goes = (
+  is,
+  regular,
+  next,
+  kept_entry entries old new stay start next (subst (IsNoneOf entries) is (none 0 (omega arith))) found,
+  chain_goes_on entries old new stay next front tail rest last (λ k below. none (suc k) (omega arith)) more goes,
+)
 
 -- no sector stands twice in a chain
 pub chain_once : (table : List ℕ) (start : ℕ) (ids : List ℕ) → IsChain table start ids → AreOnce ids
@@ -133,9 +135,10 @@ pub extended : (old new ids found : List ℕ) (m n last at : ℕ) → suc m ≡ 
     → IsChain old last (found ++ at ∷ []) → IsChain new last (found ++ at ∷ n ∷ []) → StayBut (at ∷ n ∷ []) old new → IsFreeIn old n
     → IsLinked old ids → IsLinked new (ids ++ n ∷ []) × AreAmong (ids ++ n ∷ []) (at ∷ n ∷ [])
 extended old new ids found m n last at size is_last was goes stay loose linked =
-    let start = slice_index_or ids 0 end_of_chain in
-    (subst (λ s. IsChain new s (ids ++ n ∷ [])) (sym (first_stays ids m n size)) (chain_longer old new ids found m n last at size is_last was goes stay loose start linked),
-    among_last ids m n at size (is_the_last old new ids found m n last at size is_last was goes stay loose start linked))
+    let start = slice_index_or ids 0 end_of_chain in (
+      subst (λ s. IsChain new s (ids ++ n ∷ [])) (sym (first_stays ids m n size)) (chain_longer old new ids found m n last at size is_last was goes stay loose start linked),
+      among_last ids m n at size (is_the_last old new ids found m n last at size is_last was goes stay loose start linked),
+    )
 
 -- sectors that may be written, and one more
 pub writable_more : (may then : ℕ → ℕ → Type 0) (v : Version) (ids : List ℕ) (n : ℕ) → ((place count : ℕ) → may place count → then place count)

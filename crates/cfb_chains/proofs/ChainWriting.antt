@@ -1,15 +1,15 @@
 -- A write in one sector of a chain is that write in the chain's bytes.
-use Rattle.std.proofs.Common.{◌≡◌, ℕ, inl, inr, ◌+◌, ◌-◌, ◌*◌, ◌/◌, ◌%◌, ◌<◌, ◌≤◌, ◌⊎◌, List, [], ◌∷◌, ◌++◌, length, take, drop, replicate, get_or, zero, suc, refl, sym, ap, subst, ◌∙◌, arith, ⊎_elim, length-take, length-append, length-drop}
+use Rattle.std.proofs.Common.{◌≡◌, ℕ, inl, inr, ◌+◌, ◌-◌, ◌*◌, ◌/◌, ◌%◌, ◌<◌, ◌≤◌, ◌⊎◌, List, [], ◌∷◌, ◌++◌, length, take, drop, replicate, get_or, suc, refl, sym, ap, subst, ◌∙◌, arith, ⊎_elim, length-take, length-append, length-drop}
 use Rattle.std.proofs.lemmas.List.{ext_get_or, get_or-drop, get_or-take, length-replicate, take-replicate}
 use Rattle.std.proofs.lemmas.Bool.Decides.{eqb_tells, leb_tells}
 use Rattle.cfb_medium.specs.Bytes.{overwritten}
 use Rattle.cfb_medium.specs.declared.version.Version.{Version}
 use Rattle.cfb_medium.specs.declared.version.Version.TheVariants.{V3, V4}
 use Rattle.cfb_medium.specs.Versions.{sector_len}
-use Rattle.cfb_sectors.specs.Sectors.{filled_part, joined, sector, sector_start}
+use Rattle.cfb_sectors.specs.Sectors.{joined, sector, sector_start}
 use Rattle.cfb_chains.specs.Orderly.{AreOnce}
 use Rattle.cfb_chains.specs.Positions.{left_in, place_in, tail_in}
-use Rattle.cfb_chains.proofs.ChainParts.{chain_part, some_bytes}
+use Rattle.cfb_chains.proofs.ChainParts.{chain_part}
 use Rattle.cfb_chains.proofs.Overwriting.{get_before, get_behind, get_filled, get_written}
 
 -- a position is an index of a sector and an offset in it
@@ -79,14 +79,14 @@ module _ (v : Version) (b ids xs : List ℕ) (i o : ℕ) (below : i < length ids
       ∙ ⊎_elim
       (λ behind. aside b xs at (start + r) (inr (omega (arith, behind.1))) ∙ sym (aside (joined v b ids) xs p (base + r) (inr (omega (arith, behind.1))) ∙ get_joined v b ids i r below inside))
       (λ in_front. ⊎_elim
-        (λ after.
-          let here : start + r ≡ at + (r - o) = omega (arith, after.1) in
-          let there : base + r ≡ p + (r - o) = omega (arith, after.1) in
-          let within : r - o < length xs = omega (arith, in_front.1, after.1) in
-          ap (λ k. get_or (overwritten b at xs) k 0) here ∙ get_written b at xs (r - o) within
-          ∙ sym (ap (λ k. get_or (overwritten (joined v b ids) p xs) k 0) there ∙ get_written (joined v b ids) p xs (r - o) within))
-        (λ before. aside b xs at (start + r) (inl (omega (arith, before.1))) ∙ sym (aside (joined v b ids) xs p (base + r) (inl (omega (arith, before.1))) ∙ get_joined v b ids i r below inside))
-        (leb_tells o r))
+      (λ after.
+      let here : start + r ≡ at + (r - o) = omega (arith, after.1) in
+      let there : base + r ≡ p + (r - o) = omega (arith, after.1) in
+      let within : r - o < length xs = omega (arith, in_front.1, after.1) in
+      ap (λ k. get_or (overwritten b at xs) k 0) here ∙ get_written b at xs (r - o) within
+      ∙ sym (ap (λ k. get_or (overwritten (joined v b ids) p xs) k 0) there ∙ get_written (joined v b ids) p xs (r - o) within))
+      (λ before. aside b xs at (start + r) (inl (omega (arith, before.1))) ∙ sym (aside (joined v b ids) xs p (base + r) (inl (omega (arith, before.1))) ∙ get_joined v b ids i r below inside))
+      (leb_tells o r))
       (leb_tells (o + length xs) r)
 
   -- in another sector
@@ -114,9 +114,9 @@ module _ (v : Version) (b ids xs : List ℕ) (i o : ℕ) (below : i < length ids
       let there : q < length ids = split_below v k (length ids) (subst (λ n. k < n) (length-joined v (overwritten b at xs) ids) k_below) in
       subst (λ n. get_or (joined v (overwritten b at xs) ids) n 0 ≡ get_or (overwritten (joined v b ids) p xs) n 0) parts.0
       (⊎_elim
-        (λ same. subst (λ s. get_or (joined v (overwritten b at xs) ids) (s * sector_len v + k % sector_len v) 0 ≡ get_or (overwritten (joined v b ids) p xs) (s * sector_len v + k % sector_len v) 0) (sym same.1) (same_sector (k % sector_len v) parts.1))
-        (λ other. other_sector q (k % sector_len v) there parts.1 other.1)
-        (eqb_tells q i)))
+      (λ same. subst (λ s. get_or (joined v (overwritten b at xs) ids) (s * sector_len v + k % sector_len v) 0 ≡ get_or (overwritten (joined v b ids) p xs) (s * sector_len v + k % sector_len v) 0) (sym same.1) (same_sector (k % sector_len v) parts.1))
+      (λ other. other_sector q (k % sector_len v) there parts.1 other.1)
+      (eqb_tells q i)))
     where
       within : p + length xs ≤ length (joined v b ids)
       within = subst (λ n. p + length xs ≤ n) (sym (length-joined v b ids)) (room v i o (length ids) (length xs) below fits)

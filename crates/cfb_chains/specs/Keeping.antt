@@ -42,8 +42,8 @@ module _ {F : Type 0} {g : Ghosts F} where
 
   pub changes_keep : (entries : List ℕ) (a b : Allocator F g) → ChangesFat entries a b → (is_honest b ≡ is_honest a)
       × (has_failed_here b ≡ false → (has_failed_here a ≡ false) × DifferAt entries (fat_of a) (fat_of b)
-        × ((place count : ℕ) → MayWrite a place count → MayWrite b place count)
-        × (IsTrue (is_honest a) → (place count : ℕ) → MayWrite a place count → filled_part (bytes_of b) place count ≡ filled_part (bytes_of a) place count))
+      × ((place count : ℕ) → MayWrite a place count → MayWrite b place count)
+      × (IsTrue (is_honest a) → (place count : ℕ) → MayWrite a place count → filled_part (bytes_of b) place count ≡ filled_part (bytes_of a) place count))
   changes_keep entries a b h = (h.honest, λ live. (h.live live, h.fat live, may_still a b h.version h.count h.fat_sectors h.difat_sectors, λ honest place count may. h.beside live honest place count may.fat))
 
   pub rests_keep_tables : (a b : Allocator F g) → AllRests a b → (fat_of b ≡ fat_of a) × (orderly_of b ≡ orderly_of a) × ((place count : ℕ) → MayWrite a place count → MayWrite b place count)

@@ -84,7 +84,10 @@ impl<'a, H: HasSectors> Chain<'a, H> {
         let offset = position % len;
         let index = (position / len) as usize;
         let sector_id = self.links.sector_ids()[index];
-        ((u64::from(sector_id) + 1) * len + offset, (len - offset) as usize)
+        (
+            (u64::from(sector_id) + 1) * len + offset,
+            (len - offset) as usize,
+        )
     }
 
     /// Reads from the position on what the buffer takes of the sector in which it lies, and moves the position behind that.

@@ -111,7 +111,7 @@ impl<'a, H: GrowsChains> Chain<'a, H> {
         ensures filled { length (sectors_of self.old) ≤ sectors_for (version_of self.old) len → H.failed (holder_of self.new) ≡ false → IsTrue (H.honest (holder_of self.old)) → H.version (holder_of self.old) ≡ version_of self.old → IsLinked (H.fat (holder_of self.old)) (sectors_of self.old)
             → AreWritable (H.may_write (holder_of self.old)) (version_of self.old) (sectors_of self.old)
             → joined (version_of self.old) (H.bytes (holder_of self.new)) (sectors_of self.new)
-                ≡ joined (version_of self.old) (H.bytes (holder_of self.old)) (sectors_of self.old) ++ copies (length (sectors_of self.new) - length (sectors_of self.old)) (initial (init_of self.old) (sector_len (version_of self.old))) }
+            ≡ joined (version_of self.old) (H.bytes (holder_of self.old)) (sectors_of self.old) ++ copies (length (sectors_of self.new) - length (sectors_of self.old)) (initial (init_of self.old) (sector_len (version_of self.old))) }
         ensures bytes { sectors_for (version_of self.old) len < length (sectors_of self.old) → OnOk result (IsTrue (H.honest (holder_of self.old)) → AreWritable (H.may_write (holder_of self.old)) (version_of self.old) (sectors_of self.old)
             → joined (version_of self.old) (H.bytes (holder_of self.new)) (sectors_of self.new) ≡ joined (version_of self.old) (H.bytes (holder_of self.old)) (sectors_of self.new)) }
         ensures position { OnOk result (position_of self.new ≡ min (position_of self.old) (length (sectors_of self.new) * sector_len (version_of self.old))) }

@@ -26,7 +26,7 @@ impl<'a, H: GrowsChains> Chain<'a, H> {
         ensures filled { IfOk result (λ n. IsTrue (H.honest (holder_of self.old)) → H.version (holder_of self.old) ≡ version_of self.old → IsLinked (H.fat (holder_of self.old)) (sectors_of self.old)
             → AreWritable (H.may_write (holder_of self.old)) (version_of self.old) (sectors_of self.old)
             → joined (version_of self.old) (H.bytes (holder_of self.new)) (sectors_of self.old ++ n ∷ [])
-                ≡ joined (version_of self.old) (H.bytes (holder_of self.old)) (sectors_of self.old) ++ initial (init_of self.old) (sector_len (version_of self.old))) }
+            ≡ joined (version_of self.old) (H.bytes (holder_of self.old)) (sectors_of self.old) ++ initial (init_of self.old) (sector_len (version_of self.old))) }
         ensures same { IsSameBut self.old self.new }
         ensures links { links_of self.new ≡ links_of self.old }
         ensures position { position_of self.new ≡ position_of self.old }
@@ -59,7 +59,7 @@ impl<'a, H: GrowsChains> Chain<'a, H> {
         ensures filled { OnOk result (IsTrue (H.honest (holder_of self.old)) → H.version (holder_of self.old) ≡ version_of self.old → IsLinked (H.fat (holder_of self.old)) (sectors_of self.old)
             → AreWritable (H.may_write (holder_of self.old)) (version_of self.old) (sectors_of self.old)
             → joined (version_of self.old) (H.bytes (holder_of self.new)) (sectors_of self.new)
-                ≡ joined (version_of self.old) (H.bytes (holder_of self.old)) (sectors_of self.old) ++ initial (init_of self.old) (sector_len (version_of self.old))) }
+            ≡ joined (version_of self.old) (H.bytes (holder_of self.old)) (sectors_of self.old) ++ initial (init_of self.old) (sector_len (version_of self.old))) }
         ensures same { IsSameBut self.old self.new }
         ensures position { position_of self.new ≡ position_of self.old }
         ensures live { OnOk result ((H.failed (holder_of self.old) ≡ false) × IsTrue (H.orderly (holder_of self.old)) × (H.failed (holder_of self.new) ≡ false)) }
@@ -98,7 +98,7 @@ impl<'a, H: GrowsChains> Chain<'a, H> {
         ensures filled { H.failed (holder_of self.new) ≡ false → IsTrue (H.honest (holder_of self.old)) → H.version (holder_of self.old) ≡ version_of self.old → IsLinked (H.fat (holder_of self.old)) (sectors_of self.old)
             → AreWritable (H.may_write (holder_of self.old)) (version_of self.old) (sectors_of self.old)
             → joined (version_of self.old) (H.bytes (holder_of self.new)) (sectors_of self.new)
-                ≡ joined (version_of self.old) (H.bytes (holder_of self.old)) (sectors_of self.old) ++ copies (length (sectors_of self.new) - length (sectors_of self.old)) (initial (init_of self.old) (sector_len (version_of self.old))) }
+            ≡ joined (version_of self.old) (H.bytes (holder_of self.old)) (sectors_of self.old) ++ copies (length (sectors_of self.new) - length (sectors_of self.old)) (initial (init_of self.old) (sector_len (version_of self.old))) }
         ensures same { IsSameBut self.old self.new }
         ensures position { position_of self.new ≡ position_of self.old }
         ensures live { OnOk result (H.failed (holder_of self.new) ≡ false) }

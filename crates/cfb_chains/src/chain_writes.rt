@@ -28,7 +28,7 @@ impl<'a, H: ChangesSectors> Chain<'a, H> {
         ensures count { IfOk result (λ n. n ≡ min (length bytes.now) (left_in (version_of self.old) (position_of self.old))) }
         ensures written { IfOk result (λ n. IsTrue (H.honest (holder_of self.old)) → AreOnce (sectors_of self.old)
             → joined (version_of self.old) (H.bytes (holder_of self.new)) (sectors_of self.old)
-                ≡ overwritten (joined (version_of self.old) (H.bytes (holder_of self.old)) (sectors_of self.old)) (position_of self.old) (take n bytes.now)) }
+            ≡ overwritten (joined (version_of self.old) (H.bytes (holder_of self.old)) (sectors_of self.old)) (position_of self.old) (take n bytes.now)) }
         ensures writes { H.may_write (holder_of self.old) (place_in (version_of self.old) (sectors_of self.old) (position_of self.old)) (min (length bytes.now) (left_in (version_of self.old) (position_of self.old)))
             → H.writes (place_in (version_of self.old) (sectors_of self.old) (position_of self.old)) (take (left_in (version_of self.old) (position_of self.old)) bytes.now) (holder_of self.old) (holder_of self.new) }
         ensures rests { (H.may_write (holder_of self.old) (place_in (version_of self.old) (sectors_of self.old) (position_of self.old)) (min (length bytes.now) (left_in (version_of self.old) (position_of self.old))) → ⊥)
@@ -61,7 +61,7 @@ impl<'a, H: ChangesSectors> Chain<'a, H> {
     pub fn zero_tail(&mut self, len: u64) -> Result<(), Error>
         ensures zeroed { OnOk result (IsTrue (H.honest (holder_of self.old)) → AreOnce (sectors_of self.old)
             → joined (version_of self.old) (H.bytes (holder_of self.new)) (sectors_of self.old)
-                ≡ overwritten (joined (version_of self.old) (H.bytes (holder_of self.old)) (sectors_of self.old)) len (replicate (tail_in (version_of self.old) len) 0)) }
+            ≡ overwritten (joined (version_of self.old) (H.bytes (holder_of self.old)) (sectors_of self.old)) len (replicate (tail_in (version_of self.old) len) 0)) }
         ensures there { OnOk result (len ≤ length (sectors_of self.old) * sector_len (version_of self.old)) }
         ensures either { H.writes (place_in (version_of self.old) (sectors_of self.old) len) (replicate (tail_in (version_of self.old) len) 0) (holder_of self.old) (holder_of self.new) ⊎ H.rests (holder_of self.old) (holder_of self.new) }
         ensures past { IsErrOf result InvalidInput ↔ ((H.failed (holder_of self.old) ≡ false) × (length (sectors_of self.old) * sector_len (version_of self.old) < len)) }
@@ -110,14 +110,14 @@ impl<'a, H: GrowsChains> Chain<'a, H> {
         ensures written { IfOk result (λ n. IsTrue (H.honest (holder_of self.old)) → H.version (holder_of self.old) ≡ version_of self.old → IsLinked (H.fat (holder_of self.old)) (sectors_of self.old)
             → AreWritable (H.may_write (holder_of self.old)) (version_of self.old) (sectors_of self.old)
             → joined (version_of self.old) (H.bytes (holder_of self.new)) (sectors_of self.new)
-                ≡ overwritten (joined (version_of self.old) (H.bytes (holder_of self.old)) (sectors_of self.old) ++ initial (init_of self.old) (sector_len (version_of self.old))) (position_of self.old) (take n bytes.now)) }
+            ≡ overwritten (joined (version_of self.old) (H.bytes (holder_of self.old)) (sectors_of self.old) ++ initial (init_of self.old) (sector_len (version_of self.old))) (position_of self.old) (take n bytes.now)) }
         ensures moved { IfOk result (λ n. position_of self.new ≡ position_of self.old + n) }
         ensures stays { OnErr result (position_of self.new ≡ position_of self.old) }
         ensures same { IsSameBut self.old self.new }
         ensures live { OnOk result ((H.failed (holder_of self.old) ≡ false) × (H.failed (holder_of self.new) ≡ false)) }
         ensures refused { IsErrOf result InvalidData → ((IsTrue (H.orderly (holder_of self.old)) → IsLinked (H.fat (holder_of self.old)) (sectors_of self.old) → ⊥) × H.rests (holder_of self.old) (holder_of self.new) × (sectors_of self.new ≡ sectors_of self.old))
             ⊎ ((mid : H) × (more : List ℕ) × (changed : List ℕ) × (sectors_of self.new ≡ sectors_of self.old ++ more) × H.grows more changed (holder_of self.old) mid
-                × (H.may_write mid (place_in (version_of self.old) (sectors_of self.new) (position_of self.old)) (min (length bytes.now) (left_in (version_of self.old) (position_of self.old))) → ⊥) × H.rests mid (holder_of self.new)) }
+            × (H.may_write mid (place_in (version_of self.old) (sectors_of self.new) (position_of self.old)) (min (length bytes.now) (left_in (version_of self.old) (position_of self.old))) → ⊥) × H.rests mid (holder_of self.new)) }
         ensures full { IsErrOf result Full → (H.is_full (holder_of self.old) ⊎ (greatest_regular < length (sectors_of self.old))) × H.rests (holder_of self.old) (holder_of self.new) × (sectors_of self.new ≡ sectors_of self.old) }
         ensures failed { H.failed (holder_of self.old) ≡ true → IsErrOf result Failed × H.rests (holder_of self.old) (holder_of self.new) × (sectors_of self.new ≡ sectors_of self.old) }
         ensures cause { IfErr result (H.has_cause (holder_of self.old) (holder_of self.new)) }
@@ -141,12 +141,12 @@ impl<'a, H: GrowsChains> Chain<'a, H> {
         ensures count { IfOk result (λ n. n ≡ min (length bytes.now) (left_in (version_of self.old) (position_of self.old))) }
         ensures written { IfOk result (λ n. position_of self.old < length (sectors_of self.old) * sector_len (version_of self.old) → IsTrue (H.honest (holder_of self.old)) → AreOnce (sectors_of self.old)
             → joined (version_of self.old) (H.bytes (holder_of self.new)) (sectors_of self.old)
-                ≡ overwritten (joined (version_of self.old) (H.bytes (holder_of self.old)) (sectors_of self.old)) (position_of self.old) (take n bytes.now)) }
+            ≡ overwritten (joined (version_of self.old) (H.bytes (holder_of self.old)) (sectors_of self.old)) (position_of self.old) (take n bytes.now)) }
         ensures appended { IfOk result (λ n. position_of self.old ≡ length (sectors_of self.old) * sector_len (version_of self.old) → 0 < length bytes.now
             → IsTrue (H.honest (holder_of self.old)) → H.version (holder_of self.old) ≡ version_of self.old → IsLinked (H.fat (holder_of self.old)) (sectors_of self.old)
             → AreWritable (H.may_write (holder_of self.old)) (version_of self.old) (sectors_of self.old)
             → joined (version_of self.old) (H.bytes (holder_of self.new)) (sectors_of self.new)
-                ≡ overwritten (joined (version_of self.old) (H.bytes (holder_of self.old)) (sectors_of self.old) ++ initial (init_of self.old) (sector_len (version_of self.old))) (position_of self.old) (take n bytes.now)) }
+            ≡ overwritten (joined (version_of self.old) (H.bytes (holder_of self.old)) (sectors_of self.old) ++ initial (init_of self.old) (sector_len (version_of self.old))) (position_of self.old) (take n bytes.now)) }
         ensures grows { (more : List ℕ) × (changed : List ℕ) × (mid : H) × (sectors_of self.new ≡ sectors_of self.old ++ more) × H.grows more changed (holder_of self.old) mid
             × (IsLinked (H.fat (holder_of self.old)) (sectors_of self.old) → AreAmong (sectors_of self.new) changed)
             × (H.writes (place_in (version_of self.old) (sectors_of self.new) (position_of self.old)) (take (left_in (version_of self.old) (position_of self.old)) bytes.now) mid (holder_of self.new) ⊎ H.rests mid (holder_of self.new)) }
@@ -168,7 +168,7 @@ impl<'a, H: GrowsChains> Chain<'a, H> {
         ensures refused_behind { IsErrOf result InvalidData → position_of self.old ≡ length (sectors_of self.old) * sector_len (version_of self.old)
             → ((IsTrue (H.orderly (holder_of self.old)) → IsLinked (H.fat (holder_of self.old)) (sectors_of self.old) → ⊥) × H.rests (holder_of self.old) (holder_of self.new) × (sectors_of self.new ≡ sectors_of self.old))
             ⊎ ((mid : H) × (more : List ℕ) × (changed : List ℕ) × (sectors_of self.new ≡ sectors_of self.old ++ more) × H.grows more changed (holder_of self.old) mid
-                × (H.may_write mid (place_in (version_of self.old) (sectors_of self.new) (position_of self.old)) (min (length bytes.now) (left_in (version_of self.old) (position_of self.old))) → ⊥) × H.rests mid (holder_of self.new)) }
+            × (H.may_write mid (place_in (version_of self.old) (sectors_of self.new) (position_of self.old)) (min (length bytes.now) (left_in (version_of self.old) (position_of self.old))) → ⊥) × H.rests mid (holder_of self.new)) }
         ensures full { IsErrOf result Full → (H.is_full (holder_of self.old) ⊎ (greatest_regular < length (sectors_of self.old))) × H.rests (holder_of self.old) (holder_of self.new) × (sectors_of self.new ≡ sectors_of self.old) }
         ensures failed { H.failed (holder_of self.old) ≡ true → IsErrOf result Failed × H.rests (holder_of self.old) (holder_of self.new) × (sectors_of self.new ≡ sectors_of self.old) }
         ensures cause { IfErr result (H.has_cause (holder_of self.old) (holder_of self.new)) }

@@ -45,8 +45,8 @@ pub trait FreesChains: ChangesSectors {
     // other entries stay, and so do the bytes that may be written
     ghost changes_keep: { (entries : List ℕ) (a b : Self) → changes_fat entries a b → (Self.honest b ≡ Self.honest a)
         × (Self.failed b ≡ false → (Self.failed a ≡ false) × DifferAt entries (fat a) (fat b)
-            × ((place count : ℕ) → Self.may_write a place count → Self.may_write b place count)
-            × (IsTrue (Self.honest a) → (place count : ℕ) → Self.may_write a place count → filled_part (Self.bytes b) place count ≡ filled_part (Self.bytes a) place count)) };
+        × ((place count : ℕ) → Self.may_write a place count → Self.may_write b place count)
+        × (IsTrue (Self.honest a) → (place count : ℕ) → Self.may_write a place count → filled_part (Self.bytes b) place count ≡ filled_part (Self.bytes a) place count)) };
 
     ghost writes_keep_tables: { (place : ℕ) (written : List ℕ) (a b : Self) → Self.writes place written a b → (fat b ≡ fat a) × (orderly b ≡ orderly a) };
 

@@ -61,9 +61,9 @@ pub trait GrowsChains: FreesChains {
     // what stands in the FAT and may be written stays
     ghost grows_keep: { (taken entries : List ℕ) (a b : Self) → grows taken entries a b → (Self.honest b ≡ Self.honest a) × (version b ≡ version a)
         × (Self.failed b ≡ false → (Self.failed a ≡ false) × AllByRecursion (IsFreeIn (Self.fat a)) taken × StayBut entries (Self.fat a) (Self.fat b)
-            × ((place count : ℕ) → Self.may_write a place count → Self.may_write b place count)
-            × (IsTrue (Self.honest a) → (place count : ℕ) → Self.may_write a place count → IsBeside (version a) taken place count → filled_part (Self.bytes b) place count ≡ filled_part (Self.bytes a) place count)
-            × (Self.orderly b ≡ Self.orderly a)) };
+        × ((place count : ℕ) → Self.may_write a place count → Self.may_write b place count)
+        × (IsTrue (Self.honest a) → (place count : ℕ) → Self.may_write a place count → IsBeside (version a) taken place count → filled_part (Self.bytes b) place count ≡ filled_part (Self.bytes a) place count)
+        × (Self.orderly b ≡ Self.orderly a)) };
 
     ghost grows_rest: { (entries : List ℕ) (a b : Self) → Self.rests a b → grows [] entries a b };
 

@@ -1,4 +1,4 @@
-use Rattle.std.proofs.Common.{◌≡◌, ◌<◌, ◌++◌, ◌∷◌, [], ◌∙◌, sym, ap, arith, subst}
+use Rattle.std.proofs.Common.{◌++◌, ◌∷◌, [], ◌∙◌, sym, ap, arith, subst}
 use Rattle.std.proofs.lemmas.List.{append-nil}
 use Rattle.cfb_chains.specs.ChainViews.{holder_of, sectors_of}
 use Rattle.cfb_chains.specs.Growing.{AreAmong}
@@ -20,6 +20,10 @@ returns-in-Ok-clause-grows g c =
     let grown = c.in-Ok.ensures.grows in
     let n = c.in-Ok.sector_id in
     let same = c.reserve_one.ensures.same.0 in
-    let with_it = c.push_reserved.ensures.0 ∙ ap (λ l. l.sector_ids.items ++ n ∷ []) c.take_sector.ensures.links in
-    (n ∷ [], grown.0, with_it ∙ ap (λ l. l ++ n ∷ []) same, grown.1,
-    λ linked. subst (λ s. AreAmong s grown.0) (sym with_it) (grown.2 (subst (IsLinked (g.H.FreesChains.fat (holder_of c.args.self.now))) (sym same) linked)))
+    let with_it = c.push_reserved.ensures.0 ∙ ap (λ l. l.sector_ids.items ++ n ∷ []) c.take_sector.ensures.links in (
+      n ∷ [],
+      grown.0,
+      with_it ∙ ap (λ l. l ++ n ∷ []) same,
+      grown.1,
+      λ linked. subst (λ s. AreAmong s grown.0) (sym with_it) (grown.2 (subst (IsLinked (g.H.FreesChains.fat (holder_of c.args.self.now))) (sym same) linked)),
+    )

@@ -1,5 +1,5 @@
-use Rattle.std.proofs.Common.{◌≡◌, ◌-◌, ◌≤◌, ◌∙◌, ap, arith, drop, get_or, length, subst, suc, sym, take, List, ℕ}
-use Rattle.cfb_sectors.specs.Sectors.{end_of_chain, free, joined, Chain as IsChain}
+use Rattle.std.proofs.Common.{◌≡◌, ◌-◌, ◌≤◌, ap, arith, drop, get_or, length, subst, suc, sym, take}
+use Rattle.cfb_sectors.specs.Sectors.{free, joined}
 use Rattle.cfb_chains.specs.ChainViews.{holder_of, sectors_of, version_of}
 use Rattle.cfb_chains.specs.Grown.{AreWritable, IsLinked}
 use Rattle.cfb_chains.specs.Orderly.{HaveEntry}
@@ -14,10 +14,15 @@ returns-in-Ok-clause-frees g c =
     let inside : suc m ≤ length s = omega (arith, c.requires.some, c.requires.there) in
     let at = ap (λ l. get_or l m 0) c.sector_ids.ensures in
     let freed = c.in-Ok.ensures.frees in
-    let then = (g.met.H.FreesChains.changes_keep _ _ _ freed.2).1 c.in-Ok.ensures.live.2 in
-    (_, freed.2, λ linked. (changed_are_mine _ _ s freed.0 m _ inside at freed.1.0 freed.1.1 then.1 linked,
-      subst (λ k. HaveEntry free (g.H.FreesChains.fat c.free_chain_after.new.self) (drop k s)) size
-      (subst (HaveEntry free (g.H.FreesChains.fat c.free_chain_after.new.self)) (freed_are _ _ s freed.0 m _ inside at freed.1.0 freed.1.1 then.1 linked) freed.1.2)))
+    let then = (g.met.H.FreesChains.changes_keep _ _ _ freed.2).1 c.in-Ok.ensures.live.2 in (
+      _,
+      freed.2,
+      λ linked. (
+        changed_are_mine _ _ s freed.0 m _ inside at freed.1.0 freed.1.1 then.1 linked,
+        subst (λ k. HaveEntry free (g.H.FreesChains.fat c.free_chain_after.new.self) (drop k s)) size
+            (subst (HaveEntry free (g.H.FreesChains.fat c.free_chain_after.new.self)) (freed_are _ _ s freed.0 m _ inside at freed.1.0 freed.1.1 then.1 linked) freed.1.2),
+      ),
+    )
 
 pub returns-in-Ok-clause-linked : goal.returns-in-Ok-clause-linked
 returns-in-Ok-clause-linked g c = λ linked.

@@ -1,4 +1,4 @@
-use Rattle.std.proofs.Common.{◌≡◌, ◌+◌, ◌++◌, ◌-◌, ◌≤◌, ◌∙◌, [], append_assoc, ap, arith, false, length, refl, subst, sym, Err, IsTrue, List}
+use Rattle.std.proofs.Common.{◌≡◌, ◌++◌, ◌-◌, ◌∙◌, [], append_assoc, ap, arith, length, refl, subst, sym, Err, IsTrue}
 use Rattle.std.proofs.lemmas.List.{append-nil}
 use Rattle.cfb_medium.specs.Versions.{sector_len}
 use Rattle.cfb_sectors.specs.Copies.{copies}
@@ -30,10 +30,13 @@ grow-init g c =
 pub returns-in-Err-clause-grows : goal.returns-in-Err-clause-grows
 returns-in-Err-clause-grows g c =
     let was = c.grow.invariant.grows in
-    let grown = c.append_sector.ensures.grows in
-    (was.0 ++ grown.0, was.1 ++ grown.1, grown.2 ∙ ap (λ l. l ++ grown.0) was.2 ∙ append_assoc (sectors_of c.args.self.now) was.0 grown.0,
-    g.met.H.GrowsChains.grows_then was.0 was.1 grown.0 grown.1 _ _ _ was.3 grown.3,
-    λ linked. among_both (sectors_of c.append_sector.new.self) was.1 grown.1 (subst (λ s. AreAmong s was.1) (sym grown.2) (among_more (sectors_of c.grow.self) grown.0 was.1 (was.4 linked))) (grown.4 (c.grow.invariant.linked linked)))
+    let grown = c.append_sector.ensures.grows in (
+      was.0 ++ grown.0,
+      was.1 ++ grown.1,
+      grown.2 ∙ ap (λ l. l ++ grown.0) was.2 ∙ append_assoc (sectors_of c.args.self.now) was.0 grown.0,
+      g.met.H.GrowsChains.grows_then was.0 was.1 grown.0 grown.1 _ _ _ was.3 grown.3,
+      λ linked. among_both (sectors_of c.append_sector.new.self) was.1 grown.1 (subst (λ s. AreAmong s was.1) (sym grown.2) (among_more (sectors_of c.grow.self) grown.0 was.1 (was.4 linked))) (grown.4 (c.grow.invariant.linked linked)),
+    )
 
 pub returns-in-Err-clause-linked : goal.returns-in-Err-clause-linked
 returns-in-Err-clause-linked g c = λ live linked.
@@ -74,18 +77,22 @@ grow-preserved g c =
     let able = λ (version : g.H.GrowsChains.version (holder_of it) ≡ version_of it) (all : AreWritable (g.H.ChangesSectors.may_write (holder_of it)) (version_of it) (sectors_of it)).
     subst (λ u. AreWritable (g.H.ChangesSectors.may_write (holder_of mid)) u (sectors_of mid)) (sym same.version) (c.grow.invariant.writable version all) in
     record {
-      grows = (was.0 ++ grown.0, was.1 ++ grown.1, grown.2 ∙ ap (λ l. l ++ grown.0) was.2 ∙ append_assoc (sectors_of it) was.0 grown.0,
+      grows = (
+        was.0 ++ grown.0,
+        was.1 ++ grown.1,
+        grown.2 ∙ ap (λ l. l ++ grown.0) was.2 ∙ append_assoc (sectors_of it) was.0 grown.0,
         g.met.H.GrowsChains.grows_then was.0 was.1 grown.0 grown.1 _ _ _ was.3 grown.3,
-        λ linked. among_both (sectors_of new) was.1 grown.1 (subst (λ s. AreAmong s was.1) (sym grown.2) (among_more (sectors_of mid) grown.0 was.1 (was.4 linked))) (grown.4 (c.grow.invariant.linked linked)));
+        λ linked. among_both (sectors_of new) was.1 grown.1 (subst (λ s. AreAmong s was.1) (sym grown.2) (among_more (sectors_of mid) grown.0 was.1 (was.4 linked))) (grown.4 (c.grow.invariant.linked linked)),
+      );
       most = omega (arith, c.in_default.ensures.longer, c.grow-test.true, c.num_sectors.ensures);
       least = omega (arith, c.in_default.ensures.longer, c.grow.invariant.least);
       live = c.in_default.ensures.live.2;
       linked = λ linked. c.in_default.ensures.linked (c.grow.invariant.linked linked);
       writable = λ version all. subst (λ u. AreWritable (g.H.ChangesSectors.may_write (holder_of new)) u (sectors_of new)) same.version (c.in_default.ensures.writable (here version) (able version all));
       filled = λ honest version linked all.
-        filled_step (version_of it) (version_of mid) (init_of it) (init_of mid) _ (g.H.HasSectors.bytes (holder_of mid)) (g.H.HasSectors.bytes (holder_of new)) (sectors_of it) (sectors_of mid) (sectors_of new)
-        same.version same.init c.in_default.ensures.longer c.grow.invariant.least (c.grow.invariant.filled honest version linked all)
-        (c.in_default.ensures.filled (subst IsTrue (sym kept.0) honest) (here version) (c.grow.invariant.linked linked) (able version all));
+          filled_step (version_of it) (version_of mid) (init_of it) (init_of mid) _ (g.H.HasSectors.bytes (holder_of mid)) (g.H.HasSectors.bytes (holder_of new)) (sectors_of it) (sectors_of mid) (sectors_of new)
+          same.version same.init c.in_default.ensures.longer c.grow.invariant.least (c.grow.invariant.filled honest version linked all)
+          (c.in_default.ensures.filled (subst IsTrue (sym kept.0) honest) (here version) (c.grow.invariant.linked linked) (able version all));
       same = record { holder = then.holder ∙ same.holder; version = then.version ∙ same.version; init = then.init ∙ same.init };
       position = c.append_sector.ensures.position ∙ c.grow.invariant.position;
     }

@@ -1,5 +1,4 @@
-use Rattle.std.proofs.Common.{◌≡◌, ◌-◌, ◌∷◌, [], ◌∙◌, sym, ap, arith, subst, length, suc, get_or, ℕ, List, ◌++◌, true, refl, Result, Ok, Err, IsErrOf}
-use Rattle.cfb_medium.specs.declared.error.Error.TheVariants.{InvalidData}
+use Rattle.std.proofs.Common.{◌≡◌, ◌-◌, ◌∷◌, [], ◌∙◌, sym, ap, arith, subst, length, suc, get_or, ℕ, List, ◌++◌, Err}
 use Rattle.cfb_medium.specs.Versions.{sector_len}
 use Rattle.cfb_sectors.specs.Initial.{initial}
 use Rattle.cfb_sectors.specs.Sectors.{filled_part, sector, sector_start}
@@ -10,9 +9,13 @@ use Rattle.cfb_chains.proofs.ChainGrowing.{bytes_more, extended, in_use, none_to
 use Rattle.cfb_chains.proofs.chain.Chain.take_sector.Goals as goal
 
 pub returns-then-count-eq0-clause-grows : goal.returns-then-count-eq0-clause-grows
-returns-then-count-eq0-clause-grows g c = (c.in_ok-sector_id.sector_id ∷ [], c.in_ok-sector_id.ensures.begins.1, λ linked n none k below same.
-    let size : length (sectors_of c.args.self.now) ≡ 0 = ap length (sym c.sector_ids-count.ensures) ∙ c.if-count-eq0.true in
-    alone (sectors_of c.args.self.now) c.in_ok-sector_id.sector_id n size none k below same)
+returns-then-count-eq0-clause-grows g c = (
+  c.in_ok-sector_id.sector_id ∷ [],
+  c.in_ok-sector_id.ensures.begins.1,
+  λ linked n none k below same.
+      let size : length (sectors_of c.args.self.now) ≡ 0 = ap length (sym c.sector_ids-count.ensures) ∙ c.if-count-eq0.true in
+      alone (sectors_of c.args.self.now) c.in_ok-sector_id.sector_id n size none k below same,
+)
   where
     alone : (ids : List ℕ) (x n : ℕ) → length ids ≡ 0 → IsNoneOf (ids ++ x ∷ []) n → IsNoneOf (x ∷ []) n
     alone [] x n size none = none
@@ -74,6 +77,6 @@ returns-clause-filled g c = λ honest version linked all.
     let fill : sector v (g.H.HasSectors.bytes c.extend_chain.new.self) n ≡ initial (init_of c.args.self.now) (sector_len v) =
     subst (λ u. sector u (g.H.HasSectors.bytes c.extend_chain.new.self) n ≡ initial (init_of c.args.self.now) (sector_len u)) version (c.in_ok-sector_id-2.ensures.filled honest) in
     let same = subst (λ u. (place count : ℕ) → g.H.ChangesSectors.may_write old place count → IsBeside u (n ∷ []) place count
-      → filled_part (g.H.HasSectors.bytes c.extend_chain.new.self) place count ≡ filled_part (g.H.HasSectors.bytes old) place count) version (then.4 honest) in
+    → filled_part (g.H.HasSectors.bytes c.extend_chain.new.self) place count ≡ filled_part (g.H.HasSectors.bytes old) place count) version (then.4 honest) in
     bytes_more (g.H.ChangesSectors.may_write old) v (g.H.HasSectors.bytes old) (g.H.HasSectors.bytes c.extend_chain.new.self) ids (initial (init_of c.args.self.now) (sector_len v)) n
     same all (in_use (g.H.FreesChains.fat old) _ ids n linked then.1.0) fill

@@ -1,4 +1,4 @@
-use Rattle.std.proofs.Common.{◌≡◌, ℕ, inr, List, [], ◌<◌, ◌∙◌, sym, subst, refl, arith, length, Result, Ok, Err, IfOk, OnOk, ⊎_elim}
+use Rattle.std.proofs.Common.{◌≡◌, inr, [], ◌∙◌, sym, subst, refl, arith, Result, Ok, Err, IfOk, OnOk, ⊎_elim}
 use Rattle.std.proofs.lemmas.List.{append-nil}
 use Rattle.cfb_chains.specs.ChainViews.{holder_of, position_of, sectors_of, version_of}
 use Rattle.cfb_chains.specs.Grown.{AreWritable, IsLinked}
@@ -17,11 +17,16 @@ pub returns-then-self-len-clause-grows : goal.returns-then-self-len-clause-grows
 returns-then-self-len-clause-grows g c =
     let it = c.args.self.now in
     let new = c.write_inside.new.self in
-    let same = c.write_inside.ensures.same.sectors in
-    ([], [], holder_of it, same ∙ sym (append-nil (sectors_of it)), g.met.H.GrowsChains.grows_rest [] (holder_of it) (holder_of it) (g.met.H.HasSectors.rests_refl (holder_of it)),
-    (λ linked n none k below same. absurd (omega (arith, below))),
-    either_there (λ p b. g.H.ChangesSectors.writes p b (holder_of it) (holder_of new)) _ (version_of it) (version_of it) (sectors_of new) (sectors_of it) _ (position_of it) (position_of it)
-    refl (sym same) refl c.write_inside.ensures.either)
+    let same = c.write_inside.ensures.same.sectors in (
+      [],
+      [],
+      holder_of it,
+      same ∙ sym (append-nil (sectors_of it)),
+      g.met.H.GrowsChains.grows_rest [] (holder_of it) (holder_of it) (g.met.H.HasSectors.rests_refl (holder_of it)),
+      (λ linked n none k below same. absurd (omega (arith, below))),
+      either_there (λ p b. g.H.ChangesSectors.writes p b (holder_of it) (holder_of new)) _ (version_of it) (version_of it) (sectors_of new) (sectors_of it) _ (position_of it) (position_of it)
+          refl (sym same) refl c.write_inside.ensures.either,
+    )
 
 pub returns-then-self-len-clause-linked : goal.returns-then-self-len-clause-linked
 returns-then-self-len-clause-linked g c = on_ok c.write_inside.result _ (λ linked.

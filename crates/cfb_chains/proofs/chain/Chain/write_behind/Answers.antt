@@ -1,8 +1,5 @@
-use Rattle.std.proofs.Common.{◌≡◌, ℕ, List, ◌++◌, ◌∙◌, sym, subst, take, ⊎_elim, IsTrue}
-use Rattle.cfb_medium.specs.Versions.{sector_len}
-use Rattle.cfb_sectors.specs.Initial.{initial}
-use Rattle.cfb_sectors.specs.Sectors.{joined}
-use Rattle.cfb_chains.specs.ChainViews.{holder_of, init_of, position_of, sectors_of, version_of}
+use Rattle.std.proofs.Common.{◌≡◌, ◌∙◌, sym, subst, ⊎_elim, IsTrue}
+use Rattle.cfb_chains.specs.ChainViews.{holder_of, position_of, sectors_of, version_of}
 use Rattle.cfb_chains.specs.Growing.{AreAmong}
 use Rattle.cfb_chains.specs.Grown.{AreWritable, IsLinked}
 use Rattle.cfb_chains.proofs.ChainGrowing.{chain_once, either_there, writable_still, written_there}
@@ -14,10 +11,16 @@ returns-in-Ok-clause-grows g c =
     let mid = c.append_sector.new.self in
     let new = c.write_inside.new.self in
     let grown = c.append_sector.ensures.grows in
-    let same = c.write_inside.ensures.same.sectors in
-    (grown.0, grown.1, holder_of mid, same ∙ grown.2, grown.3, λ linked. subst (λ s. AreAmong s grown.1) (sym same) (grown.4 linked),
-    either_there (λ p b. g.H.ChangesSectors.writes p b (holder_of mid) (holder_of new)) _ (version_of old) (version_of mid) (sectors_of new) (sectors_of mid) _ (position_of old) (position_of mid)
-    c.append_sector.ensures.same.version (sym same) c.append_sector.ensures.position c.write_inside.ensures.either)
+    let same = c.write_inside.ensures.same.sectors in (
+      grown.0,
+      grown.1,
+      holder_of mid,
+      same ∙ grown.2,
+      grown.3,
+      λ linked. subst (λ s. AreAmong s grown.1) (sym same) (grown.4 linked),
+      either_there (λ p b. g.H.ChangesSectors.writes p b (holder_of mid) (holder_of new)) _ (version_of old) (version_of mid) (sectors_of new) (sectors_of mid) _ (position_of old) (position_of mid)
+          c.append_sector.ensures.same.version (sym same) c.append_sector.ensures.position c.write_inside.ensures.either,
+    )
 
 pub returns-in-Err-write_inside-clause-grows : goal.returns-in-Err-write_inside-clause-grows
 returns-in-Err-write_inside-clause-grows g c =
@@ -25,10 +28,16 @@ returns-in-Err-write_inside-clause-grows g c =
     let mid = c.append_sector.new.self in
     let new = c.write_inside.new.self in
     let grown = c.append_sector.ensures.grows in
-    let same = c.write_inside.ensures.same.sectors in
-    (grown.0, grown.1, holder_of mid, same ∙ grown.2, grown.3, λ linked. subst (λ s. AreAmong s grown.1) (sym same) (grown.4 linked),
-    either_there (λ p b. g.H.ChangesSectors.writes p b (holder_of mid) (holder_of new)) _ (version_of old) (version_of mid) (sectors_of new) (sectors_of mid) _ (position_of old) (position_of mid)
-    c.append_sector.ensures.same.version (sym same) c.append_sector.ensures.position c.write_inside.ensures.either)
+    let same = c.write_inside.ensures.same.sectors in (
+      grown.0,
+      grown.1,
+      holder_of mid,
+      same ∙ grown.2,
+      grown.3,
+      λ linked. subst (λ s. AreAmong s grown.1) (sym same) (grown.4 linked),
+      either_there (λ p b. g.H.ChangesSectors.writes p b (holder_of mid) (holder_of new)) _ (version_of old) (version_of mid) (sectors_of new) (sectors_of mid) _ (position_of old) (position_of mid)
+          c.append_sector.ensures.same.version (sym same) c.append_sector.ensures.position c.write_inside.ensures.either,
+    )
 
 pub returns-in-Ok-clause-linked : goal.returns-in-Ok-clause-linked
 returns-in-Ok-clause-linked g c = λ linked.

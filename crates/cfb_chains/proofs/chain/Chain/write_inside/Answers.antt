@@ -1,5 +1,5 @@
-use Rattle.std.proofs.Common.{◌≡◌, ◌≤◌, length, take, arith, length-take}
-use Rattle.cfb_chains.specs.ChainViews.{holder_of, position_of, sectors_of, version_of}
+use Rattle.std.proofs.Common.{◌≤◌, length, take, arith, length-take}
+use Rattle.cfb_chains.specs.ChainViews.{position_of, sectors_of, version_of}
 use Rattle.cfb_chains.specs.Positions.{left_in}
 use Rattle.cfb_chains.proofs.ChainWriting.{written_at}
 use Rattle.cfb_chains.proofs.chain.Chain.write_inside.Goals as goal

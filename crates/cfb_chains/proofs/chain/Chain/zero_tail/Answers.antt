@@ -1,9 +1,9 @@
-use Rattle.std.proofs.Common.{◌≡◌, ℕ, ◌%◌, ◌≤◌, ◌⊎◌, ◌∙◌, List, ap, sym, subst, length, replicate, arith}
+use Rattle.std.proofs.Common.{◌≡◌, ℕ, ◌%◌, ◌≤◌, ◌⊎◌, ◌∙◌, List, ap, subst, length, replicate, arith}
 use Rattle.std.proofs.lemmas.List.{length-replicate}
 use Rattle.cfb_medium.specs.Bytes.{overwritten}
 use Rattle.cfb_medium.specs.Versions.{sector_len}
 use Rattle.cfb_chains.specs.ChainViews.{holder_of, sectors_of, version_of}
-use Rattle.cfb_chains.specs.Positions.{left_in, place_in, tail_in}
+use Rattle.cfb_chains.specs.Positions.{left_in, tail_in}
 use Rattle.cfb_chains.proofs.ChainWriting.{inside_yet, tail_left, written_at, zeros_there}
 use Rattle.cfb_chains.proofs.chain.Chain.zero_tail.Goals as goal
 
