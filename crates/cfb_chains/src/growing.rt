@@ -1,15 +1,15 @@
 // Chains that take sectors into use, at whatever height.
 ghost use Rattle.cfb_chains.specs.Growing.{IsFreeIn, StayBut};
-ghost use Rattle.cfb_chains.specs.Orderly.{IsBeside};
+ghost use Rattle.cfb_chains.specs.Orderly.{IsBeside, IsNoneOf};
 ghost use Rattle.cfb_medium.specs.Calls.{IsFaultUnless};
 ghost use Rattle.cfb_medium.specs.Versions.{sector_len};
 ghost use Rattle.cfb_medium.specs.declared.error.Error.{Error};
 ghost use Rattle.cfb_medium.specs.declared.error.Error.TheVariants.{Failed, Full, InvalidData};
 ghost use Rattle.cfb_medium.specs.declared.version.Version.{Version};
 ghost use Rattle.cfb_sectors.specs.Initial.{initial};
-ghost use Rattle.cfb_sectors.specs.Sectors.{filled_part, sector, sector_start, Chain as IsChain};
+ghost use Rattle.cfb_sectors.specs.Sectors.{filled_part, free, sector, sector_start, Chain as IsChain};
 ghost use Rattle.std.specs.List.{AllByRecursion};
-ghost use Rattle.std.specs.Prelude.{false, true, IfErr, IfOk, IsErrOf, IsTrue, List, OnErr, OnOk, ℕ, [], ◌++◌, ◌∷◌, ◌≡◌, ◌⊎◌};
+ghost use Rattle.std.specs.Prelude.{false, length, slice_get, true, IfErr, IfOk, IsErrOf, IsTrue, List, OnErr, OnOk, Some, ℕ, [], ◌++◌, ◌∷◌, ◌≡◌, ◌⊎◌, ◌≤◌};
 
 use crate::FreesChains;
 use cfb_medium::Error;
@@ -19,6 +19,9 @@ use cfb_sectors::SectorInit;
 pub trait GrowsChains: FreesChains {
     /// The file's version.
     ghost version: { Self → Version };
+
+    /// The sectors that hold the tables. None is taken into use, whatever its entry says.
+    ghost tables: { Self → List ℕ };
 
     /// No sector's number is left for one more.
     ghost is_full: { Self → Type 0 };
@@ -34,6 +37,7 @@ pub trait GrowsChains: FreesChains {
         ensures begins { IfOk result (λ n. IsChain (Self.fat self.new) n (n ∷ []) × grows (n ∷ []) (n ∷ []) self.old self.new) }
         ensures none { OnErr result (grows [] [] self.old self.new) }
         ensures filled { IfOk result (λ n. IsTrue (Self.honest self.old) → sector (version self.old) (Self.bytes self.new) n ≡ initial init (sector_len (version self.old))) }
+        ensures appended { IfOk result (λ n. length (Self.fat self.old) ≤ n → (k : ℕ) → slice_get (Self.fat self.old) k ≡ Some free → IsNoneOf (tables self.old) k → ⊥) }
         ensures writable { IfOk result (λ n. Self.may_write self.new (sector_start (version self.old) n) (sector_len (version self.old))) }
         ensures live { OnOk result ((Self.failed self.old ≡ false) × IsTrue (Self.orderly self.old) × (Self.failed self.new ≡ false)) }
         ensures refused { IsErrOf result InvalidData → (IsTrue (Self.orderly self.old) → ⊥) × Self.rests self.old self.new }
@@ -50,6 +54,7 @@ pub trait GrowsChains: FreesChains {
             × grows (n ∷ []) (last ∷ n ∷ []) self.old self.new) }
         ensures none { OnErr result (grows [] [] self.old self.new) }
         ensures filled { IfOk result (λ n. IsTrue (Self.honest self.old) → sector (version self.old) (Self.bytes self.new) n ≡ initial init (sector_len (version self.old))) }
+        ensures appended { IfOk result (λ n. length (Self.fat self.old) ≤ n → (k : ℕ) → slice_get (Self.fat self.old) k ≡ Some free → IsNoneOf (tables self.old) k → ⊥) }
         ensures writable { IfOk result (λ n. Self.may_write self.new (sector_start (version self.old) n) (sector_len (version self.old))) }
         ensures live { OnOk result ((Self.failed self.old ≡ false) × IsTrue (Self.orderly self.old) × (Self.failed self.new ≡ false)) }
         ensures refused { IsErrOf result InvalidData → (IsTrue (Self.orderly self.old) → (ids : List ℕ) (last : ℕ) → IsChain (Self.fat self.old) start (ids ++ last ∷ []) → ⊥) × Self.rests self.old self.new }
