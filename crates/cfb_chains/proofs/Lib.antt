@@ -1,4 +1,7 @@
+pub mod ChainCutting
+pub mod ChainGrowing
 pub mod ChainParts
+pub mod ChainWriting
 pub mod Entering
 pub mod EntryChanges
 pub mod FatEntries

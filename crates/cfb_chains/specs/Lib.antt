@@ -1,6 +1,10 @@
 pub mod ChainViews
 pub mod Changing
+pub mod Growing
+pub mod Grown
+pub mod Keeping
 pub mod LinkViews
 pub mod Orderly
+pub mod Positions
 pub mod Resting
 pub mod Tables

@@ -1,4 +1,5 @@
 // The sectors behind the FAT, as what any layer above has.
+ghost use Rattle.cfb_chains.specs.Keeping.{own_cause, rests_cause, rests_keep};
 ghost use Rattle.cfb_chains.specs.Resting.{all_rest_refl, all_rest_then};
 
 use crate::Allocator;
@@ -18,6 +19,10 @@ impl<F: ReadMedium> HasSectors for Allocator<F> {
 
     ghost has_cause = { HasCauseBelow };
 
+    fn is_failed(&self) -> bool {
+        self.sectors.is_failed()
+    }
+
     fn read_part(&mut self, place: u64, buffer: &mut [u8]) -> Result<(), Error> {
         self.read_filled(place, buffer)
     }
@@ -25,4 +30,10 @@ impl<F: ReadMedium> HasSectors for Allocator<F> {
     ghost rests_refl = { all_rest_refl };
 
     ghost rests_then = { all_rest_then };
+
+    ghost rests_keep = { rests_keep };
+
+    ghost rests_cause = { rests_cause };
+
+    ghost own_cause = { own_cause };
 }

@@ -1,15 +1,16 @@
 // The bytes of a chain of sectors, read from a position on.
 ghost use Rattle.cfb_medium.specs.Calls.{IsFaultUnless};
 ghost use Rattle.cfb_medium.specs.Versions.{sector_len};
-ghost use Rattle.cfb_medium.specs.declared.error.Error.TheVariants.{InvalidInput};
+ghost use Rattle.cfb_medium.specs.declared.error.Error.TheVariants.{Failed};
+ghost use Rattle.cfb_chains.specs.Positions.{left_in, place_in};
 ghost use Rattle.cfb_chains.specs.LinkViews.{ids_of, links_version};
 ghost use Rattle.cfb_sectors.specs.Sectors.{end_of_chain, greatest_regular, joined};
-ghost use Rattle.cfb_sectors.specs.Seeking.{Finds};
-ghost use Rattle.std.specs.Prelude.{drop, length, slice_index_or, take, vec_len, IfErr, IfOk, IsTrue, OnErr, ℕ, ◌*◌, ◌+◌, ◌-◌, ◌<◌, ◌≡◌, ◌≤◌};
+ghost use Rattle.cfb_sectors.specs.Seeking.{Finds, IsNotFound};
+ghost use Rattle.std.specs.Prelude.{drop, false, length, slice_index_or, take, true, vec_len, IfErr, IfOk, IsErrOf, IsTrue, OnErr, OnOk, ℕ, ◌*◌, ◌+◌, ◌-◌, ◌<◌, ◌≡◌, ◌≤◌};
 
 use crate::Links;
 use cfb_medium::{Error, Version};
-use cfb_sectors::{END_OF_CHAIN, HasSectors, place_found};
+use cfb_sectors::{END_OF_CHAIN, HasSectors, SectorInit, place_found};
 use std::io::SeekFrom;
 
 /// The sectors of a chain, as one list of bytes, at a position.
@@ -18,32 +19,24 @@ pub struct Chain<'a, H: HasSectors> {
     pub(crate) holder: &'a mut H,
     pub(crate) links: Links,
     pub(crate) position: u64,
+    pub(crate) init: SectorInit,
     ghost inside: { position ≤ length (ids_of links) * sector_len (links_version links) },
 }
 
-// The sector of a chain in which a position lies, and its offset there.
-#[tactic(auto, using(crate::proofs::ChainParts::some_bytes))]
-fn sector_and_offset(version: Version, position: u64) -> (u64, u64)
-    ensures whole { result.0 * sector_len version + result.1 ≡ position }
-    ensures inside { result.1 < sector_len version }
-{
-    let len = version.sector_len() as u64;
-    (position / len, position % len)
-}
-
 impl<'a, H: HasSectors> Chain<'a, H> {
-    ghost use Rattle.cfb_chains.specs.ChainViews.{holder_of, position_of, sectors_of, version_of, IsSame};
+    ghost use Rattle.cfb_chains.specs.ChainViews.{holder_of, init_of, position_of, sectors_of, version_of, IsSame};
 
-    /// The chain of these sectors, at its first byte.
-    pub fn new(holder: &'a mut H, links: Links) -> Chain<'a, H>
+    /// The chain of these sectors, at its first byte. What it takes in later holds at first what `init` says.
+    pub fn new(holder: &'a mut H, links: Links, init: SectorInit) -> Chain<'a, H>
         ensures same_reference { result.holder.ghost_name ≡ holder.entry.ghost_name }
         ensures holder { holder_of result ≡ holder.old }
-        ensures chain { (version_of result ≡ links_version links) × (sectors_of result ≡ ids_of links) × (position_of result ≡ 0) }
+        ensures chain { (version_of result ≡ links_version links) × (sectors_of result ≡ ids_of links) × (position_of result ≡ 0) × (init_of result ≡ init) }
     {
         Chain {
             holder,
             links,
             position: 0,
+            init,
         }
     }
 
@@ -79,6 +72,24 @@ impl<'a, H: HasSectors> Chain<'a, H> {
         self.links.sector_ids().len() as u64 * self.links.version().sector_len() as u64
     }
 
+    // The place in the file of the byte at a position, and how many bytes its sector has from there on.
+    #[tactic(auto, using(crate::proofs::ChainWriting::split, crate::proofs::ChainWriting::split_below, crate::proofs::ChainParts::some_bytes, crate::proofs::ChainParts::starts_early))]
+    pub(crate) fn place(&self, position: u64) -> (u64, usize)
+        requires { position < length (sectors_of self.now) * sector_len (version_of self.now) }
+        ensures place { result.0 ≡ place_in (version_of self.now) (sectors_of self.now) position }
+        ensures left { result.1 ≡ left_in (version_of self.now) position }
+    {
+        let version = self.links.version();
+        let len = version.sector_len() as u64;
+        let offset = position % len;
+        let index = (position / len) as usize;
+        let sector_id = self.links.sector_ids()[index];
+        (
+            (u64::from(sector_id) + 1) * len + offset,
+            (len - offset) as usize,
+        )
+    }
+
     /// Reads from the position on what the buffer takes of the sector in which it lies, and moves the position behind that.
     /// 0 bytes are read at the end alone, or into an empty buffer.
     pub fn read(&mut self, buffer: &mut [u8]) -> Result<usize, Error>
@@ -90,35 +101,40 @@ impl<'a, H: HasSectors> Chain<'a, H> {
         ensures moved { IfOk result (λ n. position_of self.new ≡ position_of self.old + n) }
         ensures stays { OnErr result (position_of self.new ≡ position_of self.old) }
         ensures same { IsSame self.old self.new }
+        ensures live { OnOk result (H.failed (holder_of self.old) ≡ false) }
+        ensures failed { H.failed (holder_of self.old) ≡ true → IsErrOf result Failed }
         ensures rests { H.rests (holder_of self.old) (holder_of self.new) }
         ensures cause { IfErr result (H.has_cause (holder_of self.old) (holder_of self.new)) }
         ensures fault { IfErr result (IsFaultUnless ⊥) }
     {
+        if self.holder.is_failed() {
+            return Err(Error::Failed);
+        }
         if self.position == self.len() {
             return Ok(0);
         }
-        let version = self.links.version();
-        let (index, offset) = sector_and_offset(version, self.position);
-        let len = version.sector_len() as u64;
-        let count = buffer.len().min((len - offset) as usize);
-        let sector_id = self.links.sector_ids()[index as usize];
-        let place = (u64::from(sector_id) + 1) * len + offset;
+        let (place, left) = self.place(self.position);
+        let count = buffer.len().min(left);
         self.holder.read_part(place, &mut buffer[..count])?;
         self.position += count as u64;
         Ok(count)
     }
 
     /// Moves the position to a place of the chain or to its end, and gives it. `InvalidInput` where it is before the chain or
-    /// behind its end, and then it stays.
+    /// behind its end, and `Failed` where the layer has failed; then the position stays.
     #[tactic(auto, using(crate::proofs::ChainParts::no_more_bytes))]
     pub fn seek(&mut self, from: SeekFrom) -> Result<u64, Error>
         ensures ok { IfOk result (λ n. Finds from (length (sectors_of self.old) * sector_len (version_of self.old)) (position_of self.old) n × (position_of self.new ≡ n)) }
-        ensures none { OnErr result ((n : ℕ) → Finds from (length (sectors_of self.old) * sector_len (version_of self.old)) (position_of self.old) n → ⊥) }
-        ensures error { IfErr result (λ e. e ≡ InvalidInput) }
+        ensures live { OnOk result (H.failed (holder_of self.old) ≡ false) }
+        ensures error { IfErr result (IsNotFound (H.failed (holder_of self.old)) from (length (sectors_of self.old) * sector_len (version_of self.old)) (position_of self.old)) }
+        ensures failed { H.failed (holder_of self.old) ≡ true → IsErrOf result Failed }
         ensures stays { OnErr result (position_of self.new ≡ position_of self.old) }
         ensures same { IsSame self.old self.new }
         ensures holder { holder_of self.new ≡ holder_of self.old }
     {
+        if self.holder.is_failed() {
+            return Err(Error::Failed);
+        }
         let Some(place) = place_found(from, self.len(), self.position) else {
             return Err(Error::InvalidInput);
         };

@@ -1,9 +1,10 @@
 // Chains that are freed, at whatever height.
-ghost use Rattle.cfb_chains.specs.Orderly.{HaveEntry};
+ghost use Rattle.cfb_chains.specs.Keeping.{changes_keep, rests_keep_tables, writes_keep_tables};
+ghost use Rattle.cfb_chains.specs.Orderly.{DifferAt, HaveEntry};
 ghost use Rattle.cfb_medium.specs.Calls.{IsFaultUnless};
 ghost use Rattle.cfb_medium.specs.declared.error.Error.TheVariants.{Failed, InvalidData};
-ghost use Rattle.cfb_sectors.specs.Sectors.{end_of_chain, free, Chain as IsChain};
-ghost use Rattle.std.specs.Prelude.{false, slice_index_or, true, Bool, IfErr, IsErrOf, IsTrue, List, OnErr, OnOk, ℕ, [], ◌≡◌, ◌⊎◌};
+ghost use Rattle.cfb_sectors.specs.Sectors.{end_of_chain, filled_part, free, Chain as IsChain};
+ghost use Rattle.std.specs.Prelude.{false, slice_index, slice_index_or, true, Bool, IfErr, IsErrOf, IsTrue, List, OnErr, OnOk, ℕ, [], ◌∷◌, ◌≡◌, ◌⊎◌};
 
 use crate::{Allocator, Chain};
 use cfb_medium::{Error, Medium};
@@ -29,6 +30,27 @@ pub trait FreesChains: ChangesSectors {
         ensures failed { Self.failed self.old ≡ true → IsErrOf result Failed × Self.rests self.old self.new }
         ensures cause { IfErr result (Self.has_cause self.old self.new) }
         ensures fault { IfErr result (λ e. (IsFaultUnless ⊥ e × ((Self.failed self.new ≡ true) ⊎ Self.rests self.old self.new)) ⊎ (e ≡ InvalidData)) };
+
+    /// Ends a chain with this sector, and frees those behind it. `InvalidData` where the FAT has no chain from it or the tables
+    /// can't be changed, and then nothing is changed. After a fault in a write it has failed.
+    fn free_chain_after(&mut self, sector_id: u32) -> Result<(), Error>
+        ensures frees { (ids : List ℕ) × OnOk result (IsChain (fat self.old) sector_id (sector_id ∷ ids) × (slice_index (fat self.new) sector_id ≡ end_of_chain) × HaveEntry free (fat self.new) ids)
+            × changes_fat (sector_id ∷ ids) self.old self.new }
+        ensures live { OnOk result ((Self.failed self.old ≡ false) × IsTrue (orderly self.old) × (Self.failed self.new ≡ false)) }
+        ensures refused { IsErrOf result InvalidData → (IsTrue (orderly self.old) → (ids : List ℕ) → IsChain (fat self.old) sector_id (sector_id ∷ ids) → ⊥) × Self.rests self.old self.new }
+        ensures failed { Self.failed self.old ≡ true → IsErrOf result Failed × Self.rests self.old self.new }
+        ensures cause { IfErr result (Self.has_cause self.old self.new) }
+        ensures fault { IfErr result (λ e. (IsFaultUnless ⊥ e × ((Self.failed self.new ≡ true) ⊎ Self.rests self.old self.new)) ⊎ (e ≡ InvalidData)) };
+
+    // other entries stay, and so do the bytes that may be written
+    ghost changes_keep: { (entries : List ℕ) (a b : Self) → changes_fat entries a b → (Self.honest b ≡ Self.honest a)
+        × (Self.failed b ≡ false → (Self.failed a ≡ false) × DifferAt entries (fat a) (fat b)
+        × ((place count : ℕ) → Self.may_write a place count → Self.may_write b place count)
+        × (IsTrue (Self.honest a) → (place count : ℕ) → Self.may_write a place count → filled_part (Self.bytes b) place count ≡ filled_part (Self.bytes a) place count)) };
+
+    ghost writes_keep_tables: { (place : ℕ) (written : List ℕ) (a b : Self) → Self.writes place written a b → (fat b ≡ fat a) × (orderly b ≡ orderly a) };
+
+    ghost rests_keep_tables: { (a b : Self) → Self.rests a b → (fat b ≡ fat a) × (orderly b ≡ orderly a) × ((place count : ℕ) → Self.may_write a place count → Self.may_write b place count) };
 }
 
 impl<F: Medium> FreesChains for Allocator<F> {
@@ -44,10 +66,20 @@ impl<F: Medium> FreesChains for Allocator<F> {
     fn free_chain(&mut self, start: u32) -> Result<(), Error> {
         Allocator::free_chain(self, start)
     }
+
+    fn free_chain_after(&mut self, sector_id: u32) -> Result<(), Error> {
+        Allocator::free_chain_after(self, sector_id)
+    }
+
+    ghost changes_keep = { changes_keep };
+
+    ghost writes_keep_tables = { writes_keep_tables };
+
+    ghost rests_keep_tables = { rests_keep_tables };
 }
 
 impl<'a, H: FreesChains> Chain<'a, H> {
-    ghost use Rattle.cfb_chains.specs.ChainViews.{holder_of, position_of, sectors_of, version_of};
+    ghost use Rattle.cfb_chains.specs.ChainViews.{holder_of, position_of, sectors_of, IsSameBut};
 
     /// Frees the sectors of the chain from its first on, as the FAT has it; it has none then. `InvalidData` where the FAT has
     /// none or the tables can't be changed, and then nothing is changed. After a fault in a write the layer has failed.
@@ -56,7 +88,7 @@ impl<'a, H: FreesChains> Chain<'a, H> {
             × H.changes_fat ids (holder_of self.old) (holder_of self.new) }
         ensures emptied { OnOk result ((sectors_of self.new ≡ []) × (position_of self.new ≡ 0)) }
         ensures kept { OnErr result ((sectors_of self.new ≡ sectors_of self.old) × (position_of self.new ≡ position_of self.old)) }
-        ensures same { (self.new.holder.ghost_name ≡ self.old.holder.ghost_name) × (version_of self.new ≡ version_of self.old) }
+        ensures same { IsSameBut self.old self.new }
         ensures live { OnOk result ((H.failed (holder_of self.old) ≡ false) × IsTrue (H.orderly (holder_of self.old)) × (H.failed (holder_of self.new) ≡ false)) }
         ensures refused { IsErrOf result InvalidData → (IsTrue (H.orderly (holder_of self.old)) → (ids : List ℕ) → IsChain (H.fat (holder_of self.old)) (slice_index_or (sectors_of self.old) 0 end_of_chain) ids → ⊥)
             × H.rests (holder_of self.old) (holder_of self.new) }

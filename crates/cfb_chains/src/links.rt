@@ -1,7 +1,7 @@
 // The sectors of a chain, in order.
-ghost use Rattle.cfb_medium.specs.declared.error.Error.TheVariants.{InvalidData, Memory};
+ghost use Rattle.cfb_medium.specs.declared.error.Error.TheVariants.{Full, InvalidData, Memory};
 ghost use Rattle.cfb_sectors.specs.Sectors.{greatest_regular, Chain as IsChain};
-ghost use Rattle.std.specs.Prelude.{length, vec_len, IfErr, IfOk, IsErrOf, List, OnOk, ℕ, [], ◌+◌, ◌≡◌, ◌≤◌, ◌⊎◌};
+ghost use Rattle.std.specs.Prelude.{length, take, vec_len, IfErr, IfOk, IsErrOf, List, OnOk, ℕ, [], ◌+◌, ◌++◌, ◌<◌, ◌∷◌, ◌≡◌, ◌≤◌, ◌⊎◌};
 
 use cfb_medium::{Error, Version};
 use cfb_sectors::{END_OF_CHAIN, MAX_REGULAR_SECTOR};
@@ -16,7 +16,7 @@ pub struct Links {
 }
 
 impl Links {
-    ghost use Rattle.cfb_chains.specs.LinkViews.{ids_of, links_version};
+    ghost use Rattle.cfb_chains.specs.LinkViews.{ids_of, links_version, HasRoom};
 
     /// These sectors of a file of this version. `InvalidData` where they are more than there are numbers for them.
     pub fn new(version: Version, sector_ids: Vec<u32>) -> Result<Links, Error>
@@ -45,6 +45,34 @@ impl Links {
         ensures { (ids_of self.new ≡ []) × (links_version self.new ≡ links_version self.old) }
     {
         self.sector_ids.clear();
+    }
+
+    /// Makes room for one sector more. `Full` where there is no number for it.
+    pub(crate) fn reserve_one(&mut self) -> Result<(), Error>
+        ensures room { OnOk result (HasRoom self.new) }
+        ensures same { (ids_of self.new ≡ ids_of self.old) × (links_version self.new ≡ links_version self.old) }
+        ensures error { IfErr result (λ e. (e ≡ Memory) ⊎ ((e ≡ Full) × (greatest_regular < length (ids_of self.old)))) }
+    {
+        if self.sector_ids.len() > MAX_REGULAR_SECTOR as usize {
+            return Err(Error::Full);
+        }
+        self.sector_ids.reserve(1)?;
+        Ok(())
+    }
+
+    /// Takes in a sector behind the last.
+    pub(crate) fn push_reserved(&mut self, sector_id: u32)
+        requires { HasRoom self.old }
+        ensures { (ids_of self.new ≡ ids_of self.old ++ sector_id ∷ []) × (links_version self.new ≡ links_version self.old) }
+    {
+        self.sector_ids.push_reserved(sector_id);
+    }
+
+    /// Keeps so many sectors, those at the front.
+    pub(crate) fn truncate(&mut self, count: usize)
+        ensures { (ids_of self.new ≡ take count (ids_of self.old)) × (links_version self.new ≡ links_version self.old) }
+    {
+        self.sector_ids.truncate(count);
     }
 
     /// The sectors.

@@ -2,7 +2,7 @@ ghost use Rattle.std.specs.Prelude.{length, ◌≤◌};
 
 use crate::{Allocator, Chain};
 use cfb_medium::{Error, MemoryMedium, Version};
-use cfb_sectors::{END_OF_CHAIN, FAT_SECTOR, FREE_SECTOR, Sector, Sectors};
+use cfb_sectors::{END_OF_CHAIN, FAT_SECTOR, FREE_SECTOR, Sector, SectorInit, Sectors};
 use std::alloc::Global;
 use std::test::Fail;
 
@@ -27,7 +27,7 @@ fn chain_is_read(rt: HostRuntime) -> Result<(), Fail> {
     let mut allocator = file_with(rt.alloc(), &[FAT_SECTOR, 2, END_OF_CHAIN])?;
     let links = allocator.open_chain(1)?;
     assert_eq!(rt; links.sector_ids(), [1, 2].as_slice());
-    let mut chain = Chain::new(&mut allocator, links);
+    let mut chain = Chain::new(&mut allocator, links, SectorInit::Zero);
     assert_eq!(rt; chain.len(), 1024);
     let mut read = [0; 8];
     assert_eq!(rt; chain.read(&mut read)?, 8);
@@ -56,7 +56,7 @@ fn chains_are_freed(rt: HostRuntime) -> Result<(), Fail> {
 fn chain_frees_itself(rt: HostRuntime) -> Result<(), Fail> {
     let mut allocator = file_with(rt.alloc(), &[FAT_SECTOR, 2, END_OF_CHAIN])?;
     let links = allocator.open_chain(1)?;
-    let mut chain = Chain::new(&mut allocator, links);
+    let mut chain = Chain::new(&mut allocator, links, SectorInit::Zero);
     chain.free()?;
     assert_eq!(rt; chain.len(), 0);
     drop(chain);

@@ -1,5 +1,6 @@
 // The calls that write beside the tables.
 ghost use Rattle.cfb_chains.specs.Changing.{MayWrite, WritesBeside};
+ghost use Rattle.cfb_chains.specs.Keeping.{writes_cause, writes_keep};
 ghost use Rattle.cfb_medium.specs.Calls.{IsFaultUnless};
 ghost use Rattle.cfb_medium.specs.declared.error.Error.TheVariants.{Failed, InvalidData};
 ghost use Rattle.cfb_sectors.specs.Held.{count_of};
@@ -96,4 +97,8 @@ impl<F: Medium> ChangesSectors for Allocator<F> {
         self.write_beside(place, bytes)?;
         Ok(())
     }
+
+    ghost writes_keep = { writes_keep };
+
+    ghost writes_cause = { writes_cause };
 }

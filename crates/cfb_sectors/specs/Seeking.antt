@@ -1,5 +1,7 @@
 -- Where a seek goes.
-use Rattle.std.specs.Prelude.{◌≡◌, ℕ, ◌≤◌, ℤ, pos, ◌+ℤ◌}
+use Rattle.std.specs.Prelude.{◌≡◌, ℕ, ◌≤◌, ◌⊎◌, ℤ, pos, ◌+ℤ◌, Bool, false, true}
+use Rattle.cfb_medium.specs.declared.error.Error.{Error}
+use Rattle.cfb_medium.specs.declared.error.Error.TheVariants.{Failed, InvalidInput}
 use Rattle.std.specs.declared.io.SeekFrom.{SeekFrom}
 use Rattle.std.specs.declared.io.SeekFrom.TheVariants.{Start, End, Current}
 
@@ -13,3 +15,8 @@ asked (Current by) len position = pos position +ℤ by
 pub record Finds (from : SeekFrom) (len position found : ℕ) : Type 0 where
   pub place : pos found ≡ asked from len position
   pub inside : found ≤ len
+
+-- why a seek isn't done: a fault before has left a state of failure, or there is no such place
+abbrev pub IsNotFound : Bool → SeekFrom → ℕ → ℕ → Error → Type 0
+IsNotFound failed from len position error =
+    ((error ≡ Failed) × (failed ≡ true)) ⊎ ((error ≡ InvalidInput) × (failed ≡ false) × ((n : ℕ) → Finds from len position n → ⊥))

@@ -1,4 +1,5 @@
 // The sectors of a medium, as what any layer above has.
+ghost use Rattle.cfb_sectors.specs.Keeping as Keeping;
 ghost use Rattle.cfb_sectors.specs.Resting as Resting;
 
 use crate::{ChangesSectors, HasSectors, Sectors};
@@ -17,6 +18,10 @@ impl<F: ReadMedium> HasSectors for Sectors<F> {
 
     ghost has_cause = { HasItsCause };
 
+    fn is_failed(&self) -> bool {
+        Sectors::is_failed(self)
+    }
+
     fn read_part(&mut self, place: u64, buffer: &mut [u8]) -> Result<(), Error> {
         if self.is_failed() {
             return Err(Error::Failed);
@@ -28,6 +33,12 @@ impl<F: ReadMedium> HasSectors for Sectors<F> {
     ghost rests_refl = { Resting.rests_refl };
 
     ghost rests_then = { Resting.rests_then };
+
+    ghost rests_keep = { Keeping.rests_keep };
+
+    ghost rests_cause = { Keeping.rests_cause };
+
+    ghost own_cause = { Keeping.own_cause };
 }
 
 impl<F: Medium> ChangesSectors for Sectors<F> {
@@ -47,4 +58,8 @@ impl<F: Medium> ChangesSectors for Sectors<F> {
         self.write_at(place, bytes)?;
         Ok(())
     }
+
+    ghost writes_keep = { Keeping.writes_keep };
+
+    ghost writes_cause = { Keeping.writes_cause };
 }

@@ -2,9 +2,9 @@
 ghost use Rattle.cfb_medium.specs.Bytes.{overwritten};
 ghost use Rattle.cfb_medium.specs.Calls.{IsFaultUnless};
 ghost use Rattle.cfb_medium.specs.declared.error.Error.{Error};
-ghost use Rattle.cfb_medium.specs.declared.error.Error.TheVariants.{Failed, InvalidData, InvalidInput};
+ghost use Rattle.cfb_medium.specs.declared.error.Error.TheVariants.{Device, Failed, InvalidData};
 ghost use Rattle.cfb_sectors.specs.Sectors.{filled_part};
-ghost use Rattle.cfb_sectors.specs.Seeking.{Finds};
+ghost use Rattle.cfb_sectors.specs.Seeking.{Finds, IsNotFound};
 ghost use Rattle.std.specs.Prelude.{drop, false, length, min, take, true, Bool, IfErr, IfOk, IsErrOf, IsTrue, List, MatchOption, OnErr, OnOk, ℕ, ◌+◌, ◌++◌, ◌-◌, ◌<◌, ◌≡◌, ◌≤◌, ◌↔◌, ◌⊎◌, ◌^◌};
 
 use cfb_medium::Error;
@@ -30,6 +30,10 @@ pub trait HasSectors {
     /// The error has its cause between the two states, or before them.
     ghost has_cause: { Self → Self → Error → Type 0 };
 
+    /// Whether a fault in a write has left it in a state in which every call is refused.
+    fn is_failed(&self) -> bool
+        ensures { result ≡ failed self.now };
+
     /// Fills the buffer with the bytes from a place of the file on, and with zeros where there are no more.
     fn read_part(&mut self, place: u64, buffer: &mut [u8]) -> Result<(), Error>
         ensures read { OnOk result (IsTrue (honest self.old) → buffer.new ≡ filled_part (bytes self.old) place (length buffer.old)) }
@@ -41,6 +45,13 @@ pub trait HasSectors {
     ghost rests_refl: { (it : Self) → rests it it };
 
     ghost rests_then: { (a b c : Self) → rests a b → rests b c → rests a c };
+
+    ghost rests_keep: { (a b : Self) → rests a b → (honest b ≡ honest a) × (failed b ≡ failed a) × (IsTrue (honest a) → bytes b ≡ bytes a) };
+
+    ghost rests_cause: { (a b c : Self) (e : Error) → rests a b → has_cause b c e → has_cause a c e };
+
+    // an error that is no device's has no cause but an earlier fault
+    ghost own_cause: { (a b : Self) (e : Error) → (e ≡ Device → ⊥) → (e ≡ Failed → failed a ≡ true) → has_cause a b e };
 }
 
 /// Such a layer over a medium that is written too.
@@ -56,12 +67,19 @@ pub trait ChangesSectors: HasSectors {
     fn write_part(&mut self, place: u64, bytes: &[u8]) -> Result<(), Error>
         ensures writes { may_write self.old place (length bytes.now) → writes place bytes.now self.old self.new }
         ensures rests { (may_write self.old place (length bytes.now) → ⊥) → Self.rests self.old self.new }
+        ensures either { writes place bytes.now self.old self.new ⊎ Self.rests self.old self.new }
+        ensures there { OnOk result (may_write self.old place (length bytes.now)) }
         ensures refused { IsErrOf result InvalidData ↔ ((Self.failed self.old ≡ false) × (may_write self.old place (length bytes.now) → ⊥)) }
         ensures still { (at count : ℕ) → may_write self.old at count → may_write self.new at count }
         ensures live { OnOk result ((Self.failed self.old ≡ false) × (Self.failed self.new ≡ false)) }
         ensures failed { Self.failed self.old ≡ true → IsErrOf result Failed × Self.rests self.old self.new }
         ensures cause { IfErr result (Self.has_cause self.old self.new) }
         ensures fault { IfErr result (λ e. (IsFaultUnless ⊥ e × (Self.failed self.new ≡ true)) ⊎ (e ≡ InvalidData)) };
+
+    ghost writes_keep: { (place : ℕ) (written : List ℕ) (a b : Self) → writes place written a b
+        → (Self.honest b ≡ Self.honest a) × (Self.failed b ≡ false → (Self.failed a ≡ false) × (IsTrue (Self.honest a) → Self.bytes b ≡ overwritten (Self.bytes a) place written)) };
+
+    ghost writes_cause: { (place : ℕ) (written : List ℕ) (a b c : Self) (e : Error) → writes place written a b → Self.failed b ≡ false → Self.has_cause b c e → Self.has_cause a c e };
 }
 
 /// A part of a file, and a position in it or at its end.
@@ -155,15 +173,19 @@ impl<'a, H: HasSectors> Sector<'a, H> {
     }
 
     /// Moves the position to a place of the part or to its end, and gives it. `InvalidInput` where it is before the part or
-    /// behind its end, and then it stays.
+    /// behind its end, and `Failed` where the layer has failed; then the position stays.
     pub fn seek(&mut self, from: SeekFrom) -> Result<u64, Error>
         ensures ok { IfOk result (λ n. Finds from (len_of self.old) (position_of self.old) n × (position_of self.new ≡ n)) }
-        ensures none { OnErr result ((n : ℕ) → Finds from (len_of self.old) (position_of self.old) n → ⊥) }
-        ensures error { IfErr result (λ e. e ≡ InvalidInput) }
+        ensures live { OnOk result (H.failed (holder_of self.old) ≡ false) }
+        ensures error { IfErr result (IsNotFound (H.failed (holder_of self.old)) from (len_of self.old) (position_of self.old)) }
+        ensures failed { H.failed (holder_of self.old) ≡ true → IsErrOf result Failed }
         ensures stays { OnErr result (position_of self.new ≡ position_of self.old) }
         ensures same { IsSame self.old self.new }
         ensures holder { holder_of self.new ≡ holder_of self.old }
     {
+        if self.holder.is_failed() {
+            return Err(Error::Failed);
+        }
         let Some(place) = place_found(from, self.part.len as u64, self.part.position as u64) else {
             return Err(Error::InvalidInput);
         };
@@ -216,6 +238,7 @@ impl<'a, H: ChangesSectors> Sector<'a, H> {
         ensures count { IfOk result (λ n. n ≡ min (length bytes.now) (len_of self.old - position_of self.old)) }
         ensures writes { H.may_write (holder_of self.old) (start_of self.old + position_of self.old) (min (length bytes.now) (len_of self.old - position_of self.old)) → H.writes (start_of self.old + position_of self.old) (take (len_of self.old - position_of self.old) bytes.now) (holder_of self.old) (holder_of self.new) }
         ensures rests { (H.may_write (holder_of self.old) (start_of self.old + position_of self.old) (min (length bytes.now) (len_of self.old - position_of self.old)) → ⊥) → H.rests (holder_of self.old) (holder_of self.new) }
+        ensures there { OnOk result (H.may_write (holder_of self.old) (start_of self.old + position_of self.old) (min (length bytes.now) (len_of self.old - position_of self.old))) }
         ensures refused { IsErrOf result InvalidData ↔ ((H.failed (holder_of self.old) ≡ false) × (H.may_write (holder_of self.old) (start_of self.old + position_of self.old) (min (length bytes.now) (len_of self.old - position_of self.old)) → ⊥)) }
         ensures still { (at count : ℕ) → H.may_write (holder_of self.old) at count → H.may_write (holder_of self.new) at count }
         ensures moved { IfOk result (λ n. position_of self.new ≡ position_of self.old + n) }

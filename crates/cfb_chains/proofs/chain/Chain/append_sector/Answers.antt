@@ -1,0 +1,29 @@
+use Rattle.std.proofs.Common.{◌++◌, ◌∷◌, [], ◌∙◌, sym, ap, arith, subst}
+use Rattle.std.proofs.lemmas.List.{append-nil}
+use Rattle.cfb_chains.specs.ChainViews.{holder_of, sectors_of}
+use Rattle.cfb_chains.specs.Growing.{AreAmong}
+use Rattle.cfb_chains.specs.Grown.{IsLinked}
+use Rattle.cfb_chains.proofs.chain.Chain.append_sector.Goals as goal
+
+pub returns-then-is_failed-clause-grows : goal.returns-then-is_failed-clause-grows
+returns-then-is_failed-clause-grows g c =
+    let it = holder_of c.args.self.now in
+    ([], [], sym (append-nil (sectors_of c.args.self.now)), g.met.H.GrowsChains.grows_rest [] it it (g.met.H.HasSectors.rests_refl it), λ linked n none k below same. absurd (omega (arith, below)))
+
+pub returns-in-Err-clause-grows : goal.returns-in-Err-clause-grows
+returns-in-Err-clause-grows g c =
+    let it = holder_of c.args.self.now in
+    ([], [], c.reserve_one.ensures.same.0 ∙ sym (append-nil (sectors_of c.args.self.now)), g.met.H.GrowsChains.grows_rest [] it it (g.met.H.HasSectors.rests_refl it), λ linked n none k below same. absurd (omega (arith, below)))
+
+pub returns-in-Ok-clause-grows : goal.returns-in-Ok-clause-grows
+returns-in-Ok-clause-grows g c =
+    let grown = c.in-Ok.ensures.grows in
+    let n = c.in-Ok.sector_id in
+    let same = c.reserve_one.ensures.same.0 in
+    let with_it = c.push_reserved.ensures.0 ∙ ap (λ l. l.sector_ids.items ++ n ∷ []) c.take_sector.ensures.links in (
+      n ∷ [],
+      grown.0,
+      with_it ∙ ap (λ l. l ++ n ∷ []) same,
+      grown.1,
+      λ linked. subst (λ s. AreAmong s grown.0) (sym with_it) (grown.2 (subst (IsLinked (g.H.FreesChains.fat (holder_of c.args.self.now))) (sym same) linked)),
+    )

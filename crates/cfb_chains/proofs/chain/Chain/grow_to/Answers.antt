@@ -1,0 +1,98 @@
+use Rattle.std.proofs.Common.{◌≡◌, ◌++◌, ◌-◌, ◌∙◌, [], append_assoc, ap, arith, length, refl, subst, sym, Err, IsTrue}
+use Rattle.std.proofs.lemmas.List.{append-nil}
+use Rattle.cfb_medium.specs.Versions.{sector_len}
+use Rattle.cfb_sectors.specs.Copies.{copies}
+use Rattle.cfb_sectors.specs.Initial.{initial}
+use Rattle.cfb_sectors.specs.Sectors.{joined}
+use Rattle.cfb_chains.specs.ChainViews.{holder_of, init_of, sectors_of, version_of}
+use Rattle.cfb_chains.specs.Growing.{AreAmong}
+use Rattle.cfb_chains.specs.Grown.{AreWritable, IsLinked}
+use Rattle.cfb_chains.proofs.ChainGrowing.{among_both, among_more, filled_step, rests_yet, writable_still}
+use Rattle.cfb_chains.proofs.chain.Chain.grow_to.Goals as goal
+
+pub grow-init : goal.grow-init
+grow-init g c =
+    let it = c.args.self.now in
+    let h = holder_of it in
+    let none : length (sectors_of it) - length (sectors_of it) ≡ 0 = omega arith in
+    record {
+      grows = ([], [], sym (append-nil (sectors_of it)), g.met.H.GrowsChains.grows_rest [] h h (g.met.H.HasSectors.rests_refl h), λ linked n none k below same. absurd (omega (arith, below)));
+      most = c.requires.more;
+      least = omega arith;
+      live = c.requires.live;
+      linked = λ linked. linked;
+      writable = λ version all. all;
+      filled = λ honest version linked all. sym (ap (λ k. joined (version_of it) (g.H.HasSectors.bytes h) (sectors_of it) ++ copies k (initial (init_of it) (sector_len (version_of it)))) none ∙ append-nil (joined (version_of it) (g.H.HasSectors.bytes h) (sectors_of it)));
+      same = record { holder = refl; version = refl; init = refl };
+      position = refl;
+    }
+
+pub returns-in-Err-clause-grows : goal.returns-in-Err-clause-grows
+returns-in-Err-clause-grows g c =
+    let was = c.grow.invariant.grows in
+    let grown = c.append_sector.ensures.grows in (
+      was.0 ++ grown.0,
+      was.1 ++ grown.1,
+      grown.2 ∙ ap (λ l. l ++ grown.0) was.2 ∙ append_assoc (sectors_of c.args.self.now) was.0 grown.0,
+      g.met.H.GrowsChains.grows_then was.0 was.1 grown.0 grown.1 _ _ _ was.3 grown.3,
+      λ linked. among_both (sectors_of c.append_sector.new.self) was.1 grown.1 (subst (λ s. AreAmong s was.1) (sym grown.2) (among_more (sectors_of c.grow.self) grown.0 was.1 (was.4 linked))) (grown.4 (c.grow.invariant.linked linked)),
+    )
+
+pub returns-in-Err-clause-linked : goal.returns-in-Err-clause-linked
+returns-in-Err-clause-linked g c = λ live linked.
+    let rests = rests_yet _ c.in-Err.ensures.fault (λ is. (c.in-Err.ensures.refused (ap Err is)).1) (λ is. (c.in-Err.ensures.full (ap Err is)).1) live in
+    let fat = (g.met.H.FreesChains.rests_keep_tables _ _ rests).0 in
+    subst (λ f. IsLinked f (sectors_of c.append_sector.new.self)) (sym fat) (subst (IsLinked (g.H.FreesChains.fat (holder_of c.grow.self))) (sym c.in-Err.ensures.none) (c.grow.invariant.linked linked))
+
+pub returns-in-Err-clause-writable : goal.returns-in-Err-clause-writable
+returns-in-Err-clause-writable g c = λ live version all.
+    let rests = rests_yet _ c.in-Err.ensures.fault (λ is. (c.in-Err.ensures.refused (ap Err is)).1) (λ is. (c.in-Err.ensures.full (ap Err is)).1) live in
+    let still = (g.met.H.FreesChains.rests_keep_tables _ _ rests).2 in
+    let v = version_of c.args.self.now in
+    let then = g.H.ChangesSectors.may_write (holder_of c.append_sector.new.self) in
+    subst (AreWritable then v) (sym c.in-Err.ensures.none) (writable_still (g.H.ChangesSectors.may_write (holder_of c.grow.self)) then v (sectors_of c.grow.self) still (c.grow.invariant.writable version all))
+
+pub returns-in-Err-clause-filled : goal.returns-in-Err-clause-filled
+returns-in-Err-clause-filled g c = λ live honest version linked all.
+    let rests = rests_yet _ c.in-Err.ensures.fault (λ is. (c.in-Err.ensures.refused (ap Err is)).1) (λ is. (c.in-Err.ensures.full (ap Err is)).1) live in
+    let it = c.args.self.now in
+    let v = version_of it in
+    let kept = g.met.H.GrowsChains.grows_keep _ _ _ _ c.grow.invariant.grows.3 in
+    let bytes = (g.met.H.HasSectors.rests_keep _ _ rests).2 (subst IsTrue (sym kept.0) honest) in
+    ap (λ b. joined v b (sectors_of c.append_sector.new.self)) bytes
+    ∙ subst (λ s. joined v (g.H.HasSectors.bytes (holder_of c.grow.self)) s ≡ joined v (g.H.HasSectors.bytes (holder_of it)) (sectors_of it) ++ copies (length s - length (sectors_of it)) (initial (init_of it) (sector_len v)))
+    (sym c.in-Err.ensures.none) (c.grow.invariant.filled honest version linked all)
+
+pub grow-preserved : goal.grow-preserved
+grow-preserved g c =
+    let was = c.grow.invariant.grows in
+    let grown = c.append_sector.ensures.grows in
+    let it = c.args.self.now in
+    let mid = c.grow.self in
+    let new = c.append_sector.new.self in
+    let same = c.grow.invariant.same in
+    let then = c.append_sector.ensures.same in
+    let kept = g.met.H.GrowsChains.grows_keep _ _ _ _ was.3 in
+    let here = λ (version : g.H.GrowsChains.version (holder_of it) ≡ version_of it). kept.1 ∙ version ∙ sym same.version in
+    let able = λ (version : g.H.GrowsChains.version (holder_of it) ≡ version_of it) (all : AreWritable (g.H.ChangesSectors.may_write (holder_of it)) (version_of it) (sectors_of it)).
+    subst (λ u. AreWritable (g.H.ChangesSectors.may_write (holder_of mid)) u (sectors_of mid)) (sym same.version) (c.grow.invariant.writable version all) in
+    record {
+      grows = (
+        was.0 ++ grown.0,
+        was.1 ++ grown.1,
+        grown.2 ∙ ap (λ l. l ++ grown.0) was.2 ∙ append_assoc (sectors_of it) was.0 grown.0,
+        g.met.H.GrowsChains.grows_then was.0 was.1 grown.0 grown.1 _ _ _ was.3 grown.3,
+        λ linked. among_both (sectors_of new) was.1 grown.1 (subst (λ s. AreAmong s was.1) (sym grown.2) (among_more (sectors_of mid) grown.0 was.1 (was.4 linked))) (grown.4 (c.grow.invariant.linked linked)),
+      );
+      most = omega (arith, c.in_default.ensures.longer, c.grow-test.true, c.num_sectors.ensures);
+      least = omega (arith, c.in_default.ensures.longer, c.grow.invariant.least);
+      live = c.in_default.ensures.live.2;
+      linked = λ linked. c.in_default.ensures.linked (c.grow.invariant.linked linked);
+      writable = λ version all. subst (λ u. AreWritable (g.H.ChangesSectors.may_write (holder_of new)) u (sectors_of new)) same.version (c.in_default.ensures.writable (here version) (able version all));
+      filled = λ honest version linked all.
+          filled_step (version_of it) (version_of mid) (init_of it) (init_of mid) _ (g.H.HasSectors.bytes (holder_of mid)) (g.H.HasSectors.bytes (holder_of new)) (sectors_of it) (sectors_of mid) (sectors_of new)
+          same.version same.init c.in_default.ensures.longer c.grow.invariant.least (c.grow.invariant.filled honest version linked all)
+          (c.in_default.ensures.filled (subst IsTrue (sym kept.0) honest) (here version) (c.grow.invariant.linked linked) (able version all));
+      same = record { holder = then.holder ∙ same.holder; version = then.version ∙ same.version; init = then.init ∙ same.init };
+      position = c.append_sector.ensures.position ∙ c.grow.invariant.position;
+    }

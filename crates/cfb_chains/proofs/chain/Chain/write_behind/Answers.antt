@@ -1,0 +1,66 @@
+use Rattle.std.proofs.Common.{◌≡◌, ◌∙◌, sym, subst, ⊎_elim, IsTrue}
+use Rattle.cfb_chains.specs.ChainViews.{holder_of, position_of, sectors_of, version_of}
+use Rattle.cfb_chains.specs.Growing.{AreAmong}
+use Rattle.cfb_chains.specs.Grown.{AreWritable, IsLinked}
+use Rattle.cfb_chains.proofs.ChainGrowing.{chain_once, either_there, writable_still, written_there}
+use Rattle.cfb_chains.proofs.chain.Chain.write_behind.Goals as goal
+
+pub returns-in-Ok-clause-grows : goal.returns-in-Ok-clause-grows
+returns-in-Ok-clause-grows g c =
+    let old = c.args.self.now in
+    let mid = c.append_sector.new.self in
+    let new = c.write_inside.new.self in
+    let grown = c.append_sector.ensures.grows in
+    let same = c.write_inside.ensures.same.sectors in (
+      grown.0,
+      grown.1,
+      holder_of mid,
+      same ∙ grown.2,
+      grown.3,
+      λ linked. subst (λ s. AreAmong s grown.1) (sym same) (grown.4 linked),
+      either_there (λ p b. g.H.ChangesSectors.writes p b (holder_of mid) (holder_of new)) _ (version_of old) (version_of mid) (sectors_of new) (sectors_of mid) _ (position_of old) (position_of mid)
+          c.append_sector.ensures.same.version (sym same) c.append_sector.ensures.position c.write_inside.ensures.either,
+    )
+
+pub returns-in-Err-write_inside-clause-grows : goal.returns-in-Err-write_inside-clause-grows
+returns-in-Err-write_inside-clause-grows g c =
+    let old = c.args.self.now in
+    let mid = c.append_sector.new.self in
+    let new = c.write_inside.new.self in
+    let grown = c.append_sector.ensures.grows in
+    let same = c.write_inside.ensures.same.sectors in (
+      grown.0,
+      grown.1,
+      holder_of mid,
+      same ∙ grown.2,
+      grown.3,
+      λ linked. subst (λ s. AreAmong s grown.1) (sym same) (grown.4 linked),
+      either_there (λ p b. g.H.ChangesSectors.writes p b (holder_of mid) (holder_of new)) _ (version_of old) (version_of mid) (sectors_of new) (sectors_of mid) _ (position_of old) (position_of mid)
+          c.append_sector.ensures.same.version (sym same) c.append_sector.ensures.position c.write_inside.ensures.either,
+    )
+
+pub returns-in-Ok-clause-linked : goal.returns-in-Ok-clause-linked
+returns-in-Ok-clause-linked g c = λ linked.
+    let same = c.write_inside.ensures.same.sectors in
+    let fat : g.H.FreesChains.fat (holder_of c.write_inside.new.self) ≡ g.H.FreesChains.fat (holder_of c.append_sector.new.self) =
+    ⊎_elim (λ w. (g.met.H.FreesChains.writes_keep_tables _ _ _ _ w).0) (λ r. (g.met.H.FreesChains.rests_keep_tables _ _ r).0) c.write_inside.ensures.either in
+    subst (λ f. IsLinked f (sectors_of c.write_inside.new.self)) (sym fat) (subst (IsLinked (g.H.FreesChains.fat (holder_of c.append_sector.new.self))) (sym same) (c.in_default.ensures.linked linked))
+
+pub returns-in-Ok-clause-writable : goal.returns-in-Ok-clause-writable
+returns-in-Ok-clause-writable g c = λ version all.
+    let same = c.write_inside.ensures.same.sectors in
+    let then = g.H.ChangesSectors.may_write (holder_of c.write_inside.new.self) in
+    let v = version_of c.args.self.now in
+    subst (AreWritable then v) (sym same) (writable_still (g.H.ChangesSectors.may_write (holder_of c.append_sector.new.self)) then v (sectors_of c.append_sector.new.self) c.write_inside.ensures.still (c.in_default.ensures.writable version all))
+
+pub returns-in-Ok-clause-written : goal.returns-in-Ok-clause-written
+returns-in-Ok-clause-written g c = λ honest version linked all.
+    let old = c.args.self.now in
+    let mid = c.append_sector.new.self in
+    let new = c.write_inside.new.self in
+    let filled = c.in_default.ensures.filled honest version linked all in
+    let linked_mid = c.in_default.ensures.linked linked in
+    let kept = g.met.H.GrowsChains.grows_keep _ _ _ _ c.append_sector.ensures.grows.3 in
+    let written = c.in-Ok.ensures.written (subst IsTrue (sym kept.0) honest) (chain_once _ _ _ linked_mid) in
+    written_there (version_of old) (version_of mid) _ _ (sectors_of new) (sectors_of mid) _ _ (position_of old) (position_of mid)
+    c.append_sector.ensures.same.version (sym c.write_inside.ensures.same.sectors) c.append_sector.ensures.position filled written

@@ -1,0 +1,35 @@
+-- What reads and writes keep, and the causes of errors after them.
+use Rattle.std.specs.Prelude.{◌≡◌, ℕ, ◌||◌, false, true, List, IsTrue, refl}
+use Rattle.std.proofs.Common.{sym, subst, ◌∙◌}
+use Rattle.cfb_medium.specs.Bytes.{overwritten}
+use Rattle.cfb_medium.specs.Calls.{HasCause}
+use Rattle.cfb_medium.specs.declared.error.Error.{Error}
+use Rattle.cfb_medium.specs.declared.error.Error.TheVariants.{Device, Failed}
+use Rattle.cfb_medium.specs.declared.medium.ReadMedium.{Ghosts}
+use Rattle.cfb_sectors.specs.declared.sectors.Sectors.{Sectors}
+use Rattle.cfb_sectors.specs.Held.{bytes_of, has_failed_here, HasItsCause, IsHonest, Rests, Writes}
+
+module _ {F : Type 0} {g : Ghosts F} where
+  pub rests_keep : (a b : Sectors F g) → Rests a b → (g.honest b.inner ≡ g.honest a.inner) × (has_failed_here b ≡ has_failed_here a) × (IsHonest a → bytes_of b ≡ bytes_of a)
+  rests_keep a b h = (h.honest, h.failed, h.bytes)
+
+  -- an error has its cause also since a state that led to the old one, and had failed where that has
+  since : (a b c : Sectors F g) (e : Error) → ((start : F) → g.continues start a.inner → g.continues start b.inner) → has_failed_here b ≡ has_failed_here a → HasItsCause b c e → HasItsCause a c e
+  since a b c e leads same cause = λ start from. subst (λ f. HasCause g.failures (λ m. f || g.failed m) start c.inner e) same (cause start (leads start from))
+
+  pub rests_cause : (a b c : Sectors F g) (e : Error) → Rests a b → HasItsCause b c e → HasItsCause a c e
+  rests_cause a b c e h = since a b c e h.continues h.failed
+
+  -- an error that is no device's has no cause but an earlier fault
+  pub own_cause : (a b : Sectors F g) (e : Error) → (e ≡ Device → ⊥) → (e ≡ Failed → has_failed_here a ≡ true) → HasItsCause a b e
+  own_cause a b e other failed = λ start from. record {
+    device = λ is. absurd (other is);
+    earlier = λ is. subst (λ f. IsTrue (f || g.failed start)) (sym (failed is)) refl;
+  }
+
+  pub writes_keep : (place : ℕ) (written : List ℕ) (a b : Sectors F g) → Writes place written a b
+      → (g.honest b.inner ≡ g.honest a.inner) × (has_failed_here b ≡ false → (has_failed_here a ≡ false) × (IsHonest a → bytes_of b ≡ overwritten (bytes_of a) place written))
+  writes_keep place written a b h = (h.0.honest, λ live. (h.0.live live, h.0.bytes live))
+
+  pub writes_cause : (place : ℕ) (written : List ℕ) (a b c : Sectors F g) (e : Error) → Writes place written a b → has_failed_here b ≡ false → HasItsCause b c e → HasItsCause a c e
+  writes_cause place written a b c e h live = since a b c e h.0.continues (live ∙ sym (h.0.live live))
