@@ -1,7 +1,9 @@
 pub mod ChainParts
+pub mod DifatChains
 pub mod Entering
 pub mod EntryChanges
 pub mod FatEntries
 pub mod Joining
 pub mod Overwriting
 pub mod Staying
+pub mod Words

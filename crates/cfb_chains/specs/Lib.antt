@@ -1,6 +1,7 @@
 pub mod ChainViews
 pub mod Changing
 pub mod LinkViews
+pub mod Listed
 pub mod Orderly
 pub mod Resting
 pub mod Tables

@@ -6,6 +6,7 @@ mod allocator;
 mod beside;
 mod chain;
 mod changes;
+mod difat;
 mod entries;
 mod freeing;
 mod laws;
@@ -16,6 +17,7 @@ mod writes;
 
 pub use allocator::Allocator;
 pub use chain::Chain;
+pub use difat::read_difat;
 pub use freeing::FreesChains;
 pub use laws::{freed_sectors_are_in_no_chain, other_chains_stay};
 pub use links::{Links, chain_in};

@@ -41,7 +41,7 @@ pub fn read_joined<F: ReadMedium>(
 }
 
 // All numbers of four bytes.
-fn numbers_in(alloc: Global, bytes: &[u8]) -> Result<Vec<u32>, AllocError>
+pub(crate) fn numbers_in(alloc: Global, bytes: &[u8]) -> Result<Vec<u32>, AllocError>
     ensures { IfOk result (λ found. found.items ≡ numbers bytes.now) }
 {
     let mut found = Vec::new(alloc);
