@@ -4,6 +4,8 @@ pub mod Entering
 pub mod EntryChanges
 pub mod FatEntries
 pub mod Joining
+pub mod ListedStays
+pub mod Listing
 pub mod Overwriting
 pub mod Staying
 pub mod Words

@@ -21,7 +21,7 @@ chain_stays entries old new differ start (x ∷ ids) none (is, regular, next, fo
     (is, regular, next, same_entry old new start next differ.size (differ.others start (subst (IsNoneOf entries) is none.0)) found, chain_stays entries old new differ next ids none.1 rest)
 
 -- a sector is beside others
-apart : (v : Version) (fat_sectors : List ℕ) (n : ℕ) → IsNoneOf fat_sectors n → IsBeside v fat_sectors (sector_start v n) (sector_len v)
+pub apart : (v : Version) (fat_sectors : List ℕ) (n : ℕ) → IsNoneOf fat_sectors n → IsBeside v fat_sectors (sector_start v n) (sector_len v)
 apart V3 fat_sectors n none k below = ⊎_elim (λ same. absurd (none k below same.1)) (λ differ. ⊎_elim (λ le. inl (omega (arith, le.1, differ.1))) (λ gt. inr (omega (arith, gt.1))) (leb_tells (get_or fat_sectors k 0) n)) (eqb_tells (get_or fat_sectors k 0) n)
 apart V4 fat_sectors n none k below = ⊎_elim (λ same. absurd (none k below same.1)) (λ differ. ⊎_elim (λ le. inl (omega (arith, le.1, differ.1))) (λ gt. inr (omega (arith, gt.1))) (leb_tells (get_or fat_sectors k 0) n)) (eqb_tells (get_or fat_sectors k 0) n)
 

@@ -1,5 +1,6 @@
 // The DIFAT: the chain of sectors that says which sectors hold the FAT.
-ghost use Rattle.cfb_chains.specs.Listed.{IsStop, Lists};
+ghost use Rattle.cfb_chains.specs.Listed.{IsListed, IsStop, Lists};
+ghost use Rattle.cfb_chains.specs.Orderly.{named_at_most, AreBelow};
 ghost use Rattle.cfb_medium.specs.Calls.{IsFaultUnless};
 ghost use Rattle.cfb_medium.specs.Numbers.{numbers, u32_at};
 ghost use Rattle.cfb_medium.specs.Versions.{sector_len};
@@ -7,15 +8,21 @@ ghost use Rattle.cfb_medium.specs.declared.error.Error.TheVariants.{Failed, Inva
 ghost use Rattle.cfb_sectors.specs.Header.{first_difat_sector};
 ghost use Rattle.cfb_sectors.specs.Held.{bytes_of, count_of, has_failed_here, version_of, AreCounted, HasItsCause, IsHonest, Rests};
 ghost use Rattle.cfb_sectors.specs.Sectors.{difat, free, sector, DifatChain};
-ghost use Rattle.std.specs.Prelude.{false, length, replicate, take, true, IfErr, IfOk, IsErrOf, List, OnOk, ℕ, [], ◌∷◌, ◌+◌, ◌++◌, ◌-◌, ◌<◌, ◌≡◌, ◌≤◌, ◌⊎◌};
+ghost use Rattle.std.specs.Prelude.{false, length, replicate, take, true, IfErr, IfOk, IsErrOf, IsTrue, List, OnOk, ℕ, [], ◌∷◌, ◌+◌, ◌++◌, ◌-◌, ◌<◌, ◌≡◌, ◌≤◌, ◌↔◌, ◌⊎◌, ◌^◌};
 
+use crate::once::are_same;
 use crate::tables::numbers_in;
-use cfb_medium::{Error, ReadMedium};
-use cfb_sectors::{END_OF_CHAIN, FREE_SECTOR, HasSectors, Sectors};
+use cfb_medium::{Error, ReadMedium, Version};
+use cfb_sectors::{END_OF_CHAIN, FREE_SECTOR, HasSectors, NUM_DIFAT_ENTRIES_IN_HEADER, Sectors};
 use std::alloc::Global;
 
 // The bytes of a number of the DIFAT.
 const NUMBER_LEN: usize = 4;
+
+// Where the header counts the FAT's sectors and those of the DIFAT.
+const FAT_COUNT: u64 = 44;
+
+const DIFAT_COUNT: u64 = 72;
 
 // Where the header names the DIFAT's first sector.
 const FIRST_SECTOR: u64 = 68;
@@ -154,4 +161,42 @@ pub fn read_difat<F: ReadMedium>(
     let mut fat_sectors = read_entries(alloc, sectors, &difat_sectors)?;
     drop_free_end(&mut fat_sectors);
     Ok((difat_sectors, fat_sectors))
+}
+
+/// Whether the DIFAT can name so many sectors if it has so many of its own.
+pub(crate) fn can_name(version: Version, difat_count: usize, fat_count: usize) -> bool
+    ensures { IsTrue result ↔ (fat_count ≤ named_at_most version difat_count) }
+{
+    let each = version.sector_len() / NUMBER_LEN - 1;
+    let most = difat_count.saturating_mul(each);
+    fat_count <= most.saturating_add(NUM_DIFAT_ENTRIES_IN_HEADER)
+}
+
+/// Whether header and DIFAT list these sectors of the DIFAT and of the FAT, and no others.
+pub(crate) fn are_listed<F: ReadMedium>(
+    alloc: Global,
+    sectors: &mut Sectors<F>,
+    difat_sectors: &[u32],
+    fat_sectors: &[u32],
+) -> Result<bool, Error>
+    requires some { 0 < count_of sectors.old }
+    requires there { AreBelow (count_of sectors.old) fat_sectors.now }
+    ensures listed { IfOk result (λ is_listed. IsHonest sectors.old → IsTrue is_listed ↔ IsListed (version_of sectors.old) (bytes_of sectors.old) difat_sectors.now fat_sectors.now) }
+    ensures rests { Rests sectors.old sectors.new }
+    ensures cause { IfErr result (HasItsCause sectors.old sectors.new) }
+    ensures fault { IfErr result (IsFaultUnless ⊥) }
+{
+    let fat_count = read_word(sectors, FAT_COUNT)?;
+    if fat_count as usize != fat_sectors.len() {
+        return Ok(false);
+    }
+    let difat_count = read_word(sectors, DIFAT_COUNT)?;
+    if difat_count as usize != difat_sectors.len() {
+        return Ok(false);
+    }
+    match read_difat(alloc, sectors) {
+        Ok(found) => Ok(are_same(&found.0, difat_sectors) && are_same(&found.1, fat_sectors)),
+        Err(Error::InvalidData) => Ok(false),
+        Err(error) => Err(error),
+    }
 }
