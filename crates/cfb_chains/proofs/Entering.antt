@@ -9,7 +9,7 @@ use Rattle.cfb_medium.specs.Versions.{sector_len}
 use Rattle.cfb_medium.specs.declared.version.Version.{Version}
 use Rattle.cfb_medium.specs.declared.version.Version.TheVariants.{V3, V4}
 use Rattle.cfb_sectors.specs.Sectors.{fat_in, filled_part, greatest_regular, sector_start}
-use Rattle.cfb_chains.specs.Orderly.{AreOnce, DifferAt, IsBeside, IsOrderly}
+use Rattle.cfb_chains.specs.Orderly.{named_at_most, AreBelow, AreOnce, DifferAt, IsBeside, IsOrderly}
 use Rattle.cfb_chains.proofs.FatEntries.{entries_stay, entry_written, per, split}
 use Rattle.cfb_chains.proofs.Overwriting.{beside}
 
@@ -43,11 +43,11 @@ differ_at fat index entry = record {
   others = λ n none. get_or-set_other fat index n entry 0 (λ same. none 0 (omega arith) (sym same));
 }
 
-aligned : (v : Version) (j : ℕ) → j < per v → 4 * j + 4 ≤ sector_len v
+pub aligned : (v : Version) (j : ℕ) → j < per v → 4 * j + 4 ≤ sector_len v
 aligned V3 j below = omega arith
 aligned V4 j below = omega arith
 
-rest_below : (v : Version) (index : ℕ) → index % per v < per v
+pub rest_below : (v : Version) (index : ℕ) → index % per v < per v
 rest_below V3 index = omega arith
 rest_below V4 index = omega arith
 
@@ -67,8 +67,14 @@ pub index_in : (v : Version) (fat fs : List ℕ) (index each : ℕ) → each ≡
 index_in v fat fs index each is inside whole = subst (λ e. index / e < length fs) (sym is) (split v (length fs) index (omega (arith, inside, whole))).0
 
 -- only lengths matter for the order of the tables
-pub order_stays : (count n : ℕ) (fat changed fs ds : List ℕ) → n ≡ count → length changed ≡ length fat → IsOrderly count fat fs ds → IsOrderly n changed fs ds
-order_stays count n fat changed fs ds same size h = record { once = h.once; covered = size ∙ h.covered ∙ sym same }
+pub order_stays : (v w : Version) (count n : ℕ) (fat changed fs ds : List ℕ) → w ≡ v → n ≡ count → length changed ≡ length fat → IsOrderly v count fat fs ds → IsOrderly w n changed fs ds
+order_stays v w count n fat changed fs ds version same size h = record {
+  once = h.once;
+  covered = size ∙ h.covered ∙ sym same;
+  some = omega (arith, same, h.some);
+  there = subst (λ k. AreBelow k ds) (sym same) h.there;
+  named = subst (λ u. length fs ≤ named_at_most u (length ds)) (sym version) h.named;
+}
 
 pub ends_in_time : (v : Version) (count : ℕ) → count ≤ greatest_regular + 1 → sector_start v count < 2 ^ 62
 ends_in_time V3 count few = omega arith

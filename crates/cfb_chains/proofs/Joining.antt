@@ -9,11 +9,11 @@ use Rattle.cfb_medium.specs.declared.version.Version.TheVariants.{V3, V4}
 use Rattle.cfb_medium.specs.Versions.{sector_len}
 use Rattle.cfb_sectors.specs.Sectors.{filled_part, joined, sector, sector_start}
 
-all_append : (P : ℕ → Type 0) (xs : List ℕ) (x : ℕ) → AllByRecursion P xs → P x → AllByRecursion P (xs ++ x ∷ [])
+pub all_append : (P : ℕ → Type 0) (xs : List ℕ) (x : ℕ) → AllByRecursion P xs → P x → AllByRecursion P (xs ++ x ∷ [])
 all_append P [] x h p = (p, tt)
 all_append P (y ∷ xs) x h p = (h.0, all_append P xs x h.1 p)
 
-take_more : (xs : List ℕ) (i : ℕ) → i < length xs → take (i + 1) xs ≡ take i xs ++ get_or xs i 0 ∷ []
+pub take_more : (xs : List ℕ) (i : ℕ) → i < length xs → take (i + 1) xs ≡ take i xs ++ get_or xs i 0 ∷ []
 take_more xs i below = ap (λ n. take n xs) (add-one i) ∙ take-suc xs i 0 below
 
 pub all_more : (P : ℕ → Type 0) (xs : List ℕ) (i : ℕ) → i < length xs → AllByRecursion P (take i xs) → P (get_or xs i 0) → AllByRecursion P (take (i + 1) xs)
@@ -34,7 +34,7 @@ pub whole_lies : (v : Version) (n count len : ℕ) → len ≡ sector_len v → 
 whole_lies V3 n count len is below = omega arith
 whole_lies V4 n count len is below = omega arith
 
-take_front : (len : ℕ) (xs ys : List ℕ) → length xs ≡ len → take len (xs ++ ys) ≡ xs
+pub take_front : (len : ℕ) (xs ys : List ℕ) → length xs ≡ len → take len (xs ++ ys) ≡ xs
 take_front len xs ys e = ap (λ n. take n (xs ++ ys)) (sym e) ∙ take-append_seam xs ys
 
 -- one sector more was read and appended

@@ -2,9 +2,13 @@ pub mod ChainCutting
 pub mod ChainGrowing
 pub mod ChainParts
 pub mod ChainWriting
+pub mod DifatChains
 pub mod Entering
 pub mod EntryChanges
 pub mod FatEntries
 pub mod Joining
+pub mod ListedStays
+pub mod Listing
 pub mod Overwriting
 pub mod Staying
+pub mod Words

@@ -4,6 +4,7 @@ pub mod Growing
 pub mod Grown
 pub mod Keeping
 pub mod LinkViews
+pub mod Listed
 pub mod Orderly
 pub mod Positions
 pub mod Resting

@@ -2,6 +2,7 @@
 ghost use Rattle.cfb_medium.specs.Calls.{Extends, IsFaultUnless};
 ghost use Rattle.cfb_medium.specs.Versions.{sector_len};
 ghost use Rattle.cfb_medium.specs.declared.error.Error.TheVariants.{Failed, InvalidData, Memory};
+ghost use Rattle.cfb_chains.specs.Listed.{IsListed};
 ghost use Rattle.cfb_chains.specs.Orderly.{AreBelow, IsOrderly};
 ghost use Rattle.cfb_sectors.specs.Held.{bytes_of as sectors_bytes, count_of as sectors_count, has_failed_here as sectors_failed, medium_of as sectors_medium, version_of as sectors_version, AreCounted, IsHonest as AreHonest, IsRefused, LiesIn, Rests};
 ghost use Rattle.cfb_sectors.specs.Sectors.{fat_in, filled_part, greatest_regular, sector_start, Chain as IsChain};
@@ -23,10 +24,12 @@ pub struct Allocator<F: ReadMedium> {
     pub(crate) fat: Vec<u32>,
     pub(crate) is_orderly: bool,
     ghost same: { sectors_failed sectors ≡ false → AreHonest sectors → fat.items ≡ take (sectors_count sectors) (fat_in (sectors_version sectors) (sectors_bytes sectors) fat_sectors.items) },
-    ghost there: { AreBelow (sectors_count sectors) fat_sectors.items },
-    ghost inside: { length fat.items ≤ sectors_count sectors },
+    ghost there: { sectors_failed sectors ≡ false → AreBelow (sectors_count sectors) fat_sectors.items },
+    ghost inside: { sectors_failed sectors ≡ false → length fat.items ≤ sectors_count sectors },
     ghost whole: { length fat.items ≤ length fat_sectors.items * (sector_len (sectors_version sectors) / 4) },
-    ghost orderly: { IsTrue is_orderly ↔ IsOrderly (sectors_count sectors) fat.items fat_sectors.items difat_sectors.items },
+    ghost orderly: { IsTrue is_orderly → IsOrderly (sectors_version sectors) (sectors_count sectors) fat.items fat_sectors.items difat_sectors.items },
+    ghost listed: { sectors_failed sectors ≡ false → AreHonest sectors → IsTrue is_orderly
+        ↔ (IsOrderly (sectors_version sectors) (sectors_count sectors) fat.items fat_sectors.items difat_sectors.items × ∥ IsListed (sectors_version sectors) (sectors_bytes sectors) difat_sectors.items fat_sectors.items ∥₁) },
 }
 
 impl<F: ReadMedium> Allocator<F> {
@@ -212,10 +215,13 @@ impl<F: ReadMedium> Allocator<F> {
         Ok(both(self.alloc, &self.difat_sectors, &self.fat_sectors)?)
     }
 
-    /// Whether its tables can be changed: no sector holds two parts of them, and the FAT has an entry for each sector.
+    /// Whether its tables can be changed: no sector holds two parts of them, the FAT has an entry for each sector, and header
+    /// and DIFAT list these tables and no others.
     pub fn is_orderly(&self) -> bool
         ensures value { result ≡ orderly_of self.now }
-        ensures orderly { IsTrue result ↔ IsOrderly (sectors_count (sectors_of self.now)) (fat_of self.now) (fat_sectors_of self.now) (difat_sectors_of self.now) }
+        ensures orderly { IsTrue result → IsOrderly (version_of self.now) (sectors_count (sectors_of self.now)) (fat_of self.now) (fat_sectors_of self.now) (difat_sectors_of self.now) }
+        ensures listed { has_failed_here self.now ≡ false → IsTrue (is_honest self.now) → IsTrue result
+            ↔ (IsOrderly (version_of self.now) (sectors_count (sectors_of self.now)) (fat_of self.now) (fat_sectors_of self.now) (difat_sectors_of self.now) × ∥ IsListed (version_of self.now) (bytes_of self.now) (difat_sectors_of self.now) (fat_sectors_of self.now) ∥₁) }
     {
         self.is_orderly
     }

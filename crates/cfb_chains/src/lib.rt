@@ -9,6 +9,7 @@ mod chain_cuts;
 mod chain_growth;
 mod chain_writes;
 mod changes;
+mod difat;
 mod entries;
 mod freeing;
 mod growing;
@@ -20,6 +21,7 @@ mod writes;
 
 pub use allocator::Allocator;
 pub use chain::Chain;
+pub use difat::read_difat;
 pub use freeing::FreesChains;
 pub use growing::GrowsChains;
 pub use laws::{freed_sectors_are_in_no_chain, other_chains_stay};

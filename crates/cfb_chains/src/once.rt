@@ -1,6 +1,6 @@
-// Whether numbers stand twice.
-ghost use Rattle.cfb_chains.specs.Orderly.{AreOnce};
-ghost use Rattle.std.specs.Prelude.{IsTrue, ◌↔◌};
+// Whether numbers stand twice, and how great they are.
+ghost use Rattle.cfb_chains.specs.Orderly.{AreBelow, AreOnce};
+ghost use Rattle.std.specs.Prelude.{IsTrue, ◌≡◌, ◌↔◌};
 
 /// Whether no number stands twice.
 pub(crate) fn are_once(ids: &[u32]) -> bool
@@ -12,4 +12,23 @@ pub(crate) fn are_once(ids: &[u32]) -> bool
         }
     }
     true
+}
+
+/// Whether each is below a limit.
+pub(crate) fn are_below(limit: u32, ids: &[u32]) -> bool
+    ensures { IsTrue result ↔ AreBelow limit ids.now }
+{
+    for id in ids {
+        if *id >= limit {
+            return false;
+        }
+    }
+    true
+}
+
+/// Whether the lists are the same.
+pub(crate) fn are_same(first: &[u32], second: &[u32]) -> bool
+    ensures { IsTrue result ↔ (first.now ≡ second.now) }
+{
+    first == second
 }

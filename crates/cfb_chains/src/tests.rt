@@ -1,17 +1,30 @@
-ghost use Rattle.std.specs.Prelude.{length, ◌≤◌};
+ghost use Rattle.std.specs.Prelude.{length, ◌+◌, ◌≡◌, ◌≤◌};
 
-use crate::{Allocator, Chain};
+use crate::{Allocator, Chain, read_difat};
 use cfb_medium::{Error, MemoryMedium, Version};
 use cfb_sectors::{END_OF_CHAIN, FAT_SECTOR, FREE_SECTOR, Sector, SectorInit, Sectors};
 use std::alloc::Global;
 use std::test::Fail;
 
-// A file of version 3 whose FAT, in sector 0, has these entries for its sectors; all else is sevens.
+// Sets a number of four bytes.
+fn set_number(bytes: &mut [u8], place: usize, number: u32)
+    requires { place + 4 ≤ length bytes.old }
+    ensures { length bytes.new ≡ length bytes.old }
+{
+    bytes[place..place + 4].copy_from_slice(&number.to_le_bytes());
+}
+
+// A file of version 3 whose FAT, in sector 0, has these entries for its sectors; the header names it, and all else is sevens.
 fn file_with(alloc: Global, entries: &[u32]) -> Result<Allocator<MemoryMedium>, Error>
     requires { length entries.now ≤ 100 }
 {
     let mut bytes = Vec::new(alloc);
-    bytes.resize(512, 7)?;
+    bytes.resize(76, 7)?;
+    bytes.resize(512, 0xFF)?;
+    set_number(&mut bytes, 44, 1);
+    set_number(&mut bytes, 68, END_OF_CHAIN);
+    set_number(&mut bytes, 72, 0);
+    set_number(&mut bytes, 76, 0);
     for entry in entries {
         bytes.extend_from_slice(&entry.to_le_bytes())?;
     }
@@ -98,5 +111,17 @@ fn wrong_chains_are_refused(rt: HostRuntime) -> Result<(), Fail> {
     assert!(rt; matches!(allocator.free_chain(3), Err(Error::InvalidData)));
     assert!(rt; matches!(allocator.free_chain_after(2), Err(Error::InvalidData)));
     assert_eq!(rt; allocator.next(2)?, 1);
+    Ok(())
+}
+
+#[test]
+fn endless_difat_is_refused(rt: HostRuntime) -> Result<(), Fail> {
+    let alloc = rt.alloc();
+    let mut bytes = Vec::new(alloc);
+    bytes.resize(1536, 0xFF)?;
+    set_number(&mut bytes, 68, 1);
+    set_number(&mut bytes, 1532, 1);
+    let mut sectors = Sectors::new(Version::V3, 1536, MemoryMedium::from_bytes(alloc, bytes));
+    assert!(rt; matches!(read_difat(alloc, &mut sectors), Err(Error::InvalidData)));
     Ok(())
 }

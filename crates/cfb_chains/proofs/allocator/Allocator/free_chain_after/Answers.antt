@@ -39,7 +39,7 @@ returns-clause-frees g c =
     let next = c.in_ok-next.next in
     let found = c.in_ok-next.ensures.entry.1 in
     let below = slice_get_within it.fat.items id next found in
-    let regular : id ≤ greatest_regular = omega (arith, below, it.inside, it.sectors.few) in
+    let regular : id ≤ greatest_regular = let most = it.inside c.in_ok-next.ensures.entry.0 in omega (arith, below, most, it.sectors.few) in
     let rest : IsChain it.fat.items next ids = subst (IsChain it.fat.items next) (sym c.sector_ids.ensures) c.in_ok-rest.ensures.chain in
     let chain : IsChain it.fat.items id (id ∷ ids) = (refl, regular, next, found, rest) in
     let did = c.in_ok-set_entry.ensures in

@@ -2,6 +2,10 @@ use Rattle.std.proofs.Common.{◌≡◌, ◌*◌, ◌/◌, ◌<◌, ◌≤◌, l
 use Rattle.std.specs.Prelude.{slice_index}
 use Rattle.std.proofs.Math.ListN.{set}
 use Rattle.std.proofs.lemmas.List.{get_or_read, length-set}
+use mathlib.Core.Logic.{∥∥₁_map}
+use Rattle.std.specs.Int.{w32, to_le_bytes}
+use Rattle.cfb_sectors.specs.Held.{bytes_of}
+use Rattle.cfb_chains.proofs.ListedStays.{entry_aside, listed_still}
 use Rattle.cfb_chains.proofs.Entering.{differ_at, entered, index_in, order_stays, others_stay}
 use Rattle.cfb_chains.proofs.FatEntries.{per}
 use Rattle.cfb_chains.proofs.allocator.Allocator.set_entry.Goals as goal
@@ -16,12 +20,22 @@ invariant_of-self-2 g c =
     let size = length-set it.fat.items c.args.sector_id c.args.entry in
     record {
       same = λ live honest. entered it.sectors.version c.write_number.new.sectors.version _ _ fs it.difat_sectors.items it.fat.items _ _ c.args.sector_id c.args.entry _ _
-          did.changes.version did.count each (get_or_read fs _ _ below c.index-holder.ensures 0) (did.changes.bytes live (subst IsTrue did.changes.honest honest)) (it.orderly.0 c.requires.orderly).once
-          c.requires.there it.inside it.whole c.ranges.entry.fits (it.same (did.changes.live live) (subst IsTrue did.changes.honest honest));
-      there = λ k inside. subst (λ n. slice_index fs k < n) (sym did.count) (it.there k inside);
-      inside = omega (arith, size, did.count, it.inside);
+          did.changes.version did.count each (get_or_read fs _ _ below c.index-holder.ensures 0) (did.changes.bytes live (subst IsTrue did.changes.honest honest)) (it.orderly c.requires.orderly).once
+          c.requires.there (it.inside (did.changes.live live)) it.whole c.ranges.entry.fits (it.same (did.changes.live live) (subst IsTrue did.changes.honest honest));
+      there = λ live k inside. subst (λ n. slice_index fs k < n) (sym did.count) (it.there (did.changes.live live) k inside);
+      inside = λ live. let most = it.inside (did.changes.live live) in omega (arith, size, did.count, most);
       whole = subst (λ v. length (set it.fat.items c.args.sector_id c.args.entry) ≤ length fs * per v) (sym did.changes.version) (omega (arith, size, it.whole));
-      orderly = (λ now. order_stays _ _ it.fat.items _ fs it.difat_sectors.items did.count size (it.orderly.0 now), λ now. c.requires.orderly);
+      orderly = λ now. order_stays _ _ _ _ it.fat.items _ fs it.difat_sectors.items did.changes.version did.count size (it.orderly now);
+      listed = λ live honest.
+          let was = subst IsTrue did.changes.honest honest in
+          let order = it.orderly c.requires.orderly in
+          let had = (it.listed (did.changes.live live) was).0 c.requires.orderly in
+          let aside = entry_aside it.sectors.version it.difat_sectors.items fs (to_le_bytes w32 c.args.entry) c.args.sector_id _ _ refl each below (get_or_read fs _ _ below c.index-holder.ensures 0) order.once in
+          let both = listed_still it.sectors.version c.write_number.new.sectors.version (bytes_of it.sectors) (bytes_of c.write_number.new.sectors) (to_le_bytes w32 c.args.entry) it.difat_sectors.items fs _ it.sectors.num_sectors c.write_number.new.sectors.num_sectors
+          did.changes.version did.count (did.changes.bytes live was) (it.sectors.counted (did.changes.live live) was) (c.write_number.new.sectors.counted live honest) order.some aside.0 aside.1 in (
+            λ now. (order_stays _ _ _ _ it.fat.items _ fs it.difat_sectors.items did.changes.version did.count size order, ∥∥₁_map had.1 both.0),
+            λ has. c.requires.orderly,
+          );
     }
 
 pub returns-clause-changes : goal.returns-clause-changes

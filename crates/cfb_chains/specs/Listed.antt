@@ -1,0 +1,23 @@
+-- What the header and the DIFAT say of the tables ([MS-CFB] 2.2, 2.5).
+use Rattle.std.specs.Prelude.{◌≡◌, ℕ, ◌⊎◌, List, ◌++◌, length, replicate}
+use Rattle.cfb_medium.specs.declared.version.Version.{Version}
+use Rattle.cfb_sectors.specs.Header.{difat_sector_count, fat_sector_count, first_difat_sector}
+use Rattle.cfb_sectors.specs.Sectors.{difat, end_of_chain, free, DifatChain}
+
+-- the DIFAT's chain ends at such a mark; "free" is taken too
+abbrev pub IsStop : ℕ → Type 0
+IsStop stop = (stop ≡ end_of_chain) ⊎ (stop ≡ free)
+
+-- the DIFAT has these sectors, and names these as the FAT's; only "free" entries follow
+pub record Lists (version : Version) (bytes difat_sectors fat_sectors : List ℕ) : Type 0 where
+  pub stop : ℕ
+  pub stops : IsStop stop
+  pub chain : DifatChain version bytes (first_difat_sector bytes) difat_sectors stop
+  pub unused : ℕ
+  pub entries : difat version bytes difat_sectors ≡ fat_sectors ++ replicate unused free
+
+-- so it is, and the header has their numbers
+pub record IsListed (version : Version) (bytes difat_sectors fat_sectors : List ℕ) : Type 0 where
+  pub fat_count : fat_sector_count bytes ≡ length fat_sectors
+  pub difat_count : difat_sector_count bytes ≡ length difat_sectors
+  pub lists : Lists version bytes difat_sectors fat_sectors
