@@ -1,13 +1,13 @@
 -- What a shelf has.
 use Rattle.std.specs.Prelude.{List, map}
-use Rattle.msi_query.specs.Answered.{with_rows}
+use Rattle.msi_query.specs.Answered.{table_held}
 use Rattle.msi_tables.specs.Table.{Table}
 use Rattle.acceptance.specs.declared.shelf.Shelf.{Shelf}
 use Rattle.acceptance.specs.declared.shelf.Shelved.{Shelved}
 
 -- a table with its rows
 abbrev pub table_in : Shelved → Table
-table_in s = with_rows s.table s.rows.items
+table_in s = table_held s.table s.rows.items
 
 -- all of them
 abbrev pub tables_on : Shelf → List Table

@@ -1,7 +1,7 @@
 //! Tables in memory, where queries find them.
 ghost use Rattle.acceptance.specs.Shelf.{table_in, tables_on};
 ghost use Rattle.cfb_medium.specs.declared.error.Error.TheVariants.{Memory};
-ghost use Rattle.msi_query.specs.Answered.{with_rows};
+ghost use Rattle.msi_query.specs.Answered.{table_held};
 ghost use Rattle.msi_tables.specs.Held.{rows_held};
 ghost use Rattle.msi_tables.specs.Table.{table_named};
 ghost use Rattle.std.specs.Prelude.{◌≡◌, ◌++◌, [], ◌∷◌, bytes_eq, find, map, option_map, IfErr, IfOk, OnOk};
@@ -37,7 +37,7 @@ impl Shelf {
 
     /// Puts a table with these rows behind the others.
     pub fn add(&mut self, table: Table, rows: Vec<Vec<ValueRef>>) -> Result<(), Error>
-        ensures ok { OnOk result (tables_on self.new ≡ tables_on self.old ++ with_rows table rows.items ∷ []) }
+        ensures ok { OnOk result (tables_on self.new ≡ tables_on self.old ++ table_held table rows.items ∷ []) }
         ensures err { IfErr result (λ e. e ≡ Memory) }
     {
         self.tables.push(Shelved { table, rows })?;

@@ -1,7 +1,7 @@
 // Of rows those that a condition lets through, and of columns those that are asked for.
 ghost use Rattle.cfb_medium.specs.declared.error.Error.TheVariants.{Memory};
 ghost use Rattle.msi_pool.specs.Pool.{Pool};
-ghost use Rattle.msi_query.specs.Answered.{answered, with_rows};
+ghost use Rattle.msi_query.specs.Answered.{answered, table_held};
 ghost use Rattle.msi_query.specs.Query.{cut, knows_condition, matches, parts_at, projected};
 ghost use Rattle.msi_query.specs.Said.{condition_of};
 ghost use Rattle.msi_tables.specs.Column.{column_place, has_column};
@@ -92,7 +92,7 @@ fn projected(
     table: Table,
     rows: Vec<Vec<ValueRef>>,
 ) -> Result<(Table, Vec<Vec<ValueRef>>), Error>
-    ensures { Answers answered result (Ok (projected (map string_bytes names.now) (with_rows table rows.items))) }
+    ensures { Answers answered result (Ok (projected (map string_bytes names.now) (table_held table rows.items))) }
 {
     if names.is_empty() {
         return Ok((table, rows));
