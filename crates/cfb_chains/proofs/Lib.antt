@@ -3,9 +3,12 @@ pub mod DifatChains
 pub mod Entering
 pub mod EntryChanges
 pub mod FatEntries
+pub mod Fresh
 pub mod Joining
 pub mod ListedStays
+pub mod ListedMore
 pub mod Listing
 pub mod Overwriting
 pub mod Staying
+pub mod TableWords
 pub mod Words

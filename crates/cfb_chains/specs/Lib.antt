@@ -1,5 +1,6 @@
 pub mod ChainViews
 pub mod Changing
+pub mod Growing
 pub mod LinkViews
 pub mod Listed
 pub mod Orderly

@@ -3,10 +3,12 @@
 
 mod access;
 mod allocator;
+mod appending;
 mod beside;
 mod chain;
 mod changes;
 mod difat;
+mod enlarging;
 mod entries;
 mod freeing;
 mod laws;
