@@ -18,7 +18,7 @@ use Rattle.cfb_sectors.specs.declared.initial.SectorInit.TheVariants.{Zero, Fat,
 use Rattle.cfb_chains.proofs.FatEntries.{per}
 use Rattle.cfb_chains.proofs.Joining.{take_front}
 
-whole : (v : Version) → 4 * per v ≡ sector_len v
+pub whole : (v : Version) → 4 * per v ≡ sector_len v
 whole V3 = omega arith
 whole V4 = omega arith
 

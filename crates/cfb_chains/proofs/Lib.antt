@@ -4,6 +4,8 @@ pub mod Entering
 pub mod EntryChanges
 pub mod FatEntries
 pub mod Fresh
+pub mod Grown
+pub mod Growth
 pub mod Joining
 pub mod ListedStays
 pub mod ListedMore

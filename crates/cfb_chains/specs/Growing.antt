@@ -33,8 +33,13 @@ module _ {F : Type 0} {g : Ghosts F} where
   abbrev pub IsBesideDifat : Sectors F g → List ℕ → ℕ → ℕ → Type 0
   IsBesideDifat it difat_sectors place count = IsBeside (held.version_of it) difat_sectors place count × IsBesideWords place count
 
+  -- the sectors of DIFAT and FAT
+  abbrev pub tables_of : Allocator F g → List ℕ
+  tables_of it = difat_sectors_of it ++ fat_sectors_of it
+
   -- where it has not failed at most these entries of the old FAT are changed, and of the old sectors' bytes at most those of
-  -- tables and of these sectors that were taken; tables and file may have become longer; nothing was published
+  -- tables and of these sectors that were taken; tables and file may have become longer, behind the old sectors; nothing was
+  -- published
   pub record GrowsFat (taken entries : List ℕ) (old new : Allocator F g) : Type 0 where
     pub honest : g.honest (medium_of new) ≡ g.honest (medium_of old)
     pub continues : Extends g.continues (medium_of old) (medium_of new)
@@ -43,6 +48,7 @@ module _ {F : Type 0} {g : Ghosts F} where
     pub count : has_failed_here new ≡ false → held.count_of (sectors_of old) ≤ held.count_of (sectors_of new)
     pub orderly : has_failed_here new ≡ false → orderly_of new ≡ orderly_of old
     pub fat : has_failed_here new ≡ false → StayBut entries (fat_of old) (fat_of new)
+    pub tables : has_failed_here new ≡ false → (place count : ℕ) → place + count ≤ sector_start (version_of old) (held.count_of (sectors_of old)) → IsBeside (version_of old) (tables_of old) place count → IsBeside (version_of old) (tables_of new) place count
     pub beside : has_failed_here new ≡ false → IsTrue (is_honest old) → (place count : ℕ) → place + count ≤ sector_start (version_of old) (held.count_of (sectors_of old))
-        → IsBeside (version_of old) (difat_sectors_of old ++ fat_sectors_of old) place count → IsBesideWords place count → IsBeside (version_of old) taken place count
+        → IsBeside (version_of old) (tables_of old) place count → IsBesideWords place count → IsBeside (version_of old) taken place count
         → filled_part (bytes_of new) place count ≡ filled_part (bytes_of old) place count

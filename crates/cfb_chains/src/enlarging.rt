@@ -6,13 +6,14 @@ ghost use Rattle.cfb_medium.specs.Calls.{IsFaultUnless};
 ghost use Rattle.cfb_medium.specs.Versions.{sector_len};
 ghost use Rattle.cfb_sectors.specs.Held.{bytes_of, count_of, has_failed_here, version_of, HasItsCause, IsHonest};
 ghost use Rattle.cfb_sectors.specs.Initial.{initial};
-ghost use Rattle.cfb_sectors.specs.Sectors.{greatest_regular, sector, sector_start};
+ghost use Rattle.cfb_sectors.specs.Sectors.{free, greatest_regular, sector, sector_start};
 ghost use Rattle.cfb_sectors.specs.declared.initial.SectorInit.TheVariants.{Fat};
-ghost use Rattle.std.specs.Prelude.{false, length, slice_index, true, IfErr, IfOk, List, OnErr, OnOk, ℕ, [], ◌∷◌, ◌*◌, ◌+◌, ◌++◌, ◌-◌, ◌/◌, ◌%◌, ◌<◌, ◌≡◌, ◌≤◌};
+ghost use Rattle.std.specs.Prelude.{false, length, slice_index, true, IfErr, IfOk, IsTrue, List, OnErr, OnOk, ℕ, [], ◌∷◌, ◌*◌, ◌+◌, ◌++◌, ◌-◌, ◌/◌, ◌%◌, ◌<◌, ◌≡◌, ◌≤◌, ◌⊎◌};
 
+use crate::Allocator;
 use crate::appending::{append_sector, write_word};
 use cfb_medium::{Error, Medium, Version};
-use cfb_sectors::{NUM_DIFAT_ENTRIES_IN_HEADER, SectorInit, Sectors};
+use cfb_sectors::{FREE_SECTOR, NUM_DIFAT_ENTRIES_IN_HEADER, SectorInit, Sectors};
 
 // The bytes of a number of a table.
 const NUMBER_LEN: u64 = 4;
@@ -103,4 +104,62 @@ pub(crate) fn add_difat_sector<F: Medium>(
     write_word(sectors, place, sector_id)?;
     write_word(sectors, DIFAT_COUNT, difat_sectors.len() as u32 + 1)?;
     Ok(sector_id)
+}
+
+impl<F: Medium> Allocator<F> {
+    ghost use Rattle.cfb_chains.specs.Growing.{GrowsFat};
+    ghost use Rattle.cfb_chains.specs.Tables.{difat_sectors_of, fat_of, fat_sectors_of, has_failed_here as has_failed_over, orderly_of, sectors_of, version_of as version_over, AllRests, HasCauseBelow};
+
+    // Makes the FAT longer by a sector that the DIFAT has a place for. Its own entry is "free" still. `Memory` with nothing
+    // changed; after a fault in a write it has failed.
+    fn grow_fat(&mut self) -> Result<(), Error>
+        requires live { has_failed_over self.old ≡ false }
+        requires orderly { IsTrue (orderly_of self.old) }
+        requires full { length (fat_of self.old) ≡ length (fat_sectors_of self.old) * (sector_len (version_over self.old) / 4) }
+        requires few { count_of (sectors_of self.old) ≤ greatest_regular }
+        requires room { length (fat_sectors_of self.old) < named_at_most (version_over self.old) (length (difat_sectors_of self.old)) }
+        ensures grows { OnOk result (GrowsFat [] [] self.old self.new) }
+        ensures fat { OnOk result (fat_of self.new ≡ fat_of self.old ++ free ∷ []) }
+        ensures tables { OnOk result ((difat_sectors_of self.new ≡ difat_sectors_of self.old) × (fat_sectors_of self.new ≡ fat_sectors_of self.old ++ length (fat_of self.old) ∷ [])) }
+        ensures live { OnOk result (has_failed_over self.new ≡ false) }
+        ensures cause { IfErr result (HasCauseBelow self.old self.new) }
+        ensures fault { IfErr result (λ e. IsFaultUnless ⊥ e × ((has_failed_over self.new ≡ true) ⊎ AllRests self.old self.new)) }
+    {
+        self.fat_sectors.reserve(1)?;
+        self.fat.reserve(1)?;
+        self.is_orderly = false;
+        let sector_id = add_fat_sector(&mut self.sectors, &self.difat_sectors, self.fat_sectors.len())?;
+        self.fat_sectors.push_reserved(sector_id);
+        self.fat.push_reserved(FREE_SECTOR);
+        self.is_orderly = true;
+        Ok(())
+    }
+
+    // Makes the DIFAT longer by a sector, and the FAT by one that it names. Their own entries are "free" still. `Memory` with
+    // nothing changed; after a fault in a write it has failed.
+    fn grow_both(&mut self) -> Result<(), Error>
+        requires live { has_failed_over self.old ≡ false }
+        requires orderly { IsTrue (orderly_of self.old) }
+        requires full { length (fat_of self.old) ≡ length (fat_sectors_of self.old) * (sector_len (version_over self.old) / 4) }
+        requires few { count_of (sectors_of self.old) < greatest_regular }
+        ensures grows { OnOk result (GrowsFat [] [] self.old self.new) }
+        ensures fat { OnOk result (fat_of self.new ≡ fat_of self.old ++ free ∷ free ∷ []) }
+        ensures tables { OnOk result ((difat_sectors_of self.new ≡ difat_sectors_of self.old ++ length (fat_of self.old) ∷ []) × (fat_sectors_of self.new ≡ fat_sectors_of self.old ++ (length (fat_of self.old) + 1) ∷ [])) }
+        ensures live { OnOk result (has_failed_over self.new ≡ false) }
+        ensures cause { IfErr result (HasCauseBelow self.old self.new) }
+        ensures fault { IfErr result (λ e. IsFaultUnless ⊥ e × ((has_failed_over self.new ≡ true) ⊎ AllRests self.old self.new)) }
+    {
+        self.difat_sectors.reserve(1)?;
+        self.fat_sectors.reserve(1)?;
+        self.fat.reserve(2)?;
+        self.is_orderly = false;
+        let difat_sector = add_difat_sector(&mut self.sectors, &self.difat_sectors)?;
+        self.difat_sectors.push_reserved(difat_sector);
+        let fat_sector = add_fat_sector(&mut self.sectors, &self.difat_sectors, self.fat_sectors.len())?;
+        self.fat_sectors.push_reserved(fat_sector);
+        self.fat.push_reserved(FREE_SECTOR);
+        self.fat.push_reserved(FREE_SECTOR);
+        self.is_orderly = true;
+        Ok(())
+    }
 }
