@@ -3,7 +3,7 @@ use Rattle.std.proofs.Common.{◌≡◌, ◌≢◌, ℕ, ◌+◌, ◌-◌, ◌*�
 use Rattle.std.specs.List.{flat_map}
 use Rattle.std.specs.Int.{w32, from_le_bytes}
 use Rattle.std.proofs.Math.Seq.{get_or-append_right, take-append_seam, take-append-add, drop-append_seam}
-use Rattle.std.proofs.lemmas.Bool.Decides.{leb_tells}
+use Rattle.std.proofs.lemmas.Bool.Decides.{eqb_tells, leb_tells}
 use Rattle.std.proofs.lemmas.Grind.{flat_map-append}
 use Rattle.std.proofs.lemmas.List.{map-append, take-replicate, append-nil, drop-append-le, get_or_append_left, length-replicate, take-append-le, take_all}
 use Rattle.cfb_medium.specs.Numbers.{pieces, all_pieces, numbers}
@@ -153,3 +153,81 @@ stays_in_front entries old more new is = record {
   size = let size = length-append old more in omega (arith, size, ap length is);
   others = λ n below none. ap (λ l. get_or l n 0) is ∙ get_or_append_left old more 0 n below;
 }
+
+-- a number that is none so far, between two lists
+module _ (xs ys : List ℕ) (n : ℕ) where
+  in_front : (k : ℕ) → k < length xs → get_or ((xs ++ n ∷ []) ++ ys) k 0 ≡ get_or (xs ++ ys) k 0
+  in_front k below =
+      let size = length-append xs (n ∷ []) in
+      get_or_append_left (xs ++ n ∷ []) ys 0 k (omega (arith, size, below)) ∙ get_or_append_left xs (n ∷ []) 0 k below ∙ sym (get_or_append_left xs ys 0 k below)
+
+  in_middle : get_or ((xs ++ n ∷ []) ++ ys) (length xs) 0 ≡ n
+  in_middle =
+      let size = length-append xs (n ∷ []) in
+      let none : length xs - length xs ≡ 0 = omega arith in
+      get_or_append_left (xs ++ n ∷ []) ys 0 (length xs) (omega (arith, size)) ∙ get_or-append_right xs (n ∷ []) (length xs) 0 (omega arith) ∙ ap (λ i. get_or (n ∷ []) i 0) none
+
+  in_back : (k : ℕ) → length xs < k → get_or ((xs ++ n ∷ []) ++ ys) k 0 ≡ get_or (xs ++ ys) (k - 1) 0
+  in_back k past =
+      let size = length-append xs (n ∷ []) in
+      let same : k - length (xs ++ n ∷ []) ≡ k - 1 - length xs = omega (arith, size, past) in
+      get_or-append_right (xs ++ n ∷ []) ys k 0 (omega (arith, size, past)) ∙ ap (λ i. get_or ys i 0) same ∙ sym (get_or-append_right xs ys (k - 1) 0 (omega (arith, past)))
+
+  size_middle : length ((xs ++ n ∷ []) ++ ys) ≡ length (xs ++ ys) + 1
+  size_middle = let a = length-append (xs ++ n ∷ []) ys in let b = length-append xs (n ∷ []) in let c = length-append xs ys in omega (arith, a, b, c)
+
+  pub once_middle : AreOnce (xs ++ ys) → AreBelow n (xs ++ ys) → AreOnce ((xs ++ n ∷ []) ++ ys)
+  once_middle once below k l k_below l_below same =
+      let both = length-append xs ys in
+      ⊎_elim
+      (λ k_at. ⊎_elim
+      (λ l_at. k_at.1 ∙ sym l_at.1)
+      (λ l_off. absurd (other l l_off.1 l_below (sym same ∙ ap (λ i. get_or ((xs ++ n ∷ []) ++ ys) i 0) k_at.1 ∙ in_middle)))
+      (eqb_tells l (length xs)))
+      (λ k_off. ⊎_elim
+      (λ l_at. absurd (other k k_off.1 k_below (same ∙ ap (λ i. get_or ((xs ++ n ∷ []) ++ ys) i 0) l_at.1 ∙ in_middle)))
+      (λ l_off. ⊎_elim
+      (λ k_past. ⊎_elim
+      (λ l_past. let e = once (k - 1) (l - 1) (omega (arith, size_middle, k_below, k_past.1, k_off.1)) (omega (arith, size_middle, l_below, l_past.1, l_off.1)) (sym (in_back k (omega (arith, k_past.1, k_off.1))) ∙ same ∙ in_back l (omega (arith, l_past.1, l_off.1))) in omega (arith, e, k_past.1, k_off.1, l_past.1, l_off.1))
+      (λ l_front. let e = once (k - 1) l (omega (arith, size_middle, k_below, k_past.1, k_off.1)) (omega (arith, both, l_front.1)) (sym (in_back k (omega (arith, k_past.1, k_off.1))) ∙ same ∙ in_front l l_front.1) in absurd (omega (arith, e, k_past.1, k_off.1, l_front.1)))
+      (leb_tells (length xs) l))
+      (λ k_front. ⊎_elim
+      (λ l_past. let e = once k (l - 1) (omega (arith, both, k_front.1)) (omega (arith, size_middle, l_below, l_past.1, l_off.1)) (sym (in_front k k_front.1) ∙ same ∙ in_back l (omega (arith, l_past.1, l_off.1))) in absurd (omega (arith, e, l_past.1, l_off.1, k_front.1)))
+      (λ l_front. once k l (omega (arith, both, k_front.1)) (omega (arith, both, l_front.1)) (sym (in_front k k_front.1) ∙ same ∙ in_front l l_front.1))
+      (leb_tells (length xs) l))
+      (leb_tells (length xs) k))
+      (eqb_tells l (length xs)))
+      (eqb_tells k (length xs))
+    where
+      other : (m : ℕ) → m ≢ length xs → m < length ((xs ++ n ∷ []) ++ ys) → get_or ((xs ++ n ∷ []) ++ ys) m 0 ≡ n → ⊥
+      other m off inside is = ⊎_elim
+          (λ past. let less = below (m - 1) (omega (arith, size_middle, inside, past.1, off)) in let value = sym (in_back m (omega (arith, past.1, off))) ∙ is in omega (arith, less, value))
+          (λ front. let both = length-append xs ys in let less = below m (omega (arith, both, front.1)) in let value = sym (in_front m front.1) ∙ is in omega (arith, less, value))
+          (leb_tells (length xs) m)
+
+pub difat_few : (v : Version) (difat_count fat_count size count : ℕ) → 109 + difat_count * (per v - 1) ≤ fat_count → size ≡ fat_count * per v → size ≡ count → difat_count ≤ count
+difat_few V3 difat_count fat_count size count crowded full covered = omega (arith, crowded, full, covered)
+difat_few V4 difat_count fat_count size count crowded full covered = omega (arith, crowded, full, covered)
+
+pub below_one_more : (n m : ℕ) (xs : List ℕ) → n < m → AreBelow n xs → AreBelow m (xs ++ n ∷ [])
+below_one_more n m xs less below = below_both m xs (n ∷ []) (below_more n m xs (omega (arith, less)) below) (λ k inside. let first : k ≡ 0 = omega (arith, inside) in subst (λ i. get_or (n ∷ []) i 0 < m) (sym first) less)
+
+-- the FAT's numbers where its sectors stay
+pub fat_same : (v : Version) (old new fs : List ℕ) → ((k : ℕ) → k < length fs → sector v new (get_or fs k 0) ≡ sector v old (get_or fs k 0)) → fat_in v new fs ≡ fat_in v old fs
+fat_same v old new fs same = ap numbers (joined_same v old new fs same)
+
+pub beside_both : (v : Version) (xs ys : List ℕ) (p n : ℕ) → IsBeside v xs p n → IsBeside v ys p n → IsBeside v (xs ++ ys) p n
+beside_both v xs ys p n first second k inside =
+    let size = length-append xs ys in
+    ⊎_elim
+    (λ past. subst (λ m. (sector_start v m + sector_len v ≤ p) ⊎ (p + n ≤ sector_start v m)) (sym (get_or-append_right xs ys k 0 past.1)) (second (k - length xs) (omega (arith, size, inside, past.1))))
+    (λ front. subst (λ m. (sector_start v m + sector_len v ≤ p) ⊎ (p + n ≤ sector_start v m)) (sym (get_or_append_left xs ys 0 k front.1)) (first k front.1))
+    (leb_tells (length xs) k)
+
+pub start_later : (v : Version) (count more p : ℕ) → count ≤ more → p ≤ sector_start v count → p ≤ sector_start v more
+start_later V3 count more p most fits = omega (arith, most, fits)
+start_later V4 count more p most fits = omega (arith, most, fits)
+
+pub room_more : (v : Version) (fat_count difat_count more : ℕ) → more ≡ difat_count + 1 → fat_count ≤ 109 + difat_count * (per v - 1) → fat_count < 109 + more * (per v - 1)
+room_more V3 fat_count difat_count more is named = omega (arith, is, named)
+room_more V4 fat_count difat_count more is named = omega (arith, is, named)

@@ -1,19 +1,20 @@
 // Tables that become longer by a sector.
 ghost use Rattle.cfb_chains.specs.Growing.{Appends, IsBesideDifat};
 ghost use Rattle.cfb_chains.specs.Listed.{IsListed};
-ghost use Rattle.cfb_chains.specs.Orderly.{named_at_most, AreBelow, AreOnce};
+ghost use Rattle.cfb_chains.specs.Orderly.{named_at_most, AreBelow, AreOnce, IsNoneOf};
 ghost use Rattle.cfb_medium.specs.Calls.{IsFaultUnless};
 ghost use Rattle.cfb_medium.specs.Versions.{sector_len};
 ghost use Rattle.cfb_sectors.specs.Held.{bytes_of, count_of, has_failed_here, version_of, HasItsCause, IsHonest};
 ghost use Rattle.cfb_sectors.specs.Initial.{initial};
 ghost use Rattle.cfb_sectors.specs.Sectors.{free, greatest_regular, sector, sector_start};
 ghost use Rattle.cfb_sectors.specs.declared.initial.SectorInit.TheVariants.{Fat};
-ghost use Rattle.std.specs.Prelude.{false, length, slice_index, true, IfErr, IfOk, IsTrue, List, OnErr, OnOk, ℕ, [], ◌∷◌, ◌*◌, ◌+◌, ◌++◌, ◌-◌, ◌/◌, ◌%◌, ◌<◌, ◌≡◌, ◌≤◌, ◌⊎◌};
+ghost use Rattle.std.specs.Prelude.{false, length, slice_get, slice_index, true, IfErr, IfOk, IsTrue, List, MatchOption, OnErr, OnOk, Some, ℕ, [], ◌∷◌, ◌*◌, ◌+◌, ◌++◌, ◌-◌, ◌/◌, ◌%◌, ◌<◌, ◌≡◌, ◌≤◌, ◌⊎◌};
 
 use crate::Allocator;
 use crate::appending::{append_sector, write_word};
+use crate::difat::can_name;
 use cfb_medium::{Error, Medium, Version};
-use cfb_sectors::{FREE_SECTOR, NUM_DIFAT_ENTRIES_IN_HEADER, SectorInit, Sectors};
+use cfb_sectors::{DIFAT_SECTOR, FAT_SECTOR, FREE_SECTOR, NUM_DIFAT_ENTRIES_IN_HEADER, SectorInit, Sectors};
 
 // The bytes of a number of a table.
 const NUMBER_LEN: u64 = 4;
@@ -107,7 +108,7 @@ pub(crate) fn add_difat_sector<F: Medium>(
 }
 
 impl<F: Medium> Allocator<F> {
-    ghost use Rattle.cfb_chains.specs.Growing.{GrowsFat};
+    ghost use Rattle.cfb_chains.specs.Growing.{tables_of, GrowsFat};
     ghost use Rattle.cfb_chains.specs.Tables.{difat_sectors_of, fat_of, fat_sectors_of, has_failed_here as has_failed_over, orderly_of, sectors_of, version_of as version_over, AllRests, HasCauseBelow};
 
     // Makes the FAT longer by a sector that the DIFAT has a place for. Its own entry is "free" still. `Memory` with nothing
@@ -142,6 +143,7 @@ impl<F: Medium> Allocator<F> {
         requires orderly { IsTrue (orderly_of self.old) }
         requires full { length (fat_of self.old) ≡ length (fat_sectors_of self.old) * (sector_len (version_over self.old) / 4) }
         requires few { count_of (sectors_of self.old) < greatest_regular }
+        requires crowded { named_at_most (version_over self.old) (length (difat_sectors_of self.old)) ≤ length (fat_sectors_of self.old) }
         ensures grows { OnOk result (GrowsFat [] [] self.old self.new) }
         ensures fat { OnOk result (fat_of self.new ≡ fat_of self.old ++ free ∷ free ∷ []) }
         ensures tables { OnOk result ((difat_sectors_of self.new ≡ difat_sectors_of self.old ++ length (fat_of self.old) ∷ []) × (fat_sectors_of self.new ≡ fat_sectors_of self.old ++ (length (fat_of self.old) + 1) ∷ [])) }
@@ -161,5 +163,43 @@ impl<F: Medium> Allocator<F> {
         self.fat.push_reserved(FREE_SECTOR);
         self.is_orderly = true;
         Ok(())
+    }
+
+    // Makes the tables longer, so that the FAT has a place for a sector more, and marks their new sectors. `Full` where too few
+    // numbers are left, and `Memory`, each with nothing changed; after a fault in a write it has failed.
+    fn lengthen(&mut self) -> Result<(), Error>
+        requires live { has_failed_over self.old ≡ false }
+        requires orderly { IsTrue (orderly_of self.old) }
+        requires full { length (fat_of self.old) ≡ length (fat_sectors_of self.old) * (sector_len (version_over self.old) / 4) }
+        requires few { count_of (sectors_of self.old) < greatest_regular }
+        ensures grows { OnOk result (GrowsFat [] [] self.old self.new) }
+        ensures added { OnOk result ((n : ℕ) → length (fat_of self.old) ≤ n → n < length (fat_of self.new) → slice_index (fat_of self.new) n ≡ free → ⊥) }
+        ensures room { OnOk result (length (fat_of self.new) < length (fat_sectors_of self.new) * (sector_len (version_over self.new) / 4)) }
+        ensures live { OnOk result (has_failed_over self.new ≡ false) }
+        ensures cause { IfErr result (HasCauseBelow self.old self.new) }
+        ensures fault { IfErr result (λ e. IsFaultUnless ⊥ e × ((has_failed_over self.new ≡ true) ⊎ AllRests self.old self.new)) }
+    {
+        let count = self.num_sectors();
+        if can_name(self.version(), self.difat_sectors.len(), self.fat_sectors.len() + 1) {
+            self.grow_fat()?;
+            return self.set_entry(count, FAT_SECTOR);
+        }
+        self.grow_both()?;
+        self.set_entry(count, DIFAT_SECTOR)?;
+        self.set_entry(count + 1, FAT_SECTOR)
+    }
+
+    // The first sector that is in no use: its entry is "free", and it holds no part of the tables.
+    fn find_free(&self) -> Option<u32>
+        ensures { MatchOption result ((k : ℕ) → k < length (fat_of self.now) → slice_index (fat_of self.now) k ≡ free → IsNoneOf (tables_of self.now) k → ⊥)
+            (λ n. (slice_get (fat_of self.now) n ≡ Some free) × IsNoneOf (tables_of self.now) n) }
+    {
+        for i in 0..self.fat.len() {
+            let sector_id = i as u32;
+            if self.fat[i] == FREE_SECTOR && !self.difat_sectors.contains(&sector_id) && !self.fat_sectors.contains(&sector_id) {
+                return Some(sector_id);
+            }
+        }
+        None
     }
 }
