@@ -6,6 +6,7 @@ pub mod FatEntries
 pub mod Fresh
 pub mod Grown
 pub mod Growth
+pub mod GrowthSteps
 pub mod Joining
 pub mod ListedStays
 pub mod ListedMore

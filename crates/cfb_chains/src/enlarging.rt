@@ -8,11 +8,12 @@ ghost use Rattle.cfb_sectors.specs.Held.{bytes_of, count_of, has_failed_here, ve
 ghost use Rattle.cfb_sectors.specs.Initial.{initial};
 ghost use Rattle.cfb_sectors.specs.Sectors.{free, greatest_regular, sector, sector_start};
 ghost use Rattle.cfb_sectors.specs.declared.initial.SectorInit.TheVariants.{Fat};
-ghost use Rattle.std.specs.Prelude.{false, length, slice_get, slice_index, true, IfErr, IfOk, IsTrue, List, MatchOption, OnErr, OnOk, Some, ℕ, [], ◌∷◌, ◌*◌, ◌+◌, ◌++◌, ◌-◌, ◌/◌, ◌%◌, ◌<◌, ◌≡◌, ◌≤◌, ◌⊎◌};
+ghost use Rattle.std.specs.Prelude.{false, length, slice_get, slice_index, true, IfErr, IfOk, IsTrue, List, MatchOption, OnErr, OnOk, Some, ℕ, [], ◌∷◌, ◌*◌, ◌+◌, ◌++◌, ◌-◌, ◌/◌, ◌%◌, ◌<◌, ◌≡◌, ◌≤◌, ◌↔◌, ◌⊎◌};
 
 use crate::Allocator;
 use crate::appending::{append_sector, write_word};
 use crate::difat::can_name;
+use crate::once::is_none_of;
 use cfb_medium::{Error, Medium, Version};
 use cfb_sectors::{DIFAT_SECTOR, FAT_SECTOR, FREE_SECTOR, NUM_DIFAT_ENTRIES_IN_HEADER, SectorInit, Sectors};
 
@@ -108,7 +109,7 @@ pub(crate) fn add_difat_sector<F: Medium>(
 }
 
 impl<F: Medium> Allocator<F> {
-    ghost use Rattle.cfb_chains.specs.Growing.{tables_of, GrowsFat};
+    ghost use Rattle.cfb_chains.specs.Growing.{GrowsFat};
     ghost use Rattle.cfb_chains.specs.Tables.{difat_sectors_of, fat_of, fat_sectors_of, has_failed_here as has_failed_over, orderly_of, sectors_of, version_of as version_over, AllRests, HasCauseBelow};
 
     // Makes the FAT longer by a sector that the DIFAT has a place for. Its own entry is "free" still. `Memory` with nothing
@@ -182,21 +183,38 @@ impl<F: Medium> Allocator<F> {
         let count = self.num_sectors();
         if can_name(self.version(), self.difat_sectors.len(), self.fat_sectors.len() + 1) {
             self.grow_fat()?;
-            return self.set_entry(count, FAT_SECTOR);
+            self.set_entry(count, FAT_SECTOR)?;
+            return Ok(());
         }
         self.grow_both()?;
         self.set_entry(count, DIFAT_SECTOR)?;
-        self.set_entry(count + 1, FAT_SECTOR)
+        self.set_entry(count + 1, FAT_SECTOR)?;
+        Ok(())
+    }
+
+    // Whether a sector is in no use: its entry is "free", and it holds no part of the tables.
+    fn is_spare(&self, sector_id: u32) -> bool
+        requires { sector_id < length (fat_of self.now) }
+        ensures { IsTrue result ↔ ((slice_index (fat_of self.now) sector_id ≡ free) × IsNoneOf (difat_sectors_of self.now) sector_id × IsNoneOf (fat_sectors_of self.now) sector_id) }
+    {
+        if self.fat[sector_id as usize] != FREE_SECTOR {
+            return false;
+        }
+        if !is_none_of(&self.difat_sectors, sector_id) {
+            return false;
+        }
+        is_none_of(&self.fat_sectors, sector_id)
     }
 
     // The first sector that is in no use: its entry is "free", and it holds no part of the tables.
     fn find_free(&self) -> Option<u32>
-        ensures { MatchOption result ((k : ℕ) → k < length (fat_of self.now) → slice_index (fat_of self.now) k ≡ free → IsNoneOf (tables_of self.now) k → ⊥)
-            (λ n. (slice_get (fat_of self.now) n ≡ Some free) × IsNoneOf (tables_of self.now) n) }
+        requires { has_failed_over self.now ≡ false }
+        ensures { MatchOption result ((k : ℕ) → k < length (fat_of self.now) → slice_index (fat_of self.now) k ≡ free → IsNoneOf (difat_sectors_of self.now) k → IsNoneOf (fat_sectors_of self.now) k → ⊥)
+            (λ n. (slice_get (fat_of self.now) n ≡ Some free) × IsNoneOf (difat_sectors_of self.now) n × IsNoneOf (fat_sectors_of self.now) n) }
     {
         for i in 0..self.fat.len() {
             let sector_id = i as u32;
-            if self.fat[i] == FREE_SECTOR && !self.difat_sectors.contains(&sector_id) && !self.fat_sectors.contains(&sector_id) {
+            if self.is_spare(sector_id) {
                 return Some(sector_id);
             }
         }
