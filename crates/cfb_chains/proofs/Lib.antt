@@ -1,3 +1,4 @@
+pub mod Appended
 pub mod ChainParts
 pub mod DifatChains
 pub mod Entering

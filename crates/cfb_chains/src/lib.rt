@@ -15,6 +15,7 @@ mod laws;
 mod links;
 mod once;
 mod tables;
+mod taking;
 mod writes;
 
 pub use allocator::Allocator;

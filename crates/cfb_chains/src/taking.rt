@@ -1,0 +1,46 @@
+// Sectors that are taken into use.
+ghost use Rattle.cfb_chains.specs.Growing.{GrowsFat};
+ghost use Rattle.cfb_medium.specs.Calls.{IsFaultUnless};
+ghost use Rattle.cfb_medium.specs.Versions.{sector_len};
+ghost use Rattle.cfb_sectors.specs.Held.{count_of};
+ghost use Rattle.cfb_sectors.specs.Initial.{initial};
+ghost use Rattle.cfb_sectors.specs.Sectors.{end_of_chain, greatest_regular, sector};
+ghost use Rattle.std.specs.Prelude.{false, length, true, IfErr, IfOk, IsTrue, List, OnOk, ℕ, [], ◌∷◌, ◌*◌, ◌++◌, ◌/◌, ◌<◌, ◌≡◌, ◌≤◌, ◌⊎◌};
+
+use crate::Allocator;
+use crate::appending::append_sector;
+use crate::entries::{ENTRY_LEN, write_number};
+use cfb_medium::{Error, Medium};
+use cfb_sectors::{END_OF_CHAIN, SectorInit};
+
+impl<F: Medium> Allocator<F> {
+    ghost use Rattle.cfb_chains.specs.Tables.{bytes_of, difat_sectors_of, fat_of, fat_sectors_of, has_failed_here, is_honest, orderly_of, sectors_of, version_of, AllRests, HasCauseBelow};
+
+    // Appends a sector, for which the FAT has a place, as a chain of its own. `Memory` with nothing changed; after a fault in a
+    // write it has failed.
+    fn append(&mut self, init: SectorInit) -> Result<u32, Error>
+        requires live { has_failed_here self.old ≡ false }
+        requires orderly { IsTrue (orderly_of self.old) }
+        requires room { length (fat_of self.old) < length (fat_sectors_of self.old) * (sector_len (version_of self.old) / 4) }
+        requires few { count_of (sectors_of self.old) ≤ greatest_regular }
+        ensures number { IfOk result (λ n. n ≡ length (fat_of self.old)) }
+        ensures grows { IfOk result (λ n. GrowsFat (n ∷ []) [] self.old self.new) }
+        ensures fat { OnOk result (fat_of self.new ≡ fat_of self.old ++ end_of_chain ∷ []) }
+        ensures tables { OnOk result ((difat_sectors_of self.new ≡ difat_sectors_of self.old) × (fat_sectors_of self.new ≡ fat_sectors_of self.old)) }
+        ensures filled { IfOk result (λ n. IsTrue (is_honest self.old) → sector (version_of self.old) (bytes_of self.new) n ≡ initial init (sector_len (version_of self.old))) }
+        ensures live { OnOk result (has_failed_here self.new ≡ false) }
+        ensures cause { IfErr result (HasCauseBelow self.old self.new) }
+        ensures fault { IfErr result (λ e. IsFaultUnless ⊥ e × ((has_failed_here self.new ≡ true) ⊎ AllRests self.old self.new)) }
+    {
+        self.fat.reserve(1)?;
+        let index = self.fat.len();
+        let each = self.sectors.sector_len() / ENTRY_LEN;
+        let holder = self.fat_sectors[index / each];
+        self.is_orderly = false;
+        let sector_id = append_sector(&mut self.sectors, init)?;
+        write_number(&mut self.sectors, holder, index % each, END_OF_CHAIN)?;
+        self.fat.push_reserved(END_OF_CHAIN);
+        self.is_orderly = true;
+        Ok(sector_id)
+    }
+}
