@@ -1,5 +1,5 @@
 -- Growing calls one after the other, and changes of the FAT among them.
-use Rattle.std.proofs.Common.{◌≡◌, ℕ, ◌+◌, ◌<◌, ◌≤◌, false, List, [], ◌∷◌, ◌++◌, length, get_or, refl, ap, sym, subst, ◌∙◌, arith, IsTrue, length-append, ⊎_elim, ◌*◌, ◌/◌}
+use Rattle.std.proofs.Common.{◌≡◌, ℕ, ◌+◌, ◌<◌, ◌≤◌, false, List, [], ◌∷◌, ◌++◌, length, get_or, refl, ap, sym, subst, ◌∙◌, arith, IsTrue, length-append, ⊎_elim, inl, inr, ◌⊎◌, ◌*◌, ◌/◌}
 use Rattle.std.proofs.Math.ListN.{set}
 use Rattle.std.proofs.lemmas.Bool.Decides.{eqb_tells}
 use Rattle.std.proofs.lemmas.List.{length-set, get_or-set_same, get_or-set_other}
@@ -9,13 +9,14 @@ use Rattle.cfb_medium.specs.declared.version.Version.TheVariants.{V3, V4}
 use Rattle.cfb_medium.specs.declared.medium.ReadMedium.{Ghosts}
 use Rattle.cfb_medium.specs.declared.error.Error.{Error}
 use Rattle.cfb_sectors.specs.Held.{count_of, HasItsCause}
-use Rattle.cfb_sectors.specs.Sectors.{free, sector_start}
+use Rattle.cfb_sectors.specs.Sectors.{filled_part, free, sector_start}
 use Rattle.cfb_chains.specs.declared.allocator.Allocator.{Allocator}
-use Rattle.cfb_chains.specs.Changing.{ChangesFat}
+use Rattle.cfb_chains.specs.Changing.{ChangesFat, WritesBeside}
 use Rattle.cfb_chains.specs.Growing.{tables_of, GrowsFat, StayBut}
 use Rattle.cfb_chains.specs.Orderly.{IsBeside, IsNoneOf}
-use Rattle.cfb_chains.specs.Tables.{difat_sectors_of, fat_of, fat_sectors_of, has_failed_here, sectors_of, version_of}
+use Rattle.cfb_chains.specs.Tables.{bytes_of, difat_sectors_of, fat_of, fat_sectors_of, has_failed_here, sectors_of, version_of}
 use Rattle.cfb_chains.proofs.EntryChanges.{cause_since}
+use Rattle.cfb_chains.proofs.Overwriting.{beside}
 use Rattle.cfb_chains.proofs.Growth.{beside_second, start_later}
 
 module _ {F : Type 0} {g : Ghosts F} where
@@ -90,3 +91,20 @@ marked_two fat new k x y at is first second n past below same =
 pub room_after : (v : Version) (size fat_count more new count : ℕ) → size ≡ fat_count * (sector_len v / 4) → more ≤ 2 → new ≡ size + more → count ≡ fat_count + 1 → new < count * (sector_len v / 4)
 room_after V3 size fat_count more new count full few is sum = omega (arith, full, few, is, sum)
 room_after V4 size fat_count more new count full few is sum = omega (arith, full, few, is, sum)
+
+module _ {F : Type 0} {g : Ghosts F} where
+  -- a sector beside the tables is filled anew
+  pub write_grows : (n : ℕ) (bytes : List ℕ) (a b : Allocator F g) → length bytes ≡ sector_len (version_of a) → WritesBeside (sector_start (version_of a) n) bytes a b → GrowsFat (n ∷ []) [] a b
+  write_grows n bytes a b long h = record {
+    honest = h.sectors.0.honest;
+    continues = h.sectors.0.continues;
+    version = h.sectors.0.version;
+    live = h.sectors.0.live;
+    count = λ live. omega (arith, h.sectors.1);
+    orderly = λ live. h.orderly;
+    fat = λ live. record { size = omega (arith, ap length h.fat); others = λ m below none. ap (λ l. get_or l m 0) h.fat };
+    tables = λ live p k fits apart. subst (λ l. IsBeside (version_of a) (l ++ fat_sectors_of b) p k) (sym h.difat_sectors) (subst (λ l. IsBeside (version_of a) (difat_sectors_of a ++ l) p k) (sym h.fat_sectors) apart);
+    beside = λ live honest p k fits apart words taken.
+        ap (λ l. filled_part l p k) (h.sectors.0.bytes live honest)
+        ∙ beside (bytes_of a) bytes (sector_start (version_of a) n) p k (⊎_elim (λ before. inr (omega (arith, before, long))) (λ behind. inl (omega (arith, behind))) (taken 0 (omega arith)));
+  }

@@ -1,11 +1,13 @@
 // Sectors that are taken into use.
+ghost use Rattle.cfb_chains.specs.Changing.{WritesBeside};
 ghost use Rattle.cfb_chains.specs.Growing.{GrowsFat};
+ghost use Rattle.cfb_chains.specs.Orderly.{IsNoneOf};
 ghost use Rattle.cfb_medium.specs.Calls.{IsFaultUnless};
 ghost use Rattle.cfb_medium.specs.Versions.{sector_len};
 ghost use Rattle.cfb_sectors.specs.Held.{count_of};
 ghost use Rattle.cfb_sectors.specs.Initial.{initial};
-ghost use Rattle.cfb_sectors.specs.Sectors.{end_of_chain, greatest_regular, sector};
-ghost use Rattle.std.specs.Prelude.{false, length, true, IfErr, IfOk, IsTrue, List, OnOk, ℕ, [], ◌∷◌, ◌*◌, ◌++◌, ◌/◌, ◌<◌, ◌≡◌, ◌≤◌, ◌⊎◌};
+ghost use Rattle.cfb_sectors.specs.Sectors.{end_of_chain, greatest_regular, sector, sector_start};
+ghost use Rattle.std.specs.Prelude.{false, length, slice_set, true, IfErr, IfOk, IsTrue, List, OnErr, OnOk, ℕ, [], ◌∷◌, ◌*◌, ◌++◌, ◌/◌, ◌<◌, ◌≡◌, ◌≤◌, ◌⊎◌};
 
 use crate::Allocator;
 use crate::appending::append_sector;
@@ -42,5 +44,40 @@ impl<F: Medium> Allocator<F> {
         self.fat.push_reserved(END_OF_CHAIN);
         self.is_orderly = true;
         Ok(sector_id)
+    }
+
+    // Fills a sector that is none of the tables'. After a fault it has failed.
+    fn init_beside(&mut self, sector_id: u32, init: SectorInit) -> Result<(), Error>
+        requires live { has_failed_here self.old ≡ false }
+        requires there { sector_id < count_of (sectors_of self.old) }
+        requires no_difat { IsNoneOf (difat_sectors_of self.old) sector_id }
+        requires no_fat { IsNoneOf (fat_sectors_of self.old) sector_id }
+        ensures writes { WritesBeside (sector_start (version_of self.old) sector_id) (initial init (sector_len (version_of self.old))) self.old self.new }
+        ensures live { OnOk result (has_failed_here self.new ≡ false) }
+        ensures err { OnErr result (has_failed_here self.new ≡ true) }
+        ensures cause { IfErr result (HasCauseBelow self.old self.new) }
+        ensures fault { IfErr result (IsFaultUnless ⊥) }
+    {
+        self.sectors.init_sector(sector_id, init)
+    }
+
+    // Takes a sector into use that is in none, as a chain of its own. After a fault it has failed.
+    fn take_free(&mut self, sector_id: u32, init: SectorInit) -> Result<(), Error>
+        requires live { has_failed_here self.old ≡ false }
+        requires orderly { IsTrue (orderly_of self.old) }
+        requires there { sector_id < length (fat_of self.old) }
+        requires no_difat { IsNoneOf (difat_sectors_of self.old) sector_id }
+        requires no_fat { IsNoneOf (fat_sectors_of self.old) sector_id }
+        ensures grows { OnOk result (GrowsFat (sector_id ∷ []) (sector_id ∷ []) self.old self.new) }
+        ensures fat { OnOk result (fat_of self.new ≡ slice_set (fat_of self.old) sector_id end_of_chain) }
+        ensures filled { OnOk result (IsTrue (is_honest self.old) → sector (version_of self.old) (bytes_of self.new) sector_id ≡ initial init (sector_len (version_of self.old))) }
+        ensures live { OnOk result (has_failed_here self.new ≡ false) }
+        ensures err { OnErr result (has_failed_here self.new ≡ true) }
+        ensures cause { IfErr result (HasCauseBelow self.old self.new) }
+        ensures fault { IfErr result (IsFaultUnless ⊥) }
+    {
+        self.init_beside(sector_id, init)?;
+        self.set_entry(sector_id, END_OF_CHAIN)?;
+        Ok(())
     }
 }
