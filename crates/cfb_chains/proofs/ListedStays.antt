@@ -31,9 +31,11 @@ later v old new x ds same k below = same (suc k) (omega arith)
 chain_kept : (v : Version) (old new : List ℕ) (start : ℕ) (ds : List ℕ) (stop : ℕ) → sectors_in v (length old) ≤ sectors_in v (length new) → SameSectors v old new ds → DifatChain v old start ds stop → DifatChain v new start ds stop
 chain_kept v old new start [] stop more same chain = chain
 chain_kept v old new start (x ∷ ds) stop more same (is, there, rest) =
-    let here : sector v new start ≡ sector v old start = subst (λ n. sector v new n ≡ sector v old n) is (same 0 (omega arith)) in
-    (is, below_in_file v new start (let below = in_file_below v old start there in omega (arith, below, more)),
-    subst (λ s. DifatChain v new (u32_at s (sector_len v - 4)) ds stop) (sym here) (chain_kept v old new (u32_at (sector v old start) (sector_len v - 4)) ds stop more (later v old new x ds same) rest))
+    let here : sector v new start ≡ sector v old start = subst (λ n. sector v new n ≡ sector v old n) is (same 0 (omega arith)) in (
+      is,
+      below_in_file v new start (let below = in_file_below v old start there in omega (arith, below, more)),
+      subst (λ s. DifatChain v new (u32_at s (sector_len v - 4)) ds stop) (sym here) (chain_kept v old new (u32_at (sector v old start) (sector_len v - 4)) ds stop more (later v old new x ds same) rest),
+    )
 
 entries_kept : (v : Version) (old new : List ℕ) (ds : List ℕ) → SameSectors v old new ds
     → flat_map (λ n. numbers (take (sector_len v - 4) (sector v new n))) ds ≡ flat_map (λ n. numbers (take (sector_len v - 4) (sector v old n))) ds

@@ -82,6 +82,8 @@ module _ {F : Type 0} {g : Ghosts F} where
   listed_still_read a b is fat fs ds rests honest h = (
     λ holds. let both = h.0 holds in
         (order_after a b fat fs ds rests both.0, merely (subst (λ v. IsListed v (bytes_of b) ds fs) (sym rests.version) (subst (λ l. IsListed (version_of a) l ds fs) (sym (rests.bytes honest)) both.1))),
-    λ both. ∥∥₁_elim both.1 (hlevel props) (λ listed. h.1 (order_before a b fat fs ds rests both.0,
-        subst (λ v. IsListed v (bytes_of a) ds fs) rests.version (subst (λ l. IsListed (version_of b) l ds fs) (rests.bytes honest) listed))),
+    λ both. ∥∥₁_elim both.1 (hlevel props) (λ listed. h.1 (
+      order_before a b fat fs ds rests both.0,
+      subst (λ v. IsListed v (bytes_of a) ds fs) rests.version (subst (λ l. IsListed (version_of b) l ds fs) (rests.bytes honest) listed),
+    )),
   )

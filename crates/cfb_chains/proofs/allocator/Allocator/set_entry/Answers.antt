@@ -32,7 +32,7 @@ invariant_of-self-2 g c =
           let had = (it.listed (did.changes.live live) was).0 c.requires.orderly in
           let aside = entry_aside it.sectors.version it.difat_sectors.items fs (to_le_bytes w32 c.args.entry) c.args.sector_id _ _ refl each below (get_or_read fs _ _ below c.index-holder.ensures 0) order.once in
           let both = listed_still it.sectors.version c.write_number.new.sectors.version (bytes_of it.sectors) (bytes_of c.write_number.new.sectors) (to_le_bytes w32 c.args.entry) it.difat_sectors.items fs _ it.sectors.num_sectors c.write_number.new.sectors.num_sectors
-              did.changes.version did.count (did.changes.bytes live was) (it.sectors.counted (did.changes.live live) was) (c.write_number.new.sectors.counted live honest) order.some aside.0 aside.1 in (
+          did.changes.version did.count (did.changes.bytes live was) (it.sectors.counted (did.changes.live live) was) (c.write_number.new.sectors.counted live honest) order.some aside.0 aside.1 in (
             λ now. (order_stays _ _ _ _ it.fat.items _ fs it.difat_sectors.items did.changes.version did.count size order, ∥∥₁_map had.1 both.0),
             λ has. c.requires.orderly,
           );

@@ -26,9 +26,9 @@ invariant_of-self g c =
           let was = subst IsTrue changes.honest honest in
           let before = it.listed (changes.live live) was in
           let both : 0 < it.sectors.num_sectors → (IsListed it.sectors.version (bytes_of it.sectors) it.difat_sectors.items fs → IsListed c.write_part.new.self.version (bytes_of c.write_part.new.self) it.difat_sectors.items fs)
-              × (IsListed c.write_part.new.self.version (bytes_of c.write_part.new.self) it.difat_sectors.items fs → IsListed it.sectors.version (bytes_of it.sectors) it.difat_sectors.items fs) =
-              λ some. listed_still it.sectors.version c.write_part.new.self.version (bytes_of it.sectors) (bytes_of c.write_part.new.self) c.args.bytes.now it.difat_sectors.items fs c.args.place it.sectors.num_sectors c.write_part.new.self.num_sectors
-              changes.version count (changes.bytes live was) (it.sectors.counted (changes.live live) was) (c.write_part.new.self.counted live honest) some c.requires.words c.requires.difat in (
+          × (IsListed c.write_part.new.self.version (bytes_of c.write_part.new.self) it.difat_sectors.items fs → IsListed it.sectors.version (bytes_of it.sectors) it.difat_sectors.items fs) =
+          λ some. listed_still it.sectors.version c.write_part.new.self.version (bytes_of it.sectors) (bytes_of c.write_part.new.self) c.args.bytes.now it.difat_sectors.items fs c.args.place it.sectors.num_sectors c.write_part.new.self.num_sectors
+          changes.version count (changes.bytes live was) (it.sectors.counted (changes.live live) was) (c.write_part.new.self.counted live honest) some c.requires.words c.requires.difat in (
             λ now. let had = before.0 now in
                 (order_stays _ _ _ _ it.fat.items it.fat.items fs it.difat_sectors.items changes.version count refl had.0, ∥∥₁_map had.1 (both had.0.some).0),
             λ has. let order = order_stays _ _ _ _ it.fat.items it.fat.items fs it.difat_sectors.items (sym changes.version) (sym count) refl has.0 in
