@@ -15,7 +15,7 @@ use Rattle.cfb_chains.specs.Changing.{ChangesFat, WritesBeside}
 use Rattle.cfb_chains.specs.Growing.{tables_of, GrowsFat, StayBut}
 use Rattle.cfb_chains.specs.Orderly.{IsBeside, IsNoneOf}
 use Rattle.cfb_chains.specs.Tables.{bytes_of, difat_sectors_of, fat_of, fat_sectors_of, has_failed_here, sectors_of, version_of}
-use Rattle.cfb_chains.proofs.EntryChanges.{cause_since}
+use Rattle.cfb_chains.proofs.EntryChanges.{cause_since, changes_none}
 use Rattle.cfb_chains.proofs.Overwriting.{beside}
 use Rattle.cfb_chains.proofs.Growth.{beside_second, start_later}
 
@@ -108,3 +108,7 @@ module _ {F : Type 0} {g : Ghosts F} where
         ap (λ l. filled_part l p k) (h.sectors.0.bytes live honest)
         ∙ beside (bytes_of a) bytes (sector_start (version_of a) n) p k (⊎_elim (λ before. inr (omega (arith, before, long))) (λ behind. inl (omega (arith, behind))) (taken 0 (omega arith)));
   }
+
+module _ {F : Type 0} {g : Ghosts F} where
+  pub grows_none : (a : Allocator F g) → GrowsFat [] [] a a
+  grows_none a = change_grows [] a a (changes_none [] a)

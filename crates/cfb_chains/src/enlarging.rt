@@ -168,13 +168,14 @@ impl<F: Medium> Allocator<F> {
 
     // Makes the tables longer, so that the FAT has a place for a sector more, and marks their new sectors. `Full` where too few
     // numbers are left, and `Memory`, each with nothing changed; after a fault in a write it has failed.
-    fn lengthen(&mut self) -> Result<(), Error>
+    pub(crate) fn lengthen(&mut self) -> Result<(), Error>
         requires live { has_failed_over self.old ≡ false }
         requires orderly { IsTrue (orderly_of self.old) }
         requires full { length (fat_of self.old) ≡ length (fat_sectors_of self.old) * (sector_len (version_over self.old) / 4) }
         requires few { count_of (sectors_of self.old) < greatest_regular }
         ensures grows { OnOk result (GrowsFat [] [] self.old self.new) }
         ensures added { OnOk result ((n : ℕ) → length (fat_of self.old) ≤ n → n < length (fat_of self.new) → slice_index (fat_of self.new) n ≡ free → ⊥) }
+        ensures longer { OnOk result (length (fat_of self.new) ≤ length (fat_of self.old) + 2) }
         ensures room { OnOk result (length (fat_of self.new) < length (fat_sectors_of self.new) * (sector_len (version_over self.new) / 4)) }
         ensures live { OnOk result (has_failed_over self.new ≡ false) }
         ensures cause { IfErr result (HasCauseBelow self.old self.new) }
@@ -207,7 +208,7 @@ impl<F: Medium> Allocator<F> {
     }
 
     // The first sector that is in no use: its entry is "free", and it holds no part of the tables.
-    fn find_free(&self) -> Option<u32>
+    pub(crate) fn find_free(&self) -> Option<u32>
         requires { has_failed_over self.now ≡ false }
         ensures { MatchOption result ((k : ℕ) → k < length (fat_of self.now) → slice_index (fat_of self.now) k ≡ free → IsNoneOf (difat_sectors_of self.now) k → IsNoneOf (fat_sectors_of self.now) k → ⊥)
             (λ n. (slice_get (fat_of self.now) n ≡ Some free) × IsNoneOf (difat_sectors_of self.now) n × IsNoneOf (fat_sectors_of self.now) n) }

@@ -4,16 +4,17 @@ ghost use Rattle.cfb_chains.specs.Growing.{GrowsFat};
 ghost use Rattle.cfb_chains.specs.Orderly.{IsNoneOf};
 ghost use Rattle.cfb_medium.specs.Calls.{IsFaultUnless};
 ghost use Rattle.cfb_medium.specs.Versions.{sector_len};
+ghost use Rattle.cfb_medium.specs.declared.error.Error.TheVariants.{Full};
 ghost use Rattle.cfb_sectors.specs.Held.{count_of};
 ghost use Rattle.cfb_sectors.specs.Initial.{initial};
 ghost use Rattle.cfb_sectors.specs.Sectors.{end_of_chain, greatest_regular, sector, sector_start};
-ghost use Rattle.std.specs.Prelude.{false, length, slice_set, true, IfErr, IfOk, IsTrue, List, OnErr, OnOk, ℕ, [], ◌∷◌, ◌*◌, ◌++◌, ◌/◌, ◌<◌, ◌≡◌, ◌≤◌, ◌⊎◌};
+ghost use Rattle.std.specs.Prelude.{false, length, slice_set, true, IfErr, IfOk, IsErrOf, IsTrue, List, OnErr, OnOk, ℕ, [], ◌∷◌, ◌*◌, ◌+◌, ◌++◌, ◌/◌, ◌<◌, ◌≡◌, ◌≤◌, ◌⊎◌};
 
 use crate::Allocator;
 use crate::appending::append_sector;
 use crate::entries::{ENTRY_LEN, write_number};
 use cfb_medium::{Error, Medium};
-use cfb_sectors::{END_OF_CHAIN, SectorInit};
+use cfb_sectors::{END_OF_CHAIN, MAX_REGULAR_SECTOR, SectorInit};
 
 impl<F: Medium> Allocator<F> {
     ghost use Rattle.cfb_chains.specs.Tables.{bytes_of, difat_sectors_of, fat_of, fat_sectors_of, has_failed_here, is_honest, orderly_of, sectors_of, version_of, AllRests, HasCauseBelow};
@@ -78,6 +79,34 @@ impl<F: Medium> Allocator<F> {
     {
         self.init_beside(sector_id, init)?;
         self.set_entry(sector_id, END_OF_CHAIN)?;
+        Ok(())
+    }
+
+    // Leaves the FAT with a place for one sector more. `Full` where too few numbers are left, and `Memory`, each with nothing
+    // changed; after a fault in a write it has failed.
+    fn make_room(&mut self) -> Result<(), Error>
+        requires live { has_failed_here self.old ≡ false }
+        requires orderly { IsTrue (orderly_of self.old) }
+        ensures grows { OnOk result (GrowsFat [] [] self.old self.new) }
+        ensures room { OnOk result (length (fat_of self.new) < length (fat_sectors_of self.new) * (sector_len (version_of self.new) / 4)) }
+        ensures few { OnOk result (length (fat_of self.new) ≤ greatest_regular) }
+        ensures live { OnOk result (has_failed_here self.new ≡ false) }
+        ensures full { IsErrOf result Full → (greatest_regular < length (fat_of self.old) + 2) × AllRests self.old self.new }
+        ensures cause { IfErr result (HasCauseBelow self.old self.new) }
+        ensures fault { IfErr result (λ e. (IsFaultUnless ⊥ e × ((has_failed_here self.new ≡ true) ⊎ AllRests self.old self.new)) ⊎ (e ≡ Full)) }
+    {
+        let count = self.num_sectors();
+        if count > MAX_REGULAR_SECTOR {
+            return Err(Error::Full);
+        }
+        let each = self.sectors.sector_len() / ENTRY_LEN;
+        if self.fat.len() / each < self.fat_sectors.len() {
+            return Ok(());
+        }
+        if count > MAX_REGULAR_SECTOR - 2 {
+            return Err(Error::Full);
+        }
+        self.lengthen()?;
         Ok(())
     }
 }
