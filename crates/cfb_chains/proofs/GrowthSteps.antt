@@ -1,21 +1,24 @@
 -- Growing calls one after the other, and changes of the FAT among them.
-use Rattle.std.proofs.Common.{◌≡◌, ℕ, ◌+◌, ◌<◌, ◌≤◌, false, List, [], ◌∷◌, ◌++◌, length, get_or, refl, ap, sym, subst, ◌∙◌, arith, IsTrue, length-append, ⊎_elim, inl, inr, ◌⊎◌, ◌*◌, ◌/◌}
+use Rattle.std.proofs.Common.{◌≡◌, ℕ, ◌+◌, ◌-◌, ◌<◌, ◌≤◌, false, List, [], ◌∷◌, ◌++◌, length, get_or, refl, ap, sym, subst, ◌∙◌, arith, IsTrue, length-append, ⊎_elim, inl, inr, ◌⊎◌, ◌*◌, ◌/◌}
 use Rattle.std.proofs.Math.ListN.{set}
 use Rattle.std.proofs.lemmas.Bool.Decides.{eqb_tells}
 use Rattle.std.proofs.lemmas.List.{length-set, get_or-set_same, get_or-set_other}
 use Rattle.cfb_medium.specs.Versions.{sector_len}
 use Rattle.cfb_medium.specs.declared.version.Version.{Version}
 use Rattle.cfb_medium.specs.declared.version.Version.TheVariants.{V3, V4}
+use Rattle.std.specs.Prelude.{Result, Ok, Err, IfOk, IfErr, OnOk, Some}
+use Rattle.std.proofs.Math.Seq.{get_or-append_right}
+use Rattle.std.proofs.lemmas.Option.{slice_get-get_or}
 use Rattle.cfb_medium.specs.declared.medium.ReadMedium.{Ghosts}
 use Rattle.cfb_medium.specs.declared.error.Error.{Error}
 use Rattle.cfb_sectors.specs.Held.{count_of, HasItsCause}
-use Rattle.cfb_sectors.specs.Sectors.{filled_part, free, sector_start}
+use Rattle.cfb_sectors.specs.Sectors.{end_of_chain, filled_part, free, greatest_regular, sector_start, Chain as IsChain}
 use Rattle.cfb_chains.specs.declared.allocator.Allocator.{Allocator}
 use Rattle.cfb_chains.specs.Changing.{ChangesFat, WritesBeside}
 use Rattle.cfb_chains.specs.Growing.{tables_of, GrowsFat, StayBut}
 use Rattle.cfb_chains.specs.Orderly.{IsBeside, IsNoneOf}
-use Rattle.cfb_chains.specs.Tables.{bytes_of, difat_sectors_of, fat_of, fat_sectors_of, has_failed_here, sectors_of, version_of}
-use Rattle.cfb_chains.proofs.EntryChanges.{cause_since, changes_none}
+use Rattle.cfb_chains.specs.Tables.{AllRests, bytes_of, difat_sectors_of, fat_of, fat_sectors_of, has_failed_here, sectors_of, version_of}
+use Rattle.cfb_chains.proofs.EntryChanges.{cause_since, changes_none, changes_rest}
 use Rattle.cfb_chains.proofs.Overwriting.{beside}
 use Rattle.cfb_chains.proofs.Growth.{beside_second, start_later}
 
@@ -112,3 +115,34 @@ module _ {F : Type 0} {g : Ghosts F} where
 module _ {F : Type 0} {g : Ghosts F} where
   pub grows_none : (a : Allocator F g) → GrowsFat [] [] a a
   grows_none a = change_grows [] a a (changes_none [] a)
+
+  pub rest_grows : (a b : Allocator F g) → AllRests a b → GrowsFat [] [] a b
+  rest_grows a b h = change_grows [] a b (changes_rest [] a b h)
+
+  -- tables became longer, and then longer again
+  pub grows_again : (a b c : Allocator F g) → GrowsFat [] [] a b → GrowsFat [] [] b c → GrowsFat [] [] a c
+  grows_again a b c h k = grows_then [] [] [] [] [] [] a b c h k (λ n below none. (none, none)) (λ p n fits aside. (aside, aside))
+
+  -- tables became longer, and then a sector behind all others was taken
+  pub grows_taken : (n : ℕ) (a b c : Allocator F g) → GrowsFat [] [] a b → GrowsFat (n ∷ []) [] b c → GrowsFat (n ∷ []) (n ∷ []) a c
+  grows_taken n a b c h k = grows_then [] [] (n ∷ []) [] (n ∷ []) (n ∷ []) a b c h k (λ m below none. ((λ i inside same. absurd (omega (arith, inside))), (λ i inside same. absurd (omega (arith, inside))))) (λ p m fits aside. ((λ i inside. absurd (omega (arith, inside))), aside))
+
+pub ok_map : {T : Type 0} (r : Result T Error) (P Q : T → Type 0) → IfOk r P → ((x : T) → P x → Q x) → IfOk r Q
+ok_map (Ok x) P Q h f = f x h
+ok_map (Err e) P Q h f = tt
+
+pub err_map : {T : Type 0} (r : Result T Error) (P Q : Error → Type 0) → IfErr r P → ((e : Error) → P e → Q e) → IfErr r Q
+err_map (Ok x) P Q h f = tt
+err_map (Err e) P Q h f = f e h
+
+pub ok_both : {T : Type 0} (r : Result T Error) (P Q : T → Type 0) (X : Type 0) → IfOk r P → OnOk r X → ((x : T) → P x → X → Q x) → IfOk r Q
+ok_both (Ok x) P Q X h k f = f x h k
+ok_both (Err e) P Q X h k f = tt
+
+-- an appended entry is a chain of its own
+pub chain_one : (fat new : List ℕ) (n : ℕ) → new ≡ fat ++ end_of_chain ∷ [] → n ≡ length fat → length fat ≤ greatest_regular → IsChain new n (n ∷ [])
+chain_one fat new n is at few =
+    let size = ap length is ∙ length-append fat (end_of_chain ∷ []) in
+    let none : n - length fat ≡ 0 = omega (arith, at) in
+    let value : get_or new n 0 ≡ end_of_chain = ap (λ l. get_or l n 0) is ∙ get_or-append_right fat (end_of_chain ∷ []) n 0 (omega (arith, at)) ∙ ap (λ i. get_or (end_of_chain ∷ []) i 0) none in
+    (refl, omega (arith, at, few), end_of_chain, slice_get-get_or new n 0 (omega (arith, size, at)) ∙ ap Some value, refl)

@@ -1,14 +1,14 @@
 // Sectors that are taken into use.
 ghost use Rattle.cfb_chains.specs.Changing.{WritesBeside};
-ghost use Rattle.cfb_chains.specs.Growing.{GrowsFat};
+ghost use Rattle.cfb_chains.specs.Growing.{GrowsFat, IsFreeIn};
 ghost use Rattle.cfb_chains.specs.Orderly.{IsNoneOf};
 ghost use Rattle.cfb_medium.specs.Calls.{IsFaultUnless};
 ghost use Rattle.cfb_medium.specs.Versions.{sector_len};
-ghost use Rattle.cfb_medium.specs.declared.error.Error.TheVariants.{Full};
+ghost use Rattle.cfb_medium.specs.declared.error.Error.TheVariants.{Failed, Full, InvalidData};
 ghost use Rattle.cfb_sectors.specs.Held.{count_of};
 ghost use Rattle.cfb_sectors.specs.Initial.{initial};
-ghost use Rattle.cfb_sectors.specs.Sectors.{end_of_chain, greatest_regular, sector, sector_start};
-ghost use Rattle.std.specs.Prelude.{false, length, slice_set, true, IfErr, IfOk, IsErrOf, IsTrue, List, OnErr, OnOk, ℕ, [], ◌∷◌, ◌*◌, ◌+◌, ◌++◌, ◌/◌, ◌<◌, ◌≡◌, ◌≤◌, ◌⊎◌};
+ghost use Rattle.cfb_sectors.specs.Sectors.{end_of_chain, free, greatest_regular, sector, sector_start, Chain as IsChain};
+ghost use Rattle.std.specs.Prelude.{false, length, slice_index, slice_set, true, IfErr, IfOk, IsErrOf, IsTrue, List, OnErr, OnOk, ℕ, [], ◌∷◌, ◌*◌, ◌+◌, ◌++◌, ◌/◌, ◌<◌, ◌≡◌, ◌≤◌, ◌⊎◌};
 
 use crate::Allocator;
 use crate::appending::append_sector;
@@ -108,5 +108,54 @@ impl<F: Medium> Allocator<F> {
         }
         self.lengthen()?;
         Ok(())
+    }
+
+    // Takes a sector into use as a chain of its own: a free one, or where there is none but a table's, one behind all others.
+    // `Full` where too few numbers are left, with nothing changed. `Memory` with nothing changed but longer tables; after a
+    // fault in a write it has failed.
+    fn take(&mut self, init: SectorInit) -> Result<u32, Error>
+        requires live { has_failed_here self.old ≡ false }
+        requires orderly { IsTrue (orderly_of self.old) }
+        ensures free { IfOk result (IsFreeIn (fat_of self.old)) }
+        ensures chain { IfOk result (λ n. IsChain (fat_of self.new) n (n ∷ [])) }
+        ensures grows { IfOk result (λ n. GrowsFat (n ∷ []) (n ∷ []) self.old self.new) }
+        ensures filled { IfOk result (λ n. IsTrue (is_honest self.old) → sector (version_of self.old) (bytes_of self.new) n ≡ initial init (sector_len (version_of self.old))) }
+        ensures appended { IfOk result (λ n. length (fat_of self.old) ≤ n → (k : ℕ) → k < length (fat_of self.old) → slice_index (fat_of self.old) k ≡ free → IsNoneOf (difat_sectors_of self.old) k → IsNoneOf (fat_sectors_of self.old) k → ⊥) }
+        ensures live { OnOk result (has_failed_here self.new ≡ false) }
+        ensures full { IsErrOf result Full → (greatest_regular < length (fat_of self.old) + 2) × AllRests self.old self.new }
+        ensures cause { IfErr result (HasCauseBelow self.old self.new) }
+        ensures fault { IfErr result (λ e. (IsFaultUnless ⊥ e × ((has_failed_here self.new ≡ true) ⊎ GrowsFat [] [] self.old self.new)) ⊎ (e ≡ Full)) }
+    {
+        if let Some(sector_id) = self.find_free() {
+            self.take_free(sector_id, init)?;
+            return Ok(sector_id);
+        }
+        self.make_room()?;
+        self.append(init)
+    }
+
+    /// Takes a sector into use as a chain of its own: a free one, or where there is none but a table's, one behind all others.
+    /// `InvalidData` where the tables can't be changed, and `Full` where too few numbers are left; then nothing is changed.
+    /// `Memory` with nothing changed but longer tables. After a fault in a write it has failed.
+    pub fn begin_chain(&mut self, init: SectorInit) -> Result<u32, Error>
+        ensures free { IfOk result (IsFreeIn (fat_of self.old)) }
+        ensures chain { IfOk result (λ n. IsChain (fat_of self.new) n (n ∷ [])) }
+        ensures grows { IfOk result (λ n. GrowsFat (n ∷ []) (n ∷ []) self.old self.new) }
+        ensures filled { IfOk result (λ n. IsTrue (is_honest self.old) → sector (version_of self.old) (bytes_of self.new) n ≡ initial init (sector_len (version_of self.old))) }
+        ensures appended { IfOk result (λ n. length (fat_of self.old) ≤ n → (k : ℕ) → k < length (fat_of self.old) → slice_index (fat_of self.old) k ≡ free → IsNoneOf (difat_sectors_of self.old) k → IsNoneOf (fat_sectors_of self.old) k → ⊥) }
+        ensures live { OnOk result ((has_failed_here self.old ≡ false) × IsTrue (orderly_of self.old) × (has_failed_here self.new ≡ false)) }
+        ensures refused { IsErrOf result InvalidData → (IsTrue (orderly_of self.old) → ⊥) × AllRests self.old self.new }
+        ensures full { IsErrOf result Full → (greatest_regular < length (fat_of self.old) + 2) × AllRests self.old self.new }
+        ensures failed { has_failed_here self.old ≡ true → IsErrOf result Failed × AllRests self.old self.new }
+        ensures cause { IfErr result (HasCauseBelow self.old self.new) }
+        ensures fault { IfErr result (λ e. (IsFaultUnless ⊥ e × ((has_failed_here self.new ≡ true) ⊎ GrowsFat [] [] self.old self.new)) ⊎ (e ≡ Full) ⊎ (e ≡ InvalidData)) }
+    {
+        if self.sectors.is_failed() {
+            return Err(Error::Failed);
+        }
+        if !self.is_orderly {
+            return Err(Error::InvalidData);
+        }
+        self.take(init)
     }
 }
