@@ -14,7 +14,7 @@ use Rattle.cfb_chains.proofs.FatEntries.{entries_stay, entry_written, per, split
 use Rattle.cfb_chains.proofs.Overwriting.{beside}
 
 -- what stands once in both lists does so in the second
-once_behind : (ds fs : List ℕ) → AreOnce (ds ++ fs) → AreOnce fs
+pub once_behind : (ds fs : List ℕ) → AreOnce (ds ++ fs) → AreOnce fs
 once_behind ds fs once = λ k l k_below l_below same.
     let size = length-append ds fs in
     let at : (m : ℕ) → get_or (ds ++ fs) (length ds + m) 0 ≡ get_or fs m 0 =

@@ -26,7 +26,7 @@ number_at (suc k) zero bytes below = refl
 number_at (suc k) (suc m) bytes below =
     number_at k m (drop 4 bytes) (omega arith) ∙ ap (λ l. from_le_bytes w32 (take 4 l)) (drop-drop (m * 4) 4 bytes ∙ ap (λ n. drop n bytes) (omega arith))
 
-get_number : (bytes : List ℕ) (m : ℕ) → m < length bytes / 4 → get_or (numbers bytes) m 0 ≡ from_le_bytes w32 (take 4 (drop (m * 4) bytes))
+pub get_number : (bytes : List ℕ) (m : ℕ) → m < length bytes / 4 → get_or (numbers bytes) m 0 ≡ from_le_bytes w32 (take 4 (drop (m * 4) bytes))
 unfolding numbers all_pieces
 get_number bytes m below = number_at (length bytes / 4) m bytes below
 

@@ -1,3 +1,4 @@
+pub mod Appended
 pub mod ChainCutting
 pub mod ChainGrowing
 pub mod ChainParts
@@ -6,9 +7,15 @@ pub mod DifatChains
 pub mod Entering
 pub mod EntryChanges
 pub mod FatEntries
+pub mod Fresh
+pub mod Grown
+pub mod Growth
+pub mod GrowthSteps
 pub mod Joining
+pub mod ListedMore
 pub mod ListedStays
 pub mod Listing
 pub mod Overwriting
 pub mod Staying
+pub mod TableWords
 pub mod Words

@@ -1,13 +1,19 @@
--- What a layer that takes sectors into use leaves of its FAT.
-use Rattle.std.specs.Prelude.{◌≡◌, ℕ, ◌<◌, ◌≤◌, ◌⊎◌, List, length, slice_get, slice_index, Some}
-use Rattle.cfb_sectors.specs.Sectors.{free}
-use Rattle.cfb_chains.specs.Orderly.{IsNoneOf}
+-- What growing calls do: a sector is appended, or taken from the free ones, and tables become longer.
+use Rattle.std.specs.Prelude.{◌≡◌, ℕ, ◌+◌, ◌<◌, ◌≤◌, ◌⊎◌, false, List, [], ◌∷◌, ◌++◌, length, slice_get, slice_index, IsTrue, Some}
+use Rattle.cfb_medium.specs.Calls.{Extends}
+use Rattle.cfb_medium.specs.declared.medium.ReadMedium.{Ghosts}
+use Rattle.cfb_sectors.specs.Held as held
+use Rattle.cfb_sectors.specs.Sectors.{filled_part, free, sector, sector_start}
+use Rattle.cfb_sectors.specs.declared.sectors.Sectors.{Sectors}
+use Rattle.cfb_chains.specs.declared.allocator.Allocator.{Allocator}
+use Rattle.cfb_chains.specs.Orderly.{IsBeside, IsBesideWords, IsNoneOf}
+use Rattle.cfb_chains.specs.Tables.{bytes_of, difat_sectors_of, fat_of, fat_sectors_of, has_failed_here, is_honest, medium_of, orderly_of, sectors_of, version_of}
 
--- the sector is free, or behind all that the FAT has
+-- the sector was free, or is a new one behind all others
 abbrev pub IsFreeIn : List ℕ → ℕ → Type 0
 IsFreeIn fat n = (slice_get fat n ≡ Some free) ⊎ (length fat ≤ n)
 
--- each entry that there was stays but these
+-- each old entry but those named stays; the table may have become longer
 pub record StayBut (entries old new : List ℕ) : Type 0 where
   pub size : length old ≤ length new
   pub others : (n : ℕ) → n < length old → IsNoneOf entries n → slice_index new n ≡ slice_index old n
@@ -15,3 +21,38 @@ pub record StayBut (entries old new : List ℕ) : Type 0 where
 -- each of these is one of those
 abbrev pub AreAmong : List ℕ → List ℕ → Type 0
 AreAmong all xs = (n : ℕ) → IsNoneOf all n → IsNoneOf xs n
+
+module _ {F : Type 0} {g : Ghosts F} where
+  -- where it has not failed one sector was appended, and what lies before it stays but where this says so; nothing was published
+  pub record Appends (stays : ℕ → ℕ → Type 0) (old new : Sectors F g) : Type 0 where
+    pub honest : g.honest (held.medium_of new) ≡ g.honest (held.medium_of old)
+    pub continues : Extends g.continues (held.medium_of old) (held.medium_of new)
+    pub version : held.version_of new ≡ held.version_of old
+    pub live : held.has_failed_here new ≡ false → held.has_failed_here old ≡ false
+    pub count : held.has_failed_here new ≡ false → held.count_of new ≡ held.count_of old + 1
+    pub before : held.has_failed_here new ≡ false → held.IsHonest old → (place count : ℕ) → place + count ≤ sector_start (held.version_of old) (held.count_of old) → stays place count
+        → filled_part (held.bytes_of new) place count ≡ filled_part (held.bytes_of old) place count
+
+  -- the part has no byte of the DIFAT's sectors, and none of what the header says of the tables
+  abbrev pub IsBesideDifat : Sectors F g → List ℕ → ℕ → ℕ → Type 0
+  IsBesideDifat it difat_sectors place count = IsBeside (held.version_of it) difat_sectors place count × IsBesideWords place count
+
+  -- the sectors of DIFAT and FAT
+  abbrev pub tables_of : Allocator F g → List ℕ
+  tables_of it = difat_sectors_of it ++ fat_sectors_of it
+
+  -- where it has not failed at most these entries of the old FAT are changed, and of the old sectors' bytes at most those of
+  -- tables and of these sectors that were taken; tables and file may have become longer, behind the old sectors; nothing was
+  -- published
+  pub record GrowsFat (taken entries : List ℕ) (old new : Allocator F g) : Type 0 where
+    pub honest : g.honest (medium_of new) ≡ g.honest (medium_of old)
+    pub continues : Extends g.continues (medium_of old) (medium_of new)
+    pub version : version_of new ≡ version_of old
+    pub live : has_failed_here new ≡ false → has_failed_here old ≡ false
+    pub count : has_failed_here new ≡ false → held.count_of (sectors_of old) ≤ held.count_of (sectors_of new)
+    pub orderly : has_failed_here new ≡ false → orderly_of new ≡ orderly_of old
+    pub fat : has_failed_here new ≡ false → StayBut entries (fat_of old) (fat_of new)
+    pub tables : has_failed_here new ≡ false → (place count : ℕ) → place + count ≤ sector_start (version_of old) (held.count_of (sectors_of old)) → IsBeside (version_of old) (tables_of old) place count → IsBeside (version_of old) (tables_of new) place count
+    pub beside : has_failed_here new ≡ false → IsTrue (is_honest old) → (place count : ℕ) → place + count ≤ sector_start (version_of old) (held.count_of (sectors_of old))
+        → IsBeside (version_of old) (tables_of old) place count → IsBesideWords place count → IsBeside (version_of old) taken place count
+        → filled_part (bytes_of new) place count ≡ filled_part (bytes_of old) place count

@@ -15,7 +15,7 @@ impl<F: Medium> Allocator<F> {
     ghost use Rattle.cfb_chains.specs.Tables.{fat_of, has_failed_here, orderly_of, AllRests, HasCauseBelow};
 
     // Writes an entry of the FAT, and sets it in memory. After a fault it has failed.
-    fn set_entry(&mut self, sector_id: u32, entry: u32) -> Result<(), Error>
+    pub(crate) fn set_entry(&mut self, sector_id: u32, entry: u32) -> Result<(), Error>
         requires live { has_failed_here self.old ≡ false }
         requires orderly { IsTrue (orderly_of self.old) }
         requires there { sector_id < length (fat_of self.old) }

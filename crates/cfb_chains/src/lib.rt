@@ -3,6 +3,7 @@
 
 mod access;
 mod allocator;
+mod appending;
 mod beside;
 mod chain;
 mod chain_cuts;
@@ -10,6 +11,7 @@ mod chain_growth;
 mod chain_writes;
 mod changes;
 mod difat;
+mod enlarging;
 mod entries;
 mod freeing;
 mod growing;
@@ -17,6 +19,7 @@ mod laws;
 mod links;
 mod once;
 mod tables;
+mod taking;
 mod writes;
 
 pub use allocator::Allocator;

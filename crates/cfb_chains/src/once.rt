@@ -1,5 +1,5 @@
 // Whether numbers stand twice, and how great they are.
-ghost use Rattle.cfb_chains.specs.Orderly.{AreBelow, AreOnce};
+ghost use Rattle.cfb_chains.specs.Orderly.{AreBelow, AreOnce, IsNoneOf};
 ghost use Rattle.std.specs.Prelude.{IsTrue, ◌≡◌, ◌↔◌};
 
 /// Whether no number stands twice.
@@ -31,4 +31,16 @@ pub(crate) fn are_same(first: &[u32], second: &[u32]) -> bool
     ensures { IsTrue result ↔ (first.now ≡ second.now) }
 {
     first == second
+}
+
+/// Whether none of these is the number.
+pub(crate) fn is_none_of(ids: &[u32], number: u32) -> bool
+    ensures { IsTrue result ↔ IsNoneOf ids.now number }
+{
+    for id in ids {
+        if *id == number {
+            return false;
+        }
+    }
+    true
 }
