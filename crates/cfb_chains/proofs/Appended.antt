@@ -1,5 +1,5 @@
 -- A sector is appended with an entry in the FAT's next place.
-use Rattle.std.proofs.Common.{◌≡◌, ℕ, ◌+◌, ◌*◌, ◌/◌, ◌%◌, ◌<◌, ◌≤◌, ◌^◌, inr, List, [], ◌∷◌, ◌++◌, length, take, get_or, zero, suc, refl, ap, sym, subst, ◌∙◌, arith}
+use Rattle.std.proofs.Common.{◌≡◌, ℕ, ◌+◌, ◌*◌, ◌/◌, ◌%◌, ◌<◌, ◌≤◌, ◌^◌, List, [], ◌∷◌, ◌++◌, length, take, get_or, zero, suc, refl, ap, sym, ◌∙◌, arith}
 use Rattle.std.specs.Int.{w32, to_le_bytes}
 use Rattle.std.proofs.Math.ListN.{set}
 use Rattle.std.proofs.lemmas.List.{get_or-set_same, length-set}
@@ -9,7 +9,7 @@ use Rattle.cfb_medium.specs.declared.version.Version.{Version}
 use Rattle.cfb_medium.specs.declared.version.Version.TheVariants.{V3, V4}
 use Rattle.cfb_sectors.specs.Sectors.{fat_in, filled_part, sector, sector_start, sectors_in}
 use Rattle.cfb_chains.specs.Listed.{IsListed}
-use Rattle.cfb_chains.specs.Orderly.{AreBelow, AreOnce, IsBeside, IsNoneOf}
+use Rattle.cfb_chains.specs.Orderly.{AreBelow, AreOnce, IsNoneOf}
 use Rattle.cfb_chains.proofs.Entering.{once_behind}
 use Rattle.cfb_chains.proofs.FatEntries.{entry_written, length-fat_in, per, split}
 use Rattle.cfb_chains.proofs.Growth.{fat_same}

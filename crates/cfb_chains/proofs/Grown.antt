@@ -1,6 +1,5 @@
 -- What an allocator keeps, after a sector of the FAT was appended.
-use Rattle.std.proofs.Common.{◌≡◌, ℕ, ◌+◌, ◌*◌, ◌/◌, ◌<◌, ◌≤◌, ◌↔◌, Bool, true, false, List, [], ◌∷◌, ◌++◌, length, take, replicate, get_or, refl, ap, sym, subst, ◌∙◌, arith, append_assoc, length-append, IsTrue}
-use Rattle.std.specs.Prelude.{slice_index}
+use Rattle.std.proofs.Common.{◌≡◌, ℕ, ◌+◌, ◌*◌, ◌<◌, ◌≤◌, false, List, [], ◌∷◌, ◌++◌, length, take, replicate, get_or, ap, sym, subst, ◌∙◌, arith, append_assoc, length-append}
 use Rattle.std.proofs.lemmas.List.{length-replicate}
 use Rattle.cfb_medium.specs.Versions.{sector_len}
 use Rattle.cfb_medium.specs.declared.medium.ReadMedium.{Ghosts}
@@ -8,11 +7,10 @@ use Rattle.cfb_medium.specs.declared.version.Version.{Version}
 use Rattle.cfb_medium.specs.declared.version.Version.TheVariants.{V3, V4}
 use Rattle.cfb_sectors.specs.Held.{bytes_of, count_of, has_failed_here, version_of, IsHonest}
 use Rattle.cfb_sectors.specs.Initial.{initial}
-use Rattle.cfb_sectors.specs.Sectors.{fat_in, free, sector, sector_start}
+use Rattle.cfb_sectors.specs.Sectors.{fat_in, free, sector}
 use Rattle.cfb_sectors.specs.declared.initial.SectorInit.TheVariants.{Fat}
 use Rattle.cfb_sectors.specs.declared.sectors.Sectors.{Sectors}
 use Rattle.cfb_chains.specs.Growing.{Appends, IsBesideDifat}
-use Rattle.cfb_chains.specs.Listed.{IsListed}
 use Rattle.cfb_chains.specs.Orderly.{named_at_most, AreBelow, AreOnce, IsOrderly}
 use Rattle.cfb_chains.proofs.FatEntries.{length-fat_in, per}
 use Rattle.cfb_chains.proofs.Growth.{below_both, below_more, fat_covers, fat_longer, fat_sectors_stay, once_more}

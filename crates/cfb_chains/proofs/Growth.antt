@@ -1,26 +1,22 @@
 -- The FAT with a sector more, and what growing calls do one after the other.
-use Rattle.std.proofs.Common.{◌≡◌, ◌≢◌, ℕ, ◌+◌, ◌-◌, ◌*◌, ◌/◌, ◌<◌, ◌≤◌, ◌⊎◌, inl, inr, List, [], ◌∷◌, ◌++◌, length, take, drop, map, replicate, get_or, zero, suc, refl, ap, sym, subst, ◌∙◌, arith, ⊎_elim, length-append, length-drop, append_assoc, IsTrue}
-use Rattle.std.specs.List.{flat_map}
+use Rattle.std.proofs.Common.{◌≡◌, ◌≢◌, ℕ, ◌+◌, ◌-◌, ◌*◌, ◌/◌, ◌<◌, ◌≤◌, ◌⊎◌, inr, List, [], ◌∷◌, ◌++◌, length, take, drop, map, replicate, get_or, zero, suc, refl, ap, sym, subst, ◌∙◌, arith, ⊎_elim, length-append, length-drop}
 use Rattle.std.specs.Int.{w32, from_le_bytes}
-use Rattle.std.proofs.Math.Seq.{get_or-append_right, take-append_seam, take-append-add, drop-append_seam}
+use Rattle.std.proofs.Math.Seq.{get_or-append_right, take-append-add}
 use Rattle.std.proofs.lemmas.Bool.Decides.{eqb_tells, leb_tells}
 use Rattle.std.proofs.lemmas.Grind.{flat_map-append}
-use Rattle.std.proofs.lemmas.List.{map-append, take-replicate, append-nil, drop-append-le, get_or_append_left, length-replicate, take-append-le, take_all}
+use Rattle.std.proofs.lemmas.List.{map-append, take-replicate, append-nil, drop-append-le, get_or_append_left, take-append-le, take_all}
 use Rattle.cfb_medium.specs.Numbers.{pieces, all_pieces, numbers}
 use Rattle.cfb_medium.specs.Versions.{sector_len}
-use Rattle.cfb_medium.specs.declared.medium.ReadMedium.{Ghosts}
 use Rattle.cfb_medium.specs.declared.version.Version.{Version}
 use Rattle.cfb_medium.specs.declared.version.Version.TheVariants.{V3, V4}
 use Rattle.cfb_sectors.specs.Initial.{initial}
 use Rattle.cfb_sectors.specs.Sectors.{fat_in, filled_part, free, joined, sector, sector_start}
 use Rattle.cfb_sectors.specs.declared.initial.SectorInit.TheVariants.{Fat}
-use Rattle.cfb_chains.specs.declared.allocator.Allocator.{Allocator}
-use Rattle.cfb_chains.specs.Growing.{GrowsFat, StayBut, tables_of}
-use Rattle.cfb_chains.specs.Orderly.{AreBelow, AreOnce, IsBeside, IsBesideWords, IsNoneOf}
-use Rattle.cfb_chains.specs.Tables.{difat_sectors_of, fat_of, fat_sectors_of}
-use Rattle.cfb_chains.proofs.FatEntries.{length-fat_in, length-joined, per}
+use Rattle.cfb_chains.specs.Growing.{StayBut}
+use Rattle.cfb_chains.specs.Orderly.{AreBelow, AreOnce, IsBeside, IsBesideWords}
+use Rattle.cfb_chains.proofs.FatEntries.{length-joined, per}
 use Rattle.cfb_chains.proofs.Fresh.{fat_content, length-initial, whole}
-use Rattle.cfb_chains.proofs.ListedStays.{behind_header, none_of_difat, part_aside}
+use Rattle.cfb_chains.proofs.ListedStays.{behind_header, none_of_difat}
 use Rattle.cfb_chains.proofs.Staying.{apart}
 
 pieces_append : (k n : ℕ) (xs ys : List ℕ) → length xs ≡ 4 * k → pieces 4 (k + n) (xs ++ ys) ≡ pieces 4 k xs ++ pieces 4 n ys

@@ -1,5 +1,5 @@
 -- Growing calls one after the other, and changes of the FAT among them.
-use Rattle.std.proofs.Common.{◌≡◌, ℕ, ◌+◌, ◌-◌, ◌<◌, ◌≤◌, false, List, [], ◌∷◌, ◌++◌, length, get_or, refl, ap, sym, subst, ◌∙◌, arith, IsTrue, length-append, ⊎_elim, inl, inr, ◌⊎◌, ◌*◌, ◌/◌}
+use Rattle.std.proofs.Common.{◌≡◌, ℕ, ◌+◌, ◌-◌, ◌<◌, ◌≤◌, false, List, [], ◌∷◌, ◌++◌, length, get_or, refl, ap, sym, subst, ◌∙◌, arith, IsTrue, length-append, ⊎_elim, inl, inr, ◌*◌, ◌/◌}
 use Rattle.std.proofs.Math.ListN.{set}
 use Rattle.std.proofs.lemmas.Bool.Decides.{eqb_tells}
 use Rattle.std.proofs.lemmas.List.{length-set, get_or-set_same, get_or-set_other}
@@ -11,14 +11,14 @@ use Rattle.std.proofs.Math.Seq.{get_or-append_right}
 use Rattle.std.proofs.lemmas.Option.{slice_get-get_or}
 use Rattle.cfb_medium.specs.declared.medium.ReadMedium.{Ghosts}
 use Rattle.cfb_medium.specs.declared.error.Error.{Error}
-use Rattle.cfb_sectors.specs.Held.{count_of, HasItsCause}
+use Rattle.cfb_sectors.specs.Held.{count_of}
 use Rattle.cfb_sectors.specs.Sectors.{end_of_chain, filled_part, free, greatest_regular, sector_start, Chain as IsChain}
 use Rattle.cfb_chains.specs.declared.allocator.Allocator.{Allocator}
 use Rattle.cfb_chains.specs.Changing.{ChangesFat, WritesBeside}
-use Rattle.cfb_chains.specs.Growing.{tables_of, GrowsFat, StayBut}
+use Rattle.cfb_chains.specs.Growing.{tables_of, GrowsFat}
 use Rattle.cfb_chains.specs.Orderly.{IsBeside, IsNoneOf}
 use Rattle.cfb_chains.specs.Tables.{AllRests, bytes_of, difat_sectors_of, fat_of, fat_sectors_of, has_failed_here, sectors_of, version_of}
-use Rattle.cfb_chains.proofs.EntryChanges.{cause_since, changes_none, changes_rest}
+use Rattle.cfb_chains.proofs.EntryChanges.{changes_none, changes_rest}
 use Rattle.cfb_chains.proofs.Overwriting.{beside}
 use Rattle.cfb_chains.proofs.Growth.{beside_second, start_later}
 

@@ -1,5 +1,5 @@
 -- Header and DIFAT list a sector more.
-use Rattle.std.proofs.Common.{◌≡◌, ◌≢◌, ℕ, ◌+◌, ◌-◌, ◌*◌, ◌/◌, ◌%◌, ◌<◌, ◌≤◌, ◌^◌, ◌⊎◌, inl, inr, List, [], ◌∷◌, ◌++◌, length, take, drop, replicate, get_or, zero, suc, refl, ap, sym, subst, ◌∙◌, arith, ⊎_elim, length-append, append_assoc}
+use Rattle.std.proofs.Common.{◌≡◌, ◌≢◌, ℕ, ◌+◌, ◌-◌, ◌*◌, ◌/◌, ◌%◌, ◌<◌, ◌≤◌, ◌^◌, ◌⊎◌, inl, inr, List, [], ◌∷◌, ◌++◌, length, replicate, get_or, zero, suc, refl, ap, sym, subst, ◌∙◌, arith, ⊎_elim, length-append, append_assoc}
 use Rattle.std.specs.List.{flat_map}
 use Rattle.std.specs.Int.{w32, to_le_bytes}
 use Rattle.std.proofs.Math.ListN.{set}
@@ -7,7 +7,7 @@ use Rattle.std.proofs.lemmas.Bool.Decides.{leb_tells}
 use Rattle.std.proofs.lemmas.Grind.{flat_map-append}
 use Rattle.std.proofs.lemmas.List.{append-nil, length-replicate, replicate-append-replicate}
 use Rattle.cfb_medium.specs.Bytes.{overwritten}
-use Rattle.cfb_medium.specs.Numbers.{numbers, u32_at}
+use Rattle.cfb_medium.specs.Numbers.{u32_at}
 use Rattle.cfb_medium.specs.Versions.{sector_len}
 use Rattle.cfb_medium.specs.declared.version.Version.{Version}
 use Rattle.cfb_medium.specs.declared.version.Version.TheVariants.{V3, V4}
@@ -18,7 +18,7 @@ use Rattle.cfb_chains.specs.Orderly.{AreBelow, AreOnce, IsBeside, IsBesideWords}
 use Rattle.cfb_chains.proofs.DifatChains.{below_in_file, in_file_below}
 use Rattle.cfb_chains.proofs.FatEntries.{per}
 use Rattle.cfb_chains.proofs.Overwriting.{beside}
-use Rattle.cfb_chains.proofs.TableWords.{behind_words, difat_set, difat_stays, entries_in, entry_before, entry_behind, entry_no_next, header_word, length-difat, length_is, next_before, next_word, place_of, split_fewer, start_is, word, word_other, word_same, word_written, StandsAt}
+use Rattle.cfb_chains.proofs.TableWords.{behind_words, difat_set, difat_stays, entries_in, entry_before, entry_behind, entry_no_next, header_word, length-difat, length_is, next_before, next_word, split_fewer, start_is, word, word_other, word_same, word_written, StandsAt}
 
 -- where a sector names the next
 abbrev pub next_at : Version → ℕ → ℕ
@@ -28,23 +28,29 @@ chain_words : (v : Version) (old new : List ℕ) (start : ℕ) (ds : List ℕ) (
     → DifatChain v old start ds stop → DifatChain v new start ds stop
 chain_words v old new start [] stop more same chain = chain
 chain_words v old new start (x ∷ ds) stop more same (is, there, rest) =
-    let here : word new (next_at v start) ≡ word old (next_at v start) = subst (λ n. word new (next_at v n) ≡ word old (next_at v n)) is (same 0 (omega arith)) in
-    (is, below_in_file v new start (let below = in_file_below v old start there in omega (arith, below, more)),
-    subst (λ n. DifatChain v new n ds stop) (sym (next_word v new start ∙ here ∙ sym (next_word v old start)))
-    (chain_words v old new (u32_at (sector v old start) (sector_len v - 4)) ds stop more (λ k below. same (suc k) (omega arith)) rest))
+    let here : word new (next_at v start) ≡ word old (next_at v start) = subst (λ n. word new (next_at v n) ≡ word old (next_at v n)) is (same 0 (omega arith)) in (
+      is,
+      below_in_file v new start (let below = in_file_below v old start there in omega (arith, below, more)),
+      subst (λ n. DifatChain v new n ds stop) (sym (next_word v new start ∙ here ∙ sym (next_word v old start)))
+          (chain_words v old new (u32_at (sector v old start) (sector_len v - 4)) ds stop more (λ k below. same (suc k) (omega arith)) rest),
+    )
 
 chain_longer : (v : Version) (old new : List ℕ) (start x : ℕ) (ds : List ℕ) (stop n : ℕ) → sectors_in v (length old) ≤ sectors_in v (length new)
     → ((k : ℕ) → k < length ds → word new (next_at v (get_or (x ∷ ds) k 0)) ≡ word old (next_at v (get_or (x ∷ ds) k 0))) → word new (next_at v (get_or (x ∷ ds) (length ds) 0)) ≡ n
     → n < sectors_in v (length new) → word new (next_at v n) ≡ end_of_chain → DifatChain v old start (x ∷ ds) stop → DifatChain v new start ((x ∷ ds) ++ n ∷ []) end_of_chain
 chain_longer v old new start x [] stop n more same link below ends (is, there, rest) =
-    let next : u32_at (sector v new start) (sector_len v - 4) ≡ n = next_word v new start ∙ subst (λ m. word new (next_at v m) ≡ n) is link in
-    (is, below_in_file v new start (let less = in_file_below v old start there in omega (arith, less, more)),
-    subst (λ m. DifatChain v new m (n ∷ []) end_of_chain) (sym next) (refl, below_in_file v new n below, next_word v new n ∙ ends))
+    let next : u32_at (sector v new start) (sector_len v - 4) ≡ n = next_word v new start ∙ subst (λ m. word new (next_at v m) ≡ n) is link in (
+      is,
+      below_in_file v new start (let less = in_file_below v old start there in omega (arith, less, more)),
+      subst (λ m. DifatChain v new m (n ∷ []) end_of_chain) (sym next) (refl, below_in_file v new n below, next_word v new n ∙ ends),
+    )
 chain_longer v old new start x (y ∷ ds) stop n more same link below ends (is, there, rest) =
-    let here : word new (next_at v start) ≡ word old (next_at v start) = subst (λ m. word new (next_at v m) ≡ word old (next_at v m)) is (same 0 (omega arith)) in
-    (is, below_in_file v new start (let less = in_file_below v old start there in omega (arith, less, more)),
-    subst (λ m. DifatChain v new m ((y ∷ ds) ++ n ∷ []) end_of_chain) (sym (next_word v new start ∙ here ∙ sym (next_word v old start)))
-    (chain_longer v old new (u32_at (sector v old start) (sector_len v - 4)) y ds stop n more (λ k less. same (suc k) (omega arith)) link below ends rest))
+    let here : word new (next_at v start) ≡ word old (next_at v start) = subst (λ m. word new (next_at v m) ≡ word old (next_at v m)) is (same 0 (omega arith)) in (
+      is,
+      below_in_file v new start (let less = in_file_below v old start there in omega (arith, less, more)),
+      subst (λ m. DifatChain v new m ((y ∷ ds) ++ n ∷ []) end_of_chain) (sym (next_word v new start ∙ here ∙ sym (next_word v old start)))
+          (chain_longer v old new (u32_at (sector v old start) (sector_len v - 4)) y ds stop n more (λ k less. same (suc k) (omega arith)) link below ends rest),
+    )
 
 set_free : (xs : List ℕ) (u x : ℕ) → 0 < u → set (xs ++ replicate u free) (length xs) x ≡ (xs ++ x ∷ []) ++ replicate (u - 1) free
 set_free [] zero x some = absurd (omega arith)

@@ -1,9 +1,9 @@
 -- What growing calls do: a sector is appended, or taken from the free ones, and tables become longer.
-use Rattle.std.specs.Prelude.{◌≡◌, ℕ, ◌+◌, ◌<◌, ◌≤◌, ◌⊎◌, false, List, [], ◌∷◌, ◌++◌, length, slice_get, slice_index, IsTrue, Some}
+use Rattle.std.specs.Prelude.{◌≡◌, ℕ, ◌+◌, ◌<◌, ◌≤◌, ◌⊎◌, false, List, ◌++◌, length, slice_get, slice_index, IsTrue, Some}
 use Rattle.cfb_medium.specs.Calls.{Extends}
 use Rattle.cfb_medium.specs.declared.medium.ReadMedium.{Ghosts}
 use Rattle.cfb_sectors.specs.Held as held
-use Rattle.cfb_sectors.specs.Sectors.{filled_part, free, sector, sector_start}
+use Rattle.cfb_sectors.specs.Sectors.{filled_part, free, sector_start}
 use Rattle.cfb_sectors.specs.declared.sectors.Sectors.{Sectors}
 use Rattle.cfb_chains.specs.declared.allocator.Allocator.{Allocator}
 use Rattle.cfb_chains.specs.Orderly.{IsBeside, IsBesideWords, IsNoneOf}

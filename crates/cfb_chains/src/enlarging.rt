@@ -15,7 +15,9 @@ use crate::appending::{append_sector, write_word};
 use crate::difat::can_name;
 use crate::once::is_none_of;
 use cfb_medium::{Error, Medium, Version};
-use cfb_sectors::{DIFAT_SECTOR, FAT_SECTOR, FREE_SECTOR, NUM_DIFAT_ENTRIES_IN_HEADER, SectorInit, Sectors};
+use cfb_sectors::{
+    DIFAT_SECTOR, FAT_SECTOR, FREE_SECTOR, NUM_DIFAT_ENTRIES_IN_HEADER, SectorInit, Sectors,
+};
 
 // The bytes of a number of a table.
 const NUMBER_LEN: u64 = 4;
@@ -130,7 +132,11 @@ impl<F: Medium> Allocator<F> {
         self.fat_sectors.reserve(1)?;
         self.fat.reserve(1)?;
         self.is_orderly = false;
-        let sector_id = add_fat_sector(&mut self.sectors, &self.difat_sectors, self.fat_sectors.len())?;
+        let sector_id = add_fat_sector(
+            &mut self.sectors,
+            &self.difat_sectors,
+            self.fat_sectors.len(),
+        )?;
         self.fat_sectors.push_reserved(sector_id);
         self.fat.push_reserved(FREE_SECTOR);
         self.is_orderly = true;
@@ -158,7 +164,11 @@ impl<F: Medium> Allocator<F> {
         self.is_orderly = false;
         let difat_sector = add_difat_sector(&mut self.sectors, &self.difat_sectors)?;
         self.difat_sectors.push_reserved(difat_sector);
-        let fat_sector = add_fat_sector(&mut self.sectors, &self.difat_sectors, self.fat_sectors.len())?;
+        let fat_sector = add_fat_sector(
+            &mut self.sectors,
+            &self.difat_sectors,
+            self.fat_sectors.len(),
+        )?;
         self.fat_sectors.push_reserved(fat_sector);
         self.fat.push_reserved(FREE_SECTOR);
         self.fat.push_reserved(FREE_SECTOR);
@@ -182,7 +192,11 @@ impl<F: Medium> Allocator<F> {
         ensures fault { IfErr result (λ e. IsFaultUnless ⊥ e × ((has_failed_over self.new ≡ true) ⊎ AllRests self.old self.new)) }
     {
         let count = self.num_sectors();
-        if can_name(self.version(), self.difat_sectors.len(), self.fat_sectors.len() + 1) {
+        if can_name(
+            self.version(),
+            self.difat_sectors.len(),
+            self.fat_sectors.len() + 1,
+        ) {
             self.grow_fat()?;
             self.set_entry(count, FAT_SECTOR)?;
             return Ok(());

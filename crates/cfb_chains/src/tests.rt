@@ -125,3 +125,49 @@ fn endless_difat_is_refused(rt: HostRuntime) -> Result<(), Fail> {
     assert!(rt; matches!(read_difat(alloc, &mut sectors), Err(Error::InvalidData)));
     Ok(())
 }
+
+#[test]
+fn chain_is_begun(rt: HostRuntime) -> Result<(), Fail> {
+    let mut allocator = file_with(rt.alloc(), &[FAT_SECTOR, END_OF_CHAIN])?;
+    assert_eq!(rt; allocator.begin_chain(SectorInit::Zero)?, 2);
+    assert_eq!(rt; allocator.next(2)?, END_OF_CHAIN);
+    allocator.free_chain(1)?;
+    assert_eq!(rt; allocator.begin_chain(SectorInit::Dir)?, 1);
+    Ok(())
+}
+
+#[test]
+fn full_tables_grow(rt: HostRuntime) -> Result<(), Fail> {
+    let alloc = rt.alloc();
+    let mut bytes = Vec::new(alloc);
+    let mut fat_sectors = Vec::new(alloc);
+    bytes.resize(44, 7)?;
+    bytes.extend_from_slice(&109_u32.to_le_bytes())?;
+    bytes.resize(68, 7)?;
+    bytes.extend_from_slice(&END_OF_CHAIN.to_le_bytes())?;
+    bytes.extend_from_slice(&0_u32.to_le_bytes())?;
+    for sector_id in 0..109_u32 {
+        bytes.extend_from_slice(&sector_id.to_le_bytes())?;
+        fat_sectors.push(sector_id)?;
+    }
+    for _entry in 0..109 {
+        bytes.extend_from_slice(&FAT_SECTOR.to_le_bytes())?;
+    }
+    for _entry in 109..13952 {
+        bytes.extend_from_slice(&END_OF_CHAIN.to_le_bytes())?;
+    }
+    bytes.resize(512 * 13953, 0)?;
+    let len = bytes.len() as u64;
+    let sectors = Sectors::new(Version::V3, len, MemoryMedium::from_bytes(alloc, bytes));
+    let mut allocator = Allocator::new(alloc, sectors, Vec::new(alloc), fat_sectors).map_err(
+        |refused| refused.1,
+    )?;
+    assert!(rt; allocator.is_orderly());
+    assert_eq!(rt; allocator.begin_chain(SectorInit::Zero)?, 13954);
+    assert!(rt; allocator.is_orderly());
+    let bytes = allocator.into_inner().into_bytes();
+    assert_eq!(rt; bytes.len(), 512 * 13956);
+    assert_eq!(rt; &bytes[44..48], [110, 0, 0, 0].as_slice());
+    assert_eq!(rt; &bytes[72..76], [1, 0, 0, 0].as_slice());
+    Ok(())
+}

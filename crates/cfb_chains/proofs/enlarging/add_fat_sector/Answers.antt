@@ -1,9 +1,9 @@
-use Rattle.std.proofs.Common.{◌≡◌, ◌≢◌, ℕ, ◌+◌, ◌-◌, ◌*◌, ◌/◌, ◌%◌, ◌<◌, ◌≤◌, ◌⊎◌, inl, inr, length, get_or, refl, ap, sym, subst, ◌∙◌, arith, false, IsTrue}
+use Rattle.std.proofs.Common.{◌≡◌, ◌≢◌, ℕ, ◌+◌, ◌-◌, ◌*◌, ◌/◌, ◌%◌, ◌<◌, ◌≤◌, inl, inr, length, get_or, refl, ap, sym, subst, ◌∙◌, arith, false, IsTrue}
 use Rattle.std.specs.Int.{w32, to_le_bytes}
 use Rattle.cfb_medium.specs.Bytes.{overwritten}
 use Rattle.cfb_medium.specs.Versions.{sector_len}
 use Rattle.cfb_sectors.specs.Held.{bytes_of, count_of, has_failed_here, is_honest, version_of}
-use Rattle.cfb_sectors.specs.Sectors.{filled_part, sector_start, sectors_in}
+use Rattle.cfb_sectors.specs.Sectors.{sector_start, sectors_in}
 use Rattle.cfb_chains.proofs.FatEntries.{per}
 use Rattle.cfb_chains.proofs.ListedMore.{count_aside, ends_before, entry_aside_part, entry_spot, fat_listed, first_written, other_parts, other_words, second_written, words_before}
 use Rattle.cfb_chains.proofs.ListedStays.{behind_header}

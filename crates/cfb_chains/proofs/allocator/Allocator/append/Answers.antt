@@ -1,4 +1,4 @@
-use Rattle.std.proofs.Common.{◌≡◌, ℕ, ◌+◌, ◌-◌, ◌*◌, ◌/◌, ◌%◌, ◌<◌, ◌≤◌, List, [], ◌∷◌, ◌++◌, length, take, refl, ap, sym, subst, ◌∙◌, arith, length-append, IsTrue}
+use Rattle.std.proofs.Common.{◌≡◌, ◌+◌, ◌-◌, ◌*◌, ◌/◌, ◌%◌, ◌<◌, ◌≤◌, [], ◌∷◌, ◌++◌, length, take, refl, ap, sym, subst, ◌∙◌, arith, length-append, IsTrue}
 use Rattle.std.specs.Prelude.{slice_index}
 use Rattle.std.specs.Int.{w32, to_le_bytes}
 use Rattle.std.proofs.lemmas.List.{get_or_read}
@@ -6,17 +6,16 @@ use mathlib.Core.Logic.{∥∥₁_map}
 use Rattle.cfb_medium.specs.Bytes.{overwritten}
 use Rattle.cfb_medium.specs.Versions.{sector_len}
 use Rattle.cfb_sectors.specs.Held.{bytes_of, count_of, version_of}
-use Rattle.cfb_sectors.specs.Sectors.{end_of_chain, fat_in, filled_part, sector, sector_start, sectors_in}
+use Rattle.cfb_sectors.specs.Sectors.{end_of_chain, fat_in, sector, sector_start, sectors_in}
 use Rattle.cfb_chains.specs.Listed.{IsListed}
 use Rattle.cfb_chains.specs.Orderly.{IsBeside, IsOrderly}
 use Rattle.cfb_chains.proofs.Appended.{entry_added, listed_before_end, none_behind, whole_before}
-use Rattle.cfb_chains.proofs.Entering.{index_in, others_stay}
+use Rattle.cfb_chains.proofs.Entering.{others_stay}
 use Rattle.cfb_chains.proofs.FatEntries.{per, split}
 use Rattle.cfb_chains.proofs.Growth.{below_more, beside_second, stays_in_front}
 use Rattle.cfb_chains.proofs.ListedStays.{entry_aside, listed_still}
 use Rattle.cfb_chains.proofs.Listing.{header_whole}
 use Rattle.cfb_chains.proofs.Staying.{apart}
-use Rattle.cfb_chains.proofs.allocator.Allocator.append.Given.{Over}
 use Rattle.cfb_chains.proofs.allocator.Allocator.append.Goals as goal
 
 pub invariant_of-self-2 : goal.invariant_of-self-2

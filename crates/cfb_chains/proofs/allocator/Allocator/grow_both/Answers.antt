@@ -1,7 +1,5 @@
-use Rattle.std.proofs.Common.{◌≡◌, ℕ, ◌+◌, ◌-◌, ◌*◌, ◌/◌, ◌<◌, ◌≤◌, ◌⊎◌, inl, inr, true, false, List, [], ◌∷◌, ◌++◌, length, take, replicate, get_or, refl, ap, sym, subst, ◌∙◌, arith, append_assoc, length-append, IsTrue}
+use Rattle.std.proofs.Common.{◌≡◌, ℕ, ◌+◌, ◌-◌, ◌*◌, ◌/◌, ◌<◌, ◌≤◌, List, [], ◌∷◌, ◌++◌, length, take, replicate, refl, ap, sym, subst, ◌∙◌, arith, append_assoc, length-append, IsTrue}
 use Rattle.std.specs.Prelude.{slice_index}
-use Rattle.std.proofs.lemmas.List.{get_or_append_left}
-use Rattle.std.proofs.lemmas.Grind.{merely}
 use mathlib.Core.Logic.{∥∥₁_map}
 use Rattle.cfb_medium.specs.Versions.{sector_len}
 use Rattle.cfb_sectors.specs.Held.{bytes_of, count_of, version_of}
@@ -15,10 +13,8 @@ use Rattle.cfb_chains.proofs.Growth.{below_both, below_more, below_one_more, bes
 use Rattle.cfb_chains.proofs.EntryChanges.{cause_since}
 use Rattle.cfb_sectors.proofs.Causes.{passed_on}
 use Rattle.cfb_sectors.specs.Held.{HasItsCause}
-use Rattle.cfb_chains.proofs.Entering.{order_stays}
 use Rattle.cfb_chains.proofs.allocator.Allocator.grow_both.Given.{Over}
 use Rattle.cfb_chains.proofs.allocator.Allocator.grow_both.Goals as goal
-
 
 pub add_difat_sector-requires-clause-most : goal.add_difat_sector-requires-clause-most
 add_difat_sector-requires-clause-most g c =
@@ -123,10 +119,13 @@ invariant_of-self-2 g c =
           let had = (it.listed c.requires.live was).0 c.requires.orderly in
           let linked = subst (λ l. AreOnce l → (xs : List ℕ) → IsListed (version_of a) (bytes_of a) l xs → IsListed (version_of a) (bytes_of m) (l ++ count_of a ∷ []) xs) (c.deref.ensures.value ∙ c.in_ok-reserve.ensures.items) (did.listed did.live was) in
           let named = subst (λ l. AreOnce l → (xs : List ℕ) → length xs ≡ c.len.result → IsListed (version_of m) (bytes_of m) l xs → IsListed (version_of m) (bytes_of b) l (xs ++ count_of m ∷ [])) (c.deref-2.ensures.value ∙ sym all.is_ds) (then.listed live mid) in (
-            λ now. (order, ∥∥₁_map had.1 (λ listed.
-                subst (λ l. IsListed (version_of b) (bytes_of b) l new_fs) all.is_ds (subst (λ l. IsListed (version_of b) (bytes_of b) ds l) all.is_fs (subst (λ v. IsListed v (bytes_of b) ds fs) (sym h.appends.version)
-                (named (once_front ds it.fat_sectors.items h.once) it.fat_sectors.items (omega (arith, c.len.ensures, c.in_ok-reserve-2.ensures.len, it.fat_sectors.ok.0))
-                (subst (λ v. IsListed v (bytes_of m) ds it.fat_sectors.items) (sym all.first.version) (linked (once_front it.difat_sectors.items it.fat_sectors.items old.once) it.fat_sectors.items listed))))))),
+            λ now. (
+              order,
+              ∥∥₁_map had.1 (λ listed.
+                  subst (λ l. IsListed (version_of b) (bytes_of b) l new_fs) all.is_ds (subst (λ l. IsListed (version_of b) (bytes_of b) ds l) all.is_fs (subst (λ v. IsListed v (bytes_of b) ds fs) (sym h.appends.version)
+                  (named (once_front ds it.fat_sectors.items h.once) it.fat_sectors.items (omega (arith, c.len.ensures, c.in_ok-reserve-2.ensures.len, it.fat_sectors.ok.0))
+                  (subst (λ v. IsListed v (bytes_of m) ds it.fat_sectors.items) (sym all.first.version) (linked (once_front it.difat_sectors.items it.fat_sectors.items old.once) it.fat_sectors.items listed)))))),
+            ),
             λ has. refl,
           );
     }

@@ -1,17 +1,14 @@
-use Rattle.std.proofs.Common.{◌≡◌, ℕ, ◌+◌, ◌*◌, ◌/◌, ◌<◌, ◌≤◌, ◌⊎◌, inl, inr, true, false, List, [], ◌∷◌, ◌++◌, length, take, replicate, get_or, refl, ap, sym, subst, ◌∙◌, arith, append_assoc, length-append, IsTrue}
+use Rattle.std.proofs.Common.{◌≡◌, ℕ, ◌*◌, ◌/◌, ◌<◌, ◌≤◌, List, [], ◌∷◌, ◌++◌, length, take, refl, ap, sym, subst, ◌∙◌, arith, append_assoc, IsTrue}
 use Rattle.std.specs.Prelude.{slice_index}
-use Rattle.std.proofs.lemmas.List.{get_or_append_left}
-use Rattle.std.proofs.lemmas.Grind.{merely}
 use mathlib.Core.Logic.{∥∥₁_map}
 use Rattle.cfb_medium.specs.Versions.{sector_len}
 use Rattle.cfb_sectors.specs.Held.{bytes_of, count_of, version_of}
-use Rattle.cfb_sectors.specs.Sectors.{fat_in, free, sector_start}
+use Rattle.cfb_sectors.specs.Sectors.{fat_in, free}
 use Rattle.cfb_chains.specs.Growing.{Appends, IsBesideDifat}
 use Rattle.cfb_chains.specs.Listed.{IsListed}
 use Rattle.cfb_chains.specs.Orderly.{AreOnce, IsBeside, IsOrderly}
 use Rattle.cfb_chains.proofs.Grown.{order_grown, same_grown, there_grown, whole_grown, Lengthens}
 use Rattle.cfb_chains.proofs.Growth.{beside_first, beside_more, once_front, stays_in_front}
-use Rattle.cfb_chains.proofs.Entering.{order_stays}
 use Rattle.cfb_chains.proofs.allocator.Allocator.grow_fat.Given.{Over}
 use Rattle.cfb_chains.proofs.allocator.Allocator.grow_fat.Goals as goal
 
@@ -66,10 +63,12 @@ invariant_of-self-2 g c =
       listed = λ live honest.
           let was = subst IsTrue did.appends.honest honest in
           let named = subst (λ l. AreOnce l → (xs : List ℕ) → length xs ≡ c.len.result → IsListed (version_of a) (bytes_of a) l xs → IsListed (version_of a) (bytes_of b) l (xs ++ count_of a ∷ [])) c.deref.ensures.value (did.listed live was) in
-          let had = (it.listed c.requires.live was).0 c.requires.orderly in
-          (
-            λ now. (order, ∥∥₁_map had.1 (λ listed. subst (λ l. IsListed (version_of b) (bytes_of b) ds l) has_fs (subst (λ v. IsListed v (bytes_of b) ds fs) (sym did.appends.version)
-                (named (once_front ds it.fat_sectors.items h.once) it.fat_sectors.items (omega (arith, c.len.ensures, c.in_ok-reserve.ensures.len, it.fat_sectors.ok.0)) listed)))),
+          let had = (it.listed c.requires.live was).0 c.requires.orderly in (
+            λ now. (
+              order,
+              ∥∥₁_map had.1 (λ listed. subst (λ l. IsListed (version_of b) (bytes_of b) ds l) has_fs (subst (λ v. IsListed v (bytes_of b) ds fs) (sym did.appends.version)
+                  (named (once_front ds it.fat_sectors.items h.once) it.fat_sectors.items (omega (arith, c.len.ensures, c.in_ok-reserve.ensures.len, it.fat_sectors.ok.0)) listed))),
+            ),
             λ has. refl,
           );
     }

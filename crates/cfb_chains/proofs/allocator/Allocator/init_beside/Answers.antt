@@ -39,9 +39,9 @@ invariant_of-self g c =
           let was = subst IsTrue changes.honest honest in
           let before = it.listed (changes.live live) was in
           let both : 0 < it.sectors.num_sectors → (IsListed it.sectors.version (bytes_of it.sectors) it.difat_sectors.items fs → IsListed c.init_sector.new.self.version (bytes_of c.init_sector.new.self) it.difat_sectors.items fs)
-              × (IsListed c.init_sector.new.self.version (bytes_of c.init_sector.new.self) it.difat_sectors.items fs → IsListed it.sectors.version (bytes_of it.sectors) it.difat_sectors.items fs) =
-              λ some. listed_still it.sectors.version c.init_sector.new.self.version (bytes_of it.sectors) (bytes_of c.init_sector.new.self) xs it.difat_sectors.items fs place it.sectors.num_sectors c.init_sector.new.self.num_sectors
-              changes.version count (changes.bytes live was) (it.sectors.counted (changes.live live) was) (c.init_sector.new.self.counted live honest) some words no_difat in (
+          × (IsListed c.init_sector.new.self.version (bytes_of c.init_sector.new.self) it.difat_sectors.items fs → IsListed it.sectors.version (bytes_of it.sectors) it.difat_sectors.items fs) =
+          λ some. listed_still it.sectors.version c.init_sector.new.self.version (bytes_of it.sectors) (bytes_of c.init_sector.new.self) xs it.difat_sectors.items fs place it.sectors.num_sectors c.init_sector.new.self.num_sectors
+          changes.version count (changes.bytes live was) (it.sectors.counted (changes.live live) was) (c.init_sector.new.self.counted live honest) some words no_difat in (
             λ now. let had = before.0 now in
                 (order_stays _ _ _ _ it.fat.items it.fat.items fs it.difat_sectors.items changes.version count refl had.0, ∥∥₁_map had.1 (both had.0.some).0),
             λ has. let order = order_stays _ _ _ _ it.fat.items it.fat.items fs it.difat_sectors.items (sym changes.version) (sym count) refl has.0 in

@@ -1,6 +1,5 @@
-use Rattle.std.proofs.Common.{◌≡◌, ℕ, ◌+◌, ◌*◌, ◌/◌, ◌<◌, ◌≤◌, List, [], ◌∷◌, ◌++◌, length, refl, ap, sym, subst, ◌∙◌, arith, length-append}
+use Rattle.std.proofs.Common.{◌≡◌, ◌+◌, ◌*◌, ◌/◌, ◌<◌, [], ◌∷◌, length, ap, sym, subst, ◌∙◌, arith, length-append}
 use Rattle.std.proofs.Math.ListN.{set}
-use Rattle.std.proofs.lemmas.List.{length-set}
 use Rattle.cfb_medium.specs.Versions.{sector_len}
 use Rattle.cfb_sectors.specs.Held.{HasItsCause}
 use Rattle.cfb_sectors.specs.Sectors.{difat_sector, fat_sector, free}

@@ -1,6 +1,5 @@
-use Rattle.std.proofs.Common.{◌≡◌, ℕ, ◌⊎◌, inl, inr, true, List, [], ◌∷◌, ◌++◌, length, sym, ◌∙◌, ⊎_elim}
+use Rattle.std.proofs.Common.{◌≡◌, ◌⊎◌, inl, inr, true, [], ◌∷◌, ◌++◌, length, sym, ◌∙◌, ⊎_elim}
 use Rattle.cfb_medium.specs.Calls.{IsFaultUnless}
-use Rattle.cfb_medium.specs.declared.error.Error.{Error}
 use Rattle.cfb_medium.specs.declared.error.Error.TheVariants.{Full}
 use Rattle.cfb_sectors.proofs.Causes.{passed_on}
 use Rattle.cfb_sectors.specs.Held.{HasItsCause}
