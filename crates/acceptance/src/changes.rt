@@ -76,6 +76,13 @@ fn updates_keep_keys_apart(rt: HostRuntime) -> Result<(), Fail> {
     let refused = all.apply(alloc, &table, rows, &mut pool);
     assert!(rt; matches!(refused, Err(Error::AlreadyExists)));
     assert!(rt; !pool.is_modified());
+    Ok(())
+}
+
+#[test]
+fn updates_move_uses(rt: HostRuntime) -> Result<(), Fail> {
+    let alloc = rt.alloc();
+    let table = names(alloc)?;
     let mut pool = StringPool::new(alloc, CodePage::Utf8);
     let rows = two_rows(alloc, &table, &mut pool)?;
     let first = Expr::col(alloc, "Id")?.eq(alloc, Expr::integer(1))?;
@@ -83,6 +90,7 @@ fn updates_keep_keys_apart(rt: HostRuntime) -> Result<(), Fail> {
         .set(alloc, "Name", Value::text(alloc, "two")?)?
         .with(alloc, first)?;
     let rows = renamed.apply(alloc, &table, rows, &mut pool)?;
+    assert_eq!(rt; rows.len(), 2);
     assert_eq!(rt;
         rows[0].as_slice(),
         cells(alloc, 2, StringRef::new(1))?.as_slice()
