@@ -1,5 +1,5 @@
 -- What an `Allocator` shows: its sectors, the FAT, and which sectors hold the FAT and the DIFAT.
-use Rattle.std.specs.Prelude.{◌≡◌, ℕ, Bool, List}
+use Rattle.std.specs.Prelude.{◌≡◌, ℕ, Bool, List, vec_capacity}
 use Rattle.cfb_medium.specs.declared.error.Error.{Error}
 use Rattle.cfb_medium.specs.declared.medium.ReadMedium.{Ghosts}
 use Rattle.cfb_medium.specs.declared.version.Version.{Version}
@@ -26,6 +26,10 @@ module _ {F : Type 0} {g : Ghosts F} where
   -- the FAT, an entry for each sector ([MS-CFB] 2.3)
   abbrev pub fat_of : Allocator F g → List ℕ
   fat_of it = it.fat.items
+
+  -- so many entries of the FAT have memory
+  abbrev pub capacity_of : Allocator F g → ℕ
+  capacity_of it = vec_capacity it.fat
 
   abbrev pub bytes_of : Allocator F g → List ℕ
   bytes_of it = held.bytes_of it.sectors

@@ -13,7 +13,7 @@ use cfb_medium::{Error, Medium};
 use cfb_sectors::{END_OF_CHAIN, FREE_SECTOR};
 
 impl<F: Medium> Allocator<F> {
-    ghost use Rattle.cfb_tables.specs.Tables.{fat_of, has_failed_here, orderly_of, AllRests, HasCauseBelow};
+    ghost use Rattle.cfb_tables.specs.Tables.{capacity_of, fat_of, has_failed_here, orderly_of, AllRests, HasCauseBelow};
 
     // Writes an entry of the FAT, and sets it in memory. After a fault it has failed.
     pub(crate) fn set_entry(&mut self, sector_id: u32, entry: u32) -> Result<(), Error>
@@ -22,6 +22,7 @@ impl<F: Medium> Allocator<F> {
         requires there { sector_id < length (fat_of self.old) }
         ensures changes { ChangesFat (sector_id ∷ []) self.old self.new }
         ensures entry { has_failed_here self.new ≡ false → fat_of self.new ≡ slice_set (fat_of self.old) sector_id entry }
+        ensures capacity { capacity_of self.new ≡ capacity_of self.old }
         ensures live { OnOk result (has_failed_here self.new ≡ false) }
         ensures err { OnErr result (has_failed_here self.new ≡ true) }
         ensures cause { IfErr result (HasCauseBelow self.old self.new) }

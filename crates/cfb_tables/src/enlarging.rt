@@ -113,7 +113,7 @@ pub(crate) fn add_difat_sector<F: Medium>(
 
 impl<F: Medium> Allocator<F> {
     ghost use Rattle.cfb_tables.specs.Growing.{GrowsFat};
-    ghost use Rattle.cfb_tables.specs.Tables.{difat_sectors_of, fat_of, fat_sectors_of, has_failed_here as has_failed_over, orderly_of, sectors_of, version_of as version_over, AllRests, HasCauseBelow};
+    ghost use Rattle.cfb_tables.specs.Tables.{capacity_of, difat_sectors_of, fat_of, fat_sectors_of, has_failed_here as has_failed_over, orderly_of, sectors_of, version_of as version_over, AllRests, HasCauseBelow};
 
     // Makes the FAT longer by a sector that the DIFAT has a place for. Its own entry is "free" still. `Memory` with nothing
     // changed; after a fault in a write it has failed.
@@ -123,9 +123,10 @@ impl<F: Medium> Allocator<F> {
         requires full { length (fat_of self.old) ≡ length (fat_sectors_of self.old) * (sector_len (version_over self.old) / 4) }
         requires few { count_of (sectors_of self.old) ≤ greatest_regular }
         requires room { length (fat_sectors_of self.old) < named_at_most (version_over self.old) (length (difat_sectors_of self.old)) }
-        ensures grows { OnOk result (GrowsFat [] [] self.old self.new) }
+        ensures grows { GrowsFat [] [] self.old self.new }
         ensures fat { OnOk result (fat_of self.new ≡ fat_of self.old ++ free ∷ []) }
         ensures tables { OnOk result ((difat_sectors_of self.new ≡ difat_sectors_of self.old) × (fat_sectors_of self.new ≡ fat_sectors_of self.old ++ length (fat_of self.old) ∷ [])) }
+        ensures memory { capacity_of self.old ≤ capacity_of self.new }
         ensures live { OnOk result (has_failed_over self.new ≡ false) }
         ensures cause { IfErr result (HasCauseBelow self.old self.new) }
         ensures fault { IfErr result (λ e. IsFaultUnless ⊥ e × ((has_failed_over self.new ≡ true) ⊎ AllRests self.old self.new)) }
@@ -152,9 +153,10 @@ impl<F: Medium> Allocator<F> {
         requires full { length (fat_of self.old) ≡ length (fat_sectors_of self.old) * (sector_len (version_over self.old) / 4) }
         requires few { count_of (sectors_of self.old) < greatest_regular }
         requires crowded { named_at_most (version_over self.old) (length (difat_sectors_of self.old)) ≤ length (fat_sectors_of self.old) }
-        ensures grows { OnOk result (GrowsFat [] [] self.old self.new) }
+        ensures grows { GrowsFat [] [] self.old self.new }
         ensures fat { OnOk result (fat_of self.new ≡ fat_of self.old ++ free ∷ free ∷ []) }
         ensures tables { OnOk result ((difat_sectors_of self.new ≡ difat_sectors_of self.old ++ length (fat_of self.old) ∷ []) × (fat_sectors_of self.new ≡ fat_sectors_of self.old ++ (length (fat_of self.old) + 1) ∷ [])) }
+        ensures memory { capacity_of self.old ≤ capacity_of self.new }
         ensures live { OnOk result (has_failed_over self.new ≡ false) }
         ensures cause { IfErr result (HasCauseBelow self.old self.new) }
         ensures fault { IfErr result (λ e. IsFaultUnless ⊥ e × ((has_failed_over self.new ≡ true) ⊎ AllRests self.old self.new)) }
@@ -184,9 +186,11 @@ impl<F: Medium> Allocator<F> {
         requires orderly { IsTrue (orderly_of self.old) }
         requires full { length (fat_of self.old) ≡ length (fat_sectors_of self.old) * (sector_len (version_over self.old) / 4) }
         requires few { count_of (sectors_of self.old) < greatest_regular }
-        ensures grows { OnOk result (GrowsFat [] [] self.old self.new) }
+        requires memory { length (fat_of self.old) + 3 ≤ capacity_of self.old }
+        ensures grows { GrowsFat [] [] self.old self.new }
         ensures added { OnOk result ((n : ℕ) → length (fat_of self.old) ≤ n → n < length (fat_of self.new) → slice_index (fat_of self.new) n ≡ free → ⊥) }
         ensures longer { OnOk result (length (fat_of self.new) ≤ length (fat_of self.old) + 2) }
+        ensures memory { capacity_of self.old ≤ capacity_of self.new }
         ensures room { OnOk result (length (fat_of self.new) < length (fat_sectors_of self.new) * (sector_len (version_over self.new) / 4)) }
         ensures live { OnOk result (has_failed_over self.new ≡ false) }
         ensures cause { IfErr result (HasCauseBelow self.old self.new) }

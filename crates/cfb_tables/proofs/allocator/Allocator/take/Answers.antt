@@ -21,22 +21,7 @@ returns-clause-cause g c =
     err_map c.append.result (HasItsCause c.make_room.new.self.sectors c.append.new.self.sectors) (HasItsCause c.args.self.now.sectors c.append.new.self.sectors) c.append.ensures.cause
     (λ e cause. cause_since c.args.self.now.sectors c.make_room.new.self.sectors c.append.new.self.sectors e room.grows.continues (room.live ∙ sym c.requires.live) cause)
 
-pub returns-clause-fault : goal.returns-clause-fault
-returns-clause-fault g c =
-    let it = c.args.self.now in
-    let mid = c.make_room.new.self in
-    let last = c.append.new.self in
-    err_map c.append.result (λ e. IsFaultUnless ⊥ e × ((has_failed_here last ≡ true) ⊎ AllRests mid last)) _ c.append.ensures.fault
-    (λ e fault. inl (fault.0, ⊎_elim (λ failed. inl failed) (λ rests. inr (grows_again it mid last c.in_ok-make_room.ensures.grows (rest_grows mid last rests))) fault.1))
-
 pub returns-clause-chain : goal.returns-clause-chain
 returns-clause-chain g c =
     ok_both c.append.result (λ n. n ≡ length c.make_room.new.self.fat.items) (λ n. IsChain c.append.new.self.fat.items n (n ∷ [])) (c.append.new.self.fat.items ≡ c.make_room.new.self.fat.items ++ end_of_chain ∷ []) c.append.ensures.number c.append.ensures.fat
     (λ n at is. chain_one c.make_room.new.self.fat.items c.append.new.self.fat.items n is at c.in_ok-make_room.ensures.few)
-
-pub returns-in_err-make_room-clause-fault : goal.returns-in_err-make_room-clause-fault
-returns-in_err-make_room-clause-fault g c =
-    let it = c.args.self.now in
-    let last = c.make_room.new.self in
-    passed_on c.from_residual-in_err-make_room.result c.in_err-make_room.field-0.0 (λ e. (IsFaultUnless ⊥ e × ((has_failed_here last ≡ true) ⊎ GrowsFat [] [] it last)) ⊎ (e ≡ Full)) c.from_residual-in_err-make_room.ensures.1
-    (⊎_elim (λ fault. inl (fault.0, ⊎_elim (λ failed. inl failed) (λ rests. inr (rest_grows it last rests)) fault.1)) (λ full. inr full) c.in_err-make_room.ensures.fault)
