@@ -1,13 +1,18 @@
 -- A chain whose last entry leads on to a sector that was taken into use.
-use Rattle.std.proofs.Common.{◌≡◌, ℕ, ◌+◌, ◌-◌, ◌<◌, ◌≤◌, inl, inr, List, [], ◌∷◌, ◌++◌, length, take, get_or, zero, suc, refl, ap, sym, subst, ◌∙◌, arith, ⊎_elim, length-append}
+use Rattle.std.proofs.Common.{◌≡◌, ℕ, ◌+◌, ◌-◌, ◌*◌, ◌<◌, ◌≤◌, inl, inr, List, [], ◌∷◌, ◌++◌, length, take, get_or, zero, suc, refl, ap, sym, subst, ◌∙◌, arith, ⊎_elim, length-append}
 use Rattle.std.specs.Prelude.{slice_get, Some}
 use Rattle.std.proofs.Math.ListN.{set}
 use Rattle.std.proofs.Math.Seq.{get_or-append_right}
 use Rattle.std.proofs.lemmas.Bool.Decides.{eqb_tells}
 use Rattle.std.proofs.lemmas.List.{get_or_append_left, length-set, get_or-set_same, get_or-set_other}
 use Rattle.std.proofs.lemmas.Option.{slice_get_within, slice_get-get_or, get_or_from_slice_get}
+use Rattle.cfb_medium.specs.Versions.{sector_len}
+use Rattle.cfb_medium.specs.declared.version.Version.{Version}
+use Rattle.cfb_medium.specs.declared.version.Version.TheVariants.{V3, V4}
 use Rattle.cfb_sectors.specs.Sectors.{Chain as IsChain}
 use Rattle.cfb_chains.specs.Changes.{IsFreeIn, IsNoneOf, StayBut}
+use Rattle.cfb_chains.specs.Grown.{IsLinked}
+use Rattle.cfb_chains.specs.Positions.{sectors_for}
 use Rattle.cfb_chains.proofs.Beside.{none_of_two, used_but}
 use Rattle.cfb_chains.proofs.ChainGrowing.{but_last, chain_goes_on, chain_once, in_use}
 
@@ -86,3 +91,17 @@ opened fat ids xs ys start first second some chain =
     subst (λ l. IsChain fat start (take (length ids - 1) ids ++ get_or l (length xs - 1) 0 ∷ [])) (sym second)
     (subst (λ l. IsChain fat start (take (length ids - 1) ids ++ get_or ids (length l - 1) 0 ∷ [])) (sym first)
     (subst (IsChain fat start) (but_last ids (length ids - 1) (omega (arith, some))) chain))
+
+-- a chain that isn't empty begins with its first sector
+pub linked_from : (fat : List ℕ) (start : ℕ) (ids : List ℕ) → 0 < length ids → IsChain fat start ids → IsLinked fat ids
+linked_from fat start [] some chain = absurd (omega (arith, some))
+linked_from fat start (x ∷ ids) some chain = subst (λ s. IsChain fat s (x ∷ ids)) (sym chain.0) chain
+
+pub longer_from : (old new : List ℕ) (start : ℕ) (ids more all : List ℕ) → 0 < length ids → IsChain old start ids → all ≡ ids ++ more → IsLinked new all → IsChain new start (ids ++ more)
+longer_from old new start [] more all some chain is linked = absurd (omega (arith, some))
+longer_from old new start (x ∷ ids) more all some chain is linked = subst (λ s. IsChain new s (x ∷ ids ++ more)) chain.0 (subst (IsLinked new) is linked)
+
+-- so many whole sectors are those that their bytes need
+pub whole_sectors : (v : Version) (n : ℕ) → sectors_for v (n * sector_len v) ≡ n
+whole_sectors V3 n = omega arith
+whole_sectors V4 n = omega arith

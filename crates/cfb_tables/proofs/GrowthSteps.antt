@@ -147,6 +147,14 @@ pub ok_two : {T : Type 0} (r : Result T Error) (P Q R : T → Type 0) → IfOk r
 ok_two (Ok x) P Q R h k f = f x h k
 ok_two (Err e) P Q R h k f = tt
 
+pub on_ok_map : {T : Type 0} (r : Result T Error) (X Y : Type 0) → OnOk r X → (X → Y) → OnOk r Y
+on_ok_map (Ok x) X Y h f = f h
+on_ok_map (Err e) X Y h f = tt
+
+pub on_ok_all : {T : Type 0} (r : Result T Error) (X Y Z W : Type 0) → OnOk r X → OnOk r Y → OnOk r Z → (X → Y → Z → W) → OnOk r W
+on_ok_all (Ok x) X Y Z W a b c f = f a b c
+on_ok_all (Err e) X Y Z W a b c f = tt
+
 pub on_err : {T : Type 0} (r : Result T Error) (X : Type 0) → X → OnErr r X
 on_err (Ok x) X h = tt
 on_err (Err e) X h = h

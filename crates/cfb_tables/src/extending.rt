@@ -1,15 +1,20 @@
 // Chains that take in sectors behind their last.
-ghost use Rattle.cfb_chains.specs.Changes.{IsNoneOf};
+ghost use Rattle.cfb_chains.specs.Changes.{AreAmong, IsNoneOf};
+ghost use Rattle.cfb_chains.specs.Grown.{AreWritable, IsLinked};
+ghost use Rattle.cfb_chains.specs.LinkViews.{ids_of, links_version};
+ghost use Rattle.cfb_chains.specs.Positions.{sectors_for};
 ghost use Rattle.cfb_medium.specs.Calls.{IsFaultUnless};
 ghost use Rattle.cfb_medium.specs.Versions.{sector_len};
 ghost use Rattle.cfb_medium.specs.declared.error.Error.TheVariants.{Failed, Full, InvalidData};
+ghost use Rattle.cfb_sectors.specs.Copies.{copies};
 ghost use Rattle.cfb_sectors.specs.Initial.{initial};
-ghost use Rattle.cfb_sectors.specs.Sectors.{free, sector, sector_start, Chain as IsChain};
+ghost use Rattle.cfb_sectors.specs.Sectors.{free, joined, sector, sector_start, Chain as IsChain};
 ghost use Rattle.cfb_tables.specs.Changing.{MayWrite};
 ghost use Rattle.cfb_tables.specs.Growing.{tables_of, IsFull, TakesIn};
-ghost use Rattle.std.specs.Prelude.{false, length, slice_get, true, IfErr, IfOk, IsErrOf, IsTrue, List, OnErr, OnOk, Some, ℕ, [], ◌∷◌, ◌++◌, ◌≡◌, ◌≤◌, ◌⊎◌};
+ghost use Rattle.std.specs.Prelude.{false, length, slice_get, true, IfErr, IfOk, IsErrOf, IsTrue, List, OnErr, OnOk, Some, ℕ, [], ◌∷◌, ◌++◌, ◌-◌, ◌≡◌, ◌≤◌, ◌⊎◌};
 
 use crate::Allocator;
+use cfb_chains::{Chain, Links};
 use cfb_medium::{Error, Medium};
 use cfb_sectors::SectorInit;
 
@@ -46,5 +51,59 @@ impl<F: Medium> Allocator<F> {
         let sector_id = self.take(init)?;
         self.set_entry(last, sector_id)?;
         Ok(sector_id)
+    }
+
+    /// Extends the chain from a start by so many sectors behind its last, each as `extend_chain` does. `InvalidData` where the
+    /// FAT has no such chain, it has no sector, or the tables can't be changed, `Full` where no number is left for one of them
+    /// or for the tables. After an error some of them may be in the chain; after a fault in a write it has failed.
+    pub fn extend_chain_by(
+        &mut self,
+        start: u32,
+        count: usize,
+        init: SectorInit,
+    ) -> Result<(), Error>
+        ensures extends { OnOk result ((ids : List ℕ) × (more : List ℕ) × (changed : List ℕ) × IsChain (fat_of self.old) start ids × IsChain (fat_of self.new) start (ids ++ more) × (length more ≡ count)
+            × TakesIn more changed self.old self.new × AreAmong (ids ++ more) changed
+            × (IsTrue (is_honest self.old) → AreWritable (MayWrite self.old) (version_of self.old) ids
+            → joined (version_of self.old) (bytes_of self.new) (ids ++ more) ≡ joined (version_of self.old) (bytes_of self.old) ids ++ copies count (initial init (sector_len (version_of self.old))))) }
+        ensures some { OnErr result ((more : List ℕ) × (changed : List ℕ) × TakesIn more changed self.old self.new) }
+        ensures live { OnOk result ((has_failed_here self.old ≡ false) × (has_failed_here self.new ≡ false)) }
+        ensures refused { IsErrOf result InvalidData → IsTrue (orderly_of self.old) → (ids : List ℕ) (last : ℕ) → IsChain (fat_of self.old) start (ids ++ last ∷ []) → ⊥ }
+        ensures failed { has_failed_here self.old ≡ true → IsErrOf result Failed × AllRests self.old self.new }
+        ensures cause { IfErr result (HasCauseBelow self.old self.new) }
+        ensures fault { IfErr result (λ e. IsFaultUnless ⊥ e ⊎ (e ≡ InvalidData) ⊎ (e ≡ Full)) }
+    {
+        let mut links = self.open_chain(start)?;
+        let old = links.sector_ids().len();
+        if old == 0 {
+            return Err(Error::InvalidData);
+        }
+        let Some(all) = old.checked_add(count) else {
+            return Err(Error::Full);
+        };
+        let Some(len) = (all as u64).checked_mul(self.sector_len() as u64) else {
+            return Err(Error::Full);
+        };
+        self.lengthen_chain(&mut links, len, init)
+    }
+
+    // Gives the chain of these links so many bytes.
+    fn lengthen_chain(&mut self, links: &mut Links, len: u64, init: SectorInit) -> Result<(), Error>
+        requires more { length (ids_of links.old) ≤ sectors_for (links_version links.old) len }
+        ensures count { OnOk result (length (ids_of links.new) ≡ sectors_for (links_version links.old) len) }
+        ensures longer { (more : List ℕ) × (changed : List ℕ) × (ids_of links.new ≡ ids_of links.old ++ more) × TakesIn more changed self.old self.new
+            × (IsLinked (fat_of self.old) (ids_of links.old) → AreAmong (ids_of links.new) changed) }
+        ensures linked { OnOk result (IsLinked (fat_of self.old) (ids_of links.old) → IsLinked (fat_of self.new) (ids_of links.new)) }
+        ensures filled { OnOk result (IsTrue (is_honest self.old) → version_of self.old ≡ links_version links.old → IsLinked (fat_of self.old) (ids_of links.old) → AreWritable (MayWrite self.old) (links_version links.old) (ids_of links.old)
+            → joined (links_version links.old) (bytes_of self.new) (ids_of links.new)
+            ≡ joined (links_version links.old) (bytes_of self.old) (ids_of links.old) ++ copies (length (ids_of links.new) - length (ids_of links.old)) (initial init (sector_len (links_version links.old)))) }
+        ensures live { OnOk result ((has_failed_here self.old ≡ false) × (has_failed_here self.new ≡ false)) }
+        ensures refused { IsErrOf result InvalidData → IsTrue (orderly_of self.old) → IsLinked (fat_of self.old) (ids_of links.old) → ⊥ }
+        ensures failed { has_failed_here self.old ≡ true → IsErrOf result Failed × AllRests self.old self.new }
+        ensures cause { IfErr result (HasCauseBelow self.old self.new) }
+        ensures fault { IfErr result (λ e. IsFaultUnless ⊥ e ⊎ (e ≡ InvalidData) ⊎ (e ≡ Full)) }
+    {
+        let mut chain = Chain::new(self, links, init);
+        chain.set_len(len)
     }
 }

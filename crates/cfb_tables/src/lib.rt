@@ -20,6 +20,3 @@ mod writes;
 pub use allocator::Allocator;
 pub use difat::read_difat;
 pub use tables::{read_joined, read_table};
-
-#[cfg(test)]
-mod tests;
