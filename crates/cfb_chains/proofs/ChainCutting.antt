@@ -10,9 +10,9 @@ use Rattle.cfb_medium.specs.Versions.{sector_len}
 use Rattle.cfb_sectors.specs.Sectors.{end_of_chain, filled_part, joined, sector_start, Chain as IsChain}
 use Rattle.cfb_sectors.proofs.Chains.{chain_from}
 use Rattle.cfb_sectors.proofs.OneChain.{chain_unique}
-use Rattle.cfb_chains.specs.Growing.{AreAmong, StayBut}
+use Rattle.cfb_chains.specs.Changes.{AreAmong, StayBut}
 use Rattle.cfb_chains.specs.Grown.{AreWritable, IsLinked}
-use Rattle.cfb_chains.specs.Orderly.{DifferAt, IsNoneOf}
+use Rattle.cfb_chains.specs.Changes.{DifferAt, IsNoneOf}
 use Rattle.cfb_chains.specs.Positions.{sectors_for}
 use Rattle.cfb_chains.proofs.ChainGrowing.{chain_goes_on, chain_once}
 

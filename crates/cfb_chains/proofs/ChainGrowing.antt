@@ -15,9 +15,9 @@ use Rattle.cfb_sectors.specs.declared.initial.SectorInit.{SectorInit}
 use Rattle.cfb_sectors.specs.Sectors.{end_of_chain, filled_part, free, joined, sector, sector_start, Chain as IsChain}
 use Rattle.cfb_sectors.proofs.Chains.{chain_from}
 use Rattle.cfb_sectors.proofs.OneChain.{chain_unique}
-use Rattle.cfb_chains.specs.Growing.{AreAmong, IsFreeIn, StayBut}
+use Rattle.cfb_chains.specs.Changes.{AreAmong, IsFreeIn, StayBut}
 use Rattle.cfb_chains.specs.Grown.{AreWritable, IsLinked}
-use Rattle.cfb_chains.specs.Orderly.{AreOnce, IsBeside, IsNoneOf}
+use Rattle.cfb_chains.specs.Changes.{AreOnce, IsBeside, IsNoneOf}
 use Rattle.cfb_chains.specs.Positions.{left_in, place_in}
 use Rattle.cfb_chains.proofs.Staying.{apart, goes_on}
 

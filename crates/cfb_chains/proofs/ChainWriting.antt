@@ -7,7 +7,7 @@ use Rattle.cfb_medium.specs.declared.version.Version.{Version}
 use Rattle.cfb_medium.specs.declared.version.Version.TheVariants.{V3, V4}
 use Rattle.cfb_medium.specs.Versions.{sector_len}
 use Rattle.cfb_sectors.specs.Sectors.{joined, sector, sector_start}
-use Rattle.cfb_chains.specs.Orderly.{AreOnce}
+use Rattle.cfb_chains.specs.Changes.{AreOnce}
 use Rattle.cfb_chains.specs.Positions.{left_in, place_in, tail_in}
 use Rattle.cfb_chains.proofs.ChainParts.{chain_part}
 use Rattle.cfb_chains.proofs.Overwriting.{get_before, get_behind, get_filled, get_written}

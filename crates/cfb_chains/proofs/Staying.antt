@@ -7,7 +7,7 @@ use Rattle.cfb_medium.specs.Versions.{sector_len}
 use Rattle.cfb_medium.specs.declared.version.Version.{Version}
 use Rattle.cfb_medium.specs.declared.version.Version.TheVariants.{V3, V4}
 use Rattle.cfb_sectors.specs.Sectors.{filled_part, free, joined, sector_start, Chain as IsChain}
-use Rattle.cfb_chains.specs.Orderly.{AreNoneOf, DifferAt, HaveEntry, IsBeside, IsNoneOf}
+use Rattle.cfb_chains.specs.Changes.{AreNoneOf, DifferAt, HaveEntry, IsBeside, IsNoneOf}
 
 -- an entry that is the same in both tables
 same_entry : (old new : List ℕ) (n next : ℕ) → length new ≡ length old → get_or new n 0 ≡ get_or old n 0 → slice_get old n ≡ Some next → slice_get new n ≡ Some next

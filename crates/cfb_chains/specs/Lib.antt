@@ -1,11 +1,5 @@
 pub mod ChainViews
-pub mod Changing
-pub mod Growing
+pub mod Changes
 pub mod Grown
-pub mod Keeping
 pub mod LinkViews
-pub mod Listed
-pub mod Orderly
 pub mod Positions
-pub mod Resting
-pub mod Tables

@@ -1,7 +1,7 @@
 // Chains that become shorter, and chains of a given length.
-ghost use Rattle.cfb_chains.specs.Growing.{AreAmong};
+ghost use Rattle.cfb_chains.specs.Changes.{AreAmong};
 ghost use Rattle.cfb_chains.specs.Grown.{AreWritable, IsLinked};
-ghost use Rattle.cfb_chains.specs.Orderly.{HaveEntry};
+ghost use Rattle.cfb_chains.specs.Changes.{HaveEntry};
 ghost use Rattle.cfb_chains.specs.Positions.{sectors_for};
 ghost use Rattle.cfb_medium.specs.Calls.{IsFaultUnless};
 ghost use Rattle.cfb_medium.specs.Versions.{sector_len};

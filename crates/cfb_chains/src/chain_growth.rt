@@ -1,5 +1,5 @@
 // Chains that become longer.
-ghost use Rattle.cfb_chains.specs.Growing.{AreAmong};
+ghost use Rattle.cfb_chains.specs.Changes.{AreAmong};
 ghost use Rattle.cfb_chains.specs.Grown.{AreWritable, IsLinked};
 ghost use Rattle.cfb_medium.specs.Calls.{IsFaultUnless};
 ghost use Rattle.cfb_medium.specs.Versions.{sector_len};

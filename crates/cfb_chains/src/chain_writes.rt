@@ -1,7 +1,7 @@
 // The bytes of a chain of sectors, written from a position on.
-ghost use Rattle.cfb_chains.specs.Growing.{AreAmong};
+ghost use Rattle.cfb_chains.specs.Changes.{AreAmong};
 ghost use Rattle.cfb_chains.specs.Grown.{AreWritable, IsLinked};
-ghost use Rattle.cfb_chains.specs.Orderly.{AreOnce};
+ghost use Rattle.cfb_chains.specs.Changes.{AreOnce};
 ghost use Rattle.cfb_chains.specs.Positions.{left_in, place_in, tail_in};
 ghost use Rattle.cfb_medium.specs.Bytes.{overwritten};
 ghost use Rattle.cfb_medium.specs.Calls.{IsFaultUnless};

@@ -1,13 +1,12 @@
 // Chains that are freed, at whatever height.
-ghost use Rattle.cfb_chains.specs.Keeping.{changes_keep, rests_keep_tables, writes_keep_tables};
-ghost use Rattle.cfb_chains.specs.Orderly.{DifferAt, HaveEntry};
+ghost use Rattle.cfb_chains.specs.Changes.{DifferAt, HaveEntry};
 ghost use Rattle.cfb_medium.specs.Calls.{IsFaultUnless};
 ghost use Rattle.cfb_medium.specs.declared.error.Error.TheVariants.{Failed, InvalidData};
 ghost use Rattle.cfb_sectors.specs.Sectors.{end_of_chain, filled_part, free, Chain as IsChain};
 ghost use Rattle.std.specs.Prelude.{false, slice_index, slice_index_or, true, Bool, IfErr, IsErrOf, IsTrue, List, OnErr, OnOk, ℕ, [], ◌∷◌, ◌≡◌, ◌⊎◌};
 
-use crate::{Allocator, Chain};
-use cfb_medium::{Error, Medium};
+use crate::Chain;
+use cfb_medium::Error;
 use cfb_sectors::ChangesSectors;
 
 /// A layer that has chains and frees them.
@@ -51,31 +50,6 @@ pub trait FreesChains: ChangesSectors {
     ghost writes_keep_tables: { (place : ℕ) (written : List ℕ) (a b : Self) → Self.writes place written a b → (fat b ≡ fat a) × (orderly b ≡ orderly a) };
 
     ghost rests_keep_tables: { (a b : Self) → Self.rests a b → (fat b ≡ fat a) × (orderly b ≡ orderly a) × ((place count : ℕ) → Self.may_write a place count → Self.may_write b place count) };
-}
-
-impl<F: Medium> FreesChains for Allocator<F> {
-    ghost use Rattle.cfb_chains.specs.Changing.{ChangesFat};
-    ghost use Rattle.cfb_chains.specs.Tables.{fat_of, orderly_of};
-
-    ghost fat = { fat_of };
-
-    ghost orderly = { orderly_of };
-
-    ghost changes_fat = { ChangesFat };
-
-    fn free_chain(&mut self, start: u32) -> Result<(), Error> {
-        Allocator::free_chain(self, start)
-    }
-
-    fn free_chain_after(&mut self, sector_id: u32) -> Result<(), Error> {
-        Allocator::free_chain_after(self, sector_id)
-    }
-
-    ghost changes_keep = { changes_keep };
-
-    ghost writes_keep_tables = { writes_keep_tables };
-
-    ghost rests_keep_tables = { rests_keep_tables };
 }
 
 impl<'a, H: FreesChains> Chain<'a, H> {

@@ -1,6 +1,6 @@
 // Chains that take sectors into use, at whatever height.
-ghost use Rattle.cfb_chains.specs.Growing.{IsFreeIn, StayBut};
-ghost use Rattle.cfb_chains.specs.Orderly.{IsBeside, IsNoneOf};
+ghost use Rattle.cfb_chains.specs.Changes.{IsFreeIn, StayBut};
+ghost use Rattle.cfb_chains.specs.Changes.{IsBeside, IsNoneOf};
 ghost use Rattle.cfb_medium.specs.Calls.{IsFaultUnless};
 ghost use Rattle.cfb_medium.specs.Versions.{sector_len};
 ghost use Rattle.cfb_medium.specs.declared.error.Error.{Error};

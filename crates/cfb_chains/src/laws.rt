@@ -1,5 +1,5 @@
 // Laws of changed tables, each of a function that does nothing.
-ghost use Rattle.cfb_chains.specs.Orderly.{AreNoneOf, DifferAt, HaveEntry, IsBeside};
+ghost use Rattle.cfb_chains.specs.Changes.{AreNoneOf, DifferAt, HaveEntry, IsBeside};
 ghost use Rattle.cfb_medium.specs.Versions.{sector_len};
 ghost use Rattle.cfb_medium.specs.declared.version.Version.{Version};
 ghost use Rattle.cfb_sectors.specs.Sectors.{filled_part, free, joined, Chain as IsChain};

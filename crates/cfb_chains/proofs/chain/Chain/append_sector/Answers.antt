@@ -1,7 +1,7 @@
 use Rattle.std.proofs.Common.{◌++◌, ◌∷◌, [], ◌∙◌, sym, ap, arith, subst}
 use Rattle.std.proofs.lemmas.List.{append-nil}
 use Rattle.cfb_chains.specs.ChainViews.{holder_of, sectors_of}
-use Rattle.cfb_chains.specs.Growing.{AreAmong}
+use Rattle.cfb_chains.specs.Changes.{AreAmong}
 use Rattle.cfb_chains.specs.Grown.{IsLinked}
 use Rattle.cfb_chains.proofs.chain.Chain.append_sector.Goals as goal
 

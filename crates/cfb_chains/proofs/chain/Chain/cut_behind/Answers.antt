@@ -2,7 +2,7 @@ use Rattle.std.proofs.Common.{◌≡◌, ◌-◌, ◌≤◌, ap, arith, drop, ge
 use Rattle.cfb_sectors.specs.Sectors.{free, joined}
 use Rattle.cfb_chains.specs.ChainViews.{holder_of, sectors_of, version_of}
 use Rattle.cfb_chains.specs.Grown.{AreWritable, IsLinked}
-use Rattle.cfb_chains.specs.Orderly.{HaveEntry}
+use Rattle.cfb_chains.specs.Changes.{HaveEntry}
 use Rattle.cfb_chains.proofs.ChainCutting.{changed_are_mine, freed_are, front_bytes, front_stays, is_cut, writable_front}
 use Rattle.cfb_chains.proofs.chain.Chain.cut_behind.Goals as goal
 

@@ -3,8 +3,8 @@ use Rattle.std.specs.Prelude.{slice_index_or}
 use Rattle.cfb_sectors.specs.Sectors.{end_of_chain, free}
 use Rattle.cfb_sectors.proofs.OneChain.{chain_unique}
 use Rattle.cfb_chains.specs.ChainViews.{holder_of, sectors_of}
-use Rattle.cfb_chains.specs.Growing.{AreAmong}
-use Rattle.cfb_chains.specs.Orderly.{HaveEntry}
+use Rattle.cfb_chains.specs.Changes.{AreAmong}
+use Rattle.cfb_chains.specs.Changes.{HaveEntry}
 use Rattle.cfb_chains.proofs.chain.Chain.cut_to.Goals as goal
 
 on_ok_then : {T E : Type 0} (r : Result T E) (P Q : Type 0) → (P → Q) → OnOk r P → OnOk r Q

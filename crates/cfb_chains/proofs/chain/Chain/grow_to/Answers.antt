@@ -5,7 +5,7 @@ use Rattle.cfb_sectors.specs.Copies.{copies}
 use Rattle.cfb_sectors.specs.Initial.{initial}
 use Rattle.cfb_sectors.specs.Sectors.{joined}
 use Rattle.cfb_chains.specs.ChainViews.{holder_of, init_of, sectors_of, version_of}
-use Rattle.cfb_chains.specs.Growing.{AreAmong}
+use Rattle.cfb_chains.specs.Changes.{AreAmong}
 use Rattle.cfb_chains.specs.Grown.{AreWritable, IsLinked}
 use Rattle.cfb_chains.proofs.ChainGrowing.{among_both, among_more, filled_step, rests_yet, writable_still}
 use Rattle.cfb_chains.proofs.chain.Chain.grow_to.Goals as goal

@@ -4,7 +4,7 @@ use Rattle.cfb_sectors.specs.Copies.{copies}
 use Rattle.cfb_sectors.specs.Initial.{initial}
 use Rattle.cfb_sectors.specs.Sectors.{joined}
 use Rattle.cfb_chains.specs.ChainViews.{holder_of, init_of, position_of, sectors_of, version_of, IsSameBut}
-use Rattle.cfb_chains.specs.Growing.{AreAmong}
+use Rattle.cfb_chains.specs.Changes.{AreAmong}
 use Rattle.cfb_chains.specs.Grown.{AreWritable, IsLinked}
 use Rattle.cfb_chains.proofs.chain.Chain.grow_to.Given as goal
 

@@ -3,7 +3,7 @@ use Rattle.cfb_medium.specs.Versions.{sector_len}
 use Rattle.cfb_sectors.specs.Initial.{initial}
 use Rattle.cfb_sectors.specs.Sectors.{filled_part, sector, sector_start}
 use Rattle.cfb_sectors.proofs.Causes.{err_same}
-use Rattle.cfb_chains.specs.Orderly.{IsBeside, IsNoneOf}
+use Rattle.cfb_chains.specs.Changes.{IsBeside, IsNoneOf}
 use Rattle.cfb_chains.specs.ChainViews.{holder_of, init_of, sectors_of, version_of}
 use Rattle.cfb_chains.proofs.ChainGrowing.{bytes_more, extended, in_use, none_to_extend, writable_more}
 use Rattle.cfb_chains.proofs.chain.Chain.take_sector.Goals as goal

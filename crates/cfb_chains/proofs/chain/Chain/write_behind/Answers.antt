@@ -1,6 +1,6 @@
 use Rattle.std.proofs.Common.{◌≡◌, ◌∙◌, sym, subst, ⊎_elim, IsTrue}
 use Rattle.cfb_chains.specs.ChainViews.{holder_of, position_of, sectors_of, version_of}
-use Rattle.cfb_chains.specs.Growing.{AreAmong}
+use Rattle.cfb_chains.specs.Changes.{AreAmong}
 use Rattle.cfb_chains.specs.Grown.{AreWritable, IsLinked}
 use Rattle.cfb_chains.proofs.ChainGrowing.{chain_once, either_there, writable_still, written_there}
 use Rattle.cfb_chains.proofs.chain.Chain.write_behind.Goals as goal

@@ -1,0 +1,16 @@
+pub mod Appended
+pub mod DifatChains
+pub mod Entering
+pub mod Early
+pub mod EntryChanges
+pub mod FatEntries
+pub mod Fresh
+pub mod Grown
+pub mod Growth
+pub mod GrowthSteps
+pub mod Joining
+pub mod ListedMore
+pub mod ListedStays
+pub mod Listing
+pub mod TableWords
+pub mod Words

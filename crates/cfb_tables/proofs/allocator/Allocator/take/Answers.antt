@@ -1,0 +1,27 @@
+use Rattle.std.proofs.Common.{◌≡◌, ◌⊎◌, inl, inr, true, [], ◌∷◌, ◌++◌, length, sym, ◌∙◌, ⊎_elim}
+use Rattle.cfb_medium.specs.Calls.{IsFaultUnless}
+use Rattle.cfb_medium.specs.declared.error.Error.TheVariants.{Full}
+use Rattle.cfb_sectors.proofs.Causes.{passed_on}
+use Rattle.cfb_sectors.specs.Held.{HasItsCause}
+use Rattle.cfb_sectors.specs.Sectors.{end_of_chain, Chain as IsChain}
+use Rattle.cfb_tables.specs.Growing.{GrowsFat}
+use Rattle.cfb_tables.specs.Tables.{has_failed_here, AllRests}
+use Rattle.cfb_tables.proofs.EntryChanges.{cause_since}
+use Rattle.cfb_tables.proofs.GrowthSteps.{chain_one, err_map, grows_again, grows_taken, ok_both, ok_map, rest_grows}
+use Rattle.cfb_tables.proofs.allocator.Allocator.take.Goals as goal
+
+pub returns-clause-grows : goal.returns-clause-grows
+returns-clause-grows g c =
+    ok_map c.append.result (λ n. GrowsFat (n ∷ []) [] c.make_room.new.self c.append.new.self) (λ n. GrowsFat (n ∷ []) (n ∷ []) c.args.self.now c.append.new.self) c.append.ensures.grows
+    (λ n grows. grows_taken n c.args.self.now c.make_room.new.self c.append.new.self c.in_ok-make_room.ensures.grows grows)
+
+pub returns-clause-cause : goal.returns-clause-cause
+returns-clause-cause g c =
+    let room = c.in_ok-make_room.ensures in
+    err_map c.append.result (HasItsCause c.make_room.new.self.sectors c.append.new.self.sectors) (HasItsCause c.args.self.now.sectors c.append.new.self.sectors) c.append.ensures.cause
+    (λ e cause. cause_since c.args.self.now.sectors c.make_room.new.self.sectors c.append.new.self.sectors e room.grows.continues (room.live ∙ sym c.requires.live) cause)
+
+pub returns-clause-chain : goal.returns-clause-chain
+returns-clause-chain g c =
+    ok_both c.append.result (λ n. n ≡ length c.make_room.new.self.fat.items) (λ n. IsChain c.append.new.self.fat.items n (n ∷ [])) (c.append.new.self.fat.items ≡ c.make_room.new.self.fat.items ++ end_of_chain ∷ []) c.append.ensures.number c.append.ensures.fat
+    (λ n at is. chain_one c.make_room.new.self.fat.items c.append.new.self.fat.items n is at c.in_ok-make_room.ensures.few)

@@ -1,0 +1,95 @@
+use Rattle.std.proofs.Common.{◌≡◌, ◌≢◌, ℕ, ◌+◌, ◌-◌, ◌*◌, ◌<◌, inr, length, take, get_or, refl, ap, sym, subst, ◌∙◌, arith, false, IsTrue}
+use Rattle.std.specs.Int.{w32, to_le_bytes}
+use Rattle.cfb_medium.specs.Bytes.{overwritten}
+use Rattle.cfb_medium.specs.Versions.{sector_len}
+use Rattle.cfb_sectors.specs.Held.{bytes_of, count_of, has_failed_here, is_honest, version_of}
+use Rattle.cfb_sectors.specs.Sectors.{sector, sector_start, sectors_in}
+use Rattle.cfb_tables.proofs.ListedMore.{count_aside, difat_listed, ends_before, first_written, link_aside_part, link_before, link_no_count, link_spot, IsLink, other_parts, other_words, second_written, words_before}
+use Rattle.cfb_tables.proofs.ListedStays.{behind_header}
+use Rattle.cfb_tables.proofs.Listing.{header_whole}
+use Rattle.cfb_tables.proofs.TableWords.{next_word}
+use Rattle.cfb_tables.proofs.Fresh.{difat_entries, difat_next}
+use Rattle.cfb_medium.specs.Numbers.{numbers, u32_at}
+use Rattle.cfb_sectors.specs.Initial.{initial}
+use Rattle.cfb_sectors.specs.declared.initial.SectorInit.TheVariants.{Difat}
+use Rattle.cfb_tables.proofs.enlarging.add_difat_sector.Given.{Over}
+use Rattle.cfb_tables.proofs.enlarging.add_difat_sector.Goals as goal
+
+-- where the new sector is named
+spot_of : (g : Over) (c : goal.In_ok-write_word-2 g) → (q : ℕ) × IsLink (version_of c.args.sectors.now) c.args.difat_sectors.now q × (c.link_place-place.result ≡ 4 * q)
+spot_of g c =
+    let v = version_of c.args.sectors.now in
+    let ds = c.args.difat_sectors.now in
+    let place = c.link_place-place.result in
+    link_spot v ds place c.link_place-place.ensures.first
+    (subst (λ u. 0 < length ds → place ≡ sector_start u (get_or ds (length ds - 1) 0) + (sector_len u - 4)) c.version.ensures c.link_place-place.ensures.last)
+
+-- what was written
+bytes_are : (g : Over) (c : goal.In_ok-write_word-2 g) → (q : ℕ) → c.link_place-place.result ≡ 4 * q → has_failed_here c.write_word-2.new.sectors ≡ false → IsTrue (is_honest c.args.sectors.now)
+    → bytes_of c.write_word-2.new.sectors ≡ overwritten (overwritten (bytes_of c.append_sector.new.sectors) (4 * q) (to_le_bytes w32 c.in_ok-sector_id.sector_id)) (4 * 18) (to_le_bytes w32 (length c.args.difat_sectors.now + 1))
+bytes_are g c q at live honest =
+    let added = c.in_ok-sector_id.ensures.appends in
+    let named = c.in_ok-write_word.ensures.changes in
+    let counted = c.in_ok-write_word-2.ensures.changes in
+    let first = subst IsTrue (sym added.honest) honest in
+    counted.bytes live (subst IsTrue (sym named.honest) first)
+    ∙ ap (λ b. overwritten b 72 (to_le_bytes w32 (length c.args.difat_sectors.now + 1))) (named.bytes (counted.live live) first ∙ ap (λ p. overwritten (bytes_of c.append_sector.new.sectors) p (to_le_bytes w32 c.in_ok-sector_id.sector_id)) at)
+
+pub returns-clause-appends : goal.returns-clause-appends
+returns-clause-appends g c =
+    let it = c.args.sectors.now in
+    let added = c.in_ok-sector_id.ensures.appends in
+    let named = c.in_ok-write_word.ensures in
+    let counted = c.in_ok-write_word-2.ensures in
+    let spot = spot_of g c in
+    let other = link_no_count (version_of it) c.args.difat_sectors.now spot.0 spot.1 in
+    record {
+      honest = counted.changes.honest ∙ named.changes.honest ∙ added.honest;
+      continues = λ start from. counted.changes.continues start (named.changes.continues start (added.continues start from));
+      version = counted.changes.version ∙ named.changes.version ∙ added.version;
+      live = λ live. added.live (named.changes.live (counted.changes.live live));
+      count = λ live. counted.count ∙ named.count ∙ added.count (named.changes.live (counted.changes.live live));
+      before = λ live honest p n fits beside.
+          other_parts (bytes_of c.append_sector.new.sectors) (bytes_of c.write_word-2.new.sectors) spot.0 18 c.in_ok-sector_id.sector_id (length c.args.difat_sectors.now + 1) (bytes_are g c spot.0 spot.2 live honest) other p n
+          (link_aside_part (version_of it) c.args.difat_sectors.now spot.0 p n spot.1 beside.0 beside.1) (count_aside 18 p n (inr (inr refl)) beside.1)
+          ∙ added.before (named.changes.live (counted.changes.live live)) honest p n fits tt;
+    }
+
+pub returns-clause-listed : goal.returns-clause-listed
+returns-clause-listed g c = λ live honest once fs h.
+    let it = c.args.sectors.now in
+    let v = version_of it in
+    let old = bytes_of it in
+    let mid = bytes_of c.append_sector.new.sectors in
+    let last = c.write_word-2.new.sectors in
+    let new = bytes_of last in
+    let ds = c.args.difat_sectors.now in
+    let added = c.in_ok-sector_id.ensures.appends in
+    let named = c.in_ok-write_word.ensures in
+    let counted = c.in_ok-write_word-2.ensures in
+    let live_mid = named.changes.live (counted.changes.live live) in
+    let spot = spot_of g c in
+    let q = spot.0 in
+    let other = link_no_count v ds q spot.1 in
+    let written = bytes_are g c q spot.2 live honest in
+    let differ : q ≢ 18 = other in
+    let version : version_of last ≡ v = counted.changes.version ∙ named.changes.version ∙ added.version in
+    let honest_last = subst IsTrue (sym (counted.changes.honest ∙ named.changes.honest ∙ added.honest)) honest in
+    let more : count_of last ≡ count_of it + 1 = counted.count ∙ named.count ∙ added.count live_mid in
+    let was : count_of it ≡ sectors_in v (length old) = it.counted (added.live live_mid) honest in
+    let is : count_of last ≡ sectors_in v (length new) = last.counted live honest_last ∙ ap (λ u. sectors_in u (length new)) version in
+    let in_old = header_whole v old (count_of it) was c.requires.some in
+    let in_new = header_whole v new (count_of last) is (omega (arith, more)) in
+    let far = behind_header v (count_of it) in
+    let ends = ends_before v (count_of it) q (link_before v ds q (count_of it) c.requires.there spot.1) in
+    let content : sector v new (count_of it) ≡ initial Difat (sector_len v) =
+    other_parts mid new q 18 c.in_ok-sector_id.sector_id (length ds + 1) written differ (sector_start v (count_of it)) (sector_len v) (inr ends) (inr (omega (arith, far)))
+    ∙ c.in_ok-sector_id.ensures.content live_mid honest in
+    difat_listed v old new ds fs (count_of it) q (count_of it) in_old in_new (omega (arith, was, is, more)) c.requires.some c.requires.there once
+    spot.1.0 spot.1.1
+    (first_written mid new q 18 c.in_ok-sector_id.sector_id (length ds + 1) written differ (let n = c.in_ok-sector_id.ensures.number in omega (arith, n, c.requires.few)) ∙ c.in_ok-sector_id.ensures.number)
+    (second_written mid new q 18 c.in_ok-sector_id.sector_id (length ds + 1) written differ (omega (arith, c.requires.most, c.requires.few)))
+    (λ r below no_q no_t. other_words mid new q 18 c.in_ok-sector_id.sector_id (length ds + 1) written differ r no_q no_t
+    ∙ words_before v old mid (count_of it) r (λ p n fits. added.before live_mid honest p n fits tt) below)
+    (omega (arith, is, more)) (ap (λ s. numbers (take (sector_len v - 4) s)) content ∙ difat_entries v)
+    (sym (next_word v new (count_of it)) ∙ ap (λ s. u32_at s (sector_len v - 4)) content ∙ difat_next v) h

@@ -1,0 +1,53 @@
+-- What reads and writes keep behind the FAT, and the causes of errors after them.
+use Rattle.std.specs.Prelude.{◌≡◌, ℕ, ◌+◌, ◌≤◌, false, true, List, IsTrue}
+use Rattle.std.proofs.Common.{sym, subst}
+use Rattle.cfb_medium.specs.Bytes.{overwritten}
+use Rattle.cfb_medium.specs.declared.error.Error.{Error}
+use Rattle.cfb_medium.specs.declared.error.Error.TheVariants.{Device, Failed}
+use Rattle.cfb_medium.specs.declared.medium.ReadMedium.{Ghosts}
+use Rattle.cfb_sectors.specs.Held.{count_of}
+use Rattle.cfb_sectors.specs.Keeping as sectors
+use Rattle.cfb_sectors.specs.Sectors.{filled_part, sector_start}
+use Rattle.cfb_tables.specs.declared.allocator.Allocator.{Allocator}
+use Rattle.cfb_tables.specs.Changing.{ChangesFat, MayWrite, WritesBeside}
+use Rattle.cfb_chains.specs.Changes.{DifferAt, IsBeside}
+use Rattle.cfb_tables.specs.Tables.{bytes_of, difat_sectors_of, fat_of, fat_sectors_of, has_failed_here, is_honest, orderly_of, sectors_of, version_of, AllRests, HasCauseBelow}
+
+module _ {F : Type 0} {g : Ghosts F} where
+  pub rests_keep : (a b : Allocator F g) → AllRests a b → (is_honest b ≡ is_honest a) × (has_failed_here b ≡ has_failed_here a) × (IsTrue (is_honest a) → bytes_of b ≡ bytes_of a)
+  rests_keep a b h = sectors.rests_keep a.sectors b.sectors h.sectors
+
+  pub rests_cause : (a b c : Allocator F g) (e : Error) → AllRests a b → HasCauseBelow b c e → HasCauseBelow a c e
+  rests_cause a b c e h = sectors.rests_cause a.sectors b.sectors c.sectors e h.sectors
+
+  -- an error that is no device's has no cause but an earlier fault
+  pub own_cause : (a b : Allocator F g) (e : Error) → (e ≡ Device → ⊥) → (e ≡ Failed → has_failed_here a ≡ true) → HasCauseBelow a b e
+  own_cause a b = sectors.own_cause a.sectors b.sectors
+
+  pub writes_keep : (place : ℕ) (written : List ℕ) (a b : Allocator F g) → WritesBeside place written a b
+      → (is_honest b ≡ is_honest a) × (has_failed_here b ≡ false → (has_failed_here a ≡ false) × (IsTrue (is_honest a) → bytes_of b ≡ overwritten (bytes_of a) place written))
+  writes_keep place written a b h = sectors.writes_keep place written a.sectors b.sectors h.sectors
+
+  pub writes_cause : (place : ℕ) (written : List ℕ) (a b c : Allocator F g) (e : Error) → WritesBeside place written a b → has_failed_here b ≡ false → HasCauseBelow b c e → HasCauseBelow a c e
+  writes_cause place written a b c e h = sectors.writes_cause place written a.sectors b.sectors c.sectors e h.sectors
+
+  pub may_still : (a b : Allocator F g) → version_of b ≡ version_of a → count_of (sectors_of b) ≡ count_of (sectors_of a) → fat_sectors_of b ≡ fat_sectors_of a → difat_sectors_of b ≡ difat_sectors_of a
+      → (place count : ℕ) → MayWrite a place count → MayWrite b place count
+  may_still a b version counted fat_sectors difat_sectors place count h = record {
+    ends = subst (λ v. place + count ≤ sector_start v (count_of (sectors_of b))) (sym version) (subst (λ n. place + count ≤ sector_start (version_of a) n) (sym counted) h.ends);
+    fat = subst (λ v. IsBeside v (fat_sectors_of b) place count) (sym version) (subst (λ s. IsBeside (version_of a) s place count) (sym fat_sectors) h.fat);
+    difat = subst (λ v. IsBeside v (difat_sectors_of b) place count) (sym version) (subst (λ s. IsBeside (version_of a) s place count) (sym difat_sectors) h.difat);
+    words = h.words;
+  }
+
+  pub changes_keep : (entries : List ℕ) (a b : Allocator F g) → ChangesFat entries a b → (is_honest b ≡ is_honest a)
+      × (has_failed_here b ≡ false → (has_failed_here a ≡ false) × DifferAt entries (fat_of a) (fat_of b)
+      × ((place count : ℕ) → MayWrite a place count → MayWrite b place count)
+      × (IsTrue (is_honest a) → (place count : ℕ) → MayWrite a place count → filled_part (bytes_of b) place count ≡ filled_part (bytes_of a) place count))
+  changes_keep entries a b h = (h.honest, λ live. (h.live live, h.fat live, may_still a b h.version h.count h.fat_sectors h.difat_sectors, λ honest place count may. h.beside live honest place count may.fat))
+
+  pub rests_keep_tables : (a b : Allocator F g) → AllRests a b → (fat_of b ≡ fat_of a) × (orderly_of b ≡ orderly_of a) × ((place count : ℕ) → MayWrite a place count → MayWrite b place count)
+  rests_keep_tables a b h = (h.fat, h.orderly, may_still a b h.sectors.version h.sectors.count h.fat_sectors h.difat_sectors)
+
+  pub writes_keep_tables : (place : ℕ) (written : List ℕ) (a b : Allocator F g) → WritesBeside place written a b → (fat_of b ≡ fat_of a) × (orderly_of b ≡ orderly_of a)
+  writes_keep_tables place written a b h = (h.fat, h.orderly)
