@@ -48,6 +48,13 @@ none_second xs ys n none k inside same =
     let at : get_or (xs ++ ys) (length xs + k) 0 ≡ get_or ys k 0 = get_or-append_right xs ys (length xs + k) 0 (omega arith) ∙ ap (λ m. get_or ys m 0) (omega arith) in
     none (length xs + k) (omega (arith, size, inside)) (at ∙ same)
 
+pub none_both : (xs ys : List ℕ) (n : ℕ) → IsNoneOf xs n → IsNoneOf ys n → IsNoneOf (xs ++ ys) n
+none_both xs ys n first second k inside same =
+    ⊎_elim
+    (λ past. let size = length-append xs ys in second (k - length xs) (omega (arith, size, inside, past.1)) (sym (get_or-append_right xs ys k 0 past.1) ∙ same))
+    (λ front. first k front.1 (sym (get_or_append_left xs ys 0 k front.1) ∙ same))
+    (leb_tells (length xs) k)
+
 pub none_of_two : (a b n : ℕ) → (a ≡ n → ⊥) → (b ≡ n → ⊥) → IsNoneOf (a ∷ b ∷ []) n
 none_of_two a b n first second zero inside same = first same
 none_of_two a b n first second (suc zero) inside same = second same

@@ -1,5 +1,5 @@
 -- A chain that took in a sector behind its last.
-use Rattle.std.proofs.Common.{◌≡◌, ℕ, Bool, true, false, inl, inr, ◌+◌, ◌-◌, ◌<◌, ◌≤◌, ◌⊎◌, List, [], ◌∷◌, ◌++◌, length, take, drop, get_or, zero, suc, refl, sym, ap, subst, ◌∙◌, arith, ⊎_elim, append_assoc, drop-cons, length-append, length-drop, length-take}
+use Rattle.std.proofs.Common.{◌≡◌, ℕ, Bool, true, false, inl, inr, min, ◌+◌, ◌-◌, ◌*◌, ◌/◌, ◌%◌, ◌<◌, ◌≤◌, ◌⊎◌, List, [], ◌∷◌, ◌++◌, length, take, drop, get_or, zero, suc, refl, sym, ap, subst, ◌∙◌, arith, ⊎_elim, append_assoc, drop-cons, length-append, length-drop, length-take}
 use Rattle.std.specs.Prelude.{slice_get, slice_index, slice_index_or, Some}
 use Rattle.std.proofs.Math.Seq.{take-suc, get_or-append_right}
 use Rattle.std.proofs.lemmas.List.{append-nil, drop_all, get_or_append_left, get_or-take, take_all}
@@ -7,6 +7,7 @@ use Rattle.std.proofs.lemmas.Bool.Decides.{leb_tells}
 use Rattle.std.proofs.lemmas.Option.{slice_get_within, slice_get-get_or, get_or_from_slice_get}
 use Rattle.std.proofs.lemmas.Grind.{flat_map-append}
 use Rattle.cfb_medium.specs.declared.version.Version.{Version}
+use Rattle.cfb_medium.specs.declared.version.Version.TheVariants.{V3, V4}
 use Rattle.cfb_medium.specs.Bytes.{overwritten}
 use Rattle.cfb_medium.specs.Versions.{sector_len}
 use Rattle.cfb_sectors.specs.Copies.{copies}
@@ -36,7 +37,7 @@ in_use table start (x ∷ ids) n (is, regular, next, found, rest) loose zero bel
 in_use table start (x ∷ ids) n (is, regular, next, found, rest) loose (suc k) below same = in_use table next ids n rest loose k (omega arith) same
 
 -- an entry that stays
-kept_entry : (entries old new : List ℕ) → StayBut entries old new → (n next : ℕ) → IsNoneOf entries n → slice_get old n ≡ Some next → slice_get new n ≡ Some next
+pub kept_entry : (entries old new : List ℕ) → StayBut entries old new → (n next : ℕ) → IsNoneOf entries n → slice_get old n ≡ Some next → slice_get new n ≡ Some next
 kept_entry entries old new stay n next none found =
     let below = slice_get_within old n next found in
     slice_get-get_or new n 0 (omega (arith, below, stay.size)) ∙ ap Some (stay.others n below none ∙ get_or_from_slice_get old n next 0 found)
@@ -197,6 +198,25 @@ filled_step v w i j old mid new a b c same_version same_init longer before was s
     subst (λ u. joined u new c ≡ joined u mid b ++ initial i (sector_len u)) same_version (subst (λ k. joined w new c ≡ joined w mid b ++ initial k (sector_len w)) same_init step)
     ∙ ap (λ l. l ++ piece) was ∙ append_assoc (joined v old a) (copies (length b - length a) piece) piece
     ∙ ap (λ l. joined v old a ++ l) (copies_more (length b - length a) piece ∙ ap (λ k. copies k piece) count)
+
+-- the sector behind others
+pub sector_behind : (ids : List ℕ) (n : ℕ) → slice_index (ids ++ n ∷ []) (length ids) ≡ n
+sector_behind [] n = refl
+sector_behind (x ∷ ids) n = sector_behind ids n
+
+behind_all : (v : Version) (count position : ℕ) → position ≡ count * sector_len v → (position / sector_len v ≡ count) × (position % sector_len v ≡ 0)
+behind_all V3 count position is = (omega (arith, is), omega (arith, is))
+behind_all V4 count position is = (omega (arith, is), omega (arith, is))
+
+-- where a new sector may be written whole, a part at its beginning may be written
+pub room_behind : (may : ℕ → ℕ → Type 0) (v w : Version) (ids : List ℕ) (count position at size : ℕ)
+    → ((place whole part few : ℕ) → may place whole → place ≤ part → part + few ≤ place + whole → may part few)
+    → w ≡ v → at ≡ position → position ≡ count * sector_len v → may (sector_start v (slice_index ids count)) (sector_len v) → may (place_in w ids at) (min size (left_in w at))
+room_behind may v w ids count position at size in_part same_version same_position is room =
+    let parts = behind_all v count position is in
+    let same : sector_start v (slice_index ids (position / sector_len v)) ≡ sector_start v (slice_index ids count) = ap (λ k. sector_start v (slice_index ids k)) parts.0 in
+    let here : may (place_in v ids position) (min size (left_in v position)) = in_part _ _ _ _ room (omega (arith, same, parts.1)) (omega (arith, same, parts.1)) in
+    subst (λ u. may (place_in u ids at) (min size (left_in u at))) (sym same_version) (subst (λ k. may (place_in v ids k) (min size (left_in v k))) (sym same_position) here)
 
 -- none of both is none of either
 pub among_both : (all xs ys : List ℕ) → AreAmong all xs → AreAmong all ys → AreAmong all (xs ++ ys)

@@ -1,3 +1,4 @@
+pub mod Apart
 pub mod Beside
 pub mod ChainCutting
 pub mod ChainGrowing

@@ -6,8 +6,8 @@ ghost use Rattle.cfb_medium.specs.Versions.{sector_len};
 ghost use Rattle.cfb_medium.specs.declared.error.Error.TheVariants.{Failed, Full, InvalidData};
 ghost use Rattle.cfb_sectors.specs.Copies.{copies};
 ghost use Rattle.cfb_sectors.specs.Initial.{initial};
-ghost use Rattle.cfb_sectors.specs.Sectors.{greatest_regular, joined};
-ghost use Rattle.std.specs.Prelude.{false, length, true, IfErr, IfOk, IsErrOf, IsTrue, List, OnErr, OnOk, ℕ, [], ◌+◌, ◌++◌, ◌-◌, ◌<◌, ◌∷◌, ◌≡◌, ◌≤◌, ◌⊎◌};
+ghost use Rattle.cfb_sectors.specs.Sectors.{greatest_regular, joined, sector_start};
+ghost use Rattle.std.specs.Prelude.{false, length, slice_index, true, IfErr, IfOk, IsErrOf, IsTrue, List, OnErr, OnOk, ℕ, [], ◌+◌, ◌++◌, ◌-◌, ◌<◌, ◌∷◌, ◌≡◌, ◌≤◌, ◌⊎◌};
 
 use crate::{Chain, GrowsChains};
 use cfb_medium::Error;
@@ -23,6 +23,7 @@ impl<'a, H: GrowsChains> Chain<'a, H> {
         ensures linked { IfOk result (λ n. IsLinked (H.fat (holder_of self.old)) (sectors_of self.old) → IsLinked (H.fat (holder_of self.new)) (sectors_of self.old ++ n ∷ [])) }
         ensures writable { IfOk result (λ n. H.version (holder_of self.old) ≡ version_of self.old → AreWritable (H.may_write (holder_of self.old)) (version_of self.old) (sectors_of self.old)
             → AreWritable (H.may_write (holder_of self.new)) (version_of self.old) (sectors_of self.old ++ n ∷ [])) }
+        ensures room { IfOk result (λ n. H.version (holder_of self.old) ≡ version_of self.old → H.may_write (holder_of self.new) (sector_start (version_of self.old) n) (sector_len (version_of self.old))) }
         ensures filled { IfOk result (λ n. IsTrue (H.honest (holder_of self.old)) → H.version (holder_of self.old) ≡ version_of self.old → IsLinked (H.fat (holder_of self.old)) (sectors_of self.old)
             → AreWritable (H.may_write (holder_of self.old)) (version_of self.old) (sectors_of self.old)
             → joined (version_of self.old) (H.bytes (holder_of self.new)) (sectors_of self.old ++ n ∷ [])
@@ -56,6 +57,7 @@ impl<'a, H: GrowsChains> Chain<'a, H> {
         ensures linked { OnOk result (IsLinked (H.fat (holder_of self.old)) (sectors_of self.old) → IsLinked (H.fat (holder_of self.new)) (sectors_of self.new)) }
         ensures writable { OnOk result (H.version (holder_of self.old) ≡ version_of self.old → AreWritable (H.may_write (holder_of self.old)) (version_of self.old) (sectors_of self.old)
             → AreWritable (H.may_write (holder_of self.new)) (version_of self.old) (sectors_of self.new)) }
+        ensures room { OnOk result (H.version (holder_of self.old) ≡ version_of self.old → H.may_write (holder_of self.new) (sector_start (version_of self.old) (slice_index (sectors_of self.new) (length (sectors_of self.old)))) (sector_len (version_of self.old))) }
         ensures filled { OnOk result (IsTrue (H.honest (holder_of self.old)) → H.version (holder_of self.old) ≡ version_of self.old → IsLinked (H.fat (holder_of self.old)) (sectors_of self.old)
             → AreWritable (H.may_write (holder_of self.old)) (version_of self.old) (sectors_of self.old)
             → joined (version_of self.old) (H.bytes (holder_of self.new)) (sectors_of self.new)

@@ -115,9 +115,8 @@ impl<'a, H: GrowsChains> Chain<'a, H> {
         ensures stays { OnErr result (position_of self.new ≡ position_of self.old) }
         ensures same { IsSameBut self.old self.new }
         ensures live { OnOk result ((H.failed (holder_of self.old) ≡ false) × (H.failed (holder_of self.new) ≡ false)) }
-        ensures refused { IsErrOf result InvalidData → ((IsTrue (H.orderly (holder_of self.old)) → IsLinked (H.fat (holder_of self.old)) (sectors_of self.old) → ⊥) × H.rests (holder_of self.old) (holder_of self.new) × (sectors_of self.new ≡ sectors_of self.old))
-            ⊎ ((mid : H) × (more : List ℕ) × (changed : List ℕ) × (sectors_of self.new ≡ sectors_of self.old ++ more) × H.grows more changed (holder_of self.old) mid
-            × (H.may_write mid (place_in (version_of self.old) (sectors_of self.new) (position_of self.old)) (min (length bytes.now) (left_in (version_of self.old) (position_of self.old))) → ⊥) × H.rests mid (holder_of self.new)) }
+        ensures refused { IsErrOf result InvalidData → H.version (holder_of self.old) ≡ version_of self.old
+            → (IsTrue (H.orderly (holder_of self.old)) → IsLinked (H.fat (holder_of self.old)) (sectors_of self.old) → ⊥) × H.rests (holder_of self.old) (holder_of self.new) × (sectors_of self.new ≡ sectors_of self.old) }
         ensures full { IsErrOf result Full → (H.is_full (holder_of self.old) ⊎ (greatest_regular < length (sectors_of self.old))) × H.rests (holder_of self.old) (holder_of self.new) × (sectors_of self.new ≡ sectors_of self.old) }
         ensures failed { H.failed (holder_of self.old) ≡ true → IsErrOf result Failed × H.rests (holder_of self.old) (holder_of self.new) × (sectors_of self.new ≡ sectors_of self.old) }
         ensures cause { IfErr result (H.has_cause (holder_of self.old) (holder_of self.new)) }
@@ -134,8 +133,8 @@ impl<'a, H: GrowsChains> Chain<'a, H> {
 
     /// Writes from the position on what its sector takes, and moves the position behind that. At the chain's end a sector is
     /// taken in first, in the FAT too, and holds what the chain's `init` says but for what is written; where there is nothing
-    /// to write nothing is done. `InvalidData` where the layer may not write there, or its tables can't be changed or haven't
-    /// the chain, `Full` where no sector's number is left. Then the bytes are as they were, the new sector's aside. After a
+    /// to write nothing is done. `InvalidData` where the layer may not write there, which isn't so of a new sector, or its
+    /// tables can't be changed or haven't the chain, `Full` where no sector's number is left. Then nothing is changed. After a
     /// fault in a write the layer has failed ([MS-CFB] 2.3).
     pub fn write(&mut self, bytes: &[u8]) -> Result<usize, Error>
         ensures count { IfOk result (λ n. n ≡ min (length bytes.now) (left_in (version_of self.old) (position_of self.old))) }
@@ -165,10 +164,8 @@ impl<'a, H: GrowsChains> Chain<'a, H> {
         ensures rests_inside { position_of self.old < length (sectors_of self.old) * sector_len (version_of self.old)
             → (H.may_write (holder_of self.old) (place_in (version_of self.old) (sectors_of self.old) (position_of self.old)) (min (length bytes.now) (left_in (version_of self.old) (position_of self.old))) → ⊥)
             → H.rests (holder_of self.old) (holder_of self.new) }
-        ensures refused_behind { IsErrOf result InvalidData → position_of self.old ≡ length (sectors_of self.old) * sector_len (version_of self.old)
-            → ((IsTrue (H.orderly (holder_of self.old)) → IsLinked (H.fat (holder_of self.old)) (sectors_of self.old) → ⊥) × H.rests (holder_of self.old) (holder_of self.new) × (sectors_of self.new ≡ sectors_of self.old))
-            ⊎ ((mid : H) × (more : List ℕ) × (changed : List ℕ) × (sectors_of self.new ≡ sectors_of self.old ++ more) × H.grows more changed (holder_of self.old) mid
-            × (H.may_write mid (place_in (version_of self.old) (sectors_of self.new) (position_of self.old)) (min (length bytes.now) (left_in (version_of self.old) (position_of self.old))) → ⊥) × H.rests mid (holder_of self.new)) }
+        ensures refused_behind { IsErrOf result InvalidData → position_of self.old ≡ length (sectors_of self.old) * sector_len (version_of self.old) → H.version (holder_of self.old) ≡ version_of self.old
+            → (IsTrue (H.orderly (holder_of self.old)) → IsLinked (H.fat (holder_of self.old)) (sectors_of self.old) → ⊥) × H.rests (holder_of self.old) (holder_of self.new) × (sectors_of self.new ≡ sectors_of self.old) }
         ensures full { IsErrOf result Full → (H.is_full (holder_of self.old) ⊎ (greatest_regular < length (sectors_of self.old))) × H.rests (holder_of self.old) (holder_of self.new) × (sectors_of self.new ≡ sectors_of self.old) }
         ensures failed { H.failed (holder_of self.old) ≡ true → IsErrOf result Failed × H.rests (holder_of self.old) (holder_of self.new) × (sectors_of self.new ≡ sectors_of self.old) }
         ensures cause { IfErr result (H.has_cause (holder_of self.old) (holder_of self.new)) }

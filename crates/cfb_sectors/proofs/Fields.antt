@@ -1,13 +1,13 @@
 -- A header is read in one way.
-use Rattle.std.proofs.Common.{arith, ◌≡◌, ◌<◌, ◌≤◌, ◌⊎◌, ℕ, List, [], length, inr, sym, ◌∙◌, subst, ⊎_elim}
+use Rattle.std.proofs.Common.{arith, ◌≡◌, ◌<◌, ◌≤◌, ◌⊎◌, ℕ, List, [], length, inr, refl, sym, ◌∙◌, subst, ⊎_elim}
 use Rattle.std.proofs.lemmas.List.{append-nil}
-use Rattle.std.specs.Prelude.{Result, Ok, Err, IfOk, IfErr, IsOk, ◌↔◌}
+use Rattle.std.specs.Prelude.{Result, Ok, Err, IfOk, IfErr, IsOk, OnOk, ◌↔◌}
 use Rattle.cfb_medium.specs.declared.error.Error.{Error}
 use Rattle.cfb_medium.specs.declared.error.Error.TheVariants.{InvalidData, Memory, UnexpectedEof}
 use Rattle.cfb_medium.specs.declared.version.Version.{Version}
 use Rattle.cfb_medium.specs.declared.version.Version.TheVariants.{V3, V4}
 use Rattle.cfb_medium.specs.Versions.{major}
-use Rattle.cfb_sectors.specs.Header.{HeaderFields, header_bytes, FitsHeader, HasFields}
+use Rattle.cfb_sectors.specs.Header.{HeaderFields, directory_sector_count, header_bytes, FitsHeader, HasFields}
 use Rattle.cfb_sectors.specs.HeaderViews.{fields_of}
 use Rattle.cfb_sectors.specs.Readable.{IsReadable, IsTaken}
 use Rattle.cfb_sectors.specs.declared.header.Header.{Header}
@@ -42,6 +42,14 @@ again h bytes fits is = subst (HasFields h) (append-nil (header_bytes h) ∙ sym
 pub if_again : (h : HeaderFields) (bytes : List ℕ) (r : Result Header Error) → HasFields h bytes → IfOk r (λ x. HasFields (fields_of x) bytes) → IfOk r (λ x. fields_of x ≡ h)
 if_again h bytes (Ok x) written read = fields_same (fields_of x) h bytes read written
 if_again h bytes (Err e) written read = read
+
+pub if_taken : (h : HeaderFields) (bytes : List ℕ) (validation : Validation) (r : Result Header Error) → HasFields h bytes → IsOk r ↔ ((v : Version) × IsReadable validation v bytes)
+    → OnOk r (IsTaken validation h.version h.directory_count)
+if_taken h bytes validation (Ok x) written whole =
+    let found = whole.0 refl in
+    let same : found.0 ≡ h.version = major_same found.0 h.version (sym found.1.0.for_version ∙ written.header.for_version) in
+    subst (λ count. IsTaken validation h.version count) written.directory_count (subst (λ v. IsTaken validation v (directory_sector_count bytes)) same found.1.1)
+if_taken h bytes validation (Err e) written whole = tt
 
 pub if_refused : (h : HeaderFields) (bytes : List ℕ) (validation : Validation) (r : Result Header Error) → HasFields h bytes → IsOk r ↔ ((v : Version) × IsReadable validation v bytes)
     → IfErr r (λ e. ((e ≡ UnexpectedEof) × (length bytes < 512)) ⊎ ((e ≡ InvalidData) × (512 ≤ length bytes)))

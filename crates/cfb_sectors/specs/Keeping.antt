@@ -1,13 +1,13 @@
 -- What reads and writes keep, and the causes of errors after them.
-use Rattle.std.specs.Prelude.{◌≡◌, ℕ, ◌||◌, false, true, List, IsTrue, refl}
-use Rattle.std.proofs.Common.{sym, subst, ◌∙◌}
+use Rattle.std.specs.Prelude.{◌≡◌, ℕ, ◌+◌, ◌≤◌, ◌||◌, false, true, List, IsTrue, refl}
+use Rattle.std.proofs.Common.{le_trans, sym, subst, ◌∙◌}
 use Rattle.cfb_medium.specs.Bytes.{overwritten}
 use Rattle.cfb_medium.specs.Calls.{HasCause}
 use Rattle.cfb_medium.specs.declared.error.Error.{Error}
 use Rattle.cfb_medium.specs.declared.error.Error.TheVariants.{Device, Failed}
 use Rattle.cfb_medium.specs.declared.medium.ReadMedium.{Ghosts}
 use Rattle.cfb_sectors.specs.declared.sectors.Sectors.{Sectors}
-use Rattle.cfb_sectors.specs.Held.{bytes_of, has_failed_here, HasItsCause, IsHonest, Rests, Writes}
+use Rattle.cfb_sectors.specs.Held.{bytes_of, has_failed_here, EndsIn, HasItsCause, IsHonest, Rests, Writes}
 
 module _ {F : Type 0} {g : Ghosts F} where
   pub rests_keep : (a b : Sectors F g) → Rests a b → (g.honest b.inner ≡ g.honest a.inner) × (has_failed_here b ≡ has_failed_here a) × (IsHonest a → bytes_of b ≡ bytes_of a)
@@ -26,6 +26,9 @@ module _ {F : Type 0} {g : Ghosts F} where
     device = λ is. absurd (other is);
     earlier = λ is. subst (λ f. IsTrue (f || g.failed start)) (sym (failed is)) refl;
   }
+
+  pub may_part : (it : Sectors F g) (place count part size : ℕ) → EndsIn it place count → place ≤ part → part + size ≤ place + count → EndsIn it part size
+  may_part it place count part size ends from within = le_trans within ends
 
   pub writes_keep : (place : ℕ) (written : List ℕ) (a b : Sectors F g) → Writes place written a b
       → (g.honest b.inner ≡ g.honest a.inner) × (has_failed_here b ≡ false → (has_failed_here a ≡ false) × (IsHonest a → bytes_of b ≡ overwritten (bytes_of a) place written))

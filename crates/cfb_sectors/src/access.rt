@@ -59,6 +59,8 @@ impl<F: Medium> ChangesSectors for Sectors<F> {
         Ok(())
     }
 
+    ghost may_part = { Keeping.may_part };
+
     ghost writes_keep = { Keeping.writes_keep };
 
     ghost writes_cause = { Keeping.writes_cause };

@@ -168,6 +168,7 @@ ghost use Rattle.cfb_sectors.specs.HeaderViews.{fields_of};
 /// directory sectors (`InvalidData`).
 pub fn header_again(alloc: Global, header: Header, validation: Validation) -> Result<Header, Error>
     ensures same { IfOk result (λ h. fields_of h ≡ fields_of header) }
+    ensures taken { OnOk result (IsTaken validation header.version header.num_dir_sectors) }
     ensures error { IfErr result (λ e. (e ≡ Memory) ⊎ ((e ≡ InvalidData) × (IsTaken validation header.version header.num_dir_sectors → ⊥))) }
 {
     header.fits();

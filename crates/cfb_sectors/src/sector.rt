@@ -76,6 +76,9 @@ pub trait ChangesSectors: HasSectors {
         ensures cause { IfErr result (Self.has_cause self.old self.new) }
         ensures fault { IfErr result (λ e. (IsFaultUnless ⊥ e × (Self.failed self.new ≡ true)) ⊎ (e ≡ InvalidData)) };
 
+    // what may be written whole may be written in part
+    ghost may_part: { (it : Self) (place count part size : ℕ) → may_write it place count → place ≤ part → part + size ≤ place + count → may_write it part size };
+
     ghost writes_keep: { (place : ℕ) (written : List ℕ) (a b : Self) → writes place written a b
         → (Self.honest b ≡ Self.honest a) × (Self.failed b ≡ false → (Self.failed a ≡ false) × (IsTrue (Self.honest a) → Self.bytes b ≡ overwritten (Self.bytes a) place written)) };
 

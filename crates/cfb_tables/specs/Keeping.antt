@@ -1,11 +1,12 @@
 -- What calls keep behind the FAT, and the causes of errors after them.
 use Rattle.std.specs.Prelude.{◌≡◌, ℕ, ◌+◌, ◌≤◌, ◌||◌, false, true, List, [], ◌++◌, IsTrue}
 use Rattle.std.specs.List.{AllByRecursion}
-use Rattle.std.proofs.Common.{◌∙◌, le_of_eq, le_trans, sym, subst}
+use Rattle.std.proofs.Common.{◌∙◌, inl, inr, le_of_eq, le_trans, sym, subst, ⊎_elim}
 use Rattle.cfb_medium.specs.Bytes.{overwritten}
 use Rattle.cfb_medium.specs.Calls.{HasCause}
 use Rattle.cfb_medium.specs.declared.error.Error.{Error}
 use Rattle.cfb_medium.specs.declared.error.Error.TheVariants.{Device, Failed}
+use Rattle.cfb_medium.specs.declared.version.Version.{Version}
 use Rattle.cfb_medium.specs.declared.medium.ReadMedium.{Ghosts}
 use Rattle.cfb_sectors.specs.Held.{count_of}
 use Rattle.cfb_sectors.specs.Keeping as sectors
@@ -15,7 +16,17 @@ use Rattle.cfb_chains.proofs.Beside.{beside_both, beside_first, beside_second, f
 use Rattle.cfb_tables.specs.Changing.{ChangesFat, MayWrite, WritesBeside}
 use Rattle.cfb_tables.specs.Growing.{tables_of, GrowsFat, TakesIn}
 use Rattle.cfb_chains.specs.Changes.{DifferAt, IsBeside, IsFreeIn, StayBut}
+use Rattle.cfb_tables.specs.Orderly.{IsBesideWords}
 use Rattle.cfb_tables.specs.Tables.{bytes_of, difat_sectors_of, fat_of, fat_sectors_of, has_failed_here, is_honest, medium_of, orderly_of, sectors_of, version_of, AllRests, HasCauseBelow}
+
+-- a part of what is beside others is beside them
+beside_part : (v : Version) (sectors : List ℕ) (place count part size : ℕ) → IsBeside v sectors place count → place ≤ part → part + size ≤ place + count → IsBeside v sectors part size
+beside_part v sectors place count part size beside from within k below =
+    ⊎_elim (λ before. inl (le_trans before from)) (λ behind. inr (le_trans within behind)) (beside k below)
+
+words_part : (place count part size : ℕ) → IsBesideWords place count → place ≤ part → part + size ≤ place + count → IsBesideWords part size
+words_part place count part size beside from within =
+    ⊎_elim (λ before. inl (le_trans within before)) (λ rest. inr (⊎_elim (λ between. inl (le_trans between.0 from, le_trans within between.1)) (λ behind. inr (le_trans behind from)) rest)) beside
 
 module _ {F : Type 0} {g : Ghosts F} where
   pub rests_keep : (a b : Allocator F g) → AllRests a b → (is_honest b ≡ is_honest a) × (has_failed_here b ≡ has_failed_here a) × (IsTrue (is_honest a) → bytes_of b ≡ bytes_of a)
@@ -34,6 +45,15 @@ module _ {F : Type 0} {g : Ghosts F} where
 
   pub writes_cause : (place : ℕ) (written : List ℕ) (a b c : Allocator F g) (e : Error) → WritesBeside place written a b → has_failed_here b ≡ false → HasCauseBelow b c e → HasCauseBelow a c e
   writes_cause place written a b c e h = sectors.writes_cause place written a.sectors b.sectors c.sectors e h.sectors
+
+  -- what may be written whole may be written in part
+  pub may_part : (it : Allocator F g) (place count part size : ℕ) → MayWrite it place count → place ≤ part → part + size ≤ place + count → MayWrite it part size
+  may_part it place count part size h from within = record {
+    ends = sectors.may_part it.sectors place count part size h.ends from within;
+    fat = beside_part (version_of it) (fat_sectors_of it) place count part size h.fat from within;
+    difat = beside_part (version_of it) (difat_sectors_of it) place count part size h.difat from within;
+    words = words_part place count part size h.words from within;
+  }
 
   pub may_still : (a b : Allocator F g) → version_of b ≡ version_of a → count_of (sectors_of b) ≡ count_of (sectors_of a) → fat_sectors_of b ≡ fat_sectors_of a → difat_sectors_of b ≡ difat_sectors_of a
       → (place count : ℕ) → MayWrite a place count → MayWrite b place count

@@ -1,6 +1,6 @@
 // The calls that write beside the tables.
 ghost use Rattle.cfb_tables.specs.Changing.{MayWrite, WritesBeside};
-ghost use Rattle.cfb_tables.specs.Keeping.{writes_cause, writes_keep};
+ghost use Rattle.cfb_tables.specs.Keeping.{may_part, writes_cause, writes_keep};
 ghost use Rattle.cfb_medium.specs.Calls.{IsFaultUnless};
 ghost use Rattle.cfb_medium.specs.declared.error.Error.TheVariants.{Failed, InvalidData};
 ghost use Rattle.cfb_sectors.specs.Held.{count_of};
@@ -97,6 +97,8 @@ impl<F: Medium> ChangesSectors for Allocator<F> {
         self.write_beside(place, bytes)?;
         Ok(())
     }
+
+    ghost may_part = { may_part };
 
     ghost writes_keep = { writes_keep };
 

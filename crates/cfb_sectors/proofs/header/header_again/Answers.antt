@@ -1,7 +1,7 @@
 use Rattle.std.proofs.Common.{◌≡◌, ◌++◌, ap, ◌∙◌}
 use Rattle.cfb_sectors.specs.Header.{header_bytes, HasFields}
 use Rattle.cfb_sectors.specs.HeaderViews.{fields_of}
-use Rattle.cfb_sectors.proofs.Fields.{again, if_again, if_refused}
+use Rattle.cfb_sectors.proofs.Fields.{again, if_again, if_refused, if_taken}
 use Rattle.cfb_sectors.proofs.header.header_again.Goals as goal
 
 written : (c : goal.After-drop-bytes-2) → HasFields (fields_of c.args.header) c.as_slice-reader.result.now
@@ -13,6 +13,9 @@ written c =
 
 pub returns-clause-same : goal.returns-clause-same
 returns-clause-same c = if_again _ _ _ (written c) c.read_from.ensures.read
+
+pub returns-clause-taken : goal.returns-clause-taken
+returns-clause-taken c = if_taken _ _ _ _ (written c) c.read_from.ensures.whole
 
 pub returns-clause-error : goal.returns-clause-error
 returns-clause-error c = if_refused _ _ _ _ (written c) c.read_from.ensures.whole c.read_from.ensures.error

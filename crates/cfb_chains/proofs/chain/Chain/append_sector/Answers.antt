@@ -1,8 +1,12 @@
-use Rattle.std.proofs.Common.{◌++◌, ◌∷◌, [], ◌∙◌, sym, ap, arith, subst}
+use Rattle.std.proofs.Common.{◌≡◌, ℕ, slice_index, length, ◌++◌, ◌∷◌, [], ◌∙◌, sym, ap, arith, subst}
 use Rattle.std.proofs.lemmas.List.{append-nil}
-use Rattle.cfb_chains.specs.ChainViews.{holder_of, sectors_of}
+use Rattle.cfb_medium.specs.Versions.{sector_len}
+use Rattle.cfb_sectors.specs.Sectors.{sector_start}
+use Rattle.cfb_chains.proofs.ChainGrowing.{sector_behind}
+use Rattle.cfb_chains.specs.ChainViews.{holder_of, sectors_of, version_of}
 use Rattle.cfb_chains.specs.Changes.{AreAmong}
 use Rattle.cfb_chains.specs.Grown.{IsLinked}
+use Rattle.cfb_chains.specs.LinkViews.{ids_of}
 use Rattle.cfb_chains.proofs.chain.Chain.append_sector.Goals as goal
 
 pub returns-then-is_failed-clause-grows : goal.returns-then-is_failed-clause-grows
@@ -27,3 +31,16 @@ returns-in-Ok-clause-grows g c =
       grown.1,
       λ linked. subst (λ s. AreAmong s grown.0) (sym with_it) (grown.2 (subst (IsLinked (g.H.FreesChains.fat (holder_of c.args.self.now))) (sym same) linked)),
     )
+
+pub returns-in-Ok-clause-room : goal.returns-in-Ok-clause-room
+returns-in-Ok-clause-room g c = λ version.
+    let ids = sectors_of c.args.self.now in
+    let v = version_of c.args.self.now in
+    let n = c.in-Ok.sector_id in
+    let same = c.reserve_one.ensures.same.0 in
+    let with_it = c.push_reserved.ensures.0 ∙ ap (λ l. l.sector_ids.items ++ n ∷ []) c.take_sector.ensures.links ∙ ap (λ l. l ++ n ∷ []) same in
+    let last : slice_index (ids_of c.push_reserved.new.self) (length ids) ≡ n = ap (λ l. slice_index l (length ids)) with_it ∙ sector_behind ids n in
+    let may = g.H.ChangesSectors.may_write (holder_of c.take_sector.new.self) in
+    let here : may (sector_start v n) (sector_len v) =
+    subst (λ u. g.H.GrowsChains.version (holder_of c.args.self.now) ≡ u → may (sector_start u n) (sector_len u)) c.reserve_one.ensures.same.1 c.in-Ok.ensures.room version in
+    subst (λ k. may (sector_start v k) (sector_len v)) (sym last) here

@@ -1,8 +1,8 @@
-use Rattle.std.proofs.Common.{◌≡◌, ◌∙◌, sym, subst, ⊎_elim, IsTrue}
+use Rattle.std.proofs.Common.{◌≡◌, length, ◌∙◌, sym, subst, ⊎_elim, IsTrue}
 use Rattle.cfb_chains.specs.ChainViews.{holder_of, position_of, sectors_of, version_of}
 use Rattle.cfb_chains.specs.Changes.{AreAmong}
 use Rattle.cfb_chains.specs.Grown.{AreWritable, IsLinked}
-use Rattle.cfb_chains.proofs.ChainGrowing.{chain_once, either_there, writable_still, written_there}
+use Rattle.cfb_chains.proofs.ChainGrowing.{chain_once, either_there, room_behind, writable_still, written_there}
 use Rattle.cfb_chains.proofs.chain.Chain.write_behind.Goals as goal
 
 pub returns-in-Ok-clause-grows : goal.returns-in-Ok-clause-grows
@@ -64,3 +64,12 @@ returns-in-Ok-clause-written g c = λ honest version linked all.
     let written = c.in-Ok.ensures.written (subst IsTrue (sym kept.0) honest) (chain_once _ _ _ linked_mid) in
     written_there (version_of old) (version_of mid) _ _ (sectors_of new) (sectors_of mid) _ _ (position_of old) (position_of mid)
     c.append_sector.ensures.same.version (sym c.write_inside.ensures.same.sectors) c.append_sector.ensures.position filled written
+
+pub returns-in-Err-write_inside-clause-refused : goal.returns-in-Err-write_inside-clause-refused
+returns-in-Err-write_inside-clause-refused g c = λ is version.
+    let old = c.args.self.now in
+    let mid = c.append_sector.new.self in
+    let may = g.H.ChangesSectors.may_write (holder_of mid) in
+    let there = room_behind may (version_of old) (version_of mid) (sectors_of mid) (length (sectors_of old)) (position_of old) (position_of mid) _ (g.met.H.ChangesSectors.may_part (holder_of mid))
+    c.append_sector.ensures.same.version c.append_sector.ensures.position c.requires (c.in_default.ensures.room version) in
+    absurd ((c.in-Err-write_inside.ensures.refused.0 is).1 there)
