@@ -1,15 +1,14 @@
 -- What growing calls do: a sector is appended, or taken from the free ones, and tables become longer.
-use Rattle.std.specs.Prelude.{◌≡◌, ℕ, ◌+◌, ◌*◌, ◌/◌, ◌<◌, ◌≤◌, ◌⊎◌, false, List, ◌++◌, length, IsTrue}
+use Rattle.std.specs.Prelude.{◌≡◌, ℕ, ◌+◌, ◌<◌, ◌≤◌, false, List, ◌++◌, length, IsTrue}
 use Rattle.std.specs.List.{AllByRecursion}
 use Rattle.cfb_medium.specs.Calls.{Extends}
-use Rattle.cfb_medium.specs.Versions.{sector_len}
 use Rattle.cfb_medium.specs.declared.medium.ReadMedium.{Ghosts}
 use Rattle.cfb_sectors.specs.Held as held
 use Rattle.cfb_sectors.specs.Sectors.{filled_part, greatest_regular, sector_start}
 use Rattle.cfb_sectors.specs.declared.sectors.Sectors.{Sectors}
 use Rattle.cfb_tables.specs.declared.allocator.Allocator.{Allocator}
 use Rattle.cfb_chains.specs.Changes.{IsBeside, IsFreeIn, StayBut}
-use Rattle.cfb_tables.specs.Orderly.{named_at_most, IsBesideWords}
+use Rattle.cfb_tables.specs.Orderly.{IsBesideWords}
 use Rattle.cfb_tables.specs.Tables.{bytes_of, difat_sectors_of, fat_of, fat_sectors_of, has_failed_here, is_honest, medium_of, orderly_of, sectors_of, version_of}
 
 module _ {F : Type 0} {g : Ghosts F} where
@@ -53,10 +52,6 @@ module _ {F : Type 0} {g : Ghosts F} where
     pub free : has_failed_here new ≡ false → AllByRecursion (IsFreeIn (fat_of old)) taken
     pub used : has_failed_here new ≡ false → (n : ℕ) → IsFreeIn (fat_of new) n → IsFreeIn (fat_of old) n
 
-  -- no number of a sector is left for one more, or for the sectors that the tables need for it: one where the FAT has no
-  -- place left, and another where the DIFAT can't name that one
+  -- no number of a sector is left
   abbrev pub IsFull : Allocator F g → Type 0
-  IsFull it =
-      (greatest_regular < length (fat_of it))
-      ⊎ ((length (fat_of it) ≡ length (fat_sectors_of it) * (sector_len (version_of it) / 4))
-      × ((greatest_regular < length (fat_of it) + 1) ⊎ ((named_at_most (version_of it) (length (difat_sectors_of it)) ≤ length (fat_sectors_of it)) × (greatest_regular < length (fat_of it) + 2))))
+  IsFull it = greatest_regular < length (fat_of it)

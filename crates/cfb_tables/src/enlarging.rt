@@ -179,8 +179,8 @@ impl<F: Medium> Allocator<F> {
         Ok(())
     }
 
-    // Makes the tables longer, so that the FAT has a place for a sector more, and marks their new sectors. `Full` where too few
-    // numbers are left, and `Memory`, each with nothing changed; after a fault in a write it has failed.
+    // Makes the tables longer, so that the FAT has a place for a sector more, and marks their new sectors. `Memory` with nothing
+    // changed; after a fault in a write it has failed.
     pub(crate) fn lengthen(&mut self) -> Result<(), Error>
         requires live { has_failed_over self.old ≡ false }
         requires orderly { IsTrue (orderly_of self.old) }
@@ -190,7 +190,6 @@ impl<F: Medium> Allocator<F> {
         ensures grows { GrowsFat [] [] self.old self.new }
         ensures added { OnOk result ((n : ℕ) → length (fat_of self.old) ≤ n → n < length (fat_of self.new) → slice_index (fat_of self.new) n ≡ free → ⊥) }
         ensures longer { OnOk result (length (fat_of self.new) ≤ length (fat_of self.old) + 2) }
-        ensures by_one { length (fat_sectors_of self.old) < named_at_most (version_over self.old) (length (difat_sectors_of self.old)) → OnOk result (length (fat_of self.new) ≤ length (fat_of self.old) + 1) }
         ensures memory { capacity_of self.old ≤ capacity_of self.new }
         ensures room { OnOk result (length (fat_of self.new) < length (fat_sectors_of self.new) * (sector_len (version_over self.new) / 4)) }
         ensures live { OnOk result (has_failed_over self.new ≡ false) }

@@ -23,7 +23,7 @@ impl<F: Medium> Allocator<F> {
 
     /// Extends the chain from a start by one sector behind its last, and gives its number: a free one, or where there is none
     /// but a table's, one behind all others. `InvalidData` where the FAT has no such chain, it has no sector, or the tables
-    /// can't be changed, `Full` where no number is left for it or for the tables, and `Memory`, each with nothing changed.
+    /// can't be changed, `Full` where no number is left, and `Memory`, each with nothing changed.
     /// After a fault in a write it has failed ([MS-CFB] 2.3).
     pub fn extend_chain(&mut self, start: u32, init: SectorInit) -> Result<u32, Error>
         ensures extends { IfOk result (λ n. (ids : List ℕ) × (last : ℕ) × IsChain (fat_of self.old) start (ids ++ last ∷ []) × IsChain (fat_of self.new) start (ids ++ last ∷ n ∷ [])
@@ -54,8 +54,7 @@ impl<F: Medium> Allocator<F> {
     }
 
     /// Extends the chain from a start by so many sectors behind its last, each as `extend_chain` does. `InvalidData` where the
-    /// FAT has no such chain, it has no sector, or the tables can't be changed, `Full` where no number is left for one of them
-    /// or for the tables. After an error some of them may be in the chain; after a fault in a write it has failed.
+    /// FAT has no such chain, it has no sector, or the tables can't be changed, `Full` where no number is left for one of them. After an error some of them may be in the chain; after a fault in a write it has failed.
     pub fn extend_chain_by(
         &mut self,
         start: u32,

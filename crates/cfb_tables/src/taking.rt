@@ -12,7 +12,6 @@ ghost use Rattle.std.specs.Prelude.{false, length, slice_get, slice_set, true, I
 
 use crate::Allocator;
 use crate::appending::append_sector;
-use crate::difat::can_name;
 use crate::entries::{ENTRY_LEN, write_number};
 use cfb_medium::{Error, Medium};
 use cfb_sectors::{END_OF_CHAIN, MAX_REGULAR_SECTOR, SectorInit};
@@ -89,8 +88,10 @@ impl<F: Medium> Allocator<F> {
         Ok(())
     }
 
-    // Leaves the FAT with a place, and memory, for one sector more. `Full` where no number is left for it or for the tables, and `Memory`, each with nothing
-    // changed; after a fault in a write it has failed.
+    // Leaves the FAT with a place, and memory, for one sector more. `Full` where no number is left, and `Memory`, each with
+    // nothing changed; after a fault in a write it has failed. A FAT that is full ends long before the numbers do, so there
+    // are numbers for its sectors and the DIFAT's.
+    #[tactic(auto, using(crate::proofs::Growth::numbers_left))]
     fn make_room(&mut self) -> Result<(), Error>
         requires live { has_failed_here self.old ≡ false }
         requires orderly { IsTrue (orderly_of self.old) }
@@ -112,22 +113,12 @@ impl<F: Medium> Allocator<F> {
         if self.fat.len() / each < self.fat_sectors.len() {
             return Ok(());
         }
-        let difat_count = self.difat_sectors.len();
-        let fat_count = self.fat_sectors.len();
-        let tables = if can_name(self.version(), difat_count, fat_count + 1) {
-            1
-        } else {
-            2
-        };
-        if count > MAX_REGULAR_SECTOR - tables {
-            return Err(Error::Full);
-        }
         self.lengthen()?;
         Ok(())
     }
 
     // Takes a sector into use as a chain of its own: a free one, or where there is none but a table's, one behind all others.
-    // `Full` where too few numbers are left, and `Memory`, each with nothing changed; after a fault in a write it has failed.
+    // `Full` where no number is left, and `Memory`, each with nothing changed; after a fault in a write it has failed.
     pub(crate) fn take(&mut self, init: SectorInit) -> Result<u32, Error>
         requires live { has_failed_here self.old ≡ false }
         requires orderly { IsTrue (orderly_of self.old) }
@@ -152,7 +143,7 @@ impl<F: Medium> Allocator<F> {
     }
 
     /// Takes a sector into use as a chain of its own: a free one, or where there is none but a table's, one behind all others.
-    /// `InvalidData` where the tables can't be changed, `Full` where no number is left for it or for the tables, and `Memory`, each with nothing
+    /// `InvalidData` where the tables can't be changed, `Full` where no number is left, and `Memory`, each with nothing
     /// changed. After a fault in a write it has failed.
     pub fn begin_chain(&mut self, init: SectorInit) -> Result<u32, Error>
         ensures chain { IfOk result (λ n. IsChain (fat_of self.new) n (n ∷ [])) }
