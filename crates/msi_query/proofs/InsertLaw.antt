@@ -16,7 +16,7 @@ use Rattle.msi_query.specs.Query.{inserted, new_keys, rows_counted}
 use Rattle.msi_query.proofs.DistinctKeys.{passed, distinct_behind}
 use Rattle.msi_query.proofs.InsertedRows.{Keeps, row_ok, rows_given, rows_stay}
 
-keys_are : (columns : List Column) (p : Pool) (rows : List Row) → map (λ row. key_values columns (row_data p row)) rows ≡ map (key_values columns) (map (row_data p) rows)
+pub keys_are : (columns : List Column) (p : Pool) (rows : List Row) → map (λ row. key_values columns (row_data p row)) rows ≡ map (key_values columns) (map (row_data p) rows)
 keys_are columns p [] = refl
 keys_are columns p (r ∷ rs) = ap (λ ks. key_values columns (row_data p r) ∷ ks) (keys_are columns p rs)
 
