@@ -1,0 +1,67 @@
+-- The uses of a table's rows, as what its cells make of them.
+use Rattle.std.proofs.Common.{◌≡◌, ℕ, zero, suc, ◌+◌, ◌<◌, Bool, true, List, [], ◌∷◌, length, get_or, refl, arith, IsTrue}
+use Rattle.std.specs.Prelude.{◌==◌}
+use Rattle.std.specs.List.{All, list_all}
+use Rattle.std.proofs.lemmas.Bool.Decides.{nat_tests}
+use Rattle.std.proofs.lemmas.List.Elements.{All-cons, All-tail}
+use Rattle.std.proofs.lemmas.List.Sums.{sum_by-cons}
+use Rattle.msi_pool.specs.Pool.{Pool, at_place}
+use Rattle.msi_pool.specs.Refs.{is_counted}
+use Rattle.msi_pool.specs.declared.stringref.ValueRef.{ValueRef}
+use Rattle.msi_pool.specs.declared.stringref.ValueRef.TheVariants as cell
+use Rattle.msi_tables.specs.Column.{Column}
+use Rattle.msi_tables.specs.Rows.{Row, has_place}
+use Rattle.msi_changes.specs.Laws.{AreCounted, AreUses, KeepsUses, uses_in}
+use Rattle.msi_changes.proofs.CellUses.{HasUses, IsPlaced, Stays, use_of}
+use Rattle.msi_changes.proofs.RowUses.{IsWhole, both, row_uses}
+use Rattle.msi_changes.proofs.TurnUses.{All-head, uses_all}
+
+-- a test of each, and all of them
+pub each_passes : {X : Type 0} (p : X → Bool) (xs : List X) → list_all p xs ≡ true → All (λ x. IsTrue (p x)) xs
+each_passes p [] h = λ k d within. absurd (omega (arith, within))
+each_passes p (x ∷ xs) h = let parts = both (p x) (list_all p xs) h in All-cons (λ y. IsTrue (p y)) x xs parts.0 (each_passes p xs parts.1)
+
+pub all_pass : {X : Type 0} (p : X → Bool) (xs : List X) → All (λ x. IsTrue (p x)) xs → list_all p xs ≡ true
+all_pass p [] h = refl
+all_pass p (x ∷ xs) h = rw (All-head (λ y. IsTrue (p y)) x xs h, all_pass p xs (All-tail (λ y. IsTrue (p y)) x xs h)) refl
+
+module _ (columns : List Column) (others : ℕ → ℕ) where
+  abbrev IsRow : Row → Type 0
+  IsRow row = IsWhole (length columns) row
+
+  pub are_whole : (pool : Pool) (rows : List Row) → AreUses columns others pool rows → All IsRow rows
+  are_whole pool rows uses = λ k d within. record { cells = uses.cells k d within; placed = each_passes has_place (get_or rows k d) (uses.places k d within) }
+
+  pub have_uses : (pool : Pool) (rows : List Row) → AreUses columns others pool rows → HasUses pool (λ n. uses_all row_uses rows n + others n)
+  have_uses pool rows uses = record { counts = uses.counts }
+
+  pub uses_are : (pool : Pool) (rows : List Row) → All IsRow rows → HasUses pool (λ n. uses_all row_uses rows n + others n) → AreUses columns others pool rows
+  uses_are pool rows whole h = record { cells = λ k d within. (whole k d within).cells; places = λ k d within. all_pass has_place (get_or rows k d) (whole k d within).placed; counts = h.counts }
+
+  pub uses_kept : (old new : Pool) (rows : List Row) → All IsRow rows → HasUses new (λ n. uses_all row_uses rows n + others n) → Stays others old new → KeepsUses old columns others (rows, new)
+  uses_kept old new rows whole h stays = record { uses = uses_are new rows whole h; stays = stays.texts }
+
+  -- a text that is used is counted
+  counted_cell : (pool : Pool) (v : ValueRef) → IsPlaced v → ((n : ℕ) → 0 < n → 0 < use_of v n → 0 < (at_place pool.places n).count) → is_counted pool v ≡ true
+  counted_cell pool cell.Null placed some = refl
+  counted_cell pool (cell.Int z) placed some = refl
+  counted_cell pool (cell.Str zero) placed some = absurd (cc placed)
+  counted_cell pool (cell.Str (suc m)) placed some = (let own : (suc m == suc m) ≡ true = grind (arith, nat_tests) in let h : 0 < (at_place pool.places (suc m)).count = some (suc m) (omega arith) (rw own (omega arith)) in grind (arith, nat_tests))
+  counted_cell pool cell.Binary placed some = refl
+
+  counted_row : (pool : Pool) (row : Row) → All IsPlaced row → ((n : ℕ) → 0 < n → 0 < row_uses row n → 0 < (at_place pool.places n).count) → list_all (is_counted pool) row ≡ true
+  counted_row pool [] placed some = refl
+  counted_row pool (v ∷ vs) placed some =
+      let here : is_counted pool v ≡ true = counted_cell pool v (All-head IsPlaced v vs placed) (λ n at is. some n at (omega (arith, sum_by-cons (λ x. use_of x n) v vs, is))) in
+      let rest : list_all (is_counted pool) vs ≡ true = counted_row pool vs (All-tail IsPlaced v vs placed) (λ n at is. some n at (omega (arith, sum_by-cons (λ x. use_of x n) v vs, is))) in
+      rw (here, rest) refl
+
+  counted_rows : (pool : Pool) (rows : List Row) → All IsRow rows → ((n : ℕ) → 0 < n → 0 < uses_in rows n → 0 < (at_place pool.places n).count) → AreCounted pool rows
+  counted_rows pool [] whole some = refl
+  counted_rows pool (row ∷ rows) whole some =
+      let here : list_all (is_counted pool) row ≡ true = counted_row pool row (All-head IsRow row rows whole).placed (λ n at is. some n at (omega (arith, sum_by-cons (λ x. row_uses x n) row rows, is))) in
+      let rest : AreCounted pool rows = counted_rows pool rows (All-tail IsRow row rows whole) (λ n at is. some n at (omega (arith, sum_by-cons (λ x. row_uses x n) row rows, is))) in
+      rw (here, rest) refl
+
+  pub used_are_counted : (pool : Pool) (rows : List Row) → AreUses columns others pool rows → AreCounted pool rows
+  used_are_counted pool rows uses = counted_rows pool rows (are_whole pool rows uses) (λ n at is. (let h = uses.counts n at in omega (arith, h, is)))

@@ -1,5 +1,0 @@
-use Rattle.msi_query.proofs.UsesKept.{used_are_counted}
-use Rattle.msi_query.proofs.laws.inserts_count_their_texts.Goals as goal
-
-pub returns-clause-counted : goal.returns-clause-counted
-returns-clause-counted c = λ columns others pool rows uses. used_are_counted columns others pool rows uses
