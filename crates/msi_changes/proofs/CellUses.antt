@@ -41,8 +41,9 @@ same_uses are h = record { counts = λ n at. h.counts n at ∙ are n at }
 abbrev pub use_of : ValueRef → ℕ → ℕ
 use_of v n = cond (names_place n v) 1 0
 
+-- a cell that names no place 0
 abbrev pub IsPlaced : ValueRef → Type 0
-IsPlaced v = IsTrue (has_place v)
+IsPlaced v = use_of v 0 ≡ 0
 
 -- What is given for something wanted, in the pool after it: its uses stand beside the others, it is read as wanted, and the texts of the others stay.
 pub record Gives {Y D : Type 0} (see : Pool → Y → D) (ok : Y → Type 0) (uses : Y → ℕ → ℕ) (others : ℕ → ℕ) (old : Pool) (wanted : D) (r : Y × Pool) : Type 0 where
@@ -70,9 +71,8 @@ used_at t p n at = let e = index_after n at in let h = count_used t p.places (n 
 in_use_at : (p : Pool) (n : ℕ) → 0 < (at_place p.places n).count → in_use p.places (n - 1) ≡ true
 in_use_at p n some = grind (arith, nat_tests)
 
-small : (long : Bool) (n : ℕ) → 0 < n → nat_le n (last_place long) ≡ true → (nat_lt 0 n && nat_lt n (2 ^ 24)) ≡ true
-small true n at is = grind (arith, nat_tests)
-small false n at is = grind (arith, nat_tests)
+above_none : (n : ℕ) → 0 < n → use_of (cell.Str n) 0 ≡ 0
+above_none n at = grind (arith, nat_tests)
 
 -- ---- counted
 
@@ -80,23 +80,22 @@ module _ (others : ℕ → ℕ) (p : Pool) (uses : HasUses p others) where
   unused : (v : ValueRef) → ((n : ℕ) → use_of v n ≡ 0) → HasUses p (λ n. use_of v n + others n)
   unused v none = record { counts = λ n at. (let z = none n in omega (arith, uses.counts n at, z)) }
 
-  text_counted : (t : List ℕ) → nat_le (place_among t p.places) (last_place p.long) ≡ true → GivesCell others p (text t) (cell.Str (place_among t p.places), used p t)
-  text_counted t fits = record {
+  text_counted : (t : List ℕ) → GivesCell others p (text t) (cell.Str (place_among t p.places), used p t)
+  text_counted t = record {
     counts = record { counts = λ n at. used_at t p n at ∙ ap (λ m. cond (place_among t p.places == n) 1 0 + m) (uses.counts n at) };
     reads = ap text (stands_at t p.places).0;
-    fine = small p.long (place_among t p.places) (place_among-pos t p.places) fits;
+    fine = above_none (place_among t p.places) (place_among-pos t p.places);
     stays = record { texts = λ n at some. (kept_at t p.places (n - 1) (in_use_at p n (omega (arith, uses.counts n at, some)))).0 };
   }
 
   pub cell_counted : (d : Datum) → IfOk (counted p d) (GivesCell others p d)
   cell_counted null = record { counts = unused cell.Null (λ n. refl); reads = refl; fine = refl; stays = all_stay others p }
   cell_counted (number z) = record { counts = unused (cell.Int z) (λ n. refl); reads = refl; fine = refl; stays = all_stay others p }
-  cell_counted (text t) = on (nat_le (place_among t p.places) (last_place p.long)) refl
+  cell_counted (text t) = on (nat_le (place_among t p.places) (last_place p.long))
     where
-      on : (b : Bool) → nat_le (place_among t p.places) (last_place p.long) ≡ b
-          → IfOk (or_refused {A = ValueRef × Pool} (option_map (λ n. (cell.Str n, used p t)) (if b then Some (place_among t p.places) else None)) InvalidInput) (GivesCell others p (text t))
-      on true fits = text_counted t fits
-      on false full = tt
+      on : (b : Bool) → IfOk (or_refused {A = ValueRef × Pool} (option_map (λ n. (cell.Str n, used p t)) (if b then Some (place_among t p.places) else None)) InvalidInput) (GivesCell others p (text t))
+      on true = text_counted t
+      on false = tt
   cell_counted binary = record { counts = unused cell.Binary (λ n. refl); reads = refl; fine = refl; stays = all_stay others p }
 
 -- ---- taken back
@@ -121,7 +120,7 @@ module _ (others : ℕ → ℕ) (p : Pool) where
   pub cell_taken : (v : ValueRef) → IsPlaced v → HasUses p (λ n. use_of v n + others n) → IfOk (taken_back p v) (Leaves others p)
   cell_taken cell.Null placed h = nothing_taken cell.Null (λ n. refl) h
   cell_taken (cell.Int z) placed h = nothing_taken (cell.Int z) (λ n. refl) h
-  cell_taken (cell.Str zero) placed h = absurd (cc placed)
+  cell_taken (cell.Str zero) placed h = absurd (omega (arith, placed))
   cell_taken (cell.Str (suc m)) placed h = on ((at_place p.places (suc m)).count == 0)
     where
       on : (b : Bool) → IfOk (if b then Err InvalidData else Ok (record p { places = without_use (suc m) p.places })) (Leaves others p)
@@ -138,7 +137,7 @@ own_use : (n : ℕ) (others : ℕ → ℕ) → 0 < use_of (cell.Str n) n + other
 own_use n others = rw (own_place n) (omega arith)
 
 placed_after : (n : ℕ) → IsPlaced (cell.Str n) → 0 < n
-placed_after zero placed = absurd (cc placed)
+placed_after zero placed = absurd (omega (arith, placed))
 placed_after (suc n) placed = omega arith
 
 pub cell_stays : (p q : Pool) (v : ValueRef) (others : ℕ → ℕ) → IsPlaced v → Stays (λ n. use_of v n + others n) p q → datum_at q v ≡ datum_at p v

@@ -5,6 +5,7 @@ use Rattle.std.specs.List.{All, list_all, list_any}
 use Rattle.std.proofs.lemmas.List.{length-map, length-set, map-id}
 use Rattle.std.proofs.lemmas.List.Elements.{All-set, All-tail}
 use Rattle.std.proofs.lemmas.List.Sums.{get_or-le-sum_by, sum_by-cons, sum_by-set}
+use Rattle.std.proofs.lemmas.Option.{unwrap_or-slice_get}
 use Rattle.cfb_medium.specs.declared.error.Error.{Error}
 use Rattle.msi_texts.specs.Results.{◌>>=◌}
 use Rattle.msi_pool.specs.Datum.{Datum}
@@ -72,11 +73,6 @@ rows_given width p rs others wide h = on (rows_counted p rs)
 
 -- ---- set
 
-got : (row : Row) (i : ℕ) → unwrap_or (slice_get row i) cell.Null ≡ get_or row i cell.Null
-got [] i = refl
-got (v ∷ vs) zero = refl
-got (v ∷ vs) (suc i) = got vs i
-
 -- the uses of a row but those of one cell
 abbrev uses_but : Row → ℕ → ℕ → ℕ
 uses_but row i n = row_uses row n - use_of (get_or row i cell.Null) n
@@ -114,7 +110,7 @@ module _ (width : ℕ) where
   cell_set_gives : (p : Pool) (row : Row) (i : ℕ) (d : Datum) (others : ℕ → ℕ) → IsWhole width row → i < length row → HasUses p (λ n. row_uses row n + others n)
       → IfOk (taken_back p (unwrap_or (slice_get row i) cell.Null) >>= λ q. counted q d >>= λ v. Ok (slice_set row i v.0, v.1)) (GivesRow width others p (slice_set (row_data p row) i d))
   cell_set_gives p row i d others whole within h =
-      rw (got row i)
+      rw (unwrap_or-slice_get row i cell.Null)
       (after_ok _ _ (taken_back p (get_or row i cell.Null)) (λ q. counted q d >>= λ v. Ok (slice_set row i v.0, v.1))
       (cell_taken (λ n. uses_but row i n + others n) p (get_or row i cell.Null) (whole.placed i cell.Null within) (same_uses (λ n at. omega (arith, use_within row i n within)) h))
       (λ q left. after_ok _ _ (counted q d) (λ v. Ok (slice_set row i v.0, v.1)) (cell_counted (λ n. uses_but row i n + others n) q left.0 d)

@@ -1,10 +1,10 @@
 -- The uses of a table's rows, as what its cells make of them.
 use Rattle.std.proofs.Common.{◌≡◌, ℕ, zero, suc, ◌+◌, ◌<◌, Bool, true, List, [], ◌∷◌, length, get_or, refl, arith, IsTrue}
 use Rattle.std.specs.Prelude.{◌==◌}
-use Rattle.std.specs.List.{All, list_all}
+use Rattle.std.specs.List.{All, list_all, sum_by}
 use Rattle.std.proofs.lemmas.Bool.Decides.{nat_tests}
 use Rattle.std.proofs.lemmas.List.Elements.{All-cons, All-tail}
-use Rattle.std.proofs.lemmas.List.Sums.{sum_by-cons}
+use Rattle.std.proofs.lemmas.List.Sums.{get_or-le-sum_by, sum_by-cons}
 use Rattle.msi_pool.specs.Pool.{Pool, at_place}
 use Rattle.msi_pool.specs.Refs.{is_counted}
 use Rattle.msi_pool.specs.declared.stringref.ValueRef.{ValueRef}
@@ -16,27 +16,26 @@ use Rattle.msi_changes.proofs.CellUses.{HasUses, IsPlaced, Stays, use_of}
 use Rattle.msi_changes.proofs.RowUses.{IsWhole, both, row_uses}
 use Rattle.msi_changes.proofs.TurnUses.{All-head, uses_all}
 
--- a test of each, and all of them
-pub each_passes : {X : Type 0} (p : X → Bool) (xs : List X) → list_all p xs ≡ true → All (λ x. IsTrue (p x)) xs
-each_passes p [] h = λ k d within. absurd (omega (arith, within))
-each_passes p (x ∷ xs) h = let parts = both (p x) (list_all p xs) h in All-cons (λ y. IsTrue (p y)) x xs parts.0 (each_passes p xs parts.1)
+-- a sum of nothing
+none_in : {X : Type 0} (f : X → ℕ) (xs : List X) → All (λ x. f x ≡ 0) xs → sum_by f xs ≡ 0
+none_in f [] h = refl
+none_in f (x ∷ xs) h = omega (arith, sum_by-cons f x xs, All-head (λ y. f y ≡ 0) x xs h, none_in f xs (All-tail (λ y. f y ≡ 0) x xs h))
 
-pub all_pass : {X : Type 0} (p : X → Bool) (xs : List X) → All (λ x. IsTrue (p x)) xs → list_all p xs ≡ true
-all_pass p [] h = refl
-all_pass p (x ∷ xs) h = rw (All-head (λ y. IsTrue (p y)) x xs h, all_pass p xs (All-tail (λ y. IsTrue (p y)) x xs h)) refl
+each_none : {X : Type 0} (f : X → ℕ) (xs : List X) → sum_by f xs ≡ 0 → All (λ x. f x ≡ 0) xs
+each_none f xs none = λ k d within. omega (arith, get_or-le-sum_by f xs k d within, none)
 
 module _ (columns : List Column) (others : ℕ → ℕ) where
   abbrev IsRow : Row → Type 0
   IsRow row = IsWhole (length columns) row
 
   pub are_whole : (pool : Pool) (rows : List Row) → AreUses columns others pool rows → All IsRow rows
-  are_whole pool rows uses = λ k d within. record { cells = uses.cells k d within; placed = each_passes has_place (get_or rows k d) (uses.places k d within) }
+  are_whole pool rows uses = λ k d within. record { cells = uses.cells k d within; placed = each_none (λ v. use_of v 0) (get_or rows k d) (each_none (λ row. row_uses row 0) rows uses.none k d within) }
 
   pub have_uses : (pool : Pool) (rows : List Row) → AreUses columns others pool rows → HasUses pool (λ n. uses_all row_uses rows n + others n)
   have_uses pool rows uses = record { counts = uses.counts }
 
   pub uses_are : (pool : Pool) (rows : List Row) → All IsRow rows → HasUses pool (λ n. uses_all row_uses rows n + others n) → AreUses columns others pool rows
-  uses_are pool rows whole h = record { cells = λ k d within. (whole k d within).cells; places = λ k d within. all_pass has_place (get_or rows k d) (whole k d within).placed; counts = h.counts }
+  uses_are pool rows whole h = record { cells = λ k d within. (whole k d within).cells; none = none_in (λ row. row_uses row 0) rows (λ k d within. none_in (λ v. use_of v 0) (get_or rows k d) (whole k d within).placed); counts = h.counts }
 
   pub uses_kept : (old new : Pool) (rows : List Row) → All IsRow rows → HasUses new (λ n. uses_all row_uses rows n + others n) → Stays others old new → KeepsUses old columns others (rows, new)
   uses_kept old new rows whole h stays = record { uses = uses_are new rows whole h; stays = stays.texts }
@@ -45,7 +44,7 @@ module _ (columns : List Column) (others : ℕ → ℕ) where
   counted_cell : (pool : Pool) (v : ValueRef) → IsPlaced v → ((n : ℕ) → 0 < n → 0 < use_of v n → 0 < (at_place pool.places n).count) → is_counted pool v ≡ true
   counted_cell pool cell.Null placed some = refl
   counted_cell pool (cell.Int z) placed some = refl
-  counted_cell pool (cell.Str zero) placed some = absurd (cc placed)
+  counted_cell pool (cell.Str zero) placed some = absurd (omega (arith, placed))
   counted_cell pool (cell.Str (suc m)) placed some = (let own : (suc m == suc m) ≡ true = grind (arith, nat_tests) in let h : 0 < (at_place pool.places (suc m)).count = some (suc m) (omega arith) (rw own (omega arith)) in grind (arith, nat_tests))
   counted_cell pool cell.Binary placed some = refl
 

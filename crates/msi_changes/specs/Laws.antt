@@ -1,13 +1,13 @@
 -- What the laws of changed tables speak of: the uses of texts, and rows as they are read.
-use Rattle.std.specs.Prelude.{◌≡◌, ◌<◌, ◌==◌, ◌+◌, ◌||◌, ℕ, Option, Bool, true, false, not, IsTrue, List, ◌++◌, map, filter, length, sum_by, count_by}
-use Rattle.std.specs.List.{All, list_all}
+use Rattle.std.specs.Prelude.{◌≡◌, ◌<◌, ◌==◌, ◌+◌, ◌||◌, ℕ, Option, Bool, true, false, not, List, ◌++◌, map, filter, length, sum_by, count_by}
+use Rattle.std.specs.List.{list_all}
 use Rattle.msi_pool.specs.Datum.{Datum}
 use Rattle.msi_pool.specs.Pool.{Pool, at_place}
 use Rattle.msi_pool.specs.Refs.{is_counted}
 use Rattle.msi_pool.specs.declared.stringref.ValueRef.{ValueRef}
 use Rattle.msi_pool.specs.declared.stringref.ValueRef.TheVariants as cell
 use Rattle.msi_tables.specs.Column.{Column}
-use Rattle.msi_tables.specs.Rows.{HaveCells, Row, has_place}
+use Rattle.msi_tables.specs.Rows.{HaveCells, Row}
 use Rattle.msi_tables.specs.Table.{Table, are_distinct, keys_of, row_data}
 use Rattle.msi_expr.specs.Formula.{Formula}
 use Rattle.msi_expr.specs.Conditions.{matches}
@@ -33,10 +33,10 @@ names_place n cell.Binary = false
 abbrev pub uses_in : List Row → ℕ → ℕ
 uses_in rows n = sum_by (λ row. count_by (names_place n) row) rows
 
--- Each row has a cell for each column and its texts at places, and each place has the uses that these cells make of it, and so many others.
+-- Each row has a cell for each column; no cell names place 0, and each other place has the uses that these cells make of it, and so many others.
 pub record AreUses (columns : List Column) (others : ℕ → ℕ) (pool : Pool) (rows : List Row) : Type 0 where
   pub cells : HaveCells (length columns) rows
-  pub places : All (λ row. IsTrue (list_all has_place row)) rows
+  pub none : uses_in rows 0 ≡ 0
   pub counts : (n : ℕ) → 0 < n → (at_place pool.places n).count ≡ uses_in rows n + others n
 
 -- the texts that others use stay
