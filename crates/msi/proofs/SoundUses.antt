@@ -1,5 +1,5 @@
 -- In a sound package each table's cells make the uses that the pool counts, beside those of the other tables.
-use Rattle.std.proofs.Common.{◌≡◌, ◌∙◌, ℕ, zero, suc, ◌+◌, ◌-◌, ◌*◌, ◌^◌, ◌<◌, Bool, true, false, cond, List, [], ◌∷◌, map, length, get_or, refl, sym, ap, subst, arith, Option, Some, None, if◌then◌else◌}
+use Rattle.std.proofs.Common.{◌≡◌, ◌∙◌, ℕ, zero, suc, ◌+◌, ◌-◌, ◌*◌, ◌^◌, ◌<◌, Bool, true, false, cond, List, [], ◌∷◌, map, length, get_or, refl, sym, ap, subst, arith, Some, None, if◌then◌else◌}
 use Rattle.std.specs.Prelude.{◌==◌, nat_le, slice_get, slice_range}
 use Rattle.std.specs.List.{All, remove, sum_by}
 use Rattle.std.proofs.lemmas.Bool.Decides.{nat_tests}

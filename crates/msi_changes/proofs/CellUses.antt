@@ -1,6 +1,6 @@
 -- Cells whose texts are counted, or taken back, among the uses of others.
-use Rattle.std.proofs.Common.{◌≡◌, ◌∙◌, ℕ, zero, suc, ◌+◌, ◌-◌, ◌<◌, ◌^◌, Bool, true, false, cond, List, refl, ap, arith, Some, None, Result, Ok, Err, if◌then◌else◌, IsTrue}
-use Rattle.std.specs.Prelude.{◌==◌, ◌&&◌, nat_lt, nat_le, option_map, IfOk}
+use Rattle.std.proofs.Common.{◌≡◌, ◌∙◌, ℕ, zero, suc, ◌+◌, ◌-◌, ◌<◌, Bool, true, false, cond, List, refl, ap, arith, Some, None, Result, Ok, Err, if◌then◌else◌}
+use Rattle.std.specs.Prelude.{◌==◌, nat_le, option_map, IfOk}
 use Rattle.std.proofs.lemmas.Bool.Decides.{nat_tests}
 use Rattle.cfb_medium.specs.declared.error.Error.{Error}
 use Rattle.cfb_medium.specs.declared.error.Error.TheVariants.{InvalidData, InvalidInput}
@@ -10,7 +10,6 @@ use Rattle.msi_pool.specs.Pool.{Pool, at_place, last_place, place_among, used, w
 use Rattle.msi_pool.specs.declared.stringref.ValueRef.{ValueRef}
 use Rattle.msi_pool.specs.declared.stringref.ValueRef.TheVariants as cell
 use Rattle.msi_pool.proofs.PoolPlaces.{place_among-pos}
-use Rattle.msi_tables.specs.Rows.{has_place}
 use Rattle.msi_tables.specs.Table.{datum_at}
 use Rattle.msi_changes.specs.Laws.{names_place}
 use Rattle.msi_changes.specs.Changes.{counted, taken_back}

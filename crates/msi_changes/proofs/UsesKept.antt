@@ -1,19 +1,19 @@
 -- The uses of a table's rows, as what its cells make of them.
-use Rattle.std.proofs.Common.{◌≡◌, ℕ, zero, suc, ◌+◌, ◌<◌, Bool, true, List, [], ◌∷◌, length, get_or, refl, arith, IsTrue}
+use Rattle.std.proofs.Common.{◌≡◌, ℕ, zero, suc, ◌+◌, ◌<◌, true, List, [], ◌∷◌, length, get_or, refl, arith}
 use Rattle.std.specs.Prelude.{◌==◌}
 use Rattle.std.specs.List.{All, list_all, sum_by}
 use Rattle.std.proofs.lemmas.Bool.Decides.{nat_tests}
-use Rattle.std.proofs.lemmas.List.Elements.{All-cons, All-tail}
+use Rattle.std.proofs.lemmas.List.Elements.{All-tail}
 use Rattle.std.proofs.lemmas.List.Sums.{get_or-le-sum_by, sum_by-cons}
 use Rattle.msi_pool.specs.Pool.{Pool, at_place}
 use Rattle.msi_pool.specs.Refs.{is_counted}
 use Rattle.msi_pool.specs.declared.stringref.ValueRef.{ValueRef}
 use Rattle.msi_pool.specs.declared.stringref.ValueRef.TheVariants as cell
 use Rattle.msi_tables.specs.Column.{Column}
-use Rattle.msi_tables.specs.Rows.{Row, has_place}
+use Rattle.msi_tables.specs.Rows.{Row}
 use Rattle.msi_changes.specs.Laws.{AreCounted, AreUses, KeepsUses, uses_in}
 use Rattle.msi_changes.proofs.CellUses.{HasUses, IsPlaced, Stays, use_of}
-use Rattle.msi_changes.proofs.RowUses.{IsWhole, both, row_uses}
+use Rattle.msi_changes.proofs.RowUses.{IsWhole, row_uses}
 use Rattle.msi_changes.proofs.TurnUses.{All-head, uses_all}
 
 -- a sum of nothing
