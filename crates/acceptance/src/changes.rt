@@ -1,8 +1,8 @@
 // Inserts, updates and deletes over rows and a pool in memory: worked rows.
 use cfb_medium::Error;
+use msi_changes::{Delete, Insert, Update};
 use msi_expr::Expr;
 use msi_pool::{StringPool, StringRef, Value, ValueRef};
-use msi_query::{Delete, Insert, Update};
 use msi_tables::{Column, Table};
 use msi_texts::CodePage;
 use std::alloc::Global;

@@ -1,2 +1,4 @@
+pub mod FilledUp
+pub mod Knowing
 pub mod Names
 pub mod WorkedExpressions

@@ -1,6 +1,2 @@
-use Rattle.std.proofs.Common.{◌≡◌, List, [], ◌∷◌, refl, Bool, map, arith}
-use Rattle.std.specs.List.{list_any}
-
-pub list_any_map : {X Y : Type 0} (p : Y → Bool) (f : X → Y) (xs : List X) → list_any p (map f xs) ≡ list_any (λ x. p (f x)) xs
-list_any_map p f [] = refl
-list_any_map p f (x ∷ xs) = grind (arith, list_any_map p f xs)
+-- The lemma that `note` names.
+pub use Rattle.msi_tables.proofs.Searches.{list_any_map}

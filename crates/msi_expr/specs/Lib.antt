@@ -1,1 +1,3 @@
+pub mod Conditions
 pub mod Formula
+pub mod Printed

@@ -3,7 +3,8 @@ use Rattle.std.proofs.Common.{◌≡◌, ◌∙◌, sym, ap, ℕ, ◌<◌, List,
 use Rattle.std.specs.Prelude.{replicate, Ok}
 use Rattle.std.specs.List.{flat_map}
 use Rattle.msi_pool.specs.declared.stringref.ValueRef.TheVariants as cell
-use Rattle.msi_query.specs.Query.{inner_joined, knows, left_joined, nulls, or_once, pairs_with, side_columns}
+use Rattle.msi_query.specs.Query.{inner_joined, left_joined, nulls, or_once, pairs_with, side_columns}
+use Rattle.msi_expr.specs.Conditions.{knows}
 use Rattle.msi_expr.specs.Formula.{Formula}
 use Rattle.msi_pool.specs.Pool.{Pool}
 use Rattle.msi_tables.specs.Column.{Column}

@@ -1,23 +1,16 @@
--- Worked texts of queries, computed from the definitions.
-use Rattle.std.proofs.Common.{◌≡◌, ℕ, [], ◌∷◌, refl, pos}
+-- A worked text of a select, computed from the definitions.
+use Rattle.std.proofs.Common.{◌≡◌, ℕ, [], refl, pos}
 use Rattle.std.specs.Prelude.{Some, None, codes}
-use Rattle.std.specs.Fmt.{digits, debug_escape}
-use Rattle.msi_pool.specs.Datum.{null, number, text}
+use Rattle.std.specs.Fmt.{digits}
+use Rattle.msi_pool.specs.Datum.{number}
 use Rattle.msi_expr.specs.Formula.{Formula, literal, column, two}
 use Rattle.msi_query.specs.Query.{query, inner_join}
 use Rattle.msi_query.specs.Query as source
-use Rattle.msi_query.specs.Printed.{insert_text, select_of, select_text, update_text}
+use Rattle.msi_query.specs.Printed.{select_of, select_text}
 use Rattle.msi_expr.specs.declared.operators.BinOp.TheVariants as binary_op
 
 abbrev int : ℕ → Formula
 int n = literal (number (pos n))
-
-insert_printed : insert_text (codes "Foobar") ((text (codes "Foo") ∷ null ∷ []) ∷ []) ≡ Some (codes "INSERT INTO Foobar VALUES (\"Foo\", NULL)")
-unfolding debug_escape
-insert_printed = refl
-
-nothing_set : update_text (codes "T") [] None ≡ Some (codes "UPDATE T SET ")
-nothing_set = refl
 
 join_printed : select_text (query (inner_join (query (source.table (codes "Foobar")) [] None)
     (query (source.table (codes "Quux")) [] (Some (two binary_op.Gt (column (codes "Quay")) (int 42))))

@@ -5,11 +5,10 @@ use Rattle.msi_pool.specs.declared.stringref.ValueRef.{ValueRef}
 use Rattle.msi_tables.specs.Held.{heading_of, rows_held}
 use Rattle.msi_tables.specs.Table.{Table}
 use Rattle.msi_tables.specs.declared.table.Table.{Table as HeldTable}
-use Rattle.msi_query.specs.Applied.{with_rows}
 
 -- a table and rows for it
 abbrev pub table_held : HeldTable → List (Vec ValueRef Global) → Table
-table_held table rows = with_rows (heading_of table) (rows_held rows)
+table_held table rows = record { name = (heading_of table).name; columns = (heading_of table).columns; rows = rows_held rows }
 
 -- what a query answers
 abbrev pub answered : HeldTable × Vec (Vec ValueRef Global) Global → Table

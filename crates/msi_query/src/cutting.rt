@@ -2,8 +2,8 @@
 ghost use Rattle.cfb_medium.specs.declared.error.Error.TheVariants.{Memory};
 ghost use Rattle.msi_pool.specs.Pool.{Pool};
 ghost use Rattle.msi_query.specs.Answered.{answered, table_held};
-ghost use Rattle.msi_query.specs.Query.{cut, knows_condition, matches, parts_at, projected};
-ghost use Rattle.msi_query.specs.Said.{condition_of};
+ghost use Rattle.msi_query.specs.Query.{cut, parts_at, projected};
+ghost use Rattle.msi_expr.specs.Conditions.{knows_condition, matches, condition_of};
 ghost use Rattle.msi_tables.specs.Column.{column_place, has_column};
 ghost use Rattle.msi_tables.specs.Held.{columns_of, heading_of, rows_held};
 ghost use Rattle.msi_texts.specs.Results.{Answers};
@@ -11,9 +11,8 @@ ghost use Rattle.std.specs.List.{filter_map, list_all};
 ghost use Rattle.std.specs.Prelude.{◌≡◌, filter, map, string_bytes, IfErr, IfOk, IsTrue, Ok};
 ghost use Rattle.std.specs.Rc.{rc_value};
 
-use crate::matching::{knows_condition, matches};
 use cfb_medium::Error;
-use msi_expr::Expr;
+use msi_expr::{Expr, knows_condition, matches};
 use msi_pool::{StringPool, ValueRef};
 use msi_tables::{Column, Table};
 use std::alloc::Global;

@@ -17,7 +17,7 @@ use Rattle.msi_tables.specs.Schema.{columns_name, tables_name, columns_columns, 
 use Rattle.msi_tables.specs.Schema.{columns_rows as rows_for}
 use Rattle.msi_tables.specs.declared.column.ColumnType.{ColumnType}
 use Rattle.msi_tables.specs.declared.column.ColumnType.TheVariants as kind
-use Rattle.msi_query.specs.Query.{rows_counted}
+use Rattle.msi_changes.specs.Changes.{rows_counted}
 use Rattle.cfb_tree.specs.Names.{ascii_letters}
 use Rattle.msi.specs.Package.{Package, table_name_cmp}
 use Rattle.msi.specs.Calls.{table_put, with_rows, rows_put, new_table, has_table, names_distinct, is_system, is_kept}

@@ -12,7 +12,7 @@ use Rattle.std.proofs.lemmas.List.Sums.{sum_by-append, sum_by-cons}
 use Rattle.msi_pool.specs.Datum.{Datum}
 use Rattle.msi_tables.specs.Table.{key_cmp, has_key, are_distinct}
 use Rattle.msi_tables.proofs.Keys.{datum_cmp_total}
-use Rattle.msi_query.specs.Query.{new_keys}
+use Rattle.msi_changes.specs.Changes.{new_keys}
 use Rattle.cfb_medium.specs.declared.error.Error.TheVariants.{InvalidInput, AlreadyExists}
 
 -- 1 for one key, else 0

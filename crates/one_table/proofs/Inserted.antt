@@ -33,7 +33,7 @@ use Rattle.msi_pool.specs.Pool.{Pool}
 use Rattle.msi_tables.specs.Column.{Column, is_valid, are_valid}
 use Rattle.msi_tables.specs.Rows.{Row, max_rows}
 use Rattle.msi_tables.specs.Table.{Table, table_named, row_data, key_values, keys_of, are_distinct}
-use Rattle.msi_query.specs.Query.{inserted, new_keys, rows_counted}
+use Rattle.msi_changes.specs.Changes.{inserted, new_keys, rows_counted}
 use Rattle.msi.specs.Package.{Package}
 use Rattle.msi.specs.Calls.{may_insert}
 use Rattle.one_table.specs.Contents.{key_column, key_row, key_data, is_key, keys_said, key_said}

@@ -1,11 +1,13 @@
 -- New keys in turn.
-use Rattle.std.proofs.Common.{◌≡◌, ℕ, suc, ◌+◌, ◌<◌, Bool, true, false, List, [], ◌∷◌, ◌++◌, map, length, take, drop, refl, sym, ap, ◌∙◌, Err, get_or, add-one, drop-cons, Vec}
-use Rattle.std.specs.Prelude.{Result, ◌||◌, ◌&&◌, if◌then◌else◌}
+use Rattle.std.proofs.Common.{◌≡◌, ℕ, suc, ◌+◌, ◌<◌, Bool, true, false, List, [], ◌∷◌, ◌++◌, length, take, drop, refl, sym, ap, ◌∙◌, Err, get_or, add-one, drop-cons, Vec}
+use Rattle.std.specs.Prelude.{Result, if◌then◌else◌}
 use Rattle.std.specs.List.{list_any, list_all}
 use Rattle.std.specs.Ordering.{is_eq}
 use Rattle.msi_pool.specs.Datum.{Datum}
 use Rattle.msi_tables.specs.Table.{has_key, key_cmp}
-use Rattle.msi_query.specs.Query.{new_keys}
+use Rattle.msi_tables.proofs.Searches.{list_any_map}
+use Rattle.msi_changes.proofs.NewKeys.{after_turn, turn as one_turn}
+use Rattle.std.proofs.lemmas.List.Folds.{list_all-map}
 use Rattle.std.specs.declared.alloc.Global.{Global}
 use Rattle.std.proofs.lemmas.List.{map-append, take_more}
 use Rattle.msi_pool.specs.Datum.{data_of}
@@ -15,44 +17,11 @@ use Rattle.msi_tables.specs.Table.{key_values}
 use Rattle.one_table.specs.Rules.{keys_held, keys_judged, keys_by, rows_said, judged}
 use Rattle.msi_texts.specs.Results.{◌>>=◌, unless_not}
 use Rattle.cfb_medium.specs.declared.error.Error.{Error}
-use Rattle.cfb_medium.specs.declared.error.Error.TheVariants.{InvalidInput, AlreadyExists}
-
--- a test of a list behind a function
-pub any_map : {X Y : Type 0} (p : Y → Bool) (f : X → Y) (xs : List X) → list_any p (map f xs) ≡ list_any (λ x. p (f x)) xs
-any_map p f [] = refl
-any_map p f (x ∷ xs) = ap (λ b. p (f x) || b) (any_map p f xs)
-
-pub all_map : {X Y : Type 0} (p : Y → Bool) (f : X → Y) (xs : List X) → list_all p (map f xs) ≡ list_all (λ x. p (f x)) xs
-all_map p f [] = refl
-all_map p f (x ∷ xs) = ap (λ b. p (f x) && b) (all_map p f xs)
-
--- the keys that were found earlier count as a set
-pub new_keys_same : (stored one other keys : List (List Datum)) → ((k : List Datum) → has_key one k ≡ has_key other k)
-    → new_keys stored one keys ≡ new_keys stored other keys
-new_keys_same stored one other [] h = refl
-new_keys_same stored one other (k ∷ ks) h =
-    let deeper = new_keys_same stored (k ∷ one) (k ∷ other) ks (λ q. ap (λ b. is_eq (key_cmp k q) || b) (h q)) in
-    rw (h k, deeper) refl
-
-or_swap : (a b c : Bool) → (a || (b || c)) ≡ (b || (a || c))
-or_swap true true c = refl
-or_swap true false c = refl
-or_swap false true c = refl
-or_swap false false c = refl
-
--- a key behind others is found as one before them
-pub has_key_behind : (keys : List (List Datum)) (x k : List Datum) → has_key (keys ++ x ∷ []) k ≡ has_key (x ∷ keys) k
-has_key_behind [] x k = refl
-has_key_behind (y ∷ ys) x k =
-    ap (λ b. is_eq (key_cmp y k) || b) (has_key_behind ys x k) ∙ or_swap (is_eq (key_cmp y k)) (is_eq (key_cmp x k)) (has_key ys k)
+use Rattle.cfb_medium.specs.declared.error.Error.TheVariants.{InvalidInput}
 
 -- one of the rows has the key of these values
 abbrev pub held_any : List Column → List (Vec Value Global) → List Value → Bool
 held_any columns rows values = list_any (λ other. is_eq (key_cmp (key_values columns (data_of other.items)) (key_values columns (data_of values)))) rows
-
--- what a turn answers, or leaves to the next
-abbrev pub after_turn : Bool → Bool → Result (Unit {0}) Error → Result (Unit {0}) Error
-after_turn stored earlier next = if stored then Err AlreadyExists else (if earlier then Err InvalidInput else next)
 
 -- one turn
 turn_at : (columns : List Column) (stored earlier : List (Vec Value Global)) (x : Vec Value Global) (rest : List (Vec Value Global))
@@ -61,12 +30,9 @@ turn_at : (columns : List Column) (stored earlier : List (Vec Value Global)) (x 
 turn_at columns stored earlier x rest =
     let key = key_values columns (data_of x.items) in
     let key_of : Vec Value Global → List Datum = λ row. key_values columns (data_of row.items) in
-    let first : has_key (keys_held columns stored) key ≡ held_any columns stored x.items = any_map (λ y. is_eq (key_cmp y key)) key_of stored in
-    let second : has_key (keys_held columns earlier) key ≡ held_any columns earlier x.items = any_map (λ y. is_eq (key_cmp y key)) key_of earlier in
-    let behind : (k : List Datum) → has_key (key ∷ keys_held columns earlier) k ≡ has_key (keys_held columns (earlier ++ x ∷ [])) k =
-    λ k. sym (ap (λ keys. has_key keys k) (map-append key_of earlier (x ∷ [])) ∙ has_key_behind (keys_held columns earlier) key k) in
-    let later = new_keys_same (keys_held columns stored) (key ∷ keys_held columns earlier) (keys_held columns (earlier ++ x ∷ [])) (keys_held columns rest) behind in
-    rw (first, second, later) refl
+    let first : has_key (keys_held columns stored) key ≡ held_any columns stored x.items = list_any_map (λ y. is_eq (key_cmp y key)) key_of stored in
+    let second : has_key (keys_held columns earlier) key ≡ held_any columns earlier x.items = list_any_map (λ y. is_eq (key_cmp y key)) key_of earlier in
+    rw (map-append key_of earlier (x ∷ []), sym first, sym second) (one_turn (keys_held columns stored) (keys_held columns earlier) (keys_held columns rest) key)
 
 pub turn : (columns : List Column) (stored rows : List (Vec Value Global)) (i : ℕ) (x : Vec Value Global) → i < length rows → x ≡ get_or rows i x
     → keys_judged columns stored (take i rows) (drop i rows)
@@ -101,7 +67,7 @@ both_again false keys = refl
 judged_held : (columns : List Column) (stored rows : List (Vec Value Global)) → judged columns (rows_said stored) (rows_said rows)
     ≡ both_judged (list_all (λ row. are_valid columns (data_of row.items)) rows) (keys_judged columns stored [] rows)
 judged_held columns stored rows =
-    rw (all_map (are_valid columns) (λ (row : Vec Value Global). data_of row.items) rows, keys_again columns stored, keys_again columns rows)
+    rw (list_all-map (are_valid columns) (λ (row : Vec Value Global). data_of row.items) rows, keys_again columns stored, keys_again columns rows)
     (both_again (list_all (λ row. are_valid columns (data_of row.items)) rows) (keys_judged columns stored [] rows))
 
 pub judged_so : (columns : List Column) (stored rows : List (Vec Value Global)) (valid : Bool)

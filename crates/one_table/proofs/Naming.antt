@@ -8,17 +8,18 @@ use Rattle.msi.specs.Calls.{names_distinct}
 use Rattle.one_table.specs.declared.column.Column.{Column}
 use Rattle.one_table.specs.Requests.{column_said, columns_said}
 use Rattle.one_table.specs.Naming.{are_named}
-use Rattle.one_table.proofs.KeyChecks.{any_map, all_map}
+use Rattle.msi_tables.proofs.Searches.{list_any_map}
+use Rattle.std.proofs.lemmas.List.Folds.{list_all-map}
 
 pub distinct_step : (first : Column) (rest : List Column)
     → names_distinct (columns_said (first ∷ rest)) ≡ (not (list_any (λ c. bytes_eq (column_said c).name (column_said first).name) rest) && names_distinct (columns_said rest))
-distinct_step first rest = ap (λ b. not b && names_distinct (columns_said rest)) (any_map (λ d. bytes_eq d.name (column_said first).name) column_said rest)
+distinct_step first rest = ap (λ b. not b && names_distinct (columns_said rest)) (list_any_map (λ d. bytes_eq d.name (column_said first).name) column_said rest)
 
 pub named_held : (name : List ℕ) (columns : List Column) → are_named name (columns_said columns)
     ≡ (is_identifier name && not (length columns == 0) && nat_le (length columns) 32 && list_any (λ c. (column_said c).key) columns
     && list_all (λ c. is_identifier (column_said c).name) columns && names_distinct (columns_said columns))
 named_held name columns =
-    rw (length-map columns column_said, any_map (λ d. d.key) column_said columns, all_map (λ d. is_identifier d.name) column_said columns) refl
+    rw (length-map columns column_said, list_any_map (λ d. d.key) column_said columns, list_all-map (λ d. is_identifier d.name) column_said columns) refl
 
 -- the columns behind the first
 abbrev pub behind : List Column → List Column

@@ -31,7 +31,7 @@ use Rattle.std.specs.declared.cmp.Ordering.TheVariants.{Equal}
 use Rattle.std.proofs.lemmas.Cmp.{nat_list_cmp_total, nat_list_eq_equiv}
 use Rattle.std.proofs.lemmas.Map.Views.{Contains-from_any, list_any-from_Contains}
 use Rattle.cfb_tree.proofs.NameOrder.{slice_cmp_equal, name_cmp_total}
-use Rattle.one_table.proofs.KeyChecks.{any_map}
+use Rattle.msi_tables.proofs.Searches.{list_any_map}
 use Rattle.std.proofs.Common.{lit<, lit≤, length-append}
 use Rattle.std.specs.Prelude.{nat_lt, nat_le, ◌==◌}
 use Rattle.std.proofs.lemmas.Bool.Decides.{nat_tests}
@@ -207,7 +207,7 @@ names_told None name = either (bytes_eq name columns_name) (bytes_eq name tables
     either false true = refl
     either false false = refl
 names_told (Some t) name =
-    any_map (bytes_eq name) (λ u. u.name) (all_tables (Some t))
+    list_any_map (bytes_eq name) (λ u. u.name) (all_tables (Some t))
     ∙ ap (list_any (λ u. bytes_eq name u.name)) (tables_put (only_table t) (own_tables (Some t)))
     ∙ any_put table_name_cmp (λ u. u.name) (λ u. bytes_eq name u.name) (only_table t) (own_tables (Some t))
     ∙ rw (bytes_swap t.name name) (three (bytes_eq name t.name) (bytes_eq name columns_name) (bytes_eq name tables_name))
@@ -321,7 +321,7 @@ own_table (Some t) p e =
 of_table : (o : Option Only) (name : List ℕ) → list_any (λ t. is_same_name ascii_letters (stream_name t.name) name) (all_tables o) ≡ true → is_own_name o name ≡ true
 of_table o name e =
     let among : list_any (λ n. is_same_name ascii_letters n name) (map (λ t. stream_name t.name) (all_tables o)) ≡ true =
-    any_map (λ n. is_same_name ascii_letters n name) (λ t. stream_name t.name) (all_tables o) ∙ e in
+    list_any_map (λ n. is_same_name ascii_letters n name) (λ t. stream_name t.name) (all_tables o) ∙ e in
     rw (among, or_true (is_same_name ascii_letters (stream_name data_name) name), or_true (is_same_name ascii_letters (stream_name pool_name) name))
     (or_true (is_same_name ascii_letters summary_name name))
 

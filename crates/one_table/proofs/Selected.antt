@@ -4,7 +4,8 @@ use Rattle.std.specs.Prelude.{filter, ◌&&◌}
 use Rattle.std.specs.List.{list_all}
 use Rattle.msi_tables.specs.Column.{has_column}
 use Rattle.msi_tables.specs.Table.{Table, table_named, row_data}
-use Rattle.msi_query.specs.Query.{query, table, knows_condition, projected, filtered}
+use Rattle.msi_query.specs.Query.{query, table, projected, filtered}
+use Rattle.msi_expr.specs.Conditions.{knows_condition}
 use Rattle.msi_texts.specs.Results.{◌>>=◌, unless_not}
 use Rattle.msi.specs.Package.{Package}
 use Rattle.one_table.specs.Limits.{is_whole, selected_whole}

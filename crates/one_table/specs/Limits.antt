@@ -12,7 +12,8 @@ use Rattle.msi_tables.specs.Table.{is_valid_table_name, IsStoredByKeys}
 use Rattle.msi_tables.specs.Schema.{tables_name, columns_name, tables_columns, columns_columns, validation_columns, columns_rows, validation_row}
 use Rattle.msi_tables.specs.declared.column.ColumnType.{ColumnType}
 use Rattle.msi_tables.specs.declared.column.ColumnType.TheVariants as kind
-use Rattle.msi_query.specs.Query.{Query, query, table, inner_join, left_join, inserted, rows_counted}
+use Rattle.msi_query.specs.Query.{Query, query, table, inner_join, left_join}
+use Rattle.msi_changes.specs.Changes.{inserted, rows_counted}
 use Rattle.cfb_tree.specs.Names.{Letters}
 use Rattle.msi.specs.Package.{Package, at_name, stream_name, pool_name, data_name}
 use Rattle.msi.specs.Calls.{Ends, Change, change, Puts, Shown, is_system, may_insert, has_table, stored_rows, rows_put, table_put, new_table, names_distinct, is_kept, selected_in}

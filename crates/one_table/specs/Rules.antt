@@ -6,7 +6,7 @@ use Rattle.msi_pool.specs.Datum.{Datum, data_of}
 use Rattle.msi_pool.specs.declared.value.Value.{Value}
 use Rattle.msi_tables.specs.Column.{Column, plain, are_valid}
 use Rattle.msi_tables.specs.Table.{key_values}
-use Rattle.msi_query.specs.Query.{new_keys}
+use Rattle.msi_changes.specs.Changes.{new_keys}
 use Rattle.std.specs.Prelude.{Vec}
 use Rattle.std.specs.declared.alloc.Global.{Global}
 use Rattle.one_table.specs.declared.rules.KeyedType.{KeyedType}

@@ -1,7 +1,6 @@
 use Rattle.std.proofs.Common.{◌≡◌, ◌∙◌, sym, subst, inr, map, true, false}
 use Rattle.msi_query.specs.Answered.{answered}
-use Rattle.msi_query.specs.Query.{knows_condition}
-use Rattle.msi_query.specs.Said.{condition_of}
+use Rattle.msi_expr.specs.Conditions.{knows_condition, condition_of}
 use Rattle.msi_texts.specs.Results.{Answers}
 use Rattle.msi_tables.specs.Column.{has_column}
 use Rattle.msi_tables.specs.Held.{rows_held}

@@ -1,8 +1,7 @@
 use Rattle.std.proofs.Common.{◌≡◌, ◌++◌, drop}
 use Rattle.std.specs.Prelude.{filter}
 use Rattle.std.specs.Rc.{rc_value}
-use Rattle.msi_query.specs.Query.{matches}
-use Rattle.msi_query.specs.Said.{condition_of}
+use Rattle.msi_expr.specs.Conditions.{matches, condition_of}
 use Rattle.msi_tables.specs.Held.{heading_of, rows_held}
 use Rattle.msi_query.proofs.cutting.kept.Given as goal
 

@@ -3,7 +3,8 @@ use Rattle.std.proofs.lemmas.List.{map-append}
 use Rattle.msi_expr.specs.Formula.{formula_of}
 use Rattle.msi_query.proofs.Pairs.{inner_done}
 use Rattle.msi_query.specs.Answered.{answered}
-use Rattle.msi_query.specs.Query.{knows, pairs_with, side_columns}
+use Rattle.msi_expr.specs.Conditions.{knows}
+use Rattle.msi_query.specs.Query.{pairs_with, side_columns}
 use Rattle.msi_tables.specs.Column.{side_column}
 use Rattle.std.specs.List.{flat_map}
 use Rattle.std.specs.Rc.{rc_value}

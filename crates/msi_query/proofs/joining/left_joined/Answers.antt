@@ -5,7 +5,8 @@ use Rattle.msi_expr.specs.Formula.{formula_of}
 use Rattle.msi_query.proofs.Pairs.{left_done}
 use Rattle.msi_query.specs.Answered.{answered}
 use Rattle.msi_pool.specs.declared.stringref.ValueRef.TheVariants as cell
-use Rattle.msi_query.specs.Query.{knows, or_once, pairs_with, side_columns}
+use Rattle.msi_expr.specs.Conditions.{knows}
+use Rattle.msi_query.specs.Query.{or_once, pairs_with, side_columns}
 use Rattle.msi_tables.specs.Column.{side_column}
 use Rattle.std.specs.List.{flat_map}
 use Rattle.std.specs.Rc.{rc_value}

@@ -1,0 +1,15 @@
+use Rattle.std.proofs.Common.{◌≡◌, false}
+use Rattle.std.specs.Rc.{rc_value}
+use Rattle.std.specs.Vec.Iter.{into_iter_items}
+use Rattle.msi_texts.specs.Results.{◌>>=◌}
+use Rattle.msi_tables.specs.Held.{heading_of, rows_held}
+use Rattle.msi_changes.specs.Applied.{left_of}
+use Rattle.msi_expr.specs.Conditions.{matches, condition_of}
+use Rattle.msi_changes.proofs.Turns.{behind}
+use Rattle.msi_changes.proofs.delete.rows_left.Given as goal
+
+abbrev pub invariant-loop-row : goal.invariant-loop-row
+invariant-loop-row l =
+    let matching = matches l.pool.pool (heading_of (rc_value l.table)).columns (condition_of l.condition) in
+    ((left_of matching l.counted.pool (rows_held (into_iter_items l.row-iterator)) >>= behind (rows_held l.left.items)) ≡ left_of matching l.fn.counted.pool (rows_held l.fn.rows.items))
+    × (l.counted.modified ≡ false → l.counted ≡ l.fn.counted)

@@ -1,0 +1,5 @@
+pub mod Applied
+pub mod Changes
+pub mod Laws
+pub mod Printed
+pub mod Said

@@ -1,0 +1,126 @@
+// Deletes.
+ghost use Rattle.std.specs.Prelude.{◌≡◌, false, true, IfOk, IsTrue, None, Ok, OnErr};
+ghost use Rattle.std.specs.Rc.{rc_value};
+ghost use Rattle.msi_texts.specs.Results.{Answers};
+ghost use Rattle.msi_expr.specs.Formula.{formula_of};
+ghost use Rattle.msi_changes.specs.Applied.{left_of, with_rows};
+ghost use Rattle.msi_changes.specs.Changes.{deleted};
+ghost use Rattle.msi_expr.specs.Conditions.{knows_condition, matches, condition_of, narrowed};
+ghost use Rattle.msi_changes.specs.Said.{delete_condition, delete_name};
+ghost use Rattle.msi_tables.specs.Held.{heading_of, rows_held};
+
+use crate::counting::take_back;
+use cfb_medium::Error;
+use msi_expr::{Expr, fmt_condition, knows_condition, matches, narrowed};
+use msi_pool::{StringPool, ValueRef};
+use msi_tables::Table;
+use std::alloc::Global;
+use std::fmt;
+use std::rc::Rc;
+
+/// Takes rows out of a table.
+#[derive(Drop)]
+pub struct Delete {
+    table_name: String,
+    condition: Option<Expr>,
+}
+
+impl Delete {
+    /// A delete of all rows of the table of this name. `Memory` where there is no room for the name.
+    pub fn from(alloc: Global, table_name: &str) -> Result<Delete, Error>
+        ensures name { Answers delete_name result (Ok table_name.now) }
+        ensures condition { IfOk result (λ delete. delete_condition delete ≡ None) }
+    {
+        Ok(Delete {
+            table_name: String::from_str(alloc, table_name)?,
+            condition: None,
+        })
+    }
+
+    /// The same of the rows alone for which this condition counts as true too. `Memory` spends it.
+    pub fn with(self, alloc: Global, condition: Expr) -> Result<Delete, Error>
+        ensures name { IfOk result (λ delete. delete_name delete ≡ delete_name self) }
+        ensures condition { Answers delete_condition result (Ok (narrowed (delete_condition self) (formula_of condition))) }
+    {
+        let condition = narrowed(alloc, self.condition, condition)?;
+        Ok(Delete {
+            table_name: self.table_name,
+            condition,
+        })
+    }
+
+    /// The name of the table.
+    pub fn table_name(&self) -> &str
+        ensures { result.now ≡ delete_name self.now }
+    {
+        self.table_name.as_str()
+    }
+
+    /// The rows of a table for which the condition counts as false; the texts of the others are taken back from the pool.
+    /// `InvalidInput` where the condition names a column that isn't there, `InvalidData` where a text has no use to take back.
+    /// After an error the pool is as it was.
+    pub fn apply(
+        &self,
+        alloc: Global,
+        table: &Rc<Table>,
+        rows: Vec<Vec<ValueRef>>,
+        pool: &mut StringPool,
+    ) -> Result<Vec<Vec<ValueRef>>, Error>
+        ensures deletes { Answers (λ left. (rows_held left.items, pool.new.pool)) result (deleted true pool.old.pool (with_rows (heading_of (rc_value table.now)) (rows_held rows.items)) (delete_condition self.now)) }
+        ensures marked { pool.new.modified ≡ false → pool.new ≡ pool.old }
+        ensures err { OnErr result (pool.new ≡ pool.old) }
+    {
+        if !knows_condition(alloc, table, &self.condition)? {
+            return Err(Error::InvalidInput);
+        }
+        let mut counted = pool.clone(alloc)?;
+        let left = match rows_left(alloc, pool, table, &self.condition, rows, &mut counted) {
+            Err(error) => return Err(error),
+            Ok(left) => left,
+        };
+        *pool = counted;
+        Ok(left)
+    }
+}
+
+// The rows for which the condition counts as false; the texts of the others are taken back. `InvalidData` where one has no
+// use to take back.
+#[tactic(auto, using(crate::proofs::Deleting::kept, crate::proofs::Deleting::taken, crate::proofs::Deleting::unused, crate::proofs::Deleting::done, crate::proofs::Deleting::at_first))]
+fn rows_left(
+    alloc: Global,
+    pool: &StringPool,
+    table: &Rc<Table>,
+    condition: &Option<Expr>,
+    rows: Vec<Vec<ValueRef>>,
+    counted: &mut StringPool,
+) -> Result<Vec<Vec<ValueRef>>, Error>
+    requires { IsTrue (knows_condition (heading_of (rc_value table.now)).columns (condition_of condition.now)) }
+    ensures left { Answers (λ left. (rows_held left.items, counted.new.pool)) result (left_of (matches pool.now.pool (heading_of (rc_value table.now)).columns (condition_of condition.now)) counted.old.pool (rows_held rows.items)) }
+    ensures marked { counted.new.modified ≡ false → counted.new ≡ counted.old }
+{
+    let mut left = Vec::new(alloc);
+    for row in rows {
+        if matches(alloc, pool, table, condition, &row)? {
+            match take_back(counted, &row) {
+                Err(error) => return Err(error),
+                Ok(()) => {}
+            }
+        } else {
+            left.push(row)?;
+        }
+    }
+    Ok(left)
+}
+
+impl fmt::Display for Delete {
+    ghost use Rattle.msi_changes.specs.Printed.{delete_text};
+    ghost use Rattle.msi_changes.specs.Said.{delete_condition, delete_name};
+
+    ghost output = { λ d. delete_text (delete_name d) (delete_condition d) };
+
+    fn fmt<W: fmt::Write>(&self, f: &mut fmt::Formatter<W>) -> fmt::Result {
+        f.write_str("DELETE FROM ")?;
+        f.write_str(&self.table_name)?;
+        fmt_condition(&self.condition, f)
+    }
+}

@@ -1,0 +1,159 @@
+// Inserts.
+ghost use Rattle.cfb_medium.specs.declared.error.Error.TheVariants.{Memory};
+ghost use Rattle.std.specs.Prelude.{◌≡◌, ◌⊎◌, ◌++◌, [], ◌∷◌, false, true, IfErr, IfOk, OnErr, OnOk, Err, Ok, map};
+ghost use Rattle.msi_texts.specs.Results.{Answers};
+ghost use Rattle.msi_pool.specs.Datum.{data_of};
+ghost use Rattle.msi_changes.specs.Applied.{with_rows, IsAccepted};
+ghost use Rattle.msi_changes.specs.Changes.{inserted};
+ghost use Rattle.msi_changes.specs.Said.{insert_name, insert_rows};
+ghost use Rattle.msi_tables.specs.Held.{heading_of, rows_held};
+
+use crate::counting::count_rows;
+use crate::keys::{are_distinct, check_new_keys, keys_of, keys_of_values};
+use crate::printing::fmt_rows;
+use crate::validity::are_rows;
+use cfb_medium::Error;
+use msi_pool::{StringPool, Value, ValueRef};
+use msi_tables::Table;
+use std::alloc::Global;
+use std::fmt;
+
+// A table has so many rows at most.
+const MAX_ROWS: usize = 65536;
+
+/// Adds rows to a table.
+#[derive(Drop)]
+pub struct Insert {
+    table_name: String,
+    new_rows: Vec<Vec<Value>>,
+}
+
+impl Insert {
+    /// An insert of no rows into the table of this name. `Memory` where there is no room for the name.
+    pub fn into(alloc: Global, table_name: &str) -> Result<Insert, Error>
+        ensures name { Answers insert_name result (Ok table_name.now) }
+        ensures rows { IfOk result (λ insert. insert_rows insert ≡ []) }
+    {
+        Ok(Insert {
+            table_name: String::from_str(alloc, table_name)?,
+            new_rows: Vec::new(alloc),
+        })
+    }
+
+    /// The same with one more row behind the others. `Memory` spends it.
+    pub fn row(self, values: Vec<Value>) -> Result<Insert, Error>
+        ensures name { IfOk result (λ insert. insert_name insert ≡ insert_name self) }
+        ensures rows { Answers insert_rows result (Ok (insert_rows self ++ data_of values.items ∷ [])) }
+    {
+        let Insert {
+            table_name,
+            mut new_rows,
+        } = self;
+        new_rows.push(values)?;
+        Ok(Insert {
+            table_name,
+            new_rows,
+        })
+    }
+
+    /// The same with these rows behind the others. `Memory` spends it.
+    pub fn rows(self, rows: Vec<Vec<Value>>) -> Result<Insert, Error>
+        ensures name { IfOk result (λ insert. insert_name insert ≡ insert_name self) }
+        ensures rows { Answers insert_rows result (Ok (insert_rows self ++ map (λ row. data_of row.items) rows.items)) }
+    {
+        let Insert {
+            table_name,
+            mut new_rows,
+        } = self;
+        let mut rows = rows;
+        new_rows.append(&mut rows)?;
+        Ok(Insert {
+            table_name,
+            new_rows,
+        })
+    }
+
+    /// The name of the table.
+    pub fn table_name(&self) -> &str
+        ensures { result.now ≡ insert_name self.now }
+    {
+        self.table_name.as_str()
+    }
+
+    /// The rows of a table with the new ones behind them, whose texts are counted in the pool row by row. In this order:
+    /// `InvalidInput` for a row that has not a value for each column, or one that its column doesn't take; `InvalidData` where
+    /// a key is stored twice; for each new key in turn `AlreadyExists` where it is stored, `InvalidInput` where an earlier
+    /// new row has it; `InvalidInput` for more than 65536 rows, and where the pool is full. After an error the pool is as it was.
+    pub fn apply(
+        &self,
+        alloc: Global,
+        table: &Table,
+        rows: Vec<Vec<ValueRef>>,
+        pool: &mut StringPool,
+    ) -> Result<Vec<Vec<ValueRef>>, Error>
+        ensures inserts { Answers (λ all. (rows_held all.items, pool.new.pool)) result (inserted true pool.old.pool (with_rows (heading_of table.now) (rows_held rows.items)) (insert_rows self.now)) }
+        ensures marked { pool.new.modified ≡ false → pool.new ≡ pool.old }
+        ensures err { OnErr result (pool.new ≡ pool.old) }
+    {
+        match judge(alloc, table, &rows, pool, &self.new_rows) {
+            Err(error) => return Err(error),
+            Ok(()) => {}
+        }
+        let mut counted = pool.clone(alloc)?;
+        let mut new_rows = match count_rows(alloc, &mut counted, &self.new_rows) {
+            Err(error) => return Err(error),
+            Ok(new_rows) => new_rows,
+        };
+        let mut rows = rows;
+        rows.append(&mut new_rows)?;
+        *pool = counted;
+        Ok(rows)
+    }
+}
+
+// Whether the table takes the rows behind those that it has, as far as no text is counted.
+fn judge(
+    alloc: Global,
+    table: &Table,
+    rows: &[Vec<ValueRef>],
+    pool: &StringPool,
+    new_rows: &[Vec<Value>],
+) -> Result<(), Error>
+    ensures accepted { OnOk result (IsAccepted pool.now.pool (with_rows (heading_of table.now) (rows_held rows.now)) (map (λ row. data_of row.items) new_rows.now)) }
+    ensures refused { IfErr result (λ e. (e ≡ Memory) ⊎ (inserted true pool.now.pool (with_rows (heading_of table.now) (rows_held rows.now)) (map (λ row. data_of row.items) new_rows.now) ≡ Err e)) }
+{
+    let columns = table.columns();
+    if !are_rows(columns, new_rows) {
+        return Err(Error::InvalidInput);
+    }
+    let stored = keys_of(alloc, pool, columns, rows)?;
+    if !are_distinct(&stored) {
+        return Err(Error::InvalidData);
+    }
+    let new = keys_of_values(alloc, columns, new_rows)?;
+    match check_new_keys(&stored, &new) {
+        Err(error) => return Err(error),
+        Ok(()) => {}
+    }
+    if rows.len() + new_rows.len() > MAX_ROWS {
+        return Err(Error::InvalidInput);
+    }
+    Ok(())
+}
+
+impl fmt::Display for Insert {
+    ghost use Rattle.msi_changes.specs.Printed.{insert_text};
+    ghost use Rattle.msi_changes.specs.Said.{insert_name, insert_rows};
+
+    ghost output = { λ i. insert_text (insert_name i) (insert_rows i) };
+
+    fn fmt<W: fmt::Write>(&self, f: &mut fmt::Formatter<W>) -> fmt::Result {
+        f.write_str("INSERT INTO ")?;
+        f.write_str(&self.table_name)?;
+        if self.new_rows.is_empty() {
+            return Ok(());
+        }
+        f.write_str(" VALUES ")?;
+        fmt_rows(f, &self.new_rows)
+    }
+}

@@ -1,0 +1,40 @@
+// Laws of changed tables, each of a function that does nothing.
+ghost use Rattle.msi_expr.specs.Formula.{Formula};
+ghost use Rattle.msi_pool.specs.Datum.{Datum};
+ghost use Rattle.msi_pool.specs.Pool.{Pool};
+ghost use Rattle.msi_changes.specs.Laws.{AddsRows, AreCounted, AreUses, KeepsUses, LeavesRows, SetsCells};
+ghost use Rattle.msi_changes.specs.Changes.{deleted, inserted, updated};
+ghost use Rattle.msi_tables.specs.Column.{Column};
+ghost use Rattle.msi_tables.specs.Rows.{Row};
+ghost use Rattle.msi_tables.specs.Table.{Table};
+ghost use Rattle.std.specs.Prelude.{true, Bool, IfOk, List, Option, ℕ};
+
+/// An insert that is accepted adds exactly its rows, and no key stands twice after it, where each text of the stored rows has
+/// its use in the pool.
+#[tactic(auto, using(crate::proofs::InsertLaw::adds_rows))]
+pub fn inserts_add_their_rows()
+    ensures { (pool : Pool) (t : Table) (new_rows : List (List Datum)) → AreCounted pool t.rows → IfOk (inserted true pool t new_rows) (AddsRows pool t new_rows) }
+{}
+
+/// An update that is accepted sets exactly its cells, and distinct keys stay distinct, where each place of the pool has the
+/// uses of the table's cells, beside others. They still have them after it, and the texts that others use stay.
+#[tactic(auto, using(crate::proofs::UpdateLaw::sets_cells))]
+pub fn updates_keep_keys_distinct()
+    ensures { (may : Bool) (pool : Pool) (t : Table) (sets : List (List ℕ × Datum)) (condition : Option Formula) (others : ℕ → ℕ) → AreUses t.columns others pool t.rows
+        → IfOk (updated may pool t sets condition) (λ after. SetsCells pool t sets condition after × KeepsUses pool t.columns others after) }
+{}
+
+/// A delete that is accepted takes exactly the rows that match, and distinct keys stay distinct, likewise.
+#[tactic(auto, using(crate::proofs::DeleteLaw::leaves_rows))]
+pub fn deletes_leave_the_other_rows()
+    ensures { (may : Bool) (pool : Pool) (t : Table) (condition : Option Formula) (others : ℕ → ℕ) → AreUses t.columns others pool t.rows
+        → IfOk (deleted may pool t condition) (λ after. LeavesRows pool t condition after × KeepsUses pool t.columns others after) }
+{}
+
+/// After an insert that is accepted the places have the uses of the table's cells, where they had them before it, and the texts
+/// that others use stay. What has its uses so is counted.
+#[tactic(auto, using(crate::proofs::InsertUses::keeps_uses))]
+pub fn inserts_count_their_texts()
+    ensures kept { (may : Bool) (pool : Pool) (t : Table) (new_rows : List (List Datum)) (others : ℕ → ℕ) → AreUses t.columns others pool t.rows → IfOk (inserted may pool t new_rows) (KeepsUses pool t.columns others) }
+    ensures counted { (columns : List Column) (others : ℕ → ℕ) (pool : Pool) (rows : List Row) → AreUses columns others pool rows → AreCounted pool rows }
+{}

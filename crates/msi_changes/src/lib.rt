@@ -1,0 +1,20 @@
+//! Inserts, updates and deletes of a Windows Installer database.
+#![tactic(auto)]
+
+mod counting;
+mod delete;
+mod insert;
+mod keys;
+mod laws;
+mod printing;
+mod setting;
+mod update;
+mod validity;
+
+pub use delete::Delete;
+pub use insert::Insert;
+pub use laws::{
+    deletes_leave_the_other_rows, inserts_add_their_rows, inserts_count_their_texts,
+    updates_keep_keys_distinct,
+};
+pub use update::Update;

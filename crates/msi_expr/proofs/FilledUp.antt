@@ -1,0 +1,82 @@
+-- A row that is filled up with nulls matches as it did.
+use Rattle.std.proofs.Common.{◌≡◌, ◌∙◌, sym, ap, ap₂, ℕ, zero, suc, ◌+◌, ◌-◌, ◌<◌, List, [], ◌∷◌, refl, Bool, true, false, arith, cond, length, drop}
+use Rattle.std.specs.Prelude.{◌&&◌, bytes_eq, slice_index_or, is_some, option_map, Option, Some, None}
+use Rattle.std.proofs.lemmas.List.{get_or-drop, drop-drop}
+use Rattle.msi_pool.specs.Datum.{Datum, null, counts_as_true}
+use Rattle.msi_tables.specs.Column.{Column, has_column, column_place}
+use Rattle.msi_tables.specs.Row.{cell_named, named_cells}
+use Rattle.msi_expr.specs.Formula.{Formula, literal, column, unary, two, both, either, worth, has_columns, or_null}
+use Rattle.msi_tables.proofs.Searches.{position_cons}
+use Rattle.msi_expr.specs.Conditions.{knows, filled_up}
+
+pub filled_length : (n : ℕ) (ds : List Datum) → length (filled_up n ds) ≡ n
+filled_length zero ds = refl
+filled_length (suc n) [] = grind (arith, filled_length n [])
+filled_length (suc n) (d ∷ ds) = grind (arith, filled_length n ds)
+
+named_none : (name : List ℕ) (columns : List Column) → or_null (cell_named name (named_cells columns (filled_up (length columns) []))) ≡ null
+named_none name [] = refl
+named_none name (c ∷ cs) = go (named_none name cs) (bytes_eq c.name name)
+  where
+    go : or_null (cell_named name (named_cells cs (filled_up (length cs) []))) ≡ null → (b : Bool) → or_null (cond b (Some null) (cell_named name (named_cells cs (filled_up (length cs) [])))) ≡ null
+    go ih true = refl
+    go ih false = ih
+
+named_same : (name : List ℕ) (columns : List Column) (ds : List Datum) →
+    or_null (cell_named name (named_cells columns (filled_up (length columns) ds))) ≡ or_null (cell_named name (named_cells columns ds))
+named_same name [] ds = refl
+named_same name (c ∷ cs) [] = named_none name (c ∷ cs)
+named_same name (c ∷ cs) (d ∷ ds) = go (named_same name cs ds) (bytes_eq c.name name)
+  where
+    go : or_null (cell_named name (named_cells cs (filled_up (length cs) ds))) ≡ or_null (cell_named name (named_cells cs ds)) → (b : Bool) →
+        or_null (cond b (Some d) (cell_named name (named_cells cs (filled_up (length cs) ds)))) ≡ or_null (cond b (Some d) (cell_named name (named_cells cs ds)))
+    go ih true = refl
+    go ih false = ih
+
+pub worth_same : (columns : List Column) (ds : List Datum) (f : Formula) → worth (named_cells columns (filled_up (length columns) ds)) f ≡ worth (named_cells columns ds) f
+worth_same columns ds (literal d) = refl
+worth_same columns ds (column name) = named_same name columns ds
+worth_same columns ds (unary o a) = rw (worth_same columns ds a) refl
+worth_same columns ds (two o a b) = rw (worth_same columns ds a) (rw (worth_same columns ds b) refl)
+worth_same columns ds (both a b) = rw (worth_same columns ds a) (rw (worth_same columns ds b) refl)
+worth_same columns ds (either a b) = rw (worth_same columns ds a) (rw (worth_same columns ds b) refl)
+
+there : (name : List ℕ) (columns : List Column) (ds : List Datum) → length ds ≡ length columns → is_some (cell_named name (named_cells columns ds)) ≡ has_column columns name
+there name [] [] same = refl
+there name [] (d ∷ ds) same = absurd (cc same)
+there name (c ∷ cs) [] same = absurd (cc same)
+there name (c ∷ cs) (d ∷ ds) same = rw (position_cons (λ c. bytes_eq c.name name) c cs) (go (there name cs ds (omega (arith, same))) (bytes_eq c.name name))
+  where
+    later : (n : Option ℕ) → is_some (option_map (λ i. suc i) n) ≡ is_some n
+    later None = refl
+    later (Some n) = refl
+
+    go : is_some (cell_named name (named_cells cs ds)) ≡ has_column cs name → (b : Bool) → is_some (cond b (Some d) (cell_named name (named_cells cs ds))) ≡ is_some (cond b (Some 0) (option_map (λ i. suc i) (column_place cs name)))
+    go ih true = refl
+    go ih false = ih ∙ sym (later (column_place cs name))
+
+pub known_there : (columns : List Column) (ds : List Datum) (f : Formula) → length ds ≡ length columns → has_columns (named_cells columns ds) f ≡ knows columns f
+known_there columns ds (literal d) same = refl
+known_there columns ds (column name) same = there name columns ds same
+known_there columns ds (unary o a) same = known_there columns ds a same
+known_there columns ds (two o a b) same = ap₂ (λ x y. x && y) (known_there columns ds a same) (known_there columns ds b same)
+known_there columns ds (both a b) same = ap₂ (λ x y. x && y) (known_there columns ds a same) (known_there columns ds b same)
+known_there columns ds (either a b) same = ap₂ (λ x y. x && y) (known_there columns ds a same) (known_there columns ds b same)
+
+next : (left : ℕ) (ds : List Datum) → filled_up (suc left) ds ≡ slice_index_or ds 0 null ∷ filled_up left (drop 1 ds)
+next left [] = refl
+next left (d ∷ ds) = refl
+
+-- the next value
+pub filled_next : (n place : ℕ) (ds : List Datum) → place < n →
+    filled_up (n - place) (drop place ds) ≡ slice_index_or ds place null ∷ filled_up (n - (place + 1)) (drop (place + 1) ds)
+filled_next n place ds below =
+    let one : n - place ≡ suc (n - (place + 1)) = omega (arith, below) in
+    let head : slice_index_or (drop place ds) 0 null ≡ slice_index_or ds place null = get_or-drop place ds 0 null ∙ ap (λ i. slice_index_or ds i null) (omega arith) in
+    let rest : drop 1 (drop place ds) ≡ drop (place + 1) ds = drop-drop 1 place ds in
+    ap (λ m. filled_up m (drop place ds)) one ∙ next (n - (place + 1)) (drop place ds) ∙ ap₂ (λ x xs. x ∷ filled_up (n - (place + 1)) xs) head rest
+
+-- what a row is worth, filled up
+pub seen_whole : (columns : List Column) (ds : List Datum) (f : Formula) (d : Datum) → d ≡ worth (named_cells columns (filled_up (length columns) ds)) f →
+    counts_as_true d ≡ counts_as_true (worth (named_cells columns ds) f)
+seen_whole columns ds f d is = ap counts_as_true (is ∙ worth_same columns ds f)

@@ -1,0 +1,104 @@
+// Conditions judged on rows of cells.
+ghost use Rattle.cfb_medium.specs.declared.error.Error.TheVariants.{Memory};
+ghost use Rattle.msi_expr.specs.Formula.{formula_of, names_after};
+ghost use Rattle.msi_pool.specs.Datum.{data_of};
+ghost use Rattle.msi_expr.specs.Conditions.{filled_up, knows, knows_condition, matches, condition_of};
+ghost use Rattle.msi_tables.specs.Column.{has_column};
+ghost use Rattle.msi_tables.specs.Held.{heading_of};
+ghost use Rattle.msi_tables.specs.Table.{row_data};
+ghost use Rattle.std.specs.List.{list_all};
+ghost use Rattle.std.specs.Prelude.{◌≡◌, IfErr, IfOk, IsTrue, Some, map};
+ghost use Rattle.std.specs.Rc.{rc_value};
+
+use crate::expr::Expr;
+use cfb_medium::Error;
+use msi_pool::{StringPool, Value, ValueRef};
+use msi_tables::{Row, Table};
+use std::alloc::Global;
+use std::rc::Rc;
+
+/// Whether the table has each column that the condition names. The one error is `Memory`.
+pub fn knows_condition(
+    alloc: Global,
+    table: &Table,
+    condition: &Option<Expr>,
+) -> Result<bool, Error>
+    ensures ok { IfOk result (λ known. known ≡ knows_condition (heading_of table.now).columns (condition_of condition.now)) }
+    ensures err { IfErr result (λ e. e ≡ Memory) }
+{
+    match condition {
+        None => Ok(true),
+        Some(expr) => knows(alloc, table, expr),
+    }
+}
+
+/// Whether the table has each column that the expression names. The one error is `Memory`.
+pub fn knows(alloc: Global, table: &Table, expr: &Expr) -> Result<bool, Error>
+    ensures ok { IfOk result (λ known. known ≡ knows (heading_of table.now).columns (formula_of expr.now)) }
+    ensures err { IfErr result (λ e. e ≡ Memory) }
+{
+    let names = expr.column_names(alloc)?;
+    Ok(has_columns(table, &names))
+}
+
+// Whether the table has a column of each of these names.
+fn has_columns(table: &Table, names: &[&str]) -> bool
+    ensures { result ≡ list_all (λ n. has_column (heading_of table.now).columns n.now) names.now }
+{
+    names.iter().all(|name| table.has_column(name))
+}
+
+/// Whether the condition counts as true of the row. The one error is `Memory`.
+pub fn matches(
+    alloc: Global,
+    pool: &StringPool,
+    table: &Rc<Table>,
+    condition: &Option<Expr>,
+    row: &[ValueRef],
+) -> Result<bool, Error>
+    requires { IsTrue (knows_condition (heading_of (rc_value table.now)).columns (condition_of condition.now)) }
+    ensures ok { IfOk result (λ holds. holds ≡ matches pool.now.pool (heading_of (rc_value table.now)).columns (condition_of condition.now) row.now) }
+    ensures err { IfErr result (λ e. e ≡ Memory) }
+{
+    match condition {
+        None => Ok(true),
+        Some(expr) => holds(alloc, pool, table, expr, row),
+    }
+}
+
+/// Whether the expression counts as true on the row. The one error is `Memory`.
+#[tactic(auto, using(crate::proofs::FilledUp::known_there))]
+pub fn holds(
+    alloc: Global,
+    pool: &StringPool,
+    table: &Rc<Table>,
+    expr: &Expr,
+    row: &[ValueRef],
+) -> Result<bool, Error>
+    requires { IsTrue (knows (heading_of (rc_value table.now)).columns (formula_of expr.now)) }
+    ensures ok { IfOk result (λ holds. holds ≡ matches pool.now.pool (heading_of (rc_value table.now)).columns (Some (formula_of expr.now)) row.now) }
+    ensures err { IfErr result (λ e. e ≡ Memory) }
+{
+    let values = filled_values(alloc, pool, table.columns().len(), row)?;
+    let row = Row::new(table.clone()?, values);
+    let value = expr.eval(alloc, &row)?;
+    Ok(value.to_bool())
+}
+
+// The first values of a row, as many as asked for, with nulls behind those that it has.
+fn filled_values(
+    alloc: Global,
+    pool: &StringPool,
+    count: usize,
+    row: &[ValueRef],
+) -> Result<Vec<Value>, Error>
+    ensures ok { IfOk result (λ values. data_of values.items ≡ filled_up count (row_data pool.now.pool row.now)) }
+    ensures err { IfErr result (λ e. e ≡ Memory) }
+{
+    let mut values = Vec::new(alloc);
+    for place in 0..count {
+        let cell = row.get(place).copied().unwrap_or(ValueRef::Null);
+        values.push(cell.to_value(alloc, pool)?)?;
+    }
+    Ok(values)
+}

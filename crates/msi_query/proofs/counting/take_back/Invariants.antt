@@ -1,6 +1,0 @@
-use Rattle.std.proofs.Common.{◌≡◌, false, drop}
-use Rattle.msi_query.specs.Query.{all_taken_back}
-use Rattle.msi_query.proofs.counting.take_back.Given as goal
-
-abbrev pub invariant-loop-cell : goal.invariant-loop-cell
-invariant-loop-cell l = (all_taken_back l.pool.pool (drop l.cell-index l.row) ≡ all_taken_back l.fn.pool.pool l.row) × (l.pool.modified ≡ false → l.pool ≡ l.fn.pool)

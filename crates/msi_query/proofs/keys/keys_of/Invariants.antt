@@ -1,9 +1,0 @@
-use Rattle.std.proofs.Common.{◌≡◌, ◌++◌, drop, map}
-use Rattle.msi_pool.specs.Datum.{data_of}
-use Rattle.msi_tables.specs.Held.{columns_of, rows_held}
-use Rattle.msi_tables.specs.Table.{key_values, row_data}
-use Rattle.msi_query.proofs.keys.keys_of.Given as goal
-
-abbrev pub invariant-loop-row : goal.invariant-loop-row
-invariant-loop-row l = map (λ key. data_of key.items) l.keys.items ++ map (λ row. key_values (columns_of l.columns) (row_data l.pool.pool row)) (rows_held (drop l.row-index l.rows))
-    ≡ map (λ row. key_values (columns_of l.columns) (row_data l.pool.pool row)) (rows_held l.rows)

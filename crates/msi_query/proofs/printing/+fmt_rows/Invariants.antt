@@ -1,5 +1,0 @@
-use Rattle.std.proofs.Common.{length}
-use Rattle.msi_query.proofs.printing.+fmt_rows.Given as goal
-
-abbrev pub decreases-fmt_rows : goal.decreases-fmt_rows
-decreases-fmt_rows g l = length l.rows.now

@@ -1,8 +1,0 @@
-use Rattle.std.proofs.Common.{◌∙◌, sym}
-use Rattle.std.specs.Prelude.{string_bytes}
-use Rattle.msi_tables.specs.Held.{heading_of}
-use Rattle.msi_query.proofs.Updating.{key_found}
-use Rattle.msi_query.proofs.setting.is_of_key.Goals as goal
-
-pub returns-in-Some : goal.returns-in-Some
-returns-in-Some c = c.is_primary_key.ensures ∙ sym (key_found (heading_of c.args.table.now).columns (string_bytes c.args.set.now.0) _ (sym (rw c.deref.ensures at c.in-Some.ensures)))
