@@ -6,9 +6,8 @@ use Rattle.msi_pool.specs.declared.stringref.ValueRef.TheVariants as cell
 use Rattle.msi_query.specs.Query.{inner_joined, knows, left_joined, nulls, or_once, pairs_with, side_columns}
 use Rattle.msi_expr.specs.Formula.{Formula}
 use Rattle.msi_pool.specs.Pool.{Pool}
-use Rattle.msi_tables.specs.Column.{Column}
+use Rattle.msi_columns.specs.Column.{Column, but_null}
 use Rattle.msi_tables.specs.Rows.{Row}
-use Rattle.msi_tables.specs.Schema.{but_null}
 use Rattle.msi_tables.specs.Table.{Table}
 
 -- a row without pairs

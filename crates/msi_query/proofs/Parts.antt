@@ -8,7 +8,7 @@ use Rattle.cfb_medium.specs.declared.error.Error.TheVariants.{InvalidInput}
 use Rattle.msi_expr.specs.Formula.{Formula}
 use Rattle.msi_pool.specs.Pool.{Pool}
 use Rattle.msi_query.specs.Query.{cut, knows_condition, matches, parts_at, projected}
-use Rattle.msi_tables.specs.Column.{has_column}
+use Rattle.msi_columns.specs.Column.{has_column}
 use Rattle.msi_tables.specs.Rows.{Row}
 use Rattle.msi_tables.specs.Table.{Table}
 

@@ -5,7 +5,7 @@ ghost use Rattle.msi_pool.specs.Datum.{data_of};
 ghost use Rattle.msi_query.specs.Matched.{filled_up};
 ghost use Rattle.msi_query.specs.Query.{knows, knows_condition, matches};
 ghost use Rattle.msi_query.specs.Said.{condition_of};
-ghost use Rattle.msi_tables.specs.Column.{has_column};
+ghost use Rattle.msi_columns.specs.Column.{has_column};
 ghost use Rattle.msi_tables.specs.Held.{heading_of};
 ghost use Rattle.msi_tables.specs.Table.{row_data};
 ghost use Rattle.std.specs.List.{list_all};

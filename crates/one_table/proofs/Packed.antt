@@ -45,7 +45,7 @@ use Rattle.cfb_tree.specs.Names.{name_key, letter}
 use Rattle.std.proofs.lemmas.Str.{IsUtf8-from_ascii, is_utf8-from_IsUtf8}
 use Rattle.msi_texts.specs.declared.codepage.CodePage.TheVariants as page
 use Rattle.one_table.proofs.Identifiers.{ascii_bytes, name_bytes}
-use Rattle.msi_tables.specs.declared.column.ColumnType.TheVariants as kind
+use Rattle.msi_columns.specs.declared.column.ColumnType.TheVariants as kind
 use Rattle.one_table.specs.Contents.{key_row}
 use Rattle.one_table.proofs.KeyRows.{key_rows, columns_read, tables_read}
 

@@ -1,7 +1,7 @@
 // How a cell is read and written.
-ghost use Rattle.std.specs.Prelude.{◌≡◌, ◌↔◌, ◌++◌, ℕ, ◌≤◌, ◌<◌, ◌^◌, ◌*◌, length, take, drop, Some, None, OnOk, OnErr, IfOk, IfErr, IsOk, IsErrOf};
+ghost use Rattle.std.specs.Prelude.{◌≡◌, ◌↔◌, ◌≤◌, ◌<◌, ◌^◌, ◌*◌, length, take, drop, Some, None, OnOk, OnErr, IfOk, IfErr, IsOk, IsErrOf};
 ghost use Rattle.msi_texts.specs.Numbers.{le_bytes, le_number};
-ghost use Rattle.msi_tables.specs.Cell.{width_of, cell_value, cell_number, above, AppendsCell, IsInvalidInputOrMemory};
+ghost use Rattle.msi_columns.specs.Cell.{width_of, cell_value, cell_number, above, AppendsCell, IsInvalidInputOrMemory};
 ghost use Rattle.cfb_medium.specs.declared.error.Error.TheVariants.{InvalidInput, UnexpectedEof};
 
 use crate::ColumnType;
@@ -40,8 +40,8 @@ impl ColumnType {
         Ok(self.value_of(number_of(cell), long_string_refs))
     }
 
-    /// The cell that these bytes hold.
-    pub(crate) fn cell_of(&self, bytes: &[u8], long_string_refs: bool) -> ValueRef
+    /// The cell that these bytes hold, as many as it takes.
+    pub fn cell_of(&self, bytes: &[u8], long_string_refs: bool) -> ValueRef
         requires { length bytes.now ≡ width_of long_string_refs self.now }
         ensures { result ≡ cell_value self.now (le_number bytes.now) }
     {

@@ -1,17 +1,16 @@
 // Building columns.
 #![tactic(auto, unfolding(crate::specs::Held::column_of, crate::specs::Held::built))]
 
-ghost use Rattle.std.specs.Prelude.{◌≡◌, Bool, true, List, Some, None, IfOk, IfErr, MatchResult, map, option_map, string_bytes};
+ghost use Rattle.std.specs.Prelude.{◌≡◌, true, Some, None, IfOk, IfErr, MatchResult, map};
 ghost use Rattle.std.specs.Int.{w32, cast_unsigned};
 ghost use Rattle.msi_texts.specs.declared.category.Category.TheVariants as category;
-ghost use Rattle.msi_tables.specs.declared.column.ColumnType.{ColumnType};
-ghost use Rattle.msi_tables.specs.declared.column.ColumnType.TheVariants as kind;
-ghost use Rattle.msi_tables.specs.Column.{with_bits};
-ghost use Rattle.msi_tables.specs.Schema.{as_key, as_localizable, but_null, refers_to, of_category, from_to, one_of};
-ghost use Rattle.msi_tables.specs.Held.{column_of, built, Builds};
+ghost use Rattle.msi_columns.specs.declared.column.ColumnType.{ColumnType};
+ghost use Rattle.msi_columns.specs.declared.column.ColumnType.TheVariants as kind;
+ghost use Rattle.msi_columns.specs.Column.{with_bits, as_key, as_localizable, but_null, refers_to, of_category, from_to, one_of};
+ghost use Rattle.msi_columns.specs.Held.{column_of, built, Builds};
 ghost use Rattle.cfb_medium.specs.declared.error.Error.TheVariants.{InvalidData, Memory};
 
-use crate::column::{copied, has_bit};
+use crate::column::has_bit;
 use crate::{Column, ColumnType};
 use cfb_medium::Error;
 use msi_texts::Category;

@@ -1,8 +1,8 @@
 use Rattle.std.proofs.Common.{◌∙◌, sym, ap, length, nat_eq}
 use Rattle.std.specs.Prelude.{string_bytes}
-use Rattle.msi_tables.specs.Held.{column_of}
-use Rattle.msi_tables.proofs.Searches.{listed_among}
-use Rattle.msi_tables.proofs.column.Column.is_listed.Goals as goal
+use Rattle.msi_columns.specs.Held.{column_of}
+use Rattle.msi_columns.proofs.Choices.{listed_among}
+use Rattle.msi_columns.proofs.column.Column.is_listed.Goals as goal
 
 pub returns-else-is_empty : goal.returns-else-is_empty
 unfolding column_of
