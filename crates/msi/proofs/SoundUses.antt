@@ -11,11 +11,11 @@ use Rattle.msi_pool.specs.Pool.{Pool, at_place, no_place}
 use Rattle.msi_pool.specs.declared.stringref.ValueRef.{ValueRef}
 use Rattle.msi_pool.specs.declared.stringref.ValueRef.TheVariants as cell
 use Rattle.msi_texts.specs.Numbers.{le_number}
-use Rattle.msi_tables.specs.Cell.{above, cell_value, place_or_null, width_of}
+use Rattle.msi_columns.specs.Cell.{above, cell_value, place_or_null, width_of}
 use Rattle.msi_tables.specs.Rows.{Row, kinds_of, max_rows, numbers_from, row_at, row_count, rows_of}
 use Rattle.msi_tables.specs.Table.{Table}
-use Rattle.msi_tables.specs.declared.column.ColumnType.{ColumnType}
-use Rattle.msi_tables.specs.declared.column.ColumnType.TheVariants as kind
+use Rattle.msi_columns.specs.declared.column.ColumnType.{ColumnType}
+use Rattle.msi_columns.specs.declared.column.ColumnType.TheVariants as kind
 use Rattle.msi_changes.specs.Laws.{AreUses, names_place, uses_in}
 use Rattle.cfb_tree.specs.Names.{Letters}
 use Rattle.cfb_tree.specs.Tree.{Tree}

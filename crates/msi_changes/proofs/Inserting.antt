@@ -12,10 +12,11 @@ use Rattle.std.proofs.lemmas.List.Folds.{list_all-map}
 use Rattle.std.specs.declared.alloc.Global.{Global}
 use Rattle.msi_pool.specs.Datum.{Datum, data_of}
 use Rattle.msi_pool.specs.declared.value.Value.{Value}
-use Rattle.msi_tables.specs.Held.{columns_of, rows_held}
-use Rattle.msi_tables.specs.declared.column.Column.{Column as HeldColumn}
+use Rattle.msi_columns.specs.Held.{columns_of}
+use Rattle.msi_tables.specs.Held.{rows_held}
+use Rattle.msi_columns.specs.declared.column.Column.{Column as HeldColumn}
 use Rattle.msi_pool.specs.Pool.{Pool}
-use Rattle.msi_tables.specs.Column.{Column, are_valid}
+use Rattle.msi_columns.specs.Column.{Column, are_valid}
 use Rattle.msi_tables.specs.Rows.{Row, max_rows}
 use Rattle.msi_tables.specs.Table.{Table, are_distinct, key_values, keys_of, row_data}
 use Rattle.msi_changes.proofs.NewKeys.{keys_said}

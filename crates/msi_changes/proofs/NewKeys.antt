@@ -11,7 +11,7 @@ use Rattle.cfb_medium.specs.declared.error.Error.TheVariants.{InvalidInput, Alre
 use Rattle.msi_pool.specs.Datum.{Datum, data_of}
 use Rattle.msi_pool.specs.declared.value.Value.{Value}
 use Rattle.msi_tables.specs.Table.{are_distinct, has_key, key_cmp}
-use Rattle.msi_tables.proofs.Searches.{list_any_map}
+use Rattle.msi_columns.proofs.Choices.{list_any_map}
 use Rattle.msi_changes.specs.Changes.{new_keys}
 
 pub new_keys_same : (stored one other keys : List (List Datum)) → ((k : List Datum) → has_key one k ≡ has_key other k)

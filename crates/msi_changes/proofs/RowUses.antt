@@ -12,7 +12,7 @@ use Rattle.msi_pool.specs.Datum.{Datum}
 use Rattle.msi_pool.specs.Pool.{Pool}
 use Rattle.msi_pool.specs.declared.stringref.ValueRef.{ValueRef}
 use Rattle.msi_pool.specs.declared.stringref.ValueRef.TheVariants as cell
-use Rattle.msi_tables.specs.Column.{Column, column_place, is_valid}
+use Rattle.msi_columns.specs.Column.{Column, column_place, is_valid}
 use Rattle.msi_tables.specs.Rows.{Row}
 use Rattle.msi_tables.specs.Table.{datum_at, row_data}
 use Rattle.msi_tables.proofs.Searches.{place_below}

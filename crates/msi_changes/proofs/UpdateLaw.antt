@@ -9,7 +9,7 @@ use Rattle.cfb_medium.specs.declared.error.Error.TheVariants.{AlreadyExists, Inv
 use Rattle.msi_texts.specs.Results.{◌>>=◌, unless_not}
 use Rattle.msi_pool.specs.Datum.{Datum}
 use Rattle.msi_pool.specs.Pool.{Pool}
-use Rattle.msi_tables.specs.Column.{Column, column_place, is_valid}
+use Rattle.msi_columns.specs.Column.{Column, column_place, is_valid}
 use Rattle.msi_tables.specs.Rows.{Row}
 use Rattle.msi_tables.proofs.Searches.{place_below}
 use Rattle.msi_tables.specs.Table.{Table, are_distinct, key_values, keys_of, row_data}

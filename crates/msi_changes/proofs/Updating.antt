@@ -13,11 +13,12 @@ use Rattle.std.specs.Prelude.{string_bytes, unwrap_or}
 use Rattle.std.specs.declared.alloc.Global.{Global}
 use Rattle.msi_expr.specs.Formula.{Formula}
 use Rattle.msi_pool.specs.Pool.{Pool}
-use Rattle.msi_tables.specs.Column.{Column, column_place, is_valid}
+use Rattle.msi_columns.specs.Column.{Column, column_place, is_valid}
 use Rattle.msi_tables.specs.Held.{heading_of}
 use Rattle.msi_tables.specs.Table.{Table, are_distinct}
 use Rattle.msi_tables.specs.declared.table.Table.{Table as HeldTable}
-use Rattle.msi_tables.proofs.Searches.{list_any_map, position_cons}
+use Rattle.msi_columns.proofs.Choices.{list_any_map}
+use Rattle.msi_tables.proofs.Searches.{position_cons}
 use Rattle.msi_changes.specs.Changes.{is_valid_set, keys_after, option_first, sets_key, updated, values_set}
 use Rattle.msi_expr.specs.Conditions.{knows_condition}
 use Rattle.msi_changes.specs.Said.{set_of, sets_of}

@@ -9,7 +9,7 @@ use Rattle.msi_pool.specs.Pool.{Pool, at_place}
 use Rattle.msi_pool.specs.Refs.{is_counted}
 use Rattle.msi_pool.specs.declared.stringref.ValueRef.{ValueRef}
 use Rattle.msi_pool.specs.declared.stringref.ValueRef.TheVariants as cell
-use Rattle.msi_tables.specs.Column.{Column}
+use Rattle.msi_columns.specs.Column.{Column}
 use Rattle.msi_tables.specs.Rows.{Row}
 use Rattle.msi_changes.specs.Laws.{AreCounted, AreUses, KeepsUses, uses_in}
 use Rattle.msi_changes.proofs.CellUses.{HasUses, IsPlaced, Stays, use_of}

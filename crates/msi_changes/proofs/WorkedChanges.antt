@@ -6,15 +6,14 @@ use Rattle.std.specs.Str.{chars}
 use Rattle.std.proofs.Math.Utf8.{encode}
 use Rattle.msi_pool.specs.Datum.{null, number, text}
 use Rattle.msi_pool.specs.Pool.{Pool}
-use Rattle.msi_tables.specs.Column.{plain}
+use Rattle.msi_columns.specs.Column.{plain, as_key, but_null}
 use Rattle.msi_tables.specs.Rows.{Row}
 use Rattle.msi_tables.specs.Table.{Table}
-use Rattle.msi_tables.specs.Schema.{as_key, but_null}
 use Rattle.msi_expr.specs.Formula.{literal, column, two}
 use Rattle.msi_changes.specs.Printed.{insert_text, update_text}
 use Rattle.msi_changes.specs.Changes.{inserted, updated, deleted, all_taken_back}
 use Rattle.msi_texts.specs.declared.codepage.CodePage.TheVariants as page
-use Rattle.msi_tables.specs.declared.column.ColumnType.TheVariants as kind
+use Rattle.msi_columns.specs.declared.column.ColumnType.TheVariants as kind
 use Rattle.msi_pool.specs.declared.stringref.ValueRef.TheVariants as cell
 use Rattle.msi_expr.specs.declared.operators.BinOp.TheVariants as binary_op
 use Rattle.cfb_medium.specs.declared.error.Error.TheVariants.{InvalidInput, InvalidData, AlreadyExists}

@@ -3,7 +3,7 @@ use Rattle.std.specs.Prelude.{◌≡◌, ◌+◌, ◌||◌, ℕ, Option, Bool, t
 use Rattle.std.specs.List.{list_all}
 use Rattle.msi_pool.specs.Datum.{Datum}
 use Rattle.msi_pool.specs.Pool.{Pool}
-use Rattle.msi_tables.specs.Column.{are_valid}
+use Rattle.msi_columns.specs.Column.{are_valid}
 use Rattle.msi_tables.specs.Rows.{Row, max_rows}
 use Rattle.msi_tables.specs.Table.{Heading, Table, are_distinct, key_values, keys_of}
 use Rattle.cfb_medium.specs.declared.error.Error.{Error}

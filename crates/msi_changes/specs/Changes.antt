@@ -4,7 +4,7 @@ use Rattle.std.specs.List.{list_all, list_any}
 use Rattle.msi_texts.specs.Results.{◌>>=◌, unless_not, or_refused}
 use Rattle.msi_pool.specs.Datum.{Datum, null, number, text, binary}
 use Rattle.msi_pool.specs.Pool.{Pool, place, used, without_use, at_place}
-use Rattle.msi_tables.specs.Column.{Column, are_valid, is_valid, column_place}
+use Rattle.msi_columns.specs.Column.{Column, are_valid, is_valid, column_place}
 use Rattle.msi_tables.specs.Rows.{Row, max_rows}
 use Rattle.msi_tables.specs.Table.{Table, row_data, key_values, has_key, are_distinct, keys_of}
 use Rattle.msi_expr.specs.Formula.{Formula}

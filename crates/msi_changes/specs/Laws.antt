@@ -6,7 +6,7 @@ use Rattle.msi_pool.specs.Pool.{Pool, at_place}
 use Rattle.msi_pool.specs.Refs.{is_counted}
 use Rattle.msi_pool.specs.declared.stringref.ValueRef.{ValueRef}
 use Rattle.msi_pool.specs.declared.stringref.ValueRef.TheVariants as cell
-use Rattle.msi_tables.specs.Column.{Column}
+use Rattle.msi_columns.specs.Column.{Column}
 use Rattle.msi_tables.specs.Rows.{HaveCells, Row}
 use Rattle.msi_tables.specs.Table.{Table, are_distinct, keys_of, row_data}
 use Rattle.msi_expr.specs.Formula.{Formula}

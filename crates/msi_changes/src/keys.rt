@@ -5,7 +5,8 @@ ghost use Rattle.std.specs.Ordering.{is_eq};
 ghost use Rattle.std.specs.Prelude.{◌≡◌, ◌++◌, [], map, OnOk, IfErr, IfOk, MatchResult, Err, Ok};
 ghost use Rattle.msi_pool.specs.Datum.{data_of};
 ghost use Rattle.msi_changes.specs.Changes.{new_keys};
-ghost use Rattle.msi_tables.specs.Held.{columns_of, rows_held};
+ghost use Rattle.msi_columns.specs.Held.{columns_of};
+ghost use Rattle.msi_tables.specs.Held.{rows_held};
 ghost use Rattle.msi_tables.specs.Table.{are_distinct, key_cmp, key_values, row_data};
 
 use cfb_medium::Error;

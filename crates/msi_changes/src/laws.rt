@@ -4,7 +4,7 @@ ghost use Rattle.msi_pool.specs.Datum.{Datum};
 ghost use Rattle.msi_pool.specs.Pool.{Pool};
 ghost use Rattle.msi_changes.specs.Laws.{AddsRows, AreCounted, AreUses, KeepsUses, LeavesRows, SetsCells};
 ghost use Rattle.msi_changes.specs.Changes.{deleted, inserted, updated};
-ghost use Rattle.msi_tables.specs.Column.{Column};
+ghost use Rattle.msi_columns.specs.Column.{Column};
 ghost use Rattle.msi_tables.specs.Rows.{Row};
 ghost use Rattle.msi_tables.specs.Table.{Table};
 ghost use Rattle.std.specs.Prelude.{true, Bool, IfOk, List, Option, ℕ};

@@ -3,7 +3,7 @@ ghost use Rattle.cfb_medium.specs.declared.error.Error.TheVariants.{Memory};
 ghost use Rattle.msi_pool.specs.Datum.{data_of, datum_of};
 ghost use Rattle.msi_changes.specs.Changes.{cell_set, cells_set, is_valid_set, option_first, values_set};
 ghost use Rattle.msi_changes.specs.Said.{set_of, sets_of};
-ghost use Rattle.msi_tables.specs.Column.{column_place};
+ghost use Rattle.msi_columns.specs.Column.{column_place};
 ghost use Rattle.msi_tables.specs.Held.{heading_of};
 ghost use Rattle.msi_texts.specs.Results.{Answers};
 ghost use Rattle.std.specs.List.{list_all, list_any};

@@ -2,8 +2,8 @@
 ghost use Rattle.std.specs.List.{list_all};
 ghost use Rattle.std.specs.Prelude.{◌≡◌};
 ghost use Rattle.msi_pool.specs.Datum.{data_of};
-ghost use Rattle.msi_tables.specs.Column.{are_valid};
-ghost use Rattle.msi_tables.specs.Held.{columns_of};
+ghost use Rattle.msi_columns.specs.Column.{are_valid};
+ghost use Rattle.msi_columns.specs.Held.{columns_of};
 
 use msi_pool::Value;
 use msi_tables::Column;

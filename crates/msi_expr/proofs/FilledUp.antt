@@ -3,7 +3,7 @@ use Rattle.std.proofs.Common.{◌≡◌, ◌∙◌, sym, ap, ap₂, ℕ, zero, s
 use Rattle.std.specs.Prelude.{◌&&◌, bytes_eq, slice_index_or, is_some, option_map, Option, Some, None}
 use Rattle.std.proofs.lemmas.List.{get_or-drop, drop-drop}
 use Rattle.msi_pool.specs.Datum.{Datum, null, counts_as_true}
-use Rattle.msi_tables.specs.Column.{Column, has_column, column_place}
+use Rattle.msi_columns.specs.Column.{Column, has_column, column_place}
 use Rattle.msi_tables.specs.Row.{cell_named, named_cells}
 use Rattle.msi_expr.specs.Formula.{Formula, literal, column, unary, two, both, either, worth, has_columns, or_null}
 use Rattle.msi_tables.proofs.Searches.{position_cons}

@@ -4,7 +4,7 @@ use Rattle.std.specs.Prelude.{◌&&◌, ◌||◌, bytes_eq}
 use Rattle.std.specs.List.{list_all, list_any}
 use Rattle.std.proofs.lemmas.List.Folds.{list_all-append, list_all-map}
 use Rattle.std.proofs.lemmas.Slice.Eq.{bytes_eq-Decides}
-use Rattle.msi_tables.specs.Column.{Column, has_column}
+use Rattle.msi_columns.specs.Column.{Column, has_column}
 use Rattle.msi_expr.specs.Formula.{Formula, literal, column, unary, two, both, either, names_after, noted}
 use Rattle.msi_expr.specs.Conditions.{knows}
 

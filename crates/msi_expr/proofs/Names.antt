@@ -1,2 +1,2 @@
 -- The lemma that `note` names.
-pub use Rattle.msi_tables.proofs.Searches.{list_any_map}
+pub use Rattle.msi_columns.proofs.Choices.{list_any_map}

@@ -2,7 +2,7 @@
 use Rattle.std.specs.Prelude.{ℕ, zero, suc, Bool, true, ◌&&◌, List, [], ◌∷◌, Option, Some, None, option_map}
 use Rattle.msi_pool.specs.Datum.{Datum, null, counts_as_true}
 use Rattle.msi_pool.specs.Pool.{Pool}
-use Rattle.msi_tables.specs.Column.{Column, has_column}
+use Rattle.msi_columns.specs.Column.{Column, has_column}
 use Rattle.msi_tables.specs.Row.{Cells, named_cells}
 use Rattle.msi_tables.specs.Rows.{Row}
 use Rattle.msi_tables.specs.Table.{row_data}

@@ -1,6 +1,6 @@
 // How expressions are built. An operator on literals alone is applied at once, but for `and` and `or`. `Memory` comes where there is
 // no memory; what a call was given is then gone.
-ghost use Rattle.std.specs.Prelude.{◌≡◌, Ok, pos, negsuc};
+ghost use Rattle.std.specs.Prelude.{◌≡◌, Ok};
 ghost use Rattle.msi_texts.specs.Results.{Answers};
 ghost use Rattle.msi_pool.specs.Datum.{null, number, text, truth};
 ghost use Rattle.msi_expr.specs.Formula.{formula_of, literal, column, both, either, built, built_of_two};

@@ -1,5 +1,5 @@
 // Expressions as they are seen from outside.
-ghost use Rattle.std.specs.Prelude.{◌≡◌, Ok, IsTrue, [], map};
+ghost use Rattle.std.specs.Prelude.{Ok, IsTrue, [], map};
 ghost use Rattle.msi_texts.specs.Results.{Answers};
 ghost use Rattle.msi_pool.specs.Datum.{datum_of};
 ghost use Rattle.msi_expr.specs.Formula.{formula_of, worth, has_columns, names_after};

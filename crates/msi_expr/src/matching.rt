@@ -3,7 +3,7 @@ ghost use Rattle.cfb_medium.specs.declared.error.Error.TheVariants.{Memory};
 ghost use Rattle.msi_expr.specs.Formula.{formula_of, names_after};
 ghost use Rattle.msi_pool.specs.Datum.{data_of};
 ghost use Rattle.msi_expr.specs.Conditions.{filled_up, knows, knows_condition, matches, condition_of};
-ghost use Rattle.msi_tables.specs.Column.{has_column};
+ghost use Rattle.msi_columns.specs.Column.{has_column};
 ghost use Rattle.msi_tables.specs.Held.{heading_of};
 ghost use Rattle.msi_tables.specs.Table.{row_data};
 ghost use Rattle.std.specs.List.{list_all};

@@ -1,7 +1,6 @@
 // Operators: what they make of values, how they are written, how strongly they bind.
-ghost use Rattle.std.specs.Prelude.{◌≡◌, ◌↔◌, ◌≤◌, ℕ, IfOk, MatchOption, Some, None, option_copied, option_map};
-ghost use Rattle.std.specs.Ordering.{ordering_reverse};
-ghost use Rattle.msi_pool.specs.Datum.{null, number, datum_of, datum_cmp, truth, counts_as_true};
+ghost use Rattle.std.specs.Prelude.{◌≡◌, ◌≤◌, IfOk, MatchOption, Some, None};
+ghost use Rattle.msi_pool.specs.Datum.{null, number, datum_of};
 ghost use Rattle.msi_expr.specs.Formula.{one_applied, two_applied, strength, sign_of, prefix_of, count_of, IsArithmetic};
 
 use msi_pool::Value;

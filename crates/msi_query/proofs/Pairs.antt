@@ -7,9 +7,8 @@ use Rattle.msi_query.specs.Query.{inner_joined, left_joined, nulls, or_once, pai
 use Rattle.msi_expr.specs.Conditions.{knows}
 use Rattle.msi_expr.specs.Formula.{Formula}
 use Rattle.msi_pool.specs.Pool.{Pool}
-use Rattle.msi_tables.specs.Column.{Column}
+use Rattle.msi_columns.specs.Column.{Column, but_null}
 use Rattle.msi_tables.specs.Rows.{Row}
-use Rattle.msi_tables.specs.Schema.{but_null}
 use Rattle.msi_tables.specs.Table.{Table}
 
 -- a row without pairs

@@ -9,7 +9,7 @@ use Rattle.msi_expr.specs.Formula.{Formula}
 use Rattle.msi_pool.specs.Pool.{Pool}
 use Rattle.msi_query.specs.Query.{cut, parts_at, projected}
 use Rattle.msi_expr.specs.Conditions.{knows_condition, matches}
-use Rattle.msi_tables.specs.Column.{has_column}
+use Rattle.msi_columns.specs.Column.{has_column}
 use Rattle.msi_tables.specs.Rows.{Row}
 use Rattle.msi_tables.specs.Table.{Table}
 

@@ -7,13 +7,14 @@ use Rattle.std.specs.Fmt.{◌++?◌}
 use Rattle.std.specs.declared.alloc.Global.{Global}
 use Rattle.msi_texts.specs.Numbers.{le_bytes}
 use Rattle.msi_pool.specs.declared.stringref.ValueRef.{ValueRef}
-use Rattle.msi_tables.specs.Cell.{width_of, cell_number, AppendsCell, IsInvalidInputOrMemory}
+use Rattle.msi_columns.specs.Cell.{width_of, cell_number, AppendsCell, IsInvalidInputOrMemory}
 use Rattle.cfb_medium.specs.declared.error.Error.{Error}
 use Rattle.cfb_medium.specs.declared.error.Error.TheVariants.{InvalidData, InvalidInput, NotFound, AlreadyExists, UnexpectedEof, Full, Memory, Device, Failed}
 use Rattle.msi_tables.specs.Rows.{Row, AllLonger, kinds_of, first_cells, column_bytes, rows_bytes}
-use Rattle.msi_tables.specs.Held.{column_of, columns_of, rows_held}
-use Rattle.msi_tables.specs.declared.column.Column.{Column as HeldColumn}
-use Rattle.msi_tables.specs.declared.column.ColumnType.{ColumnType}
+use Rattle.msi_columns.specs.Held.{column_of, columns_of}
+use Rattle.msi_tables.specs.Held.{rows_held}
+use Rattle.msi_columns.specs.declared.column.Column.{Column as HeldColumn}
+use Rattle.msi_columns.specs.declared.column.ColumnType.{ColumnType}
 
 -- bytes that are written stand in front of what is to come
 pub written_more : (old cell : List ℕ) (rest : Option (List ℕ)) → option_map (λ bs. old ++ bs) (Some cell ++? rest) ≡ option_map (λ bs. (old ++ cell) ++ bs) rest

@@ -13,10 +13,10 @@ use Rattle.std.proofs.lemmas.Bool.Decides.{nat_tests}
 use Rattle.msi_texts.specs.Numbers.{le_bytes, le_number}
 use Rattle.msi_pool.specs.declared.stringref.ValueRef.{ValueRef}
 use Rattle.msi_pool.specs.declared.stringref.ValueRef.TheVariants as cell
-use Rattle.msi_tables.specs.Cell.{width_of, cell_number, cell_value, above, raised, place_or_null}
+use Rattle.msi_columns.specs.Cell.{width_of, cell_number, cell_value, above, raised, place_or_null}
 use Rattle.msi_tables.specs.Rows.{Row, row_width, row_count, row_at, numbers_from, max_rows, rows_of, first_cells, column_bytes, rows_bytes, HaveCells, has_place, ReadBack}
-use Rattle.msi_tables.specs.declared.column.ColumnType.{ColumnType}
-use Rattle.msi_tables.specs.declared.column.ColumnType.TheVariants as kind
+use Rattle.msi_columns.specs.declared.column.ColumnType.{ColumnType}
+use Rattle.msi_columns.specs.declared.column.ColumnType.TheVariants as kind
 
 -- ---- numbers
 

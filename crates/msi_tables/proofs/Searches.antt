@@ -1,11 +1,11 @@
 -- Searches in a list of what elements say are searches in the list of the elements.
-use Rattle.std.proofs.Common.{◌≡◌, ℕ, suc, ◌+◌, ◌<◌, List, [], ◌∷◌, length, map, refl, sym, ap, ap₂, ◌∙◌, Bool, true, false, not, arith, cond, nat_lt, nat_eq, Option, Some, None}
+use Rattle.std.proofs.Common.{◌≡◌, ℕ, suc, ◌+◌, ◌<◌, List, [], ◌∷◌, length, map, refl, sym, ap, ap₂, ◌∙◌, Bool, true, false, not, arith, cond, nat_lt, Option, Some, None}
 use Rattle.std.specs.Prelude.{option_map, option_and_then, slice_get, find, bytes_eq}
-use Rattle.std.specs.List.{prefix_len, position_or_len, position, list_any}
+use Rattle.std.specs.List.{prefix_len, position_or_len, position}
 use Rattle.std.proofs.lemmas.Grind.{common_steps}
 use Rattle.std.proofs.lemmas.List.{length-map}
 use Rattle.msi_pool.specs.Datum.{Datum}
-use Rattle.msi_tables.specs.Column.{Column, column_place, is_listed}
+use Rattle.msi_columns.specs.Column.{Column, column_place}
 use Rattle.msi_tables.specs.Row.{ValueRow, cell_named, cells_of, named_cells}
 use borrow.Author.Tests.{ltb-true}
 
@@ -16,10 +16,6 @@ position_or_len_map p f (x ∷ xs) = grind (arith, common_steps, position_or_len
 pub position_map : {X Y : Type 0} (p : Y → Bool) (f : X → Y) (xs : List X) → position p (map f xs) ≡ position (λ x. p (f x)) xs
 position_map p f xs = ap₂ (λ i n. cond (nat_lt i n) (Some i) None) (position_or_len_map p f xs) (length-map xs f)
 
-pub list_any_map : {X Y : Type 0} (p : Y → Bool) (f : X → Y) (xs : List X) → list_any p (map f xs) ≡ list_any (λ x. p (f x)) xs
-list_any_map p f [] = refl
-list_any_map p f (x ∷ xs) = rw (list_any_map p f xs) refl
-
 pub find_map : {X Y : Type 0} (p : Y → Bool) (f : X → Y) (xs : List X) → find p (map f xs) ≡ option_map f (find (λ x. p (f x)) xs)
 find_map p f [] = refl
 find_map {X} p f (x ∷ xs) = go (p (f x)) (find_map p f xs)
@@ -28,12 +24,6 @@ find_map {X} p f (x ∷ xs) = go (p (f x)) (find_map p f xs)
         cond b (Some (f x)) (find p (map f xs)) ≡ option_map f (cond b (Some x) (find (λ x. p (f x)) xs))
     go true ih = refl
     go false ih = ih
-
--- where there are choices, a text is listed that is one of them
-pub listed_among : {X : Type 0} (f : X → List ℕ) (xs : List X) (t : List ℕ) → nat_eq (length xs) 0 ≡ false →
-    is_listed (map f xs) t ≡ list_any (λ x. bytes_eq (f x) t) xs
-listed_among f [] t some = absurd (cc some)
-listed_among f (x ∷ xs) t some = list_any_map (λ c. bytes_eq c t) f (x ∷ xs)
 
 -- the place in a longer list
 later : (n m : ℕ) → cond (nat_lt (1 + n) (suc m)) (Some (1 + n)) None ≡ option_map (λ i. suc i) (cond (nat_lt n m) (Some n) None)

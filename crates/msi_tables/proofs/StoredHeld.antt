@@ -7,7 +7,7 @@ use Rattle.std.specs.Ordering.{is_lt}
 use Rattle.std.specs.List.Sorted.{IsSortedBy, IsStableBy, ties}
 use Rattle.std.proofs.lemmas.List.{get_or-map, length-map}
 use Rattle.msi_pool.specs.declared.stringref.ValueRef.{ValueRef}
-use Rattle.msi_tables.specs.Column.{Column}
+use Rattle.msi_columns.specs.Column.{Column}
 use Rattle.msi_tables.specs.Rows.{IsStored, row_cmp, row_less, skips_of}
 use Rattle.msi_tables.specs.Held.{rows_held}
 use Rattle.msi_tables.proofs.Stored.{stored_order}

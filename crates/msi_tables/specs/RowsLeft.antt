@@ -2,7 +2,7 @@
 use Rattle.std.specs.Prelude.{List}
 use Rattle.std.specs.Rc.{rc_value}
 use Rattle.std.specs.Vec.Iter.{into_iter_items}
-use Rattle.msi_tables.specs.Column.{Column}
+use Rattle.msi_columns.specs.Column.{Column}
 use Rattle.msi_tables.specs.Row.{ValueRow}
 use Rattle.msi_tables.specs.Held.{heading_of}
 use Rattle.msi_tables.specs.declared.rows.Rows.{Rows}

@@ -1,10 +1,10 @@
 // Laws of the definitions, each the contract of a function.
-ghost use Rattle.std.specs.Prelude.{◌≡◌, ◌≤◌, ◌<◌, ℕ, Bool, List, Some, length};
+ghost use Rattle.std.specs.Prelude.{◌≡◌, ℕ, Bool, List, Some};
 ghost use Rattle.msi_pool.specs.Pool.{Pool};
-ghost use Rattle.msi_tables.specs.Column.{Column};
+ghost use Rattle.msi_columns.specs.Column.{Column};
 ghost use Rattle.msi_tables.specs.Rows.{Row, IsStored, ReadBack, rows_of, rows_bytes};
 ghost use Rattle.msi_tables.specs.Table.{IsStoredByKeys};
-ghost use Rattle.msi_tables.specs.declared.column.ColumnType.{ColumnType};
+ghost use Rattle.msi_columns.specs.declared.column.ColumnType.{ColumnType};
 
 /// Rows have one stored order; and where they are first listed by their keys, as after an insert, too.
 pub fn rows_have_one_stored_order()

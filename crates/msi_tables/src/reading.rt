@@ -1,12 +1,12 @@
 // Reading the rows of a table's stream.
-#![tactic(auto, unfolding(crate::specs::Held::column_of))]
 
 ghost use Rattle.std.specs.Prelude.{◌≡◌, ◌*◌, ◌+◌, ◌<◌, ◌≤◌, ◌^◌, ℕ, List, length, map, IfOk, SomeIff};
 ghost use Rattle.msi_tables.specs.Rows.{row_at, row_width, row_count, kinds_of, numbers_from, IsRead};
-ghost use Rattle.msi_tables.specs.Held.{columns_of, rows_held};
+ghost use Rattle.msi_columns.specs.Held.{columns_of};
+ghost use Rattle.msi_tables.specs.Held.{rows_held};
 
-use crate::{Column, ColumnType};
 use cfb_medium::Error;
+use msi_columns::{Column, ColumnType};
 use msi_pool::ValueRef;
 use std::alloc::{AllocError, Global};
 

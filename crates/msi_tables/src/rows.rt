@@ -1,15 +1,16 @@
 // Rows of a table, one after the other.
 #![tactic(auto, unfolding(crate::specs::Held::heading_of, crate::specs::RowsLeft::rows_columns, crate::specs::RowsLeft::rows_left))]
 
-ghost use Rattle.std.specs.Prelude.{◌≡◌, ℕ, length};
+ghost use Rattle.std.specs.Prelude.{◌≡◌, length};
 ghost use Rattle.std.specs.Iterator.{YieldsFirst, item_count};
 ghost use Rattle.std.specs.List.{All};
 ghost use Rattle.std.specs.Rc.{rc_value};
-ghost use Rattle.msi_tables.specs.Table.{Heading};
-ghost use Rattle.msi_tables.specs.Held.{columns_of, heading_of};
+ghost use Rattle.msi_columns.specs.Held.{columns_of};
+ghost use Rattle.msi_tables.specs.Held.{heading_of};
 ghost use Rattle.msi_tables.specs.RowsLeft.{rows_columns, rows_left};
 
-use crate::{Column, Row, Table};
+use crate::{Row, Table};
+use msi_columns::Column;
 use std::iter::ExactSizeIterator;
 use std::rc::Rc;
 use std::vec::IntoIter;

@@ -1,14 +1,13 @@
 // Writing the rows of a table's stream, in the order in which they are stored.
-#![tactic(auto, unfolding(crate::specs::Held::column_of))]
 
-ghost use Rattle.std.specs.Prelude.{◌≡◌, ◌++◌, ◌<◌, ◌≤◌, ◌⊎◌, ℕ, List, length, map, drop, Some, None, option_map, OnOk, OnErr, IfErr, MatchResult};
+ghost use Rattle.std.specs.Prelude.{◌≡◌, ◌++◌, ◌<◌, ℕ, List, length, map, drop, Some, None, OnOk};
 ghost use Rattle.std.specs.List.Sorted.{IsSortedBy, IsStableBy, IsPermutation};
-ghost use Rattle.msi_tables.specs.Rows.{row_cmp, cell_cmp, row_less, skips_of, is_skipped, kinds_of, first_cells, column_bytes, rows_bytes, HaveCells, AllLonger, Appends, IsStored, IsWritten};
-ghost use Rattle.msi_tables.specs.Held.{column_of, columns_of, rows_held};
-ghost use Rattle.cfb_medium.specs.declared.error.Error.TheVariants.{InvalidInput, Memory};
+ghost use Rattle.msi_tables.specs.Rows.{row_cmp, row_less, skips_of, is_skipped, kinds_of, first_cells, column_bytes, rows_bytes, HaveCells, AllLonger, Appends, IsWritten};
+ghost use Rattle.msi_columns.specs.Held.{column_of, columns_of};
+ghost use Rattle.msi_tables.specs.Held.{rows_held};
 
-use crate::{Column, ColumnType};
 use cfb_medium::Error;
+use msi_columns::{Column, ColumnType};
 use msi_pool::ValueRef;
 use msi_texts::Category;
 use std::alloc::AllocError;

@@ -10,13 +10,12 @@ use Rattle.msi_pool.specs.Datum.{text}
 use Rattle.msi_texts.specs.Category.{is_identifier}
 use Rattle.msi_pool.specs.Pool.{Pool, Place}
 use Rattle.msi_texts.specs.StreamName.{is_valid_name}
-use Rattle.msi_tables.specs.Column.{Column, plain, are_valid}
+use Rattle.msi_columns.specs.Column.{Column, plain, are_valid}
 use Rattle.msi_tables.specs.Rows.{Row, IsArranged, row_cmp}
 use Rattle.msi_tables.specs.Table.{Table, IsStoredByKeys, row_key_cmp, table_named}
-use Rattle.msi_tables.specs.Schema.{columns_name, tables_name, columns_columns, tables_columns, validation_columns, validation_row}
-use Rattle.msi_tables.specs.Schema.{columns_rows as rows_for}
-use Rattle.msi_tables.specs.declared.column.ColumnType.{ColumnType}
-use Rattle.msi_tables.specs.declared.column.ColumnType.TheVariants as kind
+use Rattle.msi_tables.specs.Schema.{columns_name, tables_name, columns_columns, tables_columns, validation_columns, validation_row, columns_rows as rows_for}
+use Rattle.msi_columns.specs.declared.column.ColumnType.{ColumnType}
+use Rattle.msi_columns.specs.declared.column.ColumnType.TheVariants as kind
 use Rattle.msi_changes.specs.Changes.{rows_counted}
 use Rattle.cfb_tree.specs.Names.{ascii_letters}
 use Rattle.msi.specs.Package.{Package, table_name_cmp}

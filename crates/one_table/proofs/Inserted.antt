@@ -8,12 +8,12 @@ use Rattle.std.proofs.lemmas.List.Sorted.{length_permutation, list_any-IsPermuta
 use Rattle.std.proofs.Common.{length-append}
 use Rattle.std.specs.Prelude.{IsPermutation}
 use Rattle.std.specs.Ordering.{is_lt, int_cmp}
-use Rattle.msi_tables.specs.Rows.{IsArranged}
+use Rattle.msi_tables.specs.Rows.{IsArranged, Row, max_rows}
 use Rattle.msi.specs.Package.{table_name_cmp}
 use Rattle.msi.specs.Calls.{table_put, with_rows, rows_put}
 use Rattle.std.specs.Prelude.{bytes_eq, Option}
 use Rattle.std.proofs.Common.{◌<◌}
-use Rattle.msi_tables.specs.Schema.{validation_name}
+use Rattle.msi_tables.specs.Schema.{validation_name, columns_name, tables_name}
 use Rattle.one_table.specs.Contents.{Adds, AreKept}
 use Rattle.one_table.specs.Rules.{unnamed_columns, rows_said}
 use Rattle.one_table.specs.Sheets.{IsSheet}
@@ -23,16 +23,13 @@ use Rattle.one_table.proofs.Arranging.{stored_by_keys}
 use Rattle.one_table.proofs.Distinct.{distinct_after}
 use Rattle.one_table.specs.Contents.{Only, IsKept, package_of, only_table, columns_table, tables_table, all_tables}
 use Rattle.one_table.proofs.Rows.{keys_as_rows}
-use Rattle.msi_tables.specs.Schema.{columns_name, tables_name}
-use Rattle.msi_tables.specs.Table.{IsStoredByKeys}
+use Rattle.msi_tables.specs.Table.{IsStoredByKeys, Table, table_named, row_data, key_values, keys_of, are_distinct}
 use Rattle.std.proofs.Common.{subst}
 use Rattle.one_table.specs.Limits.{InsertsFew}
 use Rattle.msi_texts.specs.Results.{◌>>=◌, unless_not}
 use Rattle.msi_pool.specs.Datum.{Datum, null, number, text, binary}
 use Rattle.msi_pool.specs.Pool.{Pool}
-use Rattle.msi_tables.specs.Column.{Column, is_valid, are_valid}
-use Rattle.msi_tables.specs.Rows.{Row, max_rows}
-use Rattle.msi_tables.specs.Table.{Table, table_named, row_data, key_values, keys_of, are_distinct}
+use Rattle.msi_columns.specs.Column.{Column, is_valid, are_valid}
 use Rattle.msi_changes.specs.Changes.{inserted, new_keys, rows_counted}
 use Rattle.msi.specs.Package.{Package}
 use Rattle.msi.specs.Calls.{may_insert}

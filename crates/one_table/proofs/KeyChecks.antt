@@ -4,16 +4,15 @@ use Rattle.std.specs.Prelude.{Result, if◌then◌else◌}
 use Rattle.std.specs.List.{list_any, list_all}
 use Rattle.std.specs.Ordering.{is_eq}
 use Rattle.msi_pool.specs.Datum.{Datum}
-use Rattle.msi_tables.specs.Table.{has_key, key_cmp}
-use Rattle.msi_tables.proofs.Searches.{list_any_map}
+use Rattle.msi_tables.specs.Table.{has_key, key_cmp, key_values}
+use Rattle.msi_columns.proofs.Choices.{list_any_map}
 use Rattle.msi_changes.proofs.NewKeys.{after_turn, turn as one_turn}
 use Rattle.std.proofs.lemmas.List.Folds.{list_all-map}
 use Rattle.std.specs.declared.alloc.Global.{Global}
 use Rattle.std.proofs.lemmas.List.{map-append, take_more}
 use Rattle.msi_pool.specs.Datum.{data_of}
 use Rattle.msi_pool.specs.declared.value.Value.{Value}
-use Rattle.msi_tables.specs.Column.{Column, are_valid}
-use Rattle.msi_tables.specs.Table.{key_values}
+use Rattle.msi_columns.specs.Column.{Column, are_valid}
 use Rattle.one_table.specs.Rules.{keys_held, keys_judged, keys_by, rows_said, judged}
 use Rattle.msi_texts.specs.Results.{◌>>=◌, unless_not}
 use Rattle.cfb_medium.specs.declared.error.Error.{Error}

@@ -6,11 +6,10 @@ use Rattle.std.proofs.lemmas.Bool.Decides.{nat_tests}
 use Rattle.std.proofs.lemmas.Int.{ints}
 use Rattle.msi_texts.specs.Numbers.{le_bytes, le_number}
 use Rattle.msi_pool.specs.declared.stringref.ValueRef.TheVariants as cell
-use Rattle.msi_tables.specs.Cell.{cell_value, above}
-use Rattle.msi_tables.specs.Rows.{rows_of, row_at, numbers_from}
-use Rattle.msi_tables.specs.Rows.{kinds_of}
+use Rattle.msi_columns.specs.Cell.{cell_value, above}
+use Rattle.msi_tables.specs.Rows.{rows_of, row_at, numbers_from, kinds_of}
 use Rattle.msi_tables.specs.Schema.{columns_columns, tables_columns}
-use Rattle.msi_tables.specs.declared.column.ColumnType.TheVariants as kind
+use Rattle.msi_columns.specs.declared.column.ColumnType.TheVariants as kind
 use Rattle.plain.proofs.ImageParts.{take_exact, drop_exact}
 use Rattle.one_table.specs.Contents.{Only, key_row, is_key, columns_rows, tables_rows}
 use Rattle.one_table.specs.Streams.{key_number, keys_bytes, columns_bytes, tables_bytes}

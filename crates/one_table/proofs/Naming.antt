@@ -8,7 +8,7 @@ use Rattle.msi.specs.Calls.{names_distinct}
 use Rattle.one_table.specs.declared.column.Column.{Column}
 use Rattle.one_table.specs.Requests.{column_said, columns_said}
 use Rattle.one_table.specs.Naming.{are_named}
-use Rattle.msi_tables.proofs.Searches.{list_any_map}
+use Rattle.msi_columns.proofs.Choices.{list_any_map}
 use Rattle.std.proofs.lemmas.List.Folds.{list_all-map}
 
 pub distinct_step : (first : Column) (rest : List Column)

@@ -31,7 +31,7 @@ use Rattle.std.specs.declared.cmp.Ordering.TheVariants.{Equal}
 use Rattle.std.proofs.lemmas.Cmp.{nat_list_cmp_total, nat_list_eq_equiv}
 use Rattle.std.proofs.lemmas.Map.Views.{Contains-from_any, list_any-from_Contains}
 use Rattle.cfb_tree.proofs.NameOrder.{slice_cmp_equal, name_cmp_total}
-use Rattle.msi_tables.proofs.Searches.{list_any_map}
+use Rattle.msi_columns.proofs.Choices.{list_any_map}
 use Rattle.std.proofs.Common.{lit<, lit≤, length-append}
 use Rattle.std.specs.Prelude.{nat_lt, nat_le, ◌==◌}
 use Rattle.std.proofs.lemmas.Bool.Decides.{nat_tests}
@@ -45,7 +45,7 @@ use Rattle.cfb_tree.specs.Names.{name_key, letter}
 use Rattle.std.proofs.lemmas.Str.{IsUtf8-from_ascii, is_utf8-from_IsUtf8}
 use Rattle.msi_texts.specs.declared.codepage.CodePage.TheVariants as page
 use Rattle.one_table.proofs.Identifiers.{ascii_bytes, name_bytes}
-use Rattle.msi_tables.specs.declared.column.ColumnType.TheVariants as kind
+use Rattle.msi_columns.specs.declared.column.ColumnType.TheVariants as kind
 use Rattle.one_table.specs.Contents.{key_row}
 use Rattle.one_table.proofs.KeyRows.{key_rows, columns_read, tables_read}
 

@@ -2,7 +2,7 @@
 use Rattle.std.proofs.Common.{◌≡◌, ℕ, Bool, true, false, List, [], ◌∷◌, map, refl, ap, ◌∙◌, Some, None, Ok, Err, cond}
 use Rattle.std.specs.Prelude.{filter, ◌&&◌}
 use Rattle.std.specs.List.{list_all}
-use Rattle.msi_tables.specs.Column.{has_column}
+use Rattle.msi_columns.specs.Column.{has_column}
 use Rattle.msi_tables.specs.Table.{Table, table_named, row_data}
 use Rattle.msi_query.specs.Query.{query, table, projected, filtered}
 use Rattle.msi_expr.specs.Conditions.{knows_condition}

@@ -6,11 +6,11 @@ use Rattle.msi_texts.specs.Category.{is_identifier}
 use Rattle.msi_pool.specs.Pool.{Pool, Place}
 use Rattle.msi_texts.specs.declared.codepage.CodePage.TheVariants as page
 use Rattle.msi_pool.specs.declared.stringref.ValueRef.TheVariants as cell
-use Rattle.msi_tables.specs.Column.{Column, plain}
+use Rattle.msi_columns.specs.Column.{Column, plain, as_key}
 use Rattle.msi_tables.specs.Rows.{Row}
-use Rattle.msi_tables.specs.Schema.{as_key, columns_name, tables_name, columns_columns, tables_columns}
+use Rattle.msi_tables.specs.Schema.{columns_name, tables_name, columns_columns, tables_columns}
 use Rattle.msi_tables.specs.Table.{Table, is_valid_table_name, are_distinct}
-use Rattle.msi_tables.specs.declared.column.ColumnType.TheVariants as kind
+use Rattle.msi_columns.specs.declared.column.ColumnType.TheVariants as kind
 use Rattle.msi.specs.Package.{Package}
 use Rattle.msi.specs.Calls.{table_put, title_of}
 use Rattle.msi.specs.declared.kind.PackageType.TheVariants.{Installer}

@@ -6,12 +6,12 @@ use Rattle.msi_texts.specs.Results.{◌>>=◌, unless_not}
 use Rattle.msi_pool.specs.Datum.{Datum, text}
 use Rattle.msi_texts.specs.Category.{is_identifier}
 use Rattle.msi_pool.specs.Pool.{Pool}
-use Rattle.msi_tables.specs.Column.{Column, are_valid}
+use Rattle.msi_columns.specs.Column.{Column, are_valid}
 use Rattle.msi_tables.specs.Rows.{Row}
 use Rattle.msi_tables.specs.Table.{is_valid_table_name, IsStoredByKeys}
 use Rattle.msi_tables.specs.Schema.{tables_name, columns_name, tables_columns, columns_columns, validation_columns, columns_rows, validation_row}
-use Rattle.msi_tables.specs.declared.column.ColumnType.{ColumnType}
-use Rattle.msi_tables.specs.declared.column.ColumnType.TheVariants as kind
+use Rattle.msi_columns.specs.declared.column.ColumnType.{ColumnType}
+use Rattle.msi_columns.specs.declared.column.ColumnType.TheVariants as kind
 use Rattle.msi_query.specs.Query.{Query, query, table, inner_join, left_join}
 use Rattle.msi_changes.specs.Changes.{inserted, rows_counted}
 use Rattle.cfb_tree.specs.Names.{Letters}

@@ -4,7 +4,7 @@ use Rattle.std.specs.List.{list_all}
 use Rattle.msi_texts.specs.Results.{◌>>=◌, unless_not}
 use Rattle.msi_pool.specs.Datum.{Datum, data_of}
 use Rattle.msi_pool.specs.declared.value.Value.{Value}
-use Rattle.msi_tables.specs.Column.{Column, plain, are_valid}
+use Rattle.msi_columns.specs.Column.{Column, plain, are_valid}
 use Rattle.msi_tables.specs.Table.{key_values}
 use Rattle.msi_changes.specs.Changes.{new_keys}
 use Rattle.std.specs.Prelude.{Vec}

@@ -1,7 +1,7 @@
 -- A table as it is read: the names of its columns, their types, and its rows as values.
 use Rattle.std.specs.Prelude.{◌≡◌, [], map, string_bytes}
 use Rattle.msi_pool.specs.Pool.{Pool}
-use Rattle.msi_tables.specs.Column.{Column}
+use Rattle.msi_columns.specs.Column.{Column}
 use Rattle.msi_tables.specs.Table.{Table, row_data}
 use Rattle.one_table.specs.Rules.{unnamed_columns, rows_said}
 use Rattle.one_table.specs.declared.sheet.Sheet.{Sheet}

@@ -1,10 +1,9 @@
 // Columns of a table.
 ghost use Rattle.std.specs.Prelude.{◌≡◌, IfOk, IfErr, string_bytes, true, false};
 ghost use Rattle.cfb_medium.specs.declared.error.Error.TheVariants.{Memory};
-ghost use Rattle.msi_tables.specs.declared.column.ColumnType.TheVariants as kind;
+ghost use Rattle.msi_columns.specs.declared.column.ColumnType.TheVariants as kind;
 ghost use Rattle.one_table.specs.Requests.{column_said, builder_said};
-ghost use Rattle.msi_tables.specs.Column.{plain};
-ghost use Rattle.msi_tables.specs.Schema.{as_key, but_null};
+ghost use Rattle.msi_columns.specs.Column.{plain, as_key, but_null};
 
 use cfb_medium::Error;
 use msi_tables::ColumnType;

@@ -3,7 +3,7 @@ ghost use Rattle.std.specs.Prelude.{◌≡◌, ◌⊎◌, ◌≤◌, ◌<◌, �
 ghost use Rattle.std.specs.List.{list_all, list_any};
 ghost use Rattle.std.specs.Ordering.{is_eq};
 ghost use Rattle.msi_pool.specs.Datum.{datum_of, data_of};
-ghost use Rattle.msi_tables.specs.Column.{plain, is_valid, are_valid};
+ghost use Rattle.msi_columns.specs.Column.{plain, is_valid, are_valid};
 ghost use Rattle.msi_tables.specs.Table.{key_values, key_cmp};
 ghost use Rattle.one_table.specs.Rules.{unnamed_column, unnamed_columns, rows_said, keys_judged, judged};
 

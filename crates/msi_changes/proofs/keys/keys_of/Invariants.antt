@@ -1,6 +1,7 @@
 use Rattle.std.proofs.Common.{◌≡◌, ◌++◌, drop, map}
 use Rattle.msi_pool.specs.Datum.{data_of}
-use Rattle.msi_tables.specs.Held.{columns_of, rows_held}
+use Rattle.msi_columns.specs.Held.{columns_of}
+use Rattle.msi_tables.specs.Held.{rows_held}
 use Rattle.msi_tables.specs.Table.{key_values, row_data}
 use Rattle.msi_changes.proofs.keys.keys_of.Given as goal
 

@@ -1,6 +1,6 @@
 use Rattle.std.proofs.Common.{◌≡◌, ◌++◌, drop, map}
 use Rattle.msi_pool.specs.Datum.{data_of}
-use Rattle.msi_tables.specs.Held.{columns_of}
+use Rattle.msi_columns.specs.Held.{columns_of}
 use Rattle.msi_tables.specs.Table.{key_values}
 use Rattle.msi_changes.proofs.keys.keys_of_values.Given as goal
 

@@ -5,7 +5,8 @@ use Rattle.msi_tables.specs.Row.{cells_of}
 use Rattle.msi_expr.proofs.FilledUp.{seen_whole, filled_length}
 use Rattle.std.proofs.lemmas.List.{length-map}
 use Rattle.msi_expr.specs.Conditions.{filled_up}
-use Rattle.msi_tables.specs.Held.{column_of, heading_of, columns_of}
+use Rattle.msi_columns.specs.Held.{column_of, columns_of}
+use Rattle.msi_tables.specs.Held.{heading_of}
 use Rattle.msi_tables.specs.Table.{row_data}
 use Rattle.std.specs.Rc.{rc_value}
 use Rattle.msi_expr.proofs.matching.holds.Goals as goal

@@ -1,6 +1,6 @@
 use Rattle.std.proofs.Common.{rules, ◌<◌, length, arith}
 use Rattle.std.proofs.lemmas.Grind.{common_steps}
-use Rattle.msi_tables.specs.Held.{columns_of, column_of}
+use Rattle.msi_columns.specs.Held.{columns_of, column_of}
 use Rattle.msi_query.proofs.Parts.{parts_next_said, parts_skip}
 use Rattle.std.proofs.lemmas.List.{map-append, length-map}
 use Rattle.msi_query.proofs.cutting.columns_at.Goals as goal

@@ -1,6 +1,6 @@
 use Rattle.std.proofs.Common.{◌≡◌, ◌++◌, drop}
 use Rattle.msi_query.specs.Query.{parts_at}
-use Rattle.msi_tables.specs.Held.{columns_of}
+use Rattle.msi_columns.specs.Held.{columns_of}
 use Rattle.msi_query.proofs.cutting.columns_at.Given as goal
 
 abbrev pub invariant-loop-place : goal.invariant-loop-place

@@ -2,7 +2,7 @@ use Rattle.std.proofs.Common.{◌≡◌, ◌∙◌, sym, subst, inr, map, true, 
 use Rattle.msi_query.specs.Answered.{answered}
 use Rattle.msi_expr.specs.Conditions.{knows_condition, condition_of}
 use Rattle.msi_texts.specs.Results.{Answers}
-use Rattle.msi_tables.specs.Column.{has_column}
+use Rattle.msi_columns.specs.Column.{has_column}
 use Rattle.msi_tables.specs.Held.{rows_held}
 use Rattle.std.specs.List.{list_all}
 use Rattle.std.specs.Prelude.{string_bytes}

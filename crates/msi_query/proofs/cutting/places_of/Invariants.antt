@@ -1,7 +1,7 @@
 use Rattle.std.proofs.Common.{◌≡◌, ◌++◌, drop, map}
 use Rattle.std.specs.Prelude.{string_bytes}
 use Rattle.std.specs.List.{filter_map}
-use Rattle.msi_tables.specs.Column.{column_place}
+use Rattle.msi_columns.specs.Column.{column_place}
 use Rattle.msi_tables.specs.Held.{heading_of}
 use Rattle.msi_query.proofs.cutting.places_of.Given as goal
 

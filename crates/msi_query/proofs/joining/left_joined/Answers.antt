@@ -7,11 +7,11 @@ use Rattle.msi_query.specs.Answered.{answered}
 use Rattle.msi_pool.specs.declared.stringref.ValueRef.TheVariants as cell
 use Rattle.msi_expr.specs.Conditions.{knows}
 use Rattle.msi_query.specs.Query.{or_once, pairs_with, side_columns}
-use Rattle.msi_tables.specs.Column.{side_column}
+use Rattle.msi_columns.specs.Column.{side_column, but_null}
 use Rattle.std.specs.List.{flat_map}
 use Rattle.std.specs.Rc.{rc_value}
-use Rattle.msi_tables.specs.Held.{column_of, columns_of, heading_of, rows_held}
-use Rattle.msi_tables.specs.Schema.{but_null}
+use Rattle.msi_columns.specs.Held.{column_of, columns_of}
+use Rattle.msi_tables.specs.Held.{heading_of, rows_held}
 use Rattle.msi_query.proofs.joining.left_joined.Goals as goal
 
 pub returns : goal.returns

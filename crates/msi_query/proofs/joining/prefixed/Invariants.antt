@@ -1,6 +1,6 @@
 use Rattle.std.proofs.Common.{◌≡◌, ◌++◌, drop, map}
-use Rattle.msi_tables.specs.Column.{side_column}
-use Rattle.msi_tables.specs.Held.{columns_of}
+use Rattle.msi_columns.specs.Column.{side_column}
+use Rattle.msi_columns.specs.Held.{columns_of}
 use Rattle.msi_query.proofs.joining.prefixed.Given as goal
 
 abbrev pub invariant-loop-column : goal.invariant-loop-column

@@ -1,6 +1,6 @@
 use Rattle.std.proofs.Common.{◌≡◌, ◌++◌, drop}
 use Rattle.msi_tables.specs.Rows.{kinds_of}
-use Rattle.msi_tables.specs.Held.{columns_of}
+use Rattle.msi_columns.specs.Held.{columns_of}
 use Rattle.msi_tables.proofs.reading.kinds_of.Given as goal
 
 abbrev pub invariant-loop-column : goal.invariant-loop-column

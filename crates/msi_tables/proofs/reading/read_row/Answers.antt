@@ -1,6 +1,6 @@
 use Rattle.std.proofs.Common.{◌≡◌, ◌+◌, arith, drop, rules, length}
 use Rattle.std.proofs.lemmas.List.{at_drop_more}
-use Rattle.msi_tables.specs.declared.column.ColumnType.TheVariants as kind
+use Rattle.msi_columns.specs.declared.column.ColumnType.TheVariants as kind
 use Rattle.msi_tables.specs.Rows.{row_width}
 use Rattle.msi_tables.proofs.CellEnds.{cell_ends}
 use Rattle.msi_tables.proofs.reading.read_row.Goals as goal

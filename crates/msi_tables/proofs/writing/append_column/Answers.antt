@@ -1,7 +1,7 @@
 use Rattle.std.proofs.Common.{ap, arith, Err}
 use Rattle.std.specs.Prelude.{option_map}
 use Rattle.msi_texts.specs.Numbers.{le_bytes}
-use Rattle.msi_tables.specs.Cell.{width_of}
+use Rattle.msi_columns.specs.Cell.{width_of}
 use Rattle.msi_tables.proofs.Appending.{next_cell, piece_written, no_piece, cell_piece, why, kept_more, longer}
 use Rattle.msi_tables.proofs.writing.append_column.Goals as goal
 

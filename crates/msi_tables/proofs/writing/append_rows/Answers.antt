@@ -1,7 +1,8 @@
 use Rattle.std.proofs.Common.{◌++◌, [], ap, rules}
 use Rattle.std.specs.Prelude.{option_map}
 use Rattle.msi_tables.specs.Rows.{rows_bytes, kinds_of}
-use Rattle.msi_tables.specs.Held.{columns_of, rows_held}
+use Rattle.msi_columns.specs.Held.{columns_of}
+use Rattle.msi_tables.specs.Held.{rows_held}
 use Rattle.msi_tables.proofs.Appending.{next_column, drop_none_each, piece_written, kept_more}
 use Rattle.msi_tables.proofs.writing.append_rows.Goals as goal
 

@@ -1,7 +1,7 @@
 use Rattle.std.proofs.Common.{rules}
 use Rattle.std.proofs.lemmas.Fn.{always_returns_same}
 use Rattle.msi_tables.specs.Rows.{row_less, skips_of}
-use Rattle.msi_tables.specs.Held.{columns_of}
+use Rattle.msi_columns.specs.Held.{columns_of}
 use Rattle.msi_tables.proofs.CellOrder.{row_less_orders, sorted_by}
 use Rattle.msi_tables.proofs.writing.sort_rows.Goals as goal
 

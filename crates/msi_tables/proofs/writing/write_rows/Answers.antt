@@ -1,6 +1,7 @@
 use Rattle.std.proofs.Common.{◌≡◌, length, arith, inr}
 use Rattle.std.proofs.lemmas.List.Sorted.{All-permutation, IsPermutation-map}
-use Rattle.msi_tables.specs.Held.{columns_of, rows_held}
+use Rattle.msi_columns.specs.Held.{columns_of}
+use Rattle.msi_tables.specs.Held.{rows_held}
 use Rattle.msi_tables.proofs.Appending.{cut_back}
 use Rattle.msi_tables.proofs.StoredHeld.{stored_held}
 use Rattle.msi_tables.proofs.writing.write_rows.Goals as goal

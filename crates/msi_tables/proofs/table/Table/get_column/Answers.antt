@@ -1,5 +1,6 @@
 use Rattle.std.specs.Prelude.{bytes_eq}
-use Rattle.msi_tables.specs.Held.{column_of, heading_of}
+use Rattle.msi_columns.specs.Held.{column_of}
+use Rattle.msi_tables.specs.Held.{heading_of}
 use Rattle.msi_tables.proofs.Searches.{found_says}
 use Rattle.msi_tables.proofs.table.Table.get_column.Goals as goal
 

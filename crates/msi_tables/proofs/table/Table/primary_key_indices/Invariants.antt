@@ -1,6 +1,6 @@
 use Rattle.std.proofs.Common.{◌≡◌, ◌++◌, drop}
 use Rattle.msi_tables.specs.Table.{key_places}
-use Rattle.msi_tables.specs.Held.{columns_of}
+use Rattle.msi_columns.specs.Held.{columns_of}
 use Rattle.msi_tables.proofs.table.Table.primary_key_indices.Given as goal
 
 -- the places so far and those to come

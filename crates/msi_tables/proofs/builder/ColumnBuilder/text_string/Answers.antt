@@ -1,6 +1,0 @@
-use Rattle.std.proofs.Common.{◌∙◌}
-use Rattle.msi_tables.specs.declared.column.ColumnType.TheVariants as kind
-use Rattle.msi_tables.proofs.builder.ColumnBuilder.text_string.Goals as goal
-
-pub returns : goal.returns
-returns c = c.string.ensures ∙ c.category.ensures (kind.Str c.args.max_len)

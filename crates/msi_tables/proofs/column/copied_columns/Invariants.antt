@@ -1,6 +1,0 @@
-use Rattle.std.proofs.Common.{◌≡◌, ◌++◌, drop}
-use Rattle.msi_tables.specs.Held.{columns_of}
-use Rattle.msi_tables.proofs.column.copied_columns.Given as goal
-
-abbrev pub invariant-loop-column : goal.invariant-loop-column
-invariant-loop-column l = columns_of l.copies.items ++ columns_of (drop l.column-index l.columns) ≡ columns_of l.columns
