@@ -1,4 +1,5 @@
-//! Tests from outside: of the store and of sessions over a device that fails one of its calls, of chains of sectors, and of tables.
+//! Tests from outside: of the store and of sessions over a device that fails one of its calls, of sectors and their chains, of texts,
+//! values and pools, and of tables.
 #![tactic(auto)]
 
 #[cfg(test)]
@@ -14,9 +15,15 @@ mod faulty;
 #[cfg(test)]
 mod logs;
 #[cfg(test)]
+mod pool;
+#[cfg(test)]
 mod queries;
+#[cfg(test)]
+mod sectors;
 #[cfg(test)]
 mod sessions;
 pub mod shelf;
 #[cfg(test)]
 mod tables;
+#[cfg(test)]
+mod texts;

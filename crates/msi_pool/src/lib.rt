@@ -17,6 +17,3 @@ pub use poolbuilder::StringPoolBuilder;
 pub use stringpool::StringPool;
 pub use stringref::{StringRef, ValueRef};
 pub use value::Value;
-
-#[cfg(test)]
-mod tests;

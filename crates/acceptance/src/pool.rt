@@ -1,6 +1,6 @@
 // What the format's own worked examples say of values and pools.
-use crate::{StringPool, StringPoolBuilder, StringRef, Value, ValueRef};
 use cfb_medium::Error;
+use msi_pool::{StringPool, StringPoolBuilder, StringRef, Value, ValueRef};
 use msi_texts::{Category, CodePage, LanguageId};
 use std::alloc::Global;
 use std::test::Fail;
