@@ -18,7 +18,7 @@ turned_equal Equal = refl
 turned_equal Greater = refl
 
 -- two keys are one from either side
-one_key : (x y : List Datum) → is_eq (key_cmp x y) ≡ is_eq (key_cmp y x)
+pub one_key : (x y : List Datum) → is_eq (key_cmp x y) ≡ is_eq (key_cmp y x)
 one_key x y = ap is_eq ((lists_total datum_cmp_total).antisymm x y) ∙ turned_equal (key_cmp y x)
 
 -- none of these keys is among those

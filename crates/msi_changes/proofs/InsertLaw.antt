@@ -20,7 +20,7 @@ pub keys_are : (columns : List Column) (p : Pool) (rows : List Row) → map (λ 
 keys_are columns p [] = refl
 keys_are columns p (r ∷ rs) = ap (λ ks. key_values columns (row_data p r) ∷ ks) (keys_are columns p rs)
 
-module _ (pool : Pool) (t : Table) (new_rows : List (List Datum)) (is_counted : AreCounted pool t.rows) where
+module _ (may : Bool) (pool : Pool) (t : Table) (new_rows : List (List Datum)) (is_counted : AreCounted pool t.rows) where
   -- what is known of the new cells
   abbrev Given : List Row × Pool → Type 0
   Given r = Keeps pool r.1 × (map (row_data r.1) r.0 ≡ new_rows) × (list_all (row_ok r.1) r.0 ≡ true)
@@ -40,16 +40,17 @@ module _ (pool : Pool) (t : Table) (new_rows : List (List Datum)) (is_counted : 
       record { rows = values_after r given; distinct = rw (keys_after_insert r given) (distinct_behind (keys_of pool t) (map (key_values t.columns) new_rows) d new.0 new.2) }
   added d k (Err e) given = tt
 
-  judged : (v d m : Bool) (k : Result (Unit {0}) Error) (c : Result (List Row × Pool) Error) → (d ≡ true → k ≡ Ok tt → IfOk c (λ r. AddsRows pool t new_rows (t.rows ++ r.0, r.1)))
-      → IfOk (unless_not v InvalidInput >>= λ _. unless_not d InvalidData >>= λ _. k >>= λ _. unless_not true InvalidInput >>= λ _. unless_not m InvalidInput >>= λ _. c >>= λ r. Ok (t.rows ++ r.0, r.1)) (AddsRows pool t new_rows)
-  judged false d m k c go = tt
-  judged true false m k c go = tt
-  judged true true m (Err e) c go = tt
-  judged true true false (Ok u) c go = tt
-  judged true true true (Ok u) (Err e) go = tt
-  judged true true true (Ok u) (Ok r) go = go refl refl
+  judged : (v d m few : Bool) (k : Result (Unit {0}) Error) (c : Result (List Row × Pool) Error) → (d ≡ true → k ≡ Ok tt → IfOk c (λ r. AddsRows pool t new_rows (t.rows ++ r.0, r.1)))
+      → IfOk (unless_not v InvalidInput >>= λ _. unless_not d InvalidData >>= λ _. k >>= λ _. unless_not m InvalidInput >>= λ _. unless_not few InvalidInput >>= λ _. c >>= λ r. Ok (t.rows ++ r.0, r.1)) (AddsRows pool t new_rows)
+  judged false d m few k c go = tt
+  judged true false m few k c go = tt
+  judged true true m few (Err e) c go = tt
+  judged true true false few (Ok u) c go = tt
+  judged true true true false (Ok u) c go = tt
+  judged true true true true (Ok u) (Err e) go = tt
+  judged true true true true (Ok u) (Ok r) go = go refl refl
 
-  pub adds_rows : IfOk (inserted true pool t new_rows) (AddsRows pool t new_rows)
+  pub adds_rows : IfOk (inserted may pool t new_rows) (AddsRows pool t new_rows)
   adds_rows =
-      judged (list_all (are_valid t.columns) new_rows) (are_distinct (keys_of pool t)) (nat_le (length t.rows + length new_rows) max_rows)
+      judged (list_all (are_valid t.columns) new_rows) (are_distinct (keys_of pool t)) may (nat_le (length t.rows + length new_rows) max_rows)
       (new_keys (keys_of pool t) [] (map (key_values t.columns) new_rows)) (rows_counted pool new_rows) (λ d k. added d k (rows_counted pool new_rows) (rows_given pool new_rows))

@@ -1,3 +1,4 @@
+pub mod Arrangements
 pub mod CellUses
 pub mod DeleteLaw
 pub mod Deleting

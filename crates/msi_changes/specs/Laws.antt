@@ -48,7 +48,7 @@ pub record KeepsUses (pool : Pool) (columns : List Column) (others : ℕ → ℕ
   pub uses : AreUses columns others after.1 after.0
   pub stays : OthersStay others pool after.1
 
--- the rows that match are read with the new values, the others as before, and distinct keys stay distinct
+-- the rows that match are read with the new values, the others as before; keys are distinct where they were, or where a column of the key is set
 pub record SetsCells (pool : Pool) (t : Table) (sets : List (List ℕ × Datum)) (condition : Option Formula) (after : List Row × Pool) : Type 0 where
   pub rows : map (row_data after.1) after.0 ≡ map (values_after pool t.columns sets condition) t.rows
   pub distinct : (sets_key t.columns sets || are_distinct (keys_of pool t)) ≡ true → are_distinct (keys_of after.1 (record t { rows = after.0 })) ≡ true
@@ -57,3 +57,8 @@ pub record SetsCells (pool : Pool) (t : Table) (sets : List (List ℕ × Datum))
 pub record LeavesRows (pool : Pool) (t : Table) (condition : Option Formula) (after : List Row × Pool) : Type 0 where
   pub rows : map (row_data after.1) after.0 ≡ map (row_data pool) (filter (λ row. not (matches pool t.columns condition row)) t.rows)
   pub distinct : are_distinct (keys_of pool t) ≡ true → are_distinct (keys_of after.1 (record t { rows = after.0 })) ≡ true
+
+-- rows as they are stored: the same uses of texts, and keys as distinct
+pub record StoredAlike (pool : Pool) (t : Table) (stored : List Row) : Type 0 where
+  pub uses : (others : ℕ → ℕ) → AreUses t.columns others pool t.rows → AreUses t.columns others pool stored
+  pub distinct : are_distinct (keys_of pool t) ≡ true → are_distinct (keys_of pool (record t { rows = stored })) ≡ true

@@ -2,22 +2,23 @@
 ghost use Rattle.msi_expr.specs.Formula.{Formula};
 ghost use Rattle.msi_pool.specs.Datum.{Datum};
 ghost use Rattle.msi_pool.specs.Pool.{Pool};
-ghost use Rattle.msi_changes.specs.Laws.{AddsRows, AreCounted, AreUses, KeepsUses, LeavesRows, SetsCells};
+ghost use Rattle.msi_changes.specs.Laws.{AddsRows, AreCounted, AreUses, KeepsUses, LeavesRows, SetsCells, StoredAlike};
 ghost use Rattle.msi_changes.specs.Changes.{deleted, inserted, updated};
 ghost use Rattle.msi_columns.specs.Column.{Column};
-ghost use Rattle.msi_tables.specs.Rows.{Row};
-ghost use Rattle.msi_tables.specs.Table.{Table};
-ghost use Rattle.std.specs.Prelude.{true, Bool, IfOk, List, Option, ℕ};
+ghost use Rattle.msi_tables.specs.Rows.{IsStored, Row};
+ghost use Rattle.msi_tables.specs.Table.{IsStoredByKeys, Table};
+ghost use Rattle.std.specs.Prelude.{Bool, IfOk, List, Option, ℕ};
 
 /// An insert that is accepted adds exactly its rows, and no key stands twice after it, where each text of the stored rows has
 /// its use in the pool.
 #[tactic(auto, using(crate::proofs::InsertLaw::adds_rows))]
 pub fn inserts_add_their_rows()
-    ensures { (pool : Pool) (t : Table) (new_rows : List (List Datum)) → AreCounted pool t.rows → IfOk (inserted true pool t new_rows) (AddsRows pool t new_rows) }
+    ensures { (may : Bool) (pool : Pool) (t : Table) (new_rows : List (List Datum)) → AreCounted pool t.rows → IfOk (inserted may pool t new_rows) (AddsRows pool t new_rows) }
 {}
 
-/// An update that is accepted sets exactly its cells, and distinct keys stay distinct, where each place of the pool has the
-/// uses of the table's cells, beside others. They still have them after it, and the texts that others use stay.
+/// An update that is accepted sets exactly its cells, and keys are distinct after it where they were before it or a column of the
+/// key is set, where each place of the pool has the uses of the table's cells, beside others. The places have them after it too,
+/// and the texts that others use stay.
 #[tactic(auto, using(crate::proofs::UpdateLaw::sets_cells))]
 pub fn updates_keep_keys_distinct()
     ensures { (may : Bool) (pool : Pool) (t : Table) (sets : List (List ℕ × Datum)) (condition : Option Formula) (others : ℕ → ℕ) → AreUses t.columns others pool t.rows
@@ -37,4 +38,12 @@ pub fn deletes_leave_the_other_rows()
 pub fn inserts_count_their_texts()
     ensures kept { (may : Bool) (pool : Pool) (t : Table) (new_rows : List (List Datum)) (others : ℕ → ℕ) → AreUses t.columns others pool t.rows → IfOk (inserted may pool t new_rows) (KeepsUses pool t.columns others) }
     ensures counted { (columns : List Column) (others : ℕ → ℕ) (pool : Pool) (rows : List Row) → AreUses columns others pool rows → AreCounted pool rows }
+{}
+
+/// The order in which rows are stored, after an update or delete and after an insert, changes neither which keys stand twice nor
+/// how often texts are used.
+#[tactic(auto, using(crate::proofs::Arrangements::stored_alike, crate::proofs::Arrangements::by_keys_alike))]
+pub fn stored_rows_keep_keys_distinct()
+    ensures stored { (pool : Pool) (t : Table) (stored : List Row) → IsStored t.columns t.rows stored → StoredAlike pool t stored }
+    ensures by_keys { (pool : Pool) (t : Table) (stored : List Row) → IsStoredByKeys pool t.columns t.rows stored → StoredAlike pool t stored }
 {}

@@ -15,6 +15,6 @@ pub use delete::Delete;
 pub use insert::Insert;
 pub use laws::{
     deletes_leave_the_other_rows, inserts_add_their_rows, inserts_count_their_texts,
-    updates_keep_keys_distinct,
+    stored_rows_keep_keys_distinct, updates_keep_keys_distinct,
 };
 pub use update::Update;
