@@ -1,6 +1,8 @@
-//! Tests from outside: of the store and of sessions over a device that fails one of its calls, and of tables.
+//! Tests from outside: of the store and of sessions over a device that fails one of its calls, of chains of sectors, and of tables.
 #![tactic(auto)]
 
+#[cfg(test)]
+mod chains;
 #[cfg(test)]
 mod changes;
 #[cfg(test)]

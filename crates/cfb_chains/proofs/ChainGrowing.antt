@@ -37,7 +37,7 @@ in_use table start (x ∷ ids) n (is, regular, next, found, rest) loose zero bel
 in_use table start (x ∷ ids) n (is, regular, next, found, rest) loose (suc k) below same = in_use table next ids n rest loose k (omega arith) same
 
 -- an entry that stays
-kept_entry : (entries old new : List ℕ) → StayBut entries old new → (n next : ℕ) → IsNoneOf entries n → slice_get old n ≡ Some next → slice_get new n ≡ Some next
+pub kept_entry : (entries old new : List ℕ) → StayBut entries old new → (n next : ℕ) → IsNoneOf entries n → slice_get old n ≡ Some next → slice_get new n ≡ Some next
 kept_entry entries old new stay n next none found =
     let below = slice_get_within old n next found in
     slice_get-get_or new n 0 (omega (arith, below, stay.size)) ∙ ap Some (stay.others n below none ∙ get_or_from_slice_get old n next 0 found)

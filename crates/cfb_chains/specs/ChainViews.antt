@@ -12,13 +12,13 @@ module _ {H : Type 0} {g : Ghosts H} where
   holder_of it = it.holder.now
 
   abbrev pub version_of : Chain H g → Version
-  version_of it = links_version it.links
+  version_of it = links_version it.links.now
 
   abbrev pub links_of : Chain H g → Links
-  links_of it = it.links
+  links_of it = it.links.now
 
   abbrev pub sectors_of : Chain H g → List ℕ
-  sectors_of it = ids_of it.links
+  sectors_of it = ids_of it.links.now
 
   abbrev pub position_of : Chain H g → ℕ
   position_of it = it.position
@@ -27,9 +27,10 @@ module _ {H : Type 0} {g : Ghosts H} where
   abbrev pub init_of : Chain H g → SectorInit
   init_of it = it.init
 
-  -- the same chain, lent by the same layer
+  -- the same chain, lent by the same layer and links
   pub record IsSame (old new : Chain H g) : Type 0 where
     pub holder : new.holder.ghost_name ≡ old.holder.ghost_name
+    pub links : new.links.ghost_name ≡ old.links.ghost_name
     pub version : version_of new ≡ version_of old
     pub init : init_of new ≡ init_of old
     pub sectors : sectors_of new ≡ sectors_of old
@@ -37,5 +38,6 @@ module _ {H : Type 0} {g : Ghosts H} where
   -- the same but for its sectors and its position
   pub record IsSameBut (old new : Chain H g) : Type 0 where
     pub holder : new.holder.ghost_name ≡ old.holder.ghost_name
+    pub links : new.links.ghost_name ≡ old.links.ghost_name
     pub version : version_of new ≡ version_of old
     pub init : init_of new ≡ init_of old

@@ -17,20 +17,22 @@ use std::io::SeekFrom;
 #[derive(Drop)]
 pub struct Chain<'a, H: HasSectors> {
     pub(crate) holder: &'a mut H,
-    pub(crate) links: Links,
+    pub(crate) links: &'a mut Links,
     pub(crate) position: u64,
     pub(crate) init: SectorInit,
-    ghost inside: { position ≤ length (ids_of links) * sector_len (links_version links) },
+    ghost inside: { position ≤ length (ids_of links.now) * sector_len (links_version links.now) },
 }
 
 impl<'a, H: HasSectors> Chain<'a, H> {
     ghost use Rattle.cfb_chains.specs.ChainViews.{holder_of, init_of, position_of, sectors_of, version_of, IsSame};
 
-    /// The chain of these sectors, at its first byte. What it takes in later holds at first what `init` says.
-    pub fn new(holder: &'a mut H, links: Links, init: SectorInit) -> Chain<'a, H>
+    /// The chain of these sectors, at its first byte. What it takes in later holds at first what `init` says, and the links
+    /// have it too.
+    pub fn new(holder: &'a mut H, links: &'a mut Links, init: SectorInit) -> Chain<'a, H>
         ensures same_reference { result.holder.ghost_name ≡ holder.entry.ghost_name }
+        ensures same_links { result.links.ghost_name ≡ links.entry.ghost_name }
         ensures holder { holder_of result ≡ holder.old }
-        ensures chain { (version_of result ≡ links_version links) × (sectors_of result ≡ ids_of links) × (position_of result ≡ 0) × (init_of result ≡ init) }
+        ensures chain { (version_of result ≡ links_version links.old) × (sectors_of result ≡ ids_of links.old) × (position_of result ≡ 0) × (init_of result ≡ init) }
     {
         Chain {
             holder,

@@ -13,5 +13,5 @@ mod links;
 pub use chain::Chain;
 pub use freeing::FreesChains;
 pub use growing::GrowsChains;
-pub use laws::{freed_sectors_are_in_no_chain, other_chains_stay};
+pub use laws::{freed_sectors_are_in_no_chain, longer_chains_stay_apart, other_chains_stay};
 pub use links::{Links, chain_in};

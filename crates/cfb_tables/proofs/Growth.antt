@@ -10,7 +10,7 @@ use Rattle.cfb_medium.specs.Versions.{sector_len}
 use Rattle.cfb_medium.specs.declared.version.Version.{Version}
 use Rattle.cfb_medium.specs.declared.version.Version.TheVariants.{V3, V4}
 use Rattle.cfb_sectors.specs.Initial.{initial}
-use Rattle.cfb_sectors.specs.Sectors.{fat_in, filled_part, free, joined, sector, sector_start}
+use Rattle.cfb_sectors.specs.Sectors.{fat_in, filled_part, free, greatest_regular, joined, sector, sector_start}
 use Rattle.cfb_sectors.specs.declared.initial.SectorInit.TheVariants.{Fat}
 use Rattle.cfb_chains.specs.Changes.{StayBut}
 use Rattle.cfb_chains.specs.Changes.{AreOnce, IsBeside}
@@ -113,18 +113,6 @@ below_both n xs ys first second k inside =
 pub below_more : (n m : ℕ) (xs : List ℕ) → n ≤ m → AreBelow n xs → AreBelow m xs
 below_more n m xs most below k inside = let less = below k inside in omega (arith, less, most)
 
--- parts beside two lists of sectors
-pub beside_first : (v : Version) (xs ys : List ℕ) (p n : ℕ) → IsBeside v (xs ++ ys) p n → IsBeside v xs p n
-beside_first v xs ys p n apart k inside =
-    let size = length-append xs ys in
-    subst (λ id. (sector_start v id + sector_len v ≤ p) ⊎ (p + n ≤ sector_start v id)) (get_or_append_left xs ys 0 k inside) (apart k (omega (arith, size, inside)))
-
-pub beside_second : (v : Version) (xs ys : List ℕ) (p n : ℕ) → IsBeside v (xs ++ ys) p n → IsBeside v ys p n
-beside_second v xs ys p n apart k inside =
-    let size = length-append xs ys in
-    let at : get_or (xs ++ ys) (length xs + k) 0 ≡ get_or ys k 0 = get_or-append_right xs ys (length xs + k) 0 (omega arith) ∙ ap (λ m. get_or ys m 0) (omega arith) in
-    subst (λ id. (sector_start v id + sector_len v ≤ p) ⊎ (p + n ≤ sector_start v id)) at (apart (length xs + k) (omega (arith, size, inside)))
-
 -- a sector behind all others is beside what lies in these
 pub beside_more : (v : Version) (xs : List ℕ) (p n id count : ℕ) → IsBeside v xs p n → p + n ≤ sector_start v count → count ≤ id → IsBeside v (xs ++ id ∷ []) p n
 beside_more v xs p n id count apart fits behind k inside =
@@ -213,18 +201,11 @@ below_one_more n m xs less below = below_both m xs (n ∷ []) (below_more n m xs
 pub fat_same : (v : Version) (old new fs : List ℕ) → ((k : ℕ) → k < length fs → sector v new (get_or fs k 0) ≡ sector v old (get_or fs k 0)) → fat_in v new fs ≡ fat_in v old fs
 fat_same v old new fs same = ap numbers (joined_same v old new fs same)
 
-pub beside_both : (v : Version) (xs ys : List ℕ) (p n : ℕ) → IsBeside v xs p n → IsBeside v ys p n → IsBeside v (xs ++ ys) p n
-beside_both v xs ys p n first second k inside =
-    let size = length-append xs ys in
-    ⊎_elim
-    (λ past. subst (λ m. (sector_start v m + sector_len v ≤ p) ⊎ (p + n ≤ sector_start v m)) (sym (get_or-append_right xs ys k 0 past.1)) (second (k - length xs) (omega (arith, size, inside, past.1))))
-    (λ front. subst (λ m. (sector_start v m + sector_len v ≤ p) ⊎ (p + n ≤ sector_start v m)) (sym (get_or_append_left xs ys 0 k front.1)) (first k front.1))
-    (leb_tells (length xs) k)
-
-pub start_later : (v : Version) (count more p : ℕ) → count ≤ more → p ≤ sector_start v count → p ≤ sector_start v more
-start_later V3 count more p most fits = omega (arith, most, fits)
-start_later V4 count more p most fits = omega (arith, most, fits)
-
 pub room_more : (v : Version) (fat_count difat_count more : ℕ) → more ≡ difat_count + 1 → fat_count ≤ 109 + difat_count * (per v - 1) → fat_count < 109 + more * (per v - 1)
 room_more V3 fat_count difat_count more is named = omega (arith, is, named)
 room_more V4 fat_count difat_count more is named = omega (arith, is, named)
+
+-- a FAT that is full ends before the last numbers
+pub numbers_left : (v : Version) (n size : ℕ) → size ≡ n * per v → size ≤ greatest_regular → size + 2 ≤ greatest_regular
+numbers_left V3 n size full few = omega (arith, full, few)
+numbers_left V4 n size full few = omega (arith, full, few)

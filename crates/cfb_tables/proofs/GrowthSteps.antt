@@ -1,12 +1,12 @@
 -- Growing calls one after the other, and changes of the FAT among them.
-use Rattle.std.proofs.Common.{◌≡◌, ℕ, ◌+◌, ◌-◌, ◌<◌, ◌≤◌, false, List, [], ◌∷◌, ◌++◌, length, get_or, refl, ap, sym, subst, ◌∙◌, arith, IsTrue, length-append, ⊎_elim, inl, inr, ◌*◌, ◌/◌}
+use Rattle.std.proofs.Common.{◌≡◌, ℕ, Bool, ◌+◌, ◌-◌, ◌<◌, ◌≤◌, true, false, List, [], ◌∷◌, ◌++◌, length, get_or, refl, ap, sym, subst, ◌∙◌, arith, IsTrue, length-append, ⊎_elim, inl, inr, ◌*◌, ◌/◌}
 use Rattle.std.proofs.Math.ListN.{set}
 use Rattle.std.proofs.lemmas.Bool.Decides.{eqb_tells}
 use Rattle.std.proofs.lemmas.List.{length-set, get_or-set_same, get_or-set_other}
 use Rattle.cfb_medium.specs.Versions.{sector_len}
 use Rattle.cfb_medium.specs.declared.version.Version.{Version}
 use Rattle.cfb_medium.specs.declared.version.Version.TheVariants.{V3, V4}
-use Rattle.std.specs.Prelude.{Result, Ok, Err, IfOk, IfErr, OnOk, Some}
+use Rattle.std.specs.Prelude.{Result, Ok, Err, IfOk, IfErr, OnErr, OnOk, Some}
 use Rattle.std.proofs.Math.Seq.{get_or-append_right}
 use Rattle.std.proofs.lemmas.Option.{slice_get-get_or}
 use Rattle.cfb_medium.specs.declared.medium.ReadMedium.{Ghosts}
@@ -17,10 +17,15 @@ use Rattle.cfb_tables.specs.declared.allocator.Allocator.{Allocator}
 use Rattle.cfb_tables.specs.Changing.{ChangesFat, WritesBeside}
 use Rattle.cfb_tables.specs.Growing.{tables_of, GrowsFat}
 use Rattle.cfb_chains.specs.Changes.{IsBeside, IsNoneOf}
-use Rattle.cfb_tables.specs.Tables.{AllRests, bytes_of, difat_sectors_of, fat_of, fat_sectors_of, has_failed_here, sectors_of, version_of}
+use Rattle.cfb_tables.specs.Tables.{AllRests, bytes_of, difat_sectors_of, fat_of, fat_sectors_of, has_failed_here, medium_of, sectors_of, version_of}
 use Rattle.cfb_tables.proofs.EntryChanges.{changes_none, changes_rest}
 use Rattle.cfb_chains.proofs.Overwriting.{beside}
-use Rattle.cfb_tables.proofs.Growth.{beside_second, start_later}
+use Rattle.cfb_chains.proofs.Beside.{beside_second}
+use Rattle.cfb_medium.specs.Calls.{Extends}
+use Rattle.cfb_tables.specs.Keeping.{grows_then}
+
+pub never : {A : Type 0} (failed : Bool) → failed ≡ true → failed ≡ false → A
+never failed is_set is_clear = let wrong : true ≡ false = sym is_set ∙ is_clear in cc
 
 module _ {F : Type 0} {g : Ghosts F} where
   pub change_grows : (entries : List ℕ) (a b : Allocator F g) → ChangesFat entries a b → GrowsFat [] entries a b
@@ -36,37 +41,40 @@ module _ {F : Type 0} {g : Ghosts F} where
     beside = λ live honest p n fits apart words taken. h.beside live honest p n (beside_second (version_of a) (difat_sectors_of a) (fat_sectors_of a) p n apart);
   }
 
-  pub grows_then : (t1 e1 t2 e2 t e : List ℕ) (a b c : Allocator F g) → GrowsFat t1 e1 a b → GrowsFat t2 e2 b c
-      → ((n : ℕ) → n < length (fat_of a) → IsNoneOf e n → IsNoneOf e1 n × IsNoneOf e2 n)
-      → ((p n : ℕ) → p + n ≤ sector_start (version_of a) (count_of (sectors_of a)) → IsBeside (version_of a) t p n → IsBeside (version_of a) t1 p n × IsBeside (version_of a) t2 p n)
-      → GrowsFat t e a c
-  grows_then t1 e1 t2 e2 t e a b c h k entries taken =
-      let v = version_of a in
-      let later : has_failed_here c ≡ false → (p : ℕ) → p ≤ sector_start v (count_of (sectors_of a)) → p ≤ sector_start (version_of b) (count_of (sectors_of b)) =
-      λ live p fits. subst (λ u. p ≤ sector_start u (count_of (sectors_of b))) (sym h.version) (start_later v (count_of (sectors_of a)) (count_of (sectors_of b)) p (h.count (k.live live)) fits) in
+  -- the same with other entries and sectors, of which the old file's are among these
+  pub grows_but : (t e taken entries : List ℕ) (a b : Allocator F g) → ((n : ℕ) → n < length (fat_of a) → IsNoneOf entries n → IsNoneOf e n)
+      → ((p n : ℕ) → IsBeside (version_of a) taken p n → IsBeside (version_of a) t p n) → GrowsFat t e a b → GrowsFat taken entries a b
+  grows_but t e taken entries a b fewer apart h = record {
+    honest = h.honest;
+    continues = h.continues;
+    version = h.version;
+    live = h.live;
+    count = h.count;
+    orderly = h.orderly;
+    fat = λ live. record { size = (h.fat live).size; others = λ n below none. (h.fat live).others n below (fewer n below none) };
+    tables = h.tables;
+    beside = λ live honest p n fits tables words aside. h.beside live honest p n fits tables words (apart p n aside);
+  }
+
+  -- of one that has failed nothing more is said
+  pub grows_failed : (taken entries : List ℕ) (a b : Allocator F g) → g.honest (medium_of b) ≡ g.honest (medium_of a) → Extends g.continues (medium_of a) (medium_of b) → version_of b ≡ version_of a
+      → has_failed_here b ≡ true → GrowsFat taken entries a b
+  grows_failed taken entries a b honest continues version failed =
       record {
-        honest = k.honest ∙ h.honest;
-        continues = λ start from. k.continues start (h.continues start from);
-        version = k.version ∙ h.version;
-        live = λ live. h.live (k.live live);
-        count = λ live. let first = h.count (k.live live) in let second = k.count live in omega (arith, first, second);
-        orderly = λ live. k.orderly live ∙ h.orderly (k.live live);
-        fat = λ live. record {
-          size = let first = (h.fat (k.live live)).size in let second = (k.fat live).size in omega (arith, first, second);
-          others = λ n below none. (k.fat live).others n (let first = (h.fat (k.live live)).size in omega (arith, below, first)) (entries n below none).1 ∙ (h.fat (k.live live)).others n below (entries n below none).0;
-        };
-        tables = λ live p n fits apart.
-            subst (λ u. IsBeside u (tables_of c) p n) h.version (k.tables live p n (later live (p + n) fits) (subst (λ u. IsBeside u (tables_of b) p n) (sym h.version) (h.tables (k.live live) p n fits apart)));
-        beside = λ live honest p n fits apart words aside.
-            k.beside live (subst IsTrue (sym h.honest) honest) p n (later live (p + n) fits) (subst (λ u. IsBeside u (tables_of b) p n) (sym h.version) (h.tables (k.live live) p n fits apart)) words
-            (subst (λ u. IsBeside u t2 p n) (sym h.version) (taken p n fits aside).1)
-            ∙ h.beside (k.live live) honest p n fits apart words (taken p n fits aside).0;
+        honest = honest;
+        continues = continues;
+        version = version;
+        live = never (has_failed_here b) failed;
+        count = never (has_failed_here b) failed;
+        orderly = never (has_failed_here b) failed;
+        fat = never (has_failed_here b) failed;
+        tables = never (has_failed_here b) failed;
+        beside = never (has_failed_here b) failed;
       }
 
   -- an entry of a new sector is changed too
   pub grows_marked : (a b c : Allocator F g) (n : ℕ) → length (fat_of a) ≤ n → GrowsFat [] [] a b → ChangesFat (n ∷ []) b c → GrowsFat [] [] a c
-  grows_marked a b c n behind h k = grows_then [] [] [] (n ∷ []) [] [] a b c h (change_grows (n ∷ []) b c k)
-      (λ m below none. (none, none_behind n m behind below)) (λ p m fits aside. (aside, aside))
+  grows_marked a b c n behind h k = grows_but [] (n ∷ []) [] [] a c (λ m below none. none_behind n m behind below) (λ p m aside. aside) (grows_then [] [] [] (n ∷ []) a b c h (change_grows (n ∷ []) b c k))
     where
       none_behind : (n m : ℕ) → length (fat_of a) ≤ n → m < length (fat_of a) → IsNoneOf (n ∷ []) m
       none_behind n m behind below i inside same = let first : i ≡ 0 = omega (arith, inside) in let value : n ≡ m = sym (ap (λ j. get_or (n ∷ []) j 0) first) ∙ same in omega (arith, value, behind, below)
@@ -121,11 +129,11 @@ module _ {F : Type 0} {g : Ghosts F} where
 
   -- tables became longer, and then longer again
   pub grows_again : (a b c : Allocator F g) → GrowsFat [] [] a b → GrowsFat [] [] b c → GrowsFat [] [] a c
-  grows_again a b c h k = grows_then [] [] [] [] [] [] a b c h k (λ n below none. (none, none)) (λ p n fits aside. (aside, aside))
+  grows_again = grows_then [] [] [] []
 
   -- tables became longer, and then a sector behind all others was taken
   pub grows_taken : (n : ℕ) (a b c : Allocator F g) → GrowsFat [] [] a b → GrowsFat (n ∷ []) [] b c → GrowsFat (n ∷ []) (n ∷ []) a c
-  grows_taken n a b c h k = grows_then [] [] (n ∷ []) [] (n ∷ []) (n ∷ []) a b c h k (λ m below none. ((λ i inside same. absurd (omega (arith, inside))), (λ i inside same. absurd (omega (arith, inside))))) (λ p m fits aside. ((λ i inside. absurd (omega (arith, inside))), aside))
+  grows_taken n a b c h k = grows_but (n ∷ []) [] (n ∷ []) (n ∷ []) a c (λ m below none i inside same. absurd (omega (arith, inside))) (λ p m aside. aside) (grows_then [] [] (n ∷ []) [] a b c h k)
 
 pub ok_map : {T : Type 0} (r : Result T Error) (P Q : T → Type 0) → IfOk r P → ((x : T) → P x → Q x) → IfOk r Q
 ok_map (Ok x) P Q h f = f x h
@@ -134,6 +142,26 @@ ok_map (Err e) P Q h f = tt
 pub err_map : {T : Type 0} (r : Result T Error) (P Q : Error → Type 0) → IfErr r P → ((e : Error) → P e → Q e) → IfErr r Q
 err_map (Ok x) P Q h f = tt
 err_map (Err e) P Q h f = f e h
+
+pub ok_two : {T : Type 0} (r : Result T Error) (P Q R : T → Type 0) → IfOk r P → IfOk r Q → ((x : T) → P x → Q x → R x) → IfOk r R
+ok_two (Ok x) P Q R h k f = f x h k
+ok_two (Err e) P Q R h k f = tt
+
+pub on_ok_map : {T : Type 0} (r : Result T Error) (X Y : Type 0) → OnOk r X → (X → Y) → OnOk r Y
+on_ok_map (Ok x) X Y h f = f h
+on_ok_map (Err e) X Y h f = tt
+
+pub on_ok_all : {T : Type 0} (r : Result T Error) (X Y Z W : Type 0) → OnOk r X → OnOk r Y → OnOk r Z → (X → Y → Z → W) → OnOk r W
+on_ok_all (Ok x) X Y Z W a b c f = f a b c
+on_ok_all (Err e) X Y Z W a b c f = tt
+
+pub on_err : {T : Type 0} (r : Result T Error) (X : Type 0) → X → OnErr r X
+on_err (Ok x) X h = tt
+on_err (Err e) X h = h
+
+pub on_err_map : {T : Type 0} (r : Result T Error) (X Y : Type 0) → OnErr r X → (X → Y) → OnErr r Y
+on_err_map (Ok x) X Y h f = tt
+on_err_map (Err e) X Y h f = f h
 
 pub ok_both : {T : Type 0} (r : Result T Error) (P Q : T → Type 0) (X : Type 0) → IfOk r P → OnOk r X → ((x : T) → P x → X → Q x) → IfOk r Q
 ok_both (Ok x) P Q X h k f = f x h k

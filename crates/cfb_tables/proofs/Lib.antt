@@ -13,4 +13,5 @@ pub mod ListedMore
 pub mod ListedStays
 pub mod Listing
 pub mod TableWords
+pub mod Taken
 pub mod Words

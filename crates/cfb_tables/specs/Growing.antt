@@ -1,12 +1,13 @@
 -- What growing calls do: a sector is appended, or taken from the free ones, and tables become longer.
-use Rattle.std.specs.Prelude.{◌≡◌, ℕ, ◌+◌, ◌≤◌, false, List, ◌++◌, IsTrue}
+use Rattle.std.specs.Prelude.{◌≡◌, ℕ, ◌+◌, ◌<◌, ◌≤◌, false, List, ◌++◌, length, IsTrue}
+use Rattle.std.specs.List.{AllByRecursion}
 use Rattle.cfb_medium.specs.Calls.{Extends}
 use Rattle.cfb_medium.specs.declared.medium.ReadMedium.{Ghosts}
 use Rattle.cfb_sectors.specs.Held as held
-use Rattle.cfb_sectors.specs.Sectors.{filled_part, sector_start}
+use Rattle.cfb_sectors.specs.Sectors.{filled_part, greatest_regular, sector_start}
 use Rattle.cfb_sectors.specs.declared.sectors.Sectors.{Sectors}
 use Rattle.cfb_tables.specs.declared.allocator.Allocator.{Allocator}
-use Rattle.cfb_chains.specs.Changes.{IsBeside, StayBut}
+use Rattle.cfb_chains.specs.Changes.{IsBeside, IsFreeIn, StayBut}
 use Rattle.cfb_tables.specs.Orderly.{IsBesideWords}
 use Rattle.cfb_tables.specs.Tables.{bytes_of, difat_sectors_of, fat_of, fat_sectors_of, has_failed_here, is_honest, medium_of, orderly_of, sectors_of, version_of}
 
@@ -44,3 +45,13 @@ module _ {F : Type 0} {g : Ghosts F} where
     pub beside : has_failed_here new ≡ false → IsTrue (is_honest old) → (place count : ℕ) → place + count ≤ sector_start (version_of old) (held.count_of (sectors_of old))
         → IsBeside (version_of old) (tables_of old) place count → IsBesideWords place count → IsBeside (version_of old) taken place count
         → filled_part (bytes_of new) place count ≡ filled_part (bytes_of old) place count
+
+  -- so it is, and these sectors, which were in no use, were taken into use; none came out of use
+  pub record TakesIn (taken entries : List ℕ) (old new : Allocator F g) : Type 0 where
+    pub grows : GrowsFat taken entries old new
+    pub free : has_failed_here new ≡ false → AllByRecursion (IsFreeIn (fat_of old)) taken
+    pub used : has_failed_here new ≡ false → (n : ℕ) → IsFreeIn (fat_of new) n → IsFreeIn (fat_of old) n
+
+  -- no number of a sector is left
+  abbrev pub IsFull : Allocator F g → Type 0
+  IsFull it = greatest_regular < length (fat_of it)

@@ -1,7 +1,9 @@
--- What reads and writes keep behind the FAT, and the causes of errors after them.
-use Rattle.std.specs.Prelude.{◌≡◌, ℕ, ◌+◌, ◌≤◌, false, true, List, IsTrue}
-use Rattle.std.proofs.Common.{inl, inr, le_trans, sym, subst, ⊎_elim}
+-- What calls keep behind the FAT, and the causes of errors after them.
+use Rattle.std.specs.Prelude.{◌≡◌, ℕ, ◌+◌, ◌≤◌, ◌||◌, false, true, List, [], ◌++◌, IsTrue}
+use Rattle.std.specs.List.{AllByRecursion}
+use Rattle.std.proofs.Common.{◌∙◌, inl, inr, le_of_eq, le_trans, sym, subst, ⊎_elim}
 use Rattle.cfb_medium.specs.Bytes.{overwritten}
+use Rattle.cfb_medium.specs.Calls.{HasCause}
 use Rattle.cfb_medium.specs.declared.error.Error.{Error}
 use Rattle.cfb_medium.specs.declared.error.Error.TheVariants.{Device, Failed}
 use Rattle.cfb_medium.specs.declared.version.Version.{Version}
@@ -10,10 +12,12 @@ use Rattle.cfb_sectors.specs.Held.{count_of}
 use Rattle.cfb_sectors.specs.Keeping as sectors
 use Rattle.cfb_sectors.specs.Sectors.{filled_part, sector_start}
 use Rattle.cfb_tables.specs.declared.allocator.Allocator.{Allocator}
+use Rattle.cfb_chains.proofs.Beside.{beside_both, beside_first, beside_second, free_then, start_later, stay_same, stay_then}
 use Rattle.cfb_tables.specs.Changing.{ChangesFat, MayWrite, WritesBeside}
-use Rattle.cfb_chains.specs.Changes.{DifferAt, IsBeside}
+use Rattle.cfb_tables.specs.Growing.{tables_of, GrowsFat, TakesIn}
+use Rattle.cfb_chains.specs.Changes.{DifferAt, IsBeside, IsFreeIn, StayBut}
 use Rattle.cfb_tables.specs.Orderly.{IsBesideWords}
-use Rattle.cfb_tables.specs.Tables.{bytes_of, difat_sectors_of, fat_of, fat_sectors_of, has_failed_here, is_honest, orderly_of, sectors_of, version_of, AllRests, HasCauseBelow}
+use Rattle.cfb_tables.specs.Tables.{bytes_of, difat_sectors_of, fat_of, fat_sectors_of, has_failed_here, is_honest, medium_of, orderly_of, sectors_of, version_of, AllRests, HasCauseBelow}
 
 -- a part of what is beside others is beside them
 beside_part : (v : Version) (sectors : List ℕ) (place count part size : ℕ) → IsBeside v sectors place count → place ≤ part → part + size ≤ place + count → IsBeside v sectors part size
@@ -71,3 +75,83 @@ module _ {F : Type 0} {g : Ghosts F} where
 
   pub writes_keep_tables : (place : ℕ) (written : List ℕ) (a b : Allocator F g) → WritesBeside place written a b → (fat_of b ≡ fat_of a) × (orderly_of b ≡ orderly_of a)
   writes_keep_tables place written a b h = (h.fat, h.orderly)
+
+  -- tables that became longer leave what may be written
+  pub may_then : (taken entries : List ℕ) (a b : Allocator F g) → GrowsFat taken entries a b → has_failed_here b ≡ false → (place count : ℕ) → MayWrite a place count → MayWrite b place count
+  may_then taken entries a b h live place count may =
+      let v = version_of a in
+      let apart : IsBeside (version_of b) (tables_of b) place count = subst (λ u. IsBeside u (tables_of b) place count) (sym h.version) (h.tables live place count may.ends (beside_both v (difat_sectors_of a) (fat_sectors_of a) place count may.difat may.fat)) in
+      record {
+        ends = subst (λ u. place + count ≤ sector_start u (count_of (sectors_of b))) (sym h.version) (start_later v (count_of (sectors_of a)) (count_of (sectors_of b)) (place + count) (h.count live) may.ends);
+        fat = beside_second (version_of b) (difat_sectors_of b) (fat_sectors_of b) place count apart;
+        difat = beside_first (version_of b) (difat_sectors_of b) (fat_sectors_of b) place count apart;
+        words = may.words;
+      }
+
+  pub takes_keep : (taken entries : List ℕ) (a b : Allocator F g) → TakesIn taken entries a b → (is_honest b ≡ is_honest a) × (version_of b ≡ version_of a)
+      × (has_failed_here b ≡ false → (has_failed_here a ≡ false) × AllByRecursion (IsFreeIn (fat_of a)) taken × StayBut entries (fat_of a) (fat_of b)
+      × ((place count : ℕ) → MayWrite a place count → MayWrite b place count)
+      × (IsTrue (is_honest a) → (place count : ℕ) → MayWrite a place count → IsBeside (version_of a) taken place count → filled_part (bytes_of b) place count ≡ filled_part (bytes_of a) place count)
+      × (orderly_of b ≡ orderly_of a))
+  takes_keep taken entries a b h = (
+    h.grows.honest,
+    h.grows.version,
+    λ live. (
+      h.grows.live live,
+      h.free live,
+      h.grows.fat live,
+      may_then taken entries a b h.grows live,
+      λ honest place count may apart. h.grows.beside live honest place count may.ends (beside_both (version_of a) (difat_sectors_of a) (fat_sectors_of a) place count may.difat may.fat) may.words apart,
+      h.grows.orderly live,
+    ),
+  )
+
+  pub takes_rest : (entries : List ℕ) (a b : Allocator F g) → AllRests a b → TakesIn [] entries a b
+  takes_rest entries a b h = record {
+    grows = record {
+      honest = h.sectors.honest;
+      continues = h.sectors.continues;
+      version = h.sectors.version;
+      live = λ live. sym h.sectors.failed ∙ live;
+      count = λ live. le_of_eq (sym h.sectors.count);
+      orderly = λ live. h.orderly;
+      fat = λ live. stay_same entries (fat_of a) (fat_of b) h.fat;
+      tables = λ live place count fits apart. subst (λ l. IsBeside (version_of a) (l ++ fat_sectors_of b) place count) (sym h.difat_sectors) (subst (λ l. IsBeside (version_of a) (difat_sectors_of a ++ l) place count) (sym h.fat_sectors) apart);
+      beside = λ live honest place count fits apart words aside. subst (λ l. filled_part l place count ≡ filled_part (bytes_of a) place count) (sym (h.sectors.bytes honest)) (λ i. filled_part (bytes_of a) place count);
+    };
+    free = λ live. tt;
+    used = λ live n loose. subst (λ l. IsFreeIn l n) h.fat loose;
+  }
+
+  pub grows_then : (taken entries more others : List ℕ) (a b c : Allocator F g) → GrowsFat taken entries a b → GrowsFat more others b c → GrowsFat (taken ++ more) (entries ++ others) a c
+  grows_then taken entries more others a b c h k =
+      let v = version_of a in
+      let later : has_failed_here c ≡ false → (place : ℕ) → place ≤ sector_start v (count_of (sectors_of a)) → place ≤ sector_start (version_of b) (count_of (sectors_of b)) =
+      λ live place fits. subst (λ u. place ≤ sector_start u (count_of (sectors_of b))) (sym h.version) (start_later v (count_of (sectors_of a)) (count_of (sectors_of b)) place (h.count (k.live live)) fits) in
+      let apart_then : has_failed_here c ≡ false → (place count : ℕ) → place + count ≤ sector_start v (count_of (sectors_of a)) → IsBeside v (tables_of a) place count → IsBeside (version_of b) (tables_of b) place count =
+      λ live place count fits apart. subst (λ u. IsBeside u (tables_of b) place count) (sym h.version) (h.tables (k.live live) place count fits apart) in
+      record {
+        honest = k.honest ∙ h.honest;
+        continues = λ start from. k.continues start (h.continues start from);
+        version = k.version ∙ h.version;
+        live = λ live. h.live (k.live live);
+        count = λ live. le_trans (h.count (k.live live)) (k.count live);
+        orderly = λ live. k.orderly live ∙ h.orderly (k.live live);
+        fat = λ live. stay_then entries others (fat_of a) (fat_of b) (fat_of c) (h.fat (k.live live)) (k.fat live);
+        tables = λ live place count fits apart. subst (λ u. IsBeside u (tables_of c) place count) h.version (k.tables live place count (later live (place + count) fits) (apart_then live place count fits apart));
+        beside = λ live honest place count fits apart words aside.
+            k.beside live (subst IsTrue (sym h.honest) honest) place count (later live (place + count) fits) (apart_then live place count fits apart) words
+            (subst (λ u. IsBeside u more place count) (sym h.version) (beside_second v taken more place count aside))
+            ∙ h.beside (k.live live) honest place count fits apart words (beside_first v taken more place count aside);
+      }
+
+  pub takes_then : (taken entries more others : List ℕ) (a b c : Allocator F g) → TakesIn taken entries a b → TakesIn more others b c → TakesIn (taken ++ more) (entries ++ others) a c
+  takes_then taken entries more others a b c h k = record {
+    grows = grows_then taken entries more others a b c h.grows k.grows;
+    free = λ live. free_then (fat_of a) (fat_of b) taken more (h.used (k.grows.live live)) (h.free (k.grows.live live)) (k.free live);
+    used = λ live n loose. h.used (k.grows.live live) n (k.used live n loose);
+  }
+
+  pub takes_cause : (taken entries : List ℕ) (a b c : Allocator F g) (e : Error) → TakesIn taken entries a b → has_failed_here b ≡ false → HasCauseBelow b c e → HasCauseBelow a c e
+  takes_cause taken entries a b c e h live cause =
+      λ start from. subst (λ f. HasCause g.failures (λ m. f || g.failed m) start (medium_of c) e) (live ∙ sym (h.grows.live live)) (cause start (h.grows.continues start from))

@@ -179,8 +179,8 @@ impl<F: Medium> Allocator<F> {
         Ok(())
     }
 
-    // Makes the tables longer, so that the FAT has a place for a sector more, and marks their new sectors. `Full` where too few
-    // numbers are left, and `Memory`, each with nothing changed; after a fault in a write it has failed.
+    // Makes the tables longer, so that the FAT has a place for a sector more, and marks their new sectors. `Memory` with nothing
+    // changed; after a fault in a write it has failed.
     pub(crate) fn lengthen(&mut self) -> Result<(), Error>
         requires live { has_failed_over self.old ≡ false }
         requires orderly { IsTrue (orderly_of self.old) }

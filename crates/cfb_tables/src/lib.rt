@@ -9,7 +9,9 @@ mod changes;
 mod difat;
 mod enlarging;
 mod entries;
+mod extending;
 mod freeing;
+mod growing;
 mod once;
 mod tables;
 mod taking;
@@ -18,6 +20,3 @@ mod writes;
 pub use allocator::Allocator;
 pub use difat::read_difat;
 pub use tables::{read_joined, read_table};
-
-#[cfg(test)]
-mod tests;

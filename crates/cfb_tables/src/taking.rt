@@ -1,15 +1,14 @@
 // Sectors that are taken into use.
-ghost use Rattle.cfb_tables.specs.Changing.{WritesBeside};
-ghost use Rattle.cfb_chains.specs.Changes.{IsFreeIn};
-ghost use Rattle.cfb_tables.specs.Growing.{GrowsFat};
-ghost use Rattle.cfb_chains.specs.Changes.{IsNoneOf};
+ghost use Rattle.cfb_tables.specs.Changing.{MayWrite, WritesBeside};
+ghost use Rattle.cfb_tables.specs.Growing.{tables_of, GrowsFat, IsFull, TakesIn};
+ghost use Rattle.cfb_chains.specs.Changes.{IsFreeIn, IsNoneOf};
 ghost use Rattle.cfb_medium.specs.Calls.{IsFaultUnless};
 ghost use Rattle.cfb_medium.specs.Versions.{sector_len};
 ghost use Rattle.cfb_medium.specs.declared.error.Error.TheVariants.{Failed, Full, InvalidData};
 ghost use Rattle.cfb_sectors.specs.Held.{count_of};
 ghost use Rattle.cfb_sectors.specs.Initial.{initial};
 ghost use Rattle.cfb_sectors.specs.Sectors.{end_of_chain, free, greatest_regular, sector, sector_start, Chain as IsChain};
-ghost use Rattle.std.specs.Prelude.{false, length, slice_index, slice_set, true, IfErr, IfOk, IsErrOf, IsTrue, List, OnErr, OnOk, ℕ, [], ◌∷◌, ◌*◌, ◌+◌, ◌++◌, ◌/◌, ◌<◌, ◌≡◌, ◌≤◌, ◌⊎◌};
+ghost use Rattle.std.specs.Prelude.{false, length, slice_get, slice_set, true, IfErr, IfOk, IsErrOf, IsTrue, List, OnErr, OnOk, Some, ℕ, [], ◌∷◌, ◌*◌, ◌+◌, ◌++◌, ◌/◌, ◌<◌, ◌≡◌, ◌≤◌, ◌⊎◌};
 
 use crate::Allocator;
 use crate::appending::append_sector;
@@ -33,6 +32,7 @@ impl<F: Medium> Allocator<F> {
         ensures fat { OnOk result (fat_of self.new ≡ fat_of self.old ++ end_of_chain ∷ []) }
         ensures tables { OnOk result ((difat_sectors_of self.new ≡ difat_sectors_of self.old) × (fat_sectors_of self.new ≡ fat_sectors_of self.old)) }
         ensures filled { IfOk result (λ n. IsTrue (is_honest self.old) → sector (version_of self.old) (bytes_of self.new) n ≡ initial init (sector_len (version_of self.old))) }
+        ensures writable { IfOk result (λ n. MayWrite self.new (sector_start (version_of self.old) n) (sector_len (version_of self.old))) }
         ensures live { OnOk result (has_failed_here self.new ≡ false) }
         ensures none { OnErr result (GrowsFat [] [] self.old self.new) }
         ensures err { OnErr result (has_failed_here self.new ≡ true) }
@@ -76,6 +76,7 @@ impl<F: Medium> Allocator<F> {
         ensures grows { OnOk result (GrowsFat (sector_id ∷ []) (sector_id ∷ []) self.old self.new) }
         ensures fat { OnOk result (fat_of self.new ≡ slice_set (fat_of self.old) sector_id end_of_chain) }
         ensures filled { OnOk result (IsTrue (is_honest self.old) → sector (version_of self.old) (bytes_of self.new) sector_id ≡ initial init (sector_len (version_of self.old))) }
+        ensures writable { OnOk result (MayWrite self.new (sector_start (version_of self.old) sector_id) (sector_len (version_of self.old))) }
         ensures live { OnOk result (has_failed_here self.new ≡ false) }
         ensures none { OnErr result (GrowsFat [] [] self.old self.new) }
         ensures err { OnErr result (has_failed_here self.new ≡ true) }
@@ -87,8 +88,10 @@ impl<F: Medium> Allocator<F> {
         Ok(())
     }
 
-    // Leaves the FAT with a place, and memory, for one sector more. `Full` where too few numbers are left, and `Memory`, each with nothing
-    // changed; after a fault in a write it has failed.
+    // Leaves the FAT with a place, and memory, for one sector more. `Full` where no number is left, and `Memory`, each with
+    // nothing changed; after a fault in a write it has failed. A FAT that is full ends long before the numbers do, so there
+    // are numbers for its sectors and the DIFAT's.
+    #[tactic(auto, using(crate::proofs::Growth::numbers_left))]
     fn make_room(&mut self) -> Result<(), Error>
         requires live { has_failed_here self.old ≡ false }
         requires orderly { IsTrue (orderly_of self.old) }
@@ -97,7 +100,7 @@ impl<F: Medium> Allocator<F> {
         ensures room { OnOk result (length (fat_of self.new) < length (fat_sectors_of self.new) * (sector_len (version_of self.new) / 4)) }
         ensures few { OnOk result (length (fat_of self.new) ≤ greatest_regular) }
         ensures live { OnOk result (has_failed_here self.new ≡ false) }
-        ensures full { IsErrOf result Full → (greatest_regular < length (fat_of self.old) + 2) × AllRests self.old self.new }
+        ensures full { IsErrOf result Full → IsFull self.old × AllRests self.old self.new }
         ensures cause { IfErr result (HasCauseBelow self.old self.new) }
         ensures fault { IfErr result (λ e. (IsFaultUnless ⊥ e × ((has_failed_here self.new ≡ true) ⊎ AllRests self.old self.new)) ⊎ (e ≡ Full)) }
     {
@@ -110,25 +113,23 @@ impl<F: Medium> Allocator<F> {
         if self.fat.len() / each < self.fat_sectors.len() {
             return Ok(());
         }
-        if count > MAX_REGULAR_SECTOR - 2 {
-            return Err(Error::Full);
-        }
         self.lengthen()?;
         Ok(())
     }
 
     // Takes a sector into use as a chain of its own: a free one, or where there is none but a table's, one behind all others.
-    // `Full` where too few numbers are left, and `Memory`, each with nothing changed; after a fault in a write it has failed.
-    fn take(&mut self, init: SectorInit) -> Result<u32, Error>
+    // `Full` where no number is left, and `Memory`, each with nothing changed; after a fault in a write it has failed.
+    pub(crate) fn take(&mut self, init: SectorInit) -> Result<u32, Error>
         requires live { has_failed_here self.old ≡ false }
         requires orderly { IsTrue (orderly_of self.old) }
         ensures free { IfOk result (IsFreeIn (fat_of self.old)) }
         ensures chain { IfOk result (λ n. IsChain (fat_of self.new) n (n ∷ [])) }
         ensures grows { IfOk result (λ n. GrowsFat (n ∷ []) (n ∷ []) self.old self.new) }
         ensures filled { IfOk result (λ n. IsTrue (is_honest self.old) → sector (version_of self.old) (bytes_of self.new) n ≡ initial init (sector_len (version_of self.old))) }
-        ensures appended { IfOk result (λ n. length (fat_of self.old) ≤ n → (k : ℕ) → k < length (fat_of self.old) → slice_index (fat_of self.old) k ≡ free → IsNoneOf (difat_sectors_of self.old) k → IsNoneOf (fat_sectors_of self.old) k → ⊥) }
+        ensures writable { IfOk result (λ n. MayWrite self.new (sector_start (version_of self.old) n) (sector_len (version_of self.old))) }
+        ensures appended { IfOk result (λ n. length (fat_of self.old) ≤ n → (k : ℕ) → slice_get (fat_of self.old) k ≡ Some free → IsNoneOf (tables_of self.old) k → ⊥) }
         ensures live { OnOk result (has_failed_here self.new ≡ false) }
-        ensures full { IsErrOf result Full → (greatest_regular < length (fat_of self.old) + 2) × AllRests self.old self.new }
+        ensures full { IsErrOf result Full → IsFull self.old × AllRests self.old self.new }
         ensures none { OnErr result (GrowsFat [] [] self.old self.new) }
         ensures cause { IfErr result (HasCauseBelow self.old self.new) }
         ensures fault { IfErr result (λ e. (IsFaultUnless ⊥ e × ((has_failed_here self.new ≡ true) ⊎ AllRests self.old self.new)) ⊎ (e ≡ Full)) }
@@ -142,19 +143,19 @@ impl<F: Medium> Allocator<F> {
     }
 
     /// Takes a sector into use as a chain of its own: a free one, or where there is none but a table's, one behind all others.
-    /// `InvalidData` where the tables can't be changed, `Full` where too few numbers are left, and `Memory`, each with nothing
+    /// `InvalidData` where the tables can't be changed, `Full` where no number is left, and `Memory`, each with nothing
     /// changed. After a fault in a write it has failed.
     pub fn begin_chain(&mut self, init: SectorInit) -> Result<u32, Error>
-        ensures free { IfOk result (IsFreeIn (fat_of self.old)) }
         ensures chain { IfOk result (λ n. IsChain (fat_of self.new) n (n ∷ [])) }
-        ensures grows { IfOk result (λ n. GrowsFat (n ∷ []) (n ∷ []) self.old self.new) }
+        ensures takes { IfOk result (λ n. TakesIn (n ∷ []) (n ∷ []) self.old self.new) }
         ensures filled { IfOk result (λ n. IsTrue (is_honest self.old) → sector (version_of self.old) (bytes_of self.new) n ≡ initial init (sector_len (version_of self.old))) }
-        ensures appended { IfOk result (λ n. length (fat_of self.old) ≤ n → (k : ℕ) → k < length (fat_of self.old) → slice_index (fat_of self.old) k ≡ free → IsNoneOf (difat_sectors_of self.old) k → IsNoneOf (fat_sectors_of self.old) k → ⊥) }
+        ensures writable { IfOk result (λ n. MayWrite self.new (sector_start (version_of self.old) n) (sector_len (version_of self.old))) }
+        ensures appended { IfOk result (λ n. length (fat_of self.old) ≤ n → (k : ℕ) → slice_get (fat_of self.old) k ≡ Some free → IsNoneOf (tables_of self.old) k → ⊥) }
         ensures live { OnOk result ((has_failed_here self.old ≡ false) × IsTrue (orderly_of self.old) × (has_failed_here self.new ≡ false)) }
         ensures refused { IsErrOf result InvalidData → (IsTrue (orderly_of self.old) → ⊥) × AllRests self.old self.new }
-        ensures full { IsErrOf result Full → (greatest_regular < length (fat_of self.old) + 2) × AllRests self.old self.new }
+        ensures full { IsErrOf result Full → IsFull self.old × AllRests self.old self.new }
         ensures failed { has_failed_here self.old ≡ true → IsErrOf result Failed × AllRests self.old self.new }
-        ensures none { OnErr result (GrowsFat [] [] self.old self.new) }
+        ensures none { OnErr result (TakesIn [] [] self.old self.new) }
         ensures cause { IfErr result (HasCauseBelow self.old self.new) }
         ensures fault { IfErr result (λ e. (IsFaultUnless ⊥ e × ((has_failed_here self.new ≡ true) ⊎ AllRests self.old self.new)) ⊎ (e ≡ InvalidData) ⊎ (e ≡ Full)) }
     {

@@ -23,7 +23,7 @@ grow-init g c =
       linked = λ linked. linked;
       writable = λ version all. all;
       filled = λ honest version linked all. sym (ap (λ k. joined (version_of it) (g.H.HasSectors.bytes h) (sectors_of it) ++ copies k (initial (init_of it) (sector_len (version_of it)))) none ∙ append-nil (joined (version_of it) (g.H.HasSectors.bytes h) (sectors_of it)));
-      same = record { holder = refl; version = refl; init = refl };
+      same = record { holder = refl; links = refl; version = refl; init = refl };
       position = refl;
     }
 
@@ -93,6 +93,6 @@ grow-preserved g c =
           filled_step (version_of it) (version_of mid) (init_of it) (init_of mid) _ (g.H.HasSectors.bytes (holder_of mid)) (g.H.HasSectors.bytes (holder_of new)) (sectors_of it) (sectors_of mid) (sectors_of new)
           same.version same.init c.in_default.ensures.longer c.grow.invariant.least (c.grow.invariant.filled honest version linked all)
           (c.in_default.ensures.filled (subst IsTrue (sym kept.0) honest) (here version) (c.grow.invariant.linked linked) (able version all));
-      same = record { holder = then.holder ∙ same.holder; version = then.version ∙ same.version; init = then.init ∙ same.init };
+      same = record { holder = then.holder ∙ same.holder; links = then.links ∙ same.links; version = then.version ∙ same.version; init = then.init ∙ same.init };
       position = c.append_sector.ensures.position ∙ c.grow.invariant.position;
     }

@@ -7,8 +7,8 @@ use Rattle.cfb_chains.proofs.chain.Chain.read.Goals as goal
 pub returns-clause-read : goal.returns-clause-read
 returns-clause-read g c = λ honest.
     let it = c.args.self.now in
-    let v = it.links.version in
-    let ids = it.links.sector_ids.items in
+    let v = it.links.now.version in
+    let ids = it.links.now.sector_ids.items in
     let parts = split v it.position in
     let i = it.position / sector_len v in
     let o = it.position % sector_len v in

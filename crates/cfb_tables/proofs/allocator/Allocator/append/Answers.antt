@@ -8,15 +8,17 @@ use Rattle.cfb_medium.specs.Versions.{sector_len}
 use Rattle.cfb_sectors.specs.Held.{bytes_of, count_of, version_of}
 use Rattle.cfb_sectors.specs.Sectors.{end_of_chain, fat_in, sector, sector_start, sectors_in}
 use Rattle.cfb_tables.specs.Listed.{IsListed}
-use Rattle.cfb_chains.specs.Changes.{IsBeside}
+use Rattle.cfb_chains.specs.Changes.{IsBeside, IsNoneOf}
 use Rattle.cfb_tables.specs.Orderly.{IsOrderly}
 use Rattle.cfb_tables.proofs.Appended.{entry_added, listed_before_end, none_behind, whole_before}
 use Rattle.cfb_tables.proofs.Entering.{others_stay}
 use Rattle.cfb_tables.proofs.FatEntries.{per, split}
-use Rattle.cfb_tables.proofs.Growth.{below_more, beside_second, stays_in_front}
+use Rattle.cfb_tables.proofs.Growth.{below_more, stays_in_front}
+use Rattle.cfb_chains.proofs.Beside.{beside_second}
 use Rattle.cfb_tables.proofs.ListedStays.{entry_aside, listed_still}
 use Rattle.cfb_tables.proofs.Listing.{header_whole}
 use Rattle.cfb_chains.proofs.Staying.{apart}
+use Rattle.cfb_tables.proofs.Taken.{whole_writable}
 use Rattle.cfb_tables.proofs.allocator.Allocator.append.Goals as goal
 
 pub invariant_of-self-2 : goal.invariant_of-self-2
@@ -134,3 +136,14 @@ returns-clause-filled g c = λ honest.
     ∙ others_stay (version_of m) (bytes_of m) (bytes_of c.write_number.new.sectors) fs index end_of_chain c.index-holder.result.now (c.sector_len-each.result / 4) (each ∙ ap per (sym did.appends.version)) holder below (wrote.changes.bytes wrote.live mid)
     (sector_start v (count_of a)) (sector_len v) (subst (λ u. IsBeside u fs (sector_start v (count_of a)) (sector_len v)) (sym did.appends.version) aside)
     ∙ did.content did.live honest
+
+pub returns-clause-writable : goal.returns-clause-writable
+returns-clause-writable g c =
+    let it = c.args.self.now in
+    let did = c.in_ok-sector_id.ensures in
+    let wrote = c.in_ok-write_number.ensures in
+    let order = it.orderly c.requires.orderly in
+    let more = did.appends.count did.live in
+    whole_writable _ (version_of it.sectors) c.in_ok-sector_id.sector_id (wrote.changes.version ∙ did.appends.version) (omega (arith, wrote.count, more, did.number))
+    (subst (IsNoneOf it.difat_sectors.items) (sym did.number) (none_behind (count_of it.sectors) it.difat_sectors.items order.there))
+    (subst (IsNoneOf it.fat_sectors.items) (sym did.number) (none_behind (count_of it.sectors) it.fat_sectors.items (it.there c.requires.live)))

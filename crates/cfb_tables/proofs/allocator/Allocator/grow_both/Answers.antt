@@ -10,7 +10,8 @@ use Rattle.cfb_chains.specs.Changes.{AreOnce, IsBeside}
 use Rattle.cfb_tables.specs.Orderly.{AreBelow, IsOrderly}
 use Rattle.cfb_tables.proofs.FatEntries.{per}
 use Rattle.cfb_tables.proofs.Grown.{order_grown, same_grown, there_grown, whole_grown, Lengthens}
-use Rattle.cfb_tables.proofs.Growth.{below_both, below_more, below_one_more, beside_first, beside_both, beside_more, beside_second, difat_few, fat_same, fat_sectors_stay, once_front, once_middle, room_more, start_later, stays_in_front}
+use Rattle.cfb_chains.proofs.Beside.{beside_both, beside_first, beside_second, start_later}
+use Rattle.cfb_tables.proofs.Growth.{below_both, below_more, below_one_more, beside_more, difat_few, fat_same, fat_sectors_stay, once_front, once_middle, room_more, stays_in_front}
 use Rattle.cfb_tables.proofs.EntryChanges.{cause_since}
 use Rattle.cfb_sectors.proofs.Causes.{passed_on}
 use Rattle.cfb_sectors.specs.Held.{HasItsCause}

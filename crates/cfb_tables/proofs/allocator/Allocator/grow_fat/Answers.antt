@@ -9,7 +9,8 @@ use Rattle.cfb_tables.specs.Listed.{IsListed}
 use Rattle.cfb_chains.specs.Changes.{AreOnce, IsBeside}
 use Rattle.cfb_tables.specs.Orderly.{IsOrderly}
 use Rattle.cfb_tables.proofs.Grown.{order_grown, same_grown, there_grown, whole_grown, Lengthens}
-use Rattle.cfb_tables.proofs.Growth.{beside_first, beside_more, once_front, stays_in_front}
+use Rattle.cfb_tables.proofs.Growth.{beside_more, once_front, stays_in_front}
+use Rattle.cfb_chains.proofs.Beside.{beside_first}
 use Rattle.cfb_tables.proofs.allocator.Allocator.grow_fat.Given.{Over}
 use Rattle.cfb_tables.proofs.allocator.Allocator.grow_fat.Goals as goal
 

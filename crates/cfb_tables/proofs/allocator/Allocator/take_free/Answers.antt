@@ -4,7 +4,8 @@ use Rattle.cfb_sectors.specs.Held.{bytes_of, version_of}
 use Rattle.cfb_sectors.specs.Initial.{initial}
 use Rattle.cfb_sectors.specs.Sectors.{filled_part, sector_start}
 use Rattle.cfb_tables.proofs.Fresh.{length-initial}
-use Rattle.cfb_tables.proofs.GrowthSteps.{change_grows, grows_then, write_grows}
+use Rattle.cfb_tables.proofs.GrowthSteps.{change_grows, write_grows}
+use Rattle.cfb_tables.specs.Keeping.{grows_then}
 use Rattle.cfb_chains.proofs.Overwriting.{written}
 use Rattle.cfb_chains.proofs.Staying.{apart}
 use Rattle.cfb_chains.specs.Changes.{IsBeside}
@@ -14,11 +15,9 @@ pub returns-clause-grows : goal.returns-clause-grows
 returns-clause-grows g c =
     let it = c.args.self.now in
     let n = c.args.sector_id in
-    grows_then (n ∷ []) [] [] (n ∷ []) (n ∷ []) (n ∷ []) it c.init_beside.new.self c.set_entry.new.self
+    grows_then (n ∷ []) [] [] (n ∷ []) it c.init_beside.new.self c.set_entry.new.self
     (write_grows n _ it c.init_beside.new.self (length-initial c.args.init (version_of it.sectors)) c.in_ok-init_beside.ensures.writes)
     (change_grows (n ∷ []) c.init_beside.new.self c.set_entry.new.self c.in_ok-set_entry.ensures.changes)
-    (λ m below none. ((λ k inside same. absurd (omega (arith, inside))), none))
-    (λ p m fits aside. (aside, (λ k inside. absurd (omega (arith, inside)))))
 
 pub returns-clause-filled : goal.returns-clause-filled
 returns-clause-filled g c = λ honest.
