@@ -1,4 +1,4 @@
-//! Tests from outside: of the store and of sessions over a device that fails one of its calls, of chains of sectors, and of tables.
+//! Tests from outside: of the store and of sessions over a device that fails one of its calls, of sectors and their chains, and of tables.
 #![tactic(auto)]
 
 #[cfg(test)]
@@ -15,6 +15,8 @@ mod faulty;
 mod logs;
 #[cfg(test)]
 mod queries;
+#[cfg(test)]
+mod sectors;
 #[cfg(test)]
 mod sessions;
 pub mod shelf;
