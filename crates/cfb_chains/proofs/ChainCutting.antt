@@ -1,5 +1,5 @@
 -- A chain that was cut behind a sector.
-use Rattle.std.proofs.Common.{◌≡◌, ℕ, ◌+◌, ◌*◌, ◌/◌, ◌%◌, ◌<◌, ◌≤◌, min, List, [], ◌∷◌, ◌++◌, length, take, drop, get_or, zero, suc, refl, sym, ap, subst, ◌∙◌, arith, drop-cons, length-drop, length-take}
+use Rattle.std.proofs.Common.{◌≡◌, ℕ, ◌+◌, ◌*◌, ◌<◌, ◌≤◌, min, List, [], ◌∷◌, ◌++◌, length, take, drop, get_or, zero, suc, refl, sym, ap, subst, ◌∙◌, arith, drop-cons, length-drop, length-take}
 use Rattle.std.specs.Prelude.{slice_index, slice_index_or, Some}
 use Rattle.std.proofs.Math.Seq.{take-suc}
 use Rattle.std.proofs.lemmas.List.{get_or-drop, get_or-take, take-append-drop}
@@ -13,7 +13,6 @@ use Rattle.cfb_sectors.proofs.OneChain.{chain_unique}
 use Rattle.cfb_chains.specs.Changes.{AreAmong, StayBut}
 use Rattle.cfb_chains.specs.Grown.{AreWritable, IsLinked}
 use Rattle.cfb_chains.specs.Changes.{DifferAt, IsNoneOf}
-use Rattle.cfb_chains.specs.Positions.{sectors_for}
 use Rattle.cfb_chains.proofs.ChainGrowing.{chain_goes_on, chain_once}
 
 -- sectors at the end of a list are among it
@@ -90,15 +89,6 @@ front_bytes may v old new (suc count) [] same all = refl
 front_bytes may v old new (suc count) (x ∷ ids) same all =
     ap (λ l. l ++ joined v new (take count ids)) (same (sector_start v x) (sector_len v) all.0)
     ∙ ap (λ l. filled_part old (sector_start v x) (sector_len v) ++ l) (front_bytes may v old new count ids same all.1)
-
--- how many sectors are needed, by whether the last one is full
-pub needed_whole : (v : Version) (len : ℕ) → len % sector_len v ≡ 0 → len / sector_len v ≡ sectors_for v len
-needed_whole V3 len none = omega arith
-needed_whole V4 len none = omega arith
-
-pub needed_more : (v : Version) (len : ℕ) → (len % sector_len v ≡ 0 → ⊥) → len / sector_len v + 1 ≡ sectors_for v len
-needed_more V3 len some = omega arith
-needed_more V4 len some = omega arith
 
 pub stays_inside : (v : Version) (position n m : ℕ) → position ≤ n * sector_len v → n ≤ m → position ≡ min position (m * sector_len v)
 stays_inside V3 position n m inside more = omega arith

@@ -5,15 +5,7 @@ use Rattle.std.proofs.Math.Seq.{drop-append-add, take-append_seam}
 use Rattle.cfb_medium.specs.declared.version.Version.{Version}
 use Rattle.cfb_medium.specs.declared.version.Version.TheVariants.{V3, V4}
 use Rattle.cfb_medium.specs.Versions.{sector_len}
-use Rattle.cfb_sectors.specs.Sectors.{filled_part, greatest_regular, joined, sector, sector_start}
-
-pub some_bytes : (v : Version) → 0 < sector_len v
-some_bytes V3 = omega arith
-some_bytes V4 = omega arith
-
-pub no_more_bytes : (v : Version) (n : ℕ) → n ≤ greatest_regular + 1 → n * sector_len v < 2 ^ 45
-no_more_bytes V3 n few = omega arith
-no_more_bytes V4 n few = omega arith
+use Rattle.cfb_sectors.specs.Sectors.{filled_part, joined, sector, sector_start}
 
 pub ends_early : (v : Version) → sector_len v < 2 ^ 62
 ends_early V3 = omega arith
@@ -22,14 +14,6 @@ ends_early V4 = omega arith
 pub starts_early : (v : Version) (n : ℕ) → n < 2 ^ 32 → (n + 1) * sector_len v < 2 ^ 45
 starts_early V3 n few = omega arith
 starts_early V4 n few = omega arith
-
-pub index_below : (v : Version) (i o n : ℕ) → i * sector_len v + o < n * sector_len v → i < n
-index_below V3 i o n below = omega arith
-index_below V4 i o n below = omega arith
-
-pub part_within : (v : Version) (i o n k : ℕ) → i < n → o + k ≤ sector_len v → i * sector_len v + o + k ≤ n * sector_len v
-part_within V3 i o n k below fits = omega arith
-part_within V4 i o n k below fits = omega arith
 
 -- zeros behind a list, as many as are wanted
 enough : (n m : ℕ) (d : List ℕ) → n ≤ m → take n (d ++ replicate m 0) ≡ take n (d ++ replicate n 0)

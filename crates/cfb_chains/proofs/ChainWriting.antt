@@ -7,6 +7,7 @@ use Rattle.cfb_medium.specs.declared.version.Version.{Version}
 use Rattle.cfb_medium.specs.declared.version.Version.TheVariants.{V3, V4}
 use Rattle.cfb_medium.specs.Versions.{sector_len}
 use Rattle.cfb_sectors.specs.Sectors.{joined, sector, sector_start}
+use Rattle.cfb_sectors.proofs.Counts.{longest}
 use Rattle.cfb_chains.specs.Changes.{AreOnce}
 use Rattle.cfb_chains.specs.Positions.{left_in, place_in, tail_in}
 use Rattle.cfb_chains.proofs.ChainParts.{chain_part}
@@ -135,18 +136,10 @@ written_at v b after ids xs position place inside fits once at is =
     ∙ joined_overwritten v b ids xs (position / sector_len v) (position % sector_len v) (split_below v position (length ids) inside) room once
     ∙ ap (λ p. overwritten (joined v b ids) p xs) parts.0
 
-pub longest : (v : Version) → sector_len v ≤ 4096
-longest V3 = omega arith
-longest V4 = omega arith
-
 -- where a sector ends within there is a tail, else none
 pub tail_left : (v : Version) (len : ℕ) → (len % sector_len v ≡ 0 → ⊥) → tail_in v len ≡ left_in v len
 tail_left V3 len some = omega arith
 tail_left V4 len some = omega arith
-
-pub no_tail : (v : Version) (len : ℕ) → len % sector_len v ≡ 0 → tail_in v len ≡ 0
-no_tail V3 len none = omega arith
-no_tail V4 len none = omega arith
 
 pub inside_yet : (v : Version) (len n : ℕ) → len ≤ n * sector_len v → (len % sector_len v ≡ 0 → ⊥) → len < n * sector_len v
 inside_yet V3 len n most some = omega arith

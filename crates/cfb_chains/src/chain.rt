@@ -67,7 +67,6 @@ impl<'a, H: HasSectors> Chain<'a, H> {
     }
 
     /// How many bytes its sectors have.
-    #[tactic(auto, using(crate::proofs::ChainParts::no_more_bytes))]
     pub fn len(&self) -> u64
         ensures { result ≡ length (sectors_of self.now) * sector_len (version_of self.now) }
     {
@@ -75,7 +74,6 @@ impl<'a, H: HasSectors> Chain<'a, H> {
     }
 
     // The place in the file of the byte at a position, and how many bytes its sector has from there on.
-    #[tactic(auto, using(crate::proofs::ChainWriting::split, crate::proofs::ChainWriting::split_below, crate::proofs::ChainParts::some_bytes, crate::proofs::ChainParts::starts_early))]
     pub(crate) fn place(&self, position: u64) -> (u64, usize)
         requires { position < length (sectors_of self.now) * sector_len (version_of self.now) }
         ensures place { result.0 ≡ place_in (version_of self.now) (sectors_of self.now) position }
@@ -124,7 +122,6 @@ impl<'a, H: HasSectors> Chain<'a, H> {
 
     /// Moves the position to a place of the chain or to its end, and gives it. `InvalidInput` where it is before the chain or
     /// behind its end, and `Failed` where the layer has failed; then the position stays.
-    #[tactic(auto, using(crate::proofs::ChainParts::no_more_bytes))]
     pub fn seek(&mut self, from: SeekFrom) -> Result<u64, Error>
         ensures ok { IfOk result (λ n. Finds from (length (sectors_of self.old) * sector_len (version_of self.old)) (position_of self.old) n × (position_of self.new ≡ n)) }
         ensures live { OnOk result (H.failed (holder_of self.old) ≡ false) }

@@ -18,7 +18,6 @@ impl<'a, H: FreesChains> Chain<'a, H> {
     ghost use Rattle.cfb_chains.specs.ChainViews.{holder_of, position_of, sectors_of, version_of, IsSameBut};
 
     // Keeps so many sectors, at least one, and frees those behind them. A position behind the new end goes there.
-    #[tactic(auto, using(crate::proofs::ChainParts::no_more_bytes))]
     pub(crate) fn cut_behind(&mut self, count: usize) -> Result<(), Error>
         requires some { 0 < count }
         requires there { count ≤ length (sectors_of self.old) }
@@ -75,7 +74,6 @@ impl<'a, H: FreesChains> Chain<'a, H> {
 }
 
 // How many sectors so many bytes need.
-#[tactic(auto, using(crate::proofs::ChainCutting::needed_whole, crate::proofs::ChainCutting::needed_more, crate::proofs::ChainParts::some_bytes))]
 fn needed_sectors(version: Version, len: u64) -> u64
     ensures { result ≡ sectors_for version len }
 {

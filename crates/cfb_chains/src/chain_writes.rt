@@ -57,7 +57,6 @@ impl<'a, H: ChangesSectors> Chain<'a, H> {
     /// Fills the sector in which a length ends with zeros from there on; what lies before stays. `InvalidInput` where the
     /// length is past the chain's end, `InvalidData` where the layer may not write there, and then nothing is changed. After a
     /// fault in the write the layer has failed. The position stays.
-    #[tactic(auto, using(crate::proofs::ChainParts::no_more_bytes, crate::proofs::ChainWriting::longest))]
     pub fn zero_tail(&mut self, len: u64) -> Result<(), Error>
         ensures zeroed { OnOk result (IsTrue (H.honest (holder_of self.old)) → AreOnce (sectors_of self.old)
             → joined (version_of self.old) (H.bytes (holder_of self.new)) (sectors_of self.old)

@@ -3,7 +3,7 @@ use Rattle.std.proofs.Common.{◌≡◌, sym, ◌∙◌, subst}
 use Rattle.std.specs.Prelude.{◌||◌, Result, Ok, Err, IfErr, IsErrAnd, IsErrOf}
 use Rattle.cfb_medium.specs.Calls.{HasCause}
 use Rattle.cfb_medium.specs.declared.error.Error.{Error}
-use Rattle.cfb_medium.specs.declared.error.Error.TheVariants.{Memory, InvalidData}
+use Rattle.cfb_medium.specs.declared.error.Error.TheVariants.{Memory}
 use Rattle.cfb_medium.specs.declared.medium.ReadMedium.{Ghosts}
 use Rattle.cfb_sectors.specs.declared.sectors.Sectors.{Sectors}
 use Rattle.cfb_sectors.specs.Held.{HasItsCause, Rests}
@@ -16,9 +16,6 @@ module _ {F : Type 0} {g : Ghosts F} where
   -- want of memory, and refusals by rule, need none
   pub memory_cause : (a b : Sectors F g) → HasItsCause a b Memory
   memory_cause a b = λ start from. record { device = λ wrong. absurd (cc); earlier = λ wrong. absurd (cc) }
-
-  pub data_cause : (a b : Sectors F g) → HasItsCause a b InvalidData
-  data_cause a b = λ start from. record { device = λ wrong. absurd (cc); earlier = λ wrong. absurd (cc) }
 
 -- what holds of the error that a call gave holds where it is passed on
 pub passed_on : {T : Type 0} (r : Result T Error) (e : Error) (Q : Error → Type 0) → IsErrAnd r (λ x. x ≡ e) → Q e → IfErr r Q

@@ -110,7 +110,6 @@ impl<F: ReadMedium> Sectors<F> {
     }
 
     /// A sector as a part of the file, at this offset. `InvalidData` where it isn't there or the offset is past its end.
-    #[tactic(auto, using(crate::proofs::Counts::ends_in_time))]
     pub fn seek_within_sector(&self, sector_id: u32, offset: usize) -> Result<Part, Error>
         ensures part { IfOk result (λ it. (part_start it ≡ sector_start (version_of self.now) sector_id) × (part_len it ≡ sector_len (version_of self.now)) × (part_position it ≡ offset)) }
         ensures there { OnOk result ((has_failed_here self.now ≡ false) × (sector_id < count_of self.now) × (offset ≤ sector_len (version_of self.now))) }
@@ -156,7 +155,6 @@ impl<F: ReadMedium> Sectors<F> {
     }
 
     /// Whether so many bytes from a place of the file on end in the sectors.
-    #[tactic(auto, using(crate::proofs::Counts::ends_in_time))]
     pub fn ends_in(&self, place: u64, count: usize) -> bool
         ensures { IsTrue result ↔ EndsIn self.now place count }
     {
@@ -229,7 +227,6 @@ impl<F: Medium> Sectors<F> {
     }
 
     // Writes over a part of the header's sector or of those behind it.
-    #[tactic(auto, using(crate::proofs::Counts::overwritten_count, crate::proofs::Counts::ends_in_time))]
     pub(crate) fn write_at(&mut self, place: u64, bytes: &[u8]) -> Result<(), Error>
         requires { place + length bytes.now ≤ sector_start (version_of self.old) (count_of self.old) }
         ensures changes { Changes (λ b. overwritten b place bytes.now) self.old self.new }
@@ -275,7 +272,6 @@ impl<F: Medium> Sectors<F> {
     }
 
     /// Appends a sector of zeros, and gives its number. `Full` where no number is left. After a fault it has failed.
-    #[tactic(auto, using(crate::proofs::Counts::appended_count, crate::proofs::Counts::ends_in_time, crate::proofs::Counts::longest))]
     pub fn reserve_sector(&mut self) -> Result<u32, Error>
         ensures number { IfOk result (λ n. n ≡ count_of self.old) }
         ensures changes { count_of self.old ≤ greatest_regular → Changes (λ b. overwritten b (sector_start (version_of self.old) (count_of self.old)) (replicate (sector_len (version_of self.old)) 0)) self.old self.new }
@@ -304,7 +300,6 @@ impl<F: Medium> Sectors<F> {
 
     /// Fills a sector with what it holds when it is taken into use. `InvalidData` where it isn't there, and then nothing is
     /// changed. After a fault it has failed.
-    #[tactic(auto, using(crate::proofs::Counts::longest, crate::proofs::Counts::whole_lies))]
     pub fn init_sector(&mut self, sector_id: u32, init: SectorInit) -> Result<(), Error>
         ensures changes { sector_id < count_of self.old → Changes (λ b. overwritten b (sector_start (version_of self.old) sector_id) (initial init (sector_len (version_of self.old)))) self.old self.new }
         ensures rests { count_of self.old ≤ sector_id → Rests self.old self.new }

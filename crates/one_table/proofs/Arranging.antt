@@ -49,9 +49,6 @@ then_lt Less = refl
 then_lt Equal = refl
 then_lt Greater = refl
 
-int_lt : ℤ → ℤ → Bool
-int_lt x y = is_lt (int_cmp x y)
-
 module _ (column : List ℕ) where
   -- as they are stored
   stored_same : (x y : ℤ) → is_lt (row_cmp (key_column column ∷ []) (key_row x) (key_row y)) ≡ is_lt (int_cmp x y)

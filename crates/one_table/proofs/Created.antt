@@ -1,11 +1,10 @@
 -- What a new table makes of the package, and why others are refused.
 use Rattle.std.proofs.Common.{◌≡◌, ℕ, ◌<◌, ◌≤◌, Bool, true, false, cond, List, [], ◌∷◌, map, length, refl, sym, ap, ◌∙◌, arith, Ok, Err, Some, None}
-use Rattle.std.specs.Prelude.{◌&&◌, not, ◌==◌, Result, nat_le, bytes_eq, chars, Option, is_some}
+use Rattle.std.specs.Prelude.{◌&&◌, not, ◌==◌, nat_le, bytes_eq, chars, Option, is_some}
 use Rattle.std.specs.List.{list_all, list_any}
 use Rattle.std.specs.Ordering.{is_lt}
 use Rattle.std.specs.declared.cmp.Ordering.{Ordering}
 use Rattle.std.proofs.lemmas.Bool.Decides.{nat_tests}
-use Rattle.msi_texts.specs.Results.{◌>>=◌, unless_not}
 use Rattle.msi_pool.specs.Datum.{text}
 use Rattle.msi_texts.specs.Category.{is_identifier}
 use Rattle.msi_pool.specs.Pool.{Pool, Place}
@@ -30,7 +29,6 @@ use Rattle.one_table.specs.Requests.{columns_said}
 use Rattle.one_table.specs.declared.column.Column.{Column as HeldColumn}
 use Rattle.one_table.specs.Naming.{are_named}
 use Rattle.one_table.proofs.Found.{IsFree, is_free, bytes_same, same_bytes, others_found, found_only, found_none}
-use Rattle.cfb_medium.specs.declared.error.Error.{Error}
 use Rattle.cfb_medium.specs.declared.error.Error.TheVariants.{InvalidInput, AlreadyExists}
 
 -- one row is in order
@@ -68,14 +66,7 @@ tables_counted name column false e = rw (bytes_same name, e) refl
 
 -- ---- what the tests tell
 
-false_first : (e : Error) (rest : Result ((List Row × List Row) × Pool) Error) (b : Bool) → b ≡ false → (unless_not b e >>= λ _. rest) ≡ Err e
-false_first e rest b f = rw f refl
-
 module _ (P : Package) (name : List ℕ) (columns : List Column) where
-  -- the names can't be such
-  pub create_misnamed : is_well_named name columns ≡ false → created_bare true P name columns ≡ Err InvalidInput
-  create_misnamed e = rw e refl
-
   -- there is such a table
   pub create_again : is_well_named name columns ≡ true → has_table P name ≡ true → created_bare true P name columns ≡ Err AlreadyExists
   create_again e has = rw (e, has) refl

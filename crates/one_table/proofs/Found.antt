@@ -8,7 +8,7 @@ use Rattle.msi_tables.specs.Schema.{columns_name, tables_name, validation_name}
 use Rattle.msi.specs.Package.{table_name_cmp, pool_name, data_name}
 use Rattle.msi.specs.Calls.{table_put}
 use Rattle.one_table.specs.Limits.{is_taken}
-use Rattle.one_table.specs.Contents.{Only, IsKept, AreKept, package_of, columns_table, tables_table, only_table, own_tables, own_places, places_of, pool_with}
+use Rattle.one_table.specs.Contents.{Only, IsKept, AreKept, package_of, columns_table, tables_table, only_table, own_tables, places_of, pool_with}
 use Rattle.one_table.specs.Sheets.{IsSheet}
 use Rattle.one_table.specs.declared.sheet.Sheet.{Sheet}
 
@@ -114,18 +114,6 @@ finds_only o t name s kept is same sheet =
     let named = same_bytes t.name name same in
     let here : Finds (Some t) t.name s = (only_table t, found_only t (kept.each t is), sheet) in
     subst (λ (p : Option Only). Finds p name s) (sym is) (subst (λ (n : List ℕ). Finds (Some t) n s) named here)
-
-pub finds_columns : (o : Option Only) (name : List ℕ) (s : Sheet) → AreKept o → bytes_eq name columns_name ≡ true
-    → IsSheet (pool_with (own_places o)) (columns_table o) s → Finds o name s
-finds_columns o name s kept same sheet =
-    let here : Finds o columns_name s = (columns_table o, found_columns o kept, sheet) in
-    subst (λ (n : List ℕ). Finds o n s) (sym (same_bytes name columns_name same)) here
-
-pub finds_tables : (o : Option Only) (name : List ℕ) (s : Sheet) → AreKept o → bytes_eq name tables_name ≡ true
-    → IsSheet (pool_with (own_places o)) (tables_table o) s → Finds o name s
-finds_tables o name s kept same sheet =
-    let here : Finds o tables_name s = (tables_table o, found_tables o kept, sheet) in
-    subst (λ (n : List ℕ). Finds o n s) (sym (same_bytes name tables_name same)) here
 
 pub finds_none : (o : Option Only) (t : Only) (name : List ℕ) → o ≡ Some t → bytes_eq name columns_name ≡ false → bytes_eq name tables_name ≡ false
     → bytes_eq t.name name ≡ false → table_named (package_of o).tables name ≡ None

@@ -11,7 +11,7 @@ use Rattle.std.proofs.lemmas.Str.{chars-encodes}
 use lib.Utf8.{scalars, scalar}
 use Rattle.msi.specs.Package.{stream_name}
 use Rattle.msi_texts.specs.Category.{is_identifier, begins_name, is_name_byte}
-use Rattle.msi_texts.specs.StreamName.{is_valid_name, is_between, spelled, spelled_name, letter_value, table_prefix}
+use Rattle.msi_texts.specs.StreamName.{is_valid_name, is_between, spelled, letter_value, table_prefix}
 
 and_true : (a b : Bool) → (a && b) ≡ true → (a ≡ true) × (b ≡ true)
 and_true true b e = (refl, e)
@@ -79,11 +79,6 @@ units_same (c ∷ cs) h =
 below_surrogates : (cs : List ℕ) → AllByRecursion (λ c. (0x3800 ≤ c) × (c < 0x4840)) cs → AllByRecursion (λ c. c < 0xD800) cs
 below_surrogates [] h = tt
 below_surrogates (c ∷ cs) h = (omega (arith, h.0.1), below_surrogates cs h.1)
-
--- the units of a table's stream
-pub table_units : (name : List ℕ) → is_identifier name ≡ true → flat_map encode_utf16 (spelled_name true name) ≡ spelled_name true name
-table_units name e =
-    units_same (table_prefix ∷ spelled name) (lit< tt, below_surrogates (spelled name) (spelled_half name (name_bytes name e)).1)
 
 -- and those behind the mark
 pub letter_units : (name : List ℕ) → is_identifier name ≡ true → flat_map encode_utf16 (spelled name) ≡ spelled name

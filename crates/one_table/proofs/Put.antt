@@ -1,6 +1,6 @@
 -- A new item among others that rise.
 use Rattle.std.proofs.Common.{◌≡◌, Bool, true, false, cond, List, [], ◌∷◌, map, refl, sym, ap, ◌∙◌, Some, None}
-use Rattle.std.specs.Prelude.{◌||◌, find, filter}
+use Rattle.std.specs.Prelude.{◌||◌, find}
 use Rattle.std.specs.List.{list_any, AllByRecursion}
 use Rattle.std.specs.Ordering.{is_lt, ordering_reverse}
 use Rattle.std.specs.List.Sorted.{IsStrictlySortedBy}
@@ -65,11 +65,6 @@ module _ {X K : Type 0} (cmp : K → K → Ordering) (key : X → K) where
         | true ↦ find_cond p x (y ∷ ys) true e
         | false ↦ find_cond p y (put_by cmp key x ys) false h.0 ∙ later
       ]
-
-  -- nothing is left where nothing passes
-  pub none_pass : (p : X → Bool) (xs : List X) → AllByRecursion (λ x. p x ≡ false) xs → filter p xs ≡ []
-  none_pass p [] h = refl
-  none_pass p (x ∷ xs) h = rw h.0 (none_pass p xs h.1)
 
 module _ {X K : Type 0} (cmp : K → K → Ordering) (total : IsTotalOrder cmp) (key : X → K) where
   below_all : (k l : K) (ks : List K) → cmp k l ≡ Less → AllByRecursion (λ m. cmp l m ≡ Less) ks → AllByRecursion (λ m. cmp k m ≡ Less) ks

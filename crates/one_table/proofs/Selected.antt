@@ -1,27 +1,17 @@
 -- What a select gives.
-use Rattle.std.proofs.Common.{◌≡◌, ℕ, Bool, true, false, List, [], ◌∷◌, map, refl, ap, ◌∙◌, Some, None, Ok, Err, cond}
-use Rattle.std.specs.Prelude.{filter, ◌&&◌}
-use Rattle.std.specs.List.{list_all}
-use Rattle.msi_columns.specs.Column.{has_column}
+use Rattle.std.proofs.Common.{◌≡◌, ℕ, true, List, [], ◌∷◌, map, refl, ap, ◌∙◌, Some, None, Ok}
+use Rattle.std.specs.Prelude.{filter}
 use Rattle.msi_tables.specs.Table.{Table, table_named, row_data}
-use Rattle.msi_query.specs.Query.{query, table, projected, filtered}
-use Rattle.msi_expr.specs.Conditions.{knows_condition}
-use Rattle.msi_texts.specs.Results.{◌>>=◌, unless_not}
+use Rattle.msi_query.specs.Query.{query, table}
 use Rattle.msi.specs.Package.{Package}
 use Rattle.one_table.specs.Limits.{is_whole, selected_whole}
 use Rattle.one_table.specs.Answers.{shown}
 use Rattle.one_table.specs.Sheets.{IsSheet}
 use Rattle.one_table.specs.declared.sheet.Sheet.{Sheet}
-use Rattle.cfb_medium.specs.declared.error.Error.TheVariants.{NotFound, InvalidInput}
 
 filter_all : {X : Type 0} (xs : List X) → filter (λ x. true) xs ≡ xs
 filter_all [] = refl
 filter_all (x ∷ xs) = ap (λ ys. x ∷ ys) (filter_all xs)
-
--- no table
-pub select_none : (P : Package) (name : List ℕ) (names : List (List ℕ)) → table_named P.tables name ≡ None
-    → selected_whole P (query (table name) names None) ≡ Err NotFound
-select_none P name names none = rw none refl
 
 -- a whole table
 pub select_whole : (P : Package) (name : List ℕ) (names : List (List ℕ)) (t : Table) → table_named P.tables name ≡ Some t
@@ -29,20 +19,6 @@ pub select_whole : (P : Package) (name : List ℕ) (names : List (List ℕ)) (t 
     → selected_whole P (query (table name) names None) ≡ Ok (map (λ c. c.name) t.columns, map (row_data P.pool) t.rows)
 select_whole P name [] t some whole = rw (some, filter_all t.rows) refl
 select_whole P name (n ∷ ns) t some whole = absurd (cc)
-
-ends_refused : {A B : Type 0} (b : Bool) (x : A) (f : A → B)
-    → ((cond b (Ok x) (Err InvalidInput) >>= λ t. Ok (f t)) >>= λ s. (unless_not false InvalidInput >>= λ _. Ok s)) ≡ Err InvalidInput
-ends_refused true x f = refl
-ends_refused false x f = refl
-
--- some columns of it
-pub select_parts : (P : Package) (name : List ℕ) (names : List (List ℕ)) (t : Table) → table_named P.tables name ≡ Some t
-    → is_whole (query (table name) names None) ≡ false
-    → selected_whole P (query (table name) names None) ≡ Err InvalidInput
-select_parts P name [] t some whole = absurd (cc)
-select_parts P name (n ∷ ns) t some whole =
-    rw some (ends_refused (list_all (has_column t.columns) (n ∷ ns) && knows_condition t.columns None) (projected (n ∷ ns) (filtered P.pool None t))
-    (λ u. (map (λ c. c.name) u.columns, map (row_data P.pool) u.rows)))
 
 -- what is shown is the sheet
 pub select_shown : (P : Package) (name : List ℕ) (names : List (List ℕ)) (s : Sheet)

@@ -2,7 +2,6 @@
 use Rattle.std.proofs.Common.{◌≡◌, ℕ, Bool, true, false, cond, List, [], ◌∷◌, map, refl, ap, Some, None}
 use Rattle.std.specs.Prelude.{bytes_eq, find, Option, option_map, option_and_then}
 use Rattle.cfb_tree.specs.Names.{ascii_letters}
-use Rattle.cfb_tree.specs.Tree.{child_names}
 use Rattle.cfb.specs.TreeRules.{Object, a_stream, is_same_name}
 use Rattle.plain.specs.WholeImage.{NamedStream, content_of_streams}
 use Rattle.msi_texts.specs.Category.{is_identifier}
@@ -22,11 +21,6 @@ object_of s = a_stream s.name 0 s.bytes
 pub objects_of : (ss : List NamedStream) → objects (content_of_streams ss) ≡ map object_of ss
 objects_of [] = refl
 objects_of (s ∷ ss) = ap (λ os. object_of s ∷ os) (objects_of ss)
-
--- the names of streams
-pub names_of : (ss : List NamedStream) → child_names (content_of_streams ss) ≡ map (λ s. s.name) ss
-names_of [] = refl
-names_of (s ∷ ss) = ap (λ ns. s.name ∷ ns) (names_of ss)
 
 -- the stream has the name
 abbrev pub has_name : List ℕ → NamedStream → Bool

@@ -21,17 +21,6 @@ pub record Checked (pages : List Page) (home len next least : ℕ) : Type 0 wher
   pub reached : (n : ℕ) → home / 512 ≤ n → n < next → Holds pages n
   pub missing : Holds pages next → ⊥
 
-pub checked_none : (home len : ℕ) → Checked [] home len (home / 512) 0
-checked_none home len = record {
-  rising = record { rising = λ i j d less within. absurd (omega arith) };
-  below = λ k d within. absurd (omega arith);
-  tight = λ m each. omega arith;
-  held = λ n held. absurd (cc held);
-  from = omega arith;
-  reached = λ n from below. absurd (omega arith);
-  missing = λ held. cc held;
-}
-
 pub checked_more : (pages : List Page) (page : Page) (home len next least new : ℕ) → Checked pages home len next least → least ≤ page.number → 512 * page.number < len
     → ((page.number ≡ next) × (new ≡ next + 1)) ⊎ ((page.number ≢ next) × (new ≡ next)) → Checked (pages ++ page ∷ []) home len new (page.number + 1)
 checked_more pages page home len next least new checked above inside step = record {

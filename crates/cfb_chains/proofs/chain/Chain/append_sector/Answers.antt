@@ -1,4 +1,4 @@
-use Rattle.std.proofs.Common.{◌≡◌, ℕ, slice_index, length, ◌++◌, ◌∷◌, [], ◌∙◌, sym, ap, arith, subst}
+use Rattle.std.proofs.Common.{◌≡◌, slice_index, length, ◌++◌, ◌∷◌, [], ◌∙◌, sym, ap, arith, subst}
 use Rattle.std.proofs.lemmas.List.{append-nil}
 use Rattle.cfb_medium.specs.Versions.{sector_len}
 use Rattle.cfb_sectors.specs.Sectors.{sector_start}
