@@ -1,6 +1,6 @@
 -- Rows in another order: their keys are as distinct, and they make the same uses of texts.
 use Rattle.std.proofs.Common.{◌≡◌, ◌∙◌, ℕ, zero, suc, ◌+◌, ◌≤◌, Bool, true, false, not, cond, List, [], ◌∷◌, ◌++◌, map, length, filter, refl, sym, ap, subst, arith}
-use Rattle.std.specs.Prelude.{◌||◌, ◌&&◌, ⊤}
+use Rattle.std.specs.Prelude.{◌||◌}
 use Rattle.std.specs.Cmp.{IsStrictWeakOrder}
 use Rattle.std.specs.List.{AllByRecursion, IsDistinct}
 use Rattle.std.specs.List.Sorted.{IsPermutation, IsStableBy, ties}
