@@ -1,6 +1,5 @@
 -- Rows in another order: their keys are as distinct, and they make the same uses of texts.
 use Rattle.std.proofs.Common.{◌≡◌, ◌∙◌, ℕ, zero, suc, ◌+◌, ◌≤◌, Bool, true, false, not, cond, List, [], ◌∷◌, ◌++◌, map, length, filter, refl, sym, ap, subst, arith}
-use Rattle.std.specs.Prelude.{◌||◌}
 use Rattle.std.specs.Cmp.{IsStrictWeakOrder}
 use Rattle.std.specs.List.{AllByRecursion, IsDistinct}
 use Rattle.std.specs.List.Sorted.{IsPermutation, IsStableBy, ties}
@@ -15,8 +14,8 @@ use Rattle.msi_tables.specs.Table.{IsStoredByKeys, Table, are_distinct, has_key,
 use Rattle.msi_tables.proofs.Keys.{key_order}
 use Rattle.msi_tables.proofs.Stored.{stored_order}
 use Rattle.msi_changes.specs.Laws.{StoredAlike}
-use Rattle.msi_changes.proofs.DistinctKeys.{one_key}
-use Rattle.msi_changes.proofs.RowUses.{both, row_uses}
+use Rattle.msi_changes.proofs.DistinctKeys.{one_key, both, neither}
+use Rattle.msi_changes.proofs.RowUses.{row_uses}
 
 -- ---- an arrangement has the elements of the list
 
@@ -74,13 +73,9 @@ module _ {X : Type 0} (lt : X → X → Bool) (o : IsStrictWeakOrder lt) where
 abbrev is_one : List Datum → List Datum → Bool
 is_one k x = is_eq (key_cmp x k)
 
-not_or : (a b : Bool) → not (a || b) ≡ true → (a ≡ false) × (not b ≡ true)
-not_or false b h = (refl, h)
-not_or true b h = absurd (cc h)
-
 apart : (k : List Datum) (ks : List (List Datum)) → not (has_key ks k) ≡ true → AllByRecursion (λ x. is_one k x ≡ false) ks
 apart k [] h = tt
-apart k (x ∷ xs) h = let parts = not_or (is_one k x) (has_key xs k) h in (parts.0, apart k xs parts.1)
+apart k (x ∷ xs) h = let parts = neither (is_one k x) (has_key xs k) h in (parts.0, apart k xs parts.1)
 
 none_is : (k : List Datum) (ks : List (List Datum)) → AllByRecursion (λ x. is_one k x ≡ false) ks → not (has_key ks k) ≡ true
 none_is k [] h = refl

@@ -1,6 +1,6 @@
 -- A delete leaves the other rows as they were read, and distinct keys stay distinct.
 use Rattle.std.proofs.Common.{◌≡◌, ◌∙◌, ℕ, ◌+◌, Bool, true, false, not, cond, List, [], ◌∷◌, map, length, filter, flat_map, refl, sym, ap, arith, Option, Result, Ok, Err}
-use Rattle.std.specs.Prelude.{◌||◌, ◌&&◌, IfOk}
+use Rattle.std.specs.Prelude.{◌&&◌, IfOk}
 use Rattle.std.specs.List.{All}
 use Rattle.std.specs.Ordering.{is_eq}
 use Rattle.std.proofs.lemmas.List.Elements.{All-append, All-filter, All-tail}
@@ -19,7 +19,8 @@ use Rattle.msi_changes.specs.Changes.{all_taken_back, deleted}
 use Rattle.msi_expr.specs.Conditions.{knows_condition, matches}
 use Rattle.msi_changes.proofs.CellUses.{HasUses, IsPlaced, Leaves, fewer_stay, same_uses, use_of}
 use Rattle.msi_changes.proofs.InsertLaw.{keys_are}
-use Rattle.msi_changes.proofs.RowUses.{IsWhole, both, cells_left, row_stays, row_uses}
+use Rattle.msi_changes.proofs.DistinctKeys.{both, neither}
+use Rattle.msi_changes.proofs.RowUses.{IsWhole, cells_left, row_stays, row_uses}
 use Rattle.msi_changes.proofs.TurnUses.{All-head, list_stays, uses_all}
 use Rattle.msi_changes.proofs.UsesKept.{are_whole, have_uses, uses_kept}
 
@@ -37,14 +38,10 @@ all_placed width (row ∷ rows) whole = All-append IsPlaced row (cells_in rows) 
 
 -- ---- keys of fewer rows
 
-not_or : (a b : Bool) → not (a || b) ≡ true → (a ≡ false) × (not b ≡ true)
-not_or false b h = (refl, h)
-not_or true b h = absurd (cc h)
-
 module _ (kept : Row → Bool) (key : Row → List Datum) where
   still_new : (k : List Datum) (rows : List Row) → not (has_key (map key rows) k) ≡ true → not (has_key (map key (filter kept rows)) k) ≡ true
   still_new k [] h = refl
-  still_new k (row ∷ rows) h = (let parts = not_or (is_eq (key_cmp (key row) k)) (has_key (map key rows) k) h in on (kept row) parts.0 (still_new k rows parts.1))
+  still_new k (row ∷ rows) h = (let parts = neither (is_eq (key_cmp (key row) k)) (has_key (map key rows) k) h in on (kept row) parts.0 (still_new k rows parts.1))
     where
       on : (b : Bool) → is_eq (key_cmp (key row) k) ≡ false → not (has_key (map key (filter kept rows)) k) ≡ true → not (has_key (map key (cond b (row ∷ filter kept rows) (filter kept rows))) k) ≡ true
       on true here rest = rw here rest

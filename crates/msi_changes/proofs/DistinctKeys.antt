@@ -25,12 +25,12 @@ one_key x y = ap is_eq ((lists_total datum_cmp_total).antisymm x y) ∙ turned_e
 abbrev pub are_new : List (List Datum) → List (List Datum) → Bool
 are_new keys new = list_all (λ k. not (has_key keys k)) new
 
-neither : (a b : Bool) → not (a || b) ≡ true → (a ≡ false) × (not b ≡ true)
+pub neither : (a b : Bool) → not (a || b) ≡ true → (a ≡ false) × (not b ≡ true)
 neither false false h = (refl, refl)
 neither true b h = absurd (cc h)
 neither false true h = absurd (cc h)
 
-both : (a b : Bool) → (a && b) ≡ true → (a ≡ true) × (b ≡ true)
+pub both : (a b : Bool) → (a && b) ≡ true → (a ≡ true) × (b ≡ true)
 both true true h = (refl, refl)
 both true false h = absurd (cc h)
 both false b h = absurd (cc h)

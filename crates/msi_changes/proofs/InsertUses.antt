@@ -15,7 +15,8 @@ use Rattle.msi_tables.specs.Table.{Table, are_distinct, key_values, keys_of}
 use Rattle.msi_changes.specs.Laws.{AreUses, KeepsUses}
 use Rattle.msi_changes.specs.Changes.{inserted, new_keys, rows_counted}
 use Rattle.msi_changes.proofs.CellUses.{fewer_stay, same_uses}
-use Rattle.msi_changes.proofs.RowUses.{GivesRows, IsWhole, both, row_uses, rows_given}
+use Rattle.msi_changes.proofs.DistinctKeys.{both}
+use Rattle.msi_changes.proofs.RowUses.{GivesRows, IsWhole, row_uses, rows_given}
 use Rattle.msi_changes.proofs.TurnUses.{uses_all}
 use Rattle.msi_changes.proofs.UsesKept.{are_whole, have_uses, uses_kept}
 

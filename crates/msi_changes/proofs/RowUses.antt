@@ -17,6 +17,7 @@ use Rattle.msi_tables.specs.Rows.{Row}
 use Rattle.msi_tables.specs.Table.{datum_at, row_data}
 use Rattle.msi_tables.proofs.Searches.{place_below}
 use Rattle.msi_changes.specs.Changes.{all_taken_back, cell_set, cells_set, counted, is_valid_set, option_first, row_counted, row_set, rows_counted, rows_set, taken_back, values_set}
+use Rattle.msi_changes.proofs.DistinctKeys.{both}
 use Rattle.msi_changes.proofs.CellUses.{HasUses, Stays, Gives, IsPlaced, Leaves, after_ok, all_stay, cell_counted, cell_stays, cell_taken, fewer_stay, same_uses, stays_then, use_of}
 use Rattle.msi_changes.proofs.TurnUses.{All-head, list_stays, turns_give, uses_all}
 
@@ -123,11 +124,6 @@ set_within columns s valid = on (column_place columns s.0) refl valid
     on : (o : Option ℕ) → column_place columns s.0 ≡ o → list_any (λ c. bytes_eq c.name s.0 && is_valid c s.1) (option_first o columns) ≡ true → unwrap_or o 0 < length columns
     on None is valid = absurd (cc valid)
     on (Some i) is valid = place_below columns s.0 i is
-
-pub both : (a b : Bool) → (a && b) ≡ true → (a ≡ true) × (b ≡ true)
-both true true h = (refl, refl)
-both true false h = absurd (cc h)
-both false b h = absurd (cc h)
 
 module _ (columns : List Column) where
   abbrev pub IsRow : Row → Type 0

@@ -19,7 +19,8 @@ use Rattle.msi_changes.specs.Changes.{is_valid_set, keys_after, option_first, ro
 use Rattle.msi_expr.specs.Conditions.{knows_condition, matches}
 use Rattle.msi_changes.proofs.CellUses.{Gives, same_uses}
 use Rattle.msi_changes.proofs.InsertLaw.{keys_are}
-use Rattle.msi_changes.proofs.RowUses.{IsWhole, both, row_uses, row_wanted, rows_give}
+use Rattle.msi_changes.proofs.DistinctKeys.{both}
+use Rattle.msi_changes.proofs.RowUses.{IsWhole, row_uses, row_wanted, rows_give}
 use Rattle.msi_changes.proofs.TurnUses.{uses_all}
 use Rattle.msi_changes.proofs.UsesKept.{are_whole, have_uses, uses_kept}
 
