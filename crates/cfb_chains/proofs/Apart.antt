@@ -1,5 +1,5 @@
 -- Other chains, where one took in free sectors.
-use Rattle.std.proofs.Common.{◌≡◌, ℕ, ◌<◌, List, [], ◌∷◌, ◌++◌, length, get_or, zero, suc, sym, subst, ◌∙◌, arith}
+use Rattle.std.proofs.Common.{ℕ, ◌<◌, List, [], ◌∷◌, ◌++◌, length, get_or, zero, suc, sym, subst, arith}
 use Rattle.std.specs.List.{AllByRecursion}
 use Rattle.cfb_sectors.specs.Sectors.{Chain as IsChain}
 use Rattle.cfb_chains.specs.Changes.{AreAmong, AreNoneOf, IsFreeIn, IsNoneOf, StayBut}

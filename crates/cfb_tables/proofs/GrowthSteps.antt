@@ -1,5 +1,5 @@
 -- Growing calls one after the other, and changes of the FAT among them.
-use Rattle.std.proofs.Common.{◌≡◌, ℕ, Bool, ◌+◌, ◌-◌, ◌<◌, ◌≤◌, true, false, List, [], ◌∷◌, ◌++◌, length, get_or, refl, ap, sym, subst, ◌∙◌, arith, IsTrue, length-append, ⊎_elim, inl, inr, ◌*◌, ◌/◌}
+use Rattle.std.proofs.Common.{◌≡◌, ℕ, Bool, ◌+◌, ◌-◌, ◌<◌, ◌≤◌, true, false, List, [], ◌∷◌, ◌++◌, length, get_or, refl, ap, sym, subst, ◌∙◌, arith, length-append, ⊎_elim, inl, inr, ◌*◌, ◌/◌}
 use Rattle.std.proofs.Math.ListN.{set}
 use Rattle.std.proofs.lemmas.Bool.Decides.{eqb_tells}
 use Rattle.std.proofs.lemmas.List.{length-set, get_or-set_same, get_or-set_other}
@@ -11,13 +11,12 @@ use Rattle.std.proofs.Math.Seq.{get_or-append_right}
 use Rattle.std.proofs.lemmas.Option.{slice_get-get_or}
 use Rattle.cfb_medium.specs.declared.medium.ReadMedium.{Ghosts}
 use Rattle.cfb_medium.specs.declared.error.Error.{Error}
-use Rattle.cfb_sectors.specs.Held.{count_of}
 use Rattle.cfb_sectors.specs.Sectors.{end_of_chain, filled_part, free, greatest_regular, sector_start, Chain as IsChain}
 use Rattle.cfb_tables.specs.declared.allocator.Allocator.{Allocator}
 use Rattle.cfb_tables.specs.Changing.{ChangesFat, WritesBeside}
-use Rattle.cfb_tables.specs.Growing.{tables_of, GrowsFat}
+use Rattle.cfb_tables.specs.Growing.{GrowsFat}
 use Rattle.cfb_chains.specs.Changes.{IsBeside, IsNoneOf}
-use Rattle.cfb_tables.specs.Tables.{AllRests, bytes_of, difat_sectors_of, fat_of, fat_sectors_of, has_failed_here, medium_of, sectors_of, version_of}
+use Rattle.cfb_tables.specs.Tables.{AllRests, bytes_of, difat_sectors_of, fat_of, fat_sectors_of, has_failed_here, medium_of, version_of}
 use Rattle.cfb_tables.proofs.EntryChanges.{changes_none, changes_rest}
 use Rattle.cfb_chains.proofs.Overwriting.{beside}
 use Rattle.cfb_chains.proofs.Beside.{beside_second}

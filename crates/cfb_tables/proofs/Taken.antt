@@ -1,5 +1,5 @@
 -- Sectors that were taken into use, as chains of their own and behind others.
-use Rattle.std.proofs.Common.{◌≡◌, ℕ, ◌+◌, ◌<◌, ◌≤◌, true, false, inr, List, [], ◌∷◌, ◌++◌, length, get_or, ap, sym, subst, ◌∙◌, arith, IsTrue}
+use Rattle.std.proofs.Common.{◌≡◌, ℕ, ◌<◌, true, false, inr, List, [], ◌∷◌, ◌++◌, subst, arith}
 use Rattle.std.proofs.Math.ListN.{set}
 use Rattle.cfb_medium.specs.Calls.{Extends}
 use Rattle.cfb_medium.specs.Versions.{sector_len}

@@ -1,10 +1,7 @@
-use Rattle.std.proofs.Common.{◌≡◌, ◌<◌, ◌-◌, [], ◌∷◌, ◌++◌, length, take, get_or, refl, ap, sym, subst, ◌∙◌, arith, IsTrue, length-append}
-use Rattle.std.proofs.Math.ListN.{set}
+use Rattle.std.proofs.Common.{◌<◌, ◌-◌, [], ◌∷◌, ◌++◌, length, take, get_or, refl, ap, sym, subst, ◌∙◌, arith, IsTrue, length-append}
 use Rattle.cfb_medium.specs.Versions.{sector_len}
-use Rattle.cfb_sectors.specs.Sectors.{sector_start, Chain as IsChain}
-use Rattle.cfb_sectors.proofs.Causes.{passed_on}
+use Rattle.cfb_sectors.specs.Sectors.{sector_start}
 use Rattle.cfb_sectors.proofs.OneChain.{chain_unique}
-use Rattle.cfb_chains.specs.Changes.{IsBeside}
 use Rattle.cfb_chains.proofs.Extending.{chain_extended, last_below, opened}
 use Rattle.cfb_tables.specs.Growing.{TakesIn}
 use Rattle.cfb_tables.specs.Keeping.{may_still}

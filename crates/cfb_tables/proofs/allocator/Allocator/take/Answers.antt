@@ -1,13 +1,9 @@
-use Rattle.std.proofs.Common.{◌≡◌, ◌⊎◌, inl, inr, true, [], ◌∷◌, ◌++◌, length, sym, ◌∙◌, ⊎_elim}
-use Rattle.cfb_medium.specs.Calls.{IsFaultUnless}
-use Rattle.cfb_medium.specs.declared.error.Error.TheVariants.{Full}
-use Rattle.cfb_sectors.proofs.Causes.{passed_on}
+use Rattle.std.proofs.Common.{◌≡◌, [], ◌∷◌, ◌++◌, length, sym, ◌∙◌}
 use Rattle.cfb_sectors.specs.Held.{HasItsCause}
 use Rattle.cfb_sectors.specs.Sectors.{end_of_chain, free, Chain as IsChain}
 use Rattle.std.proofs.lemmas.Option.{slice_get_within, get_or_from_slice_get}
 use Rattle.cfb_chains.proofs.Beside.{none_first, none_second}
 use Rattle.cfb_tables.specs.Growing.{GrowsFat}
-use Rattle.cfb_tables.specs.Tables.{has_failed_here, AllRests}
 use Rattle.cfb_tables.proofs.EntryChanges.{cause_since}
 use Rattle.cfb_tables.proofs.GrowthSteps.{chain_one, err_map, grows_again, grows_taken, ok_both, ok_map, on_err_map}
 use Rattle.cfb_tables.proofs.allocator.Allocator.take.Goals as goal
