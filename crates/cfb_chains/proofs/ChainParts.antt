@@ -1,19 +1,10 @@
 -- A part of a chain's bytes lies in one sector.
-use Rattle.std.proofs.Common.{◌≡◌, ℕ, ◌+◌, ◌-◌, ◌*◌, ◌<◌, ◌≤◌, ◌^◌, List, [], ◌∷◌, ◌++◌, length, take, drop, replicate, get_or, zero, suc, refl, sym, ap, ◌∙◌, arith, length-take, length-drop, length-append}
+use Rattle.std.proofs.Common.{◌≡◌, ℕ, ◌+◌, ◌-◌, ◌*◌, ◌<◌, ◌≤◌, List, [], ◌∷◌, ◌++◌, length, take, drop, replicate, get_or, zero, suc, refl, sym, ap, ◌∙◌, arith, length-take, length-drop, length-append}
 use Rattle.std.proofs.lemmas.List.{take-append-le, take-replicate, take-take, drop-append-le, drop-replicate, drop-take, length-replicate, drop-drop}
 use Rattle.std.proofs.Math.Seq.{drop-append-add, take-append_seam}
 use Rattle.cfb_medium.specs.declared.version.Version.{Version}
-use Rattle.cfb_medium.specs.declared.version.Version.TheVariants.{V3, V4}
 use Rattle.cfb_medium.specs.Versions.{sector_len}
 use Rattle.cfb_sectors.specs.Sectors.{filled_part, joined, sector, sector_start}
-
-pub ends_early : (v : Version) → sector_len v < 2 ^ 62
-ends_early V3 = omega arith
-ends_early V4 = omega arith
-
-pub starts_early : (v : Version) (n : ℕ) → n < 2 ^ 32 → (n + 1) * sector_len v < 2 ^ 45
-starts_early V3 n few = omega arith
-starts_early V4 n few = omega arith
 
 -- zeros behind a list, as many as are wanted
 enough : (n m : ℕ) (d : List ℕ) → n ≤ m → take n (d ++ replicate m 0) ≡ take n (d ++ replicate n 0)

@@ -8,7 +8,7 @@ use Rattle.cfb_medium.specs.Bytes.{overwritten}
 use Rattle.cfb_medium.specs.Versions.{sector_len}
 use Rattle.cfb_medium.specs.declared.version.Version.{Version}
 use Rattle.cfb_medium.specs.declared.version.Version.TheVariants.{V3, V4}
-use Rattle.cfb_sectors.specs.Sectors.{fat_in, filled_part, greatest_regular, sector_start}
+use Rattle.cfb_sectors.specs.Sectors.{fat_in, filled_part, sector_start}
 use Rattle.cfb_chains.specs.Changes.{AreOnce, DifferAt, IsBeside}
 use Rattle.cfb_tables.specs.Orderly.{named_at_most, AreBelow, IsOrderly}
 use Rattle.cfb_tables.proofs.FatEntries.{entries_stay, entry_written, per, split}
@@ -76,10 +76,6 @@ order_stays v w count n fat changed fs ds version same size h = record {
   there = subst (λ k. AreBelow k ds) (sym same) h.there;
   named = subst (λ u. length fs ≤ named_at_most u (length ds)) (sym version) h.named;
 }
-
-pub ends_in_time : (v : Version) (count : ℕ) → count ≤ greatest_regular + 1 → sector_start v count < 2 ^ 62
-ends_in_time V3 count few = omega arith
-ends_in_time V4 count few = omega arith
 
 -- the table in memory is that of the bytes also after a write beside its sectors
 pub still_same : (v w : Version) (b after fs fat bytes : List ℕ) (count n place : ℕ) → w ≡ v → n ≡ count → after ≡ overwritten b place bytes → IsBeside v fs place (length bytes)

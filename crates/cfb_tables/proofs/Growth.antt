@@ -10,7 +10,7 @@ use Rattle.cfb_medium.specs.Versions.{sector_len}
 use Rattle.cfb_medium.specs.declared.version.Version.{Version}
 use Rattle.cfb_medium.specs.declared.version.Version.TheVariants.{V3, V4}
 use Rattle.cfb_sectors.specs.Initial.{initial}
-use Rattle.cfb_sectors.specs.Sectors.{fat_in, filled_part, free, greatest_regular, joined, sector, sector_start}
+use Rattle.cfb_sectors.specs.Sectors.{fat_in, filled_part, free, joined, sector, sector_start}
 use Rattle.cfb_sectors.specs.declared.initial.SectorInit.TheVariants.{Fat}
 use Rattle.cfb_chains.specs.Changes.{StayBut}
 use Rattle.cfb_chains.specs.Changes.{AreOnce, IsBeside}
@@ -204,8 +204,3 @@ fat_same v old new fs same = ap numbers (joined_same v old new fs same)
 pub room_more : (v : Version) (fat_count difat_count more : ℕ) → more ≡ difat_count + 1 → fat_count ≤ 109 + difat_count * (per v - 1) → fat_count < 109 + more * (per v - 1)
 room_more V3 fat_count difat_count more is named = omega (arith, is, named)
 room_more V4 fat_count difat_count more is named = omega (arith, is, named)
-
--- a FAT that is full ends before the last numbers
-pub numbers_left : (v : Version) (n size : ℕ) → size ≡ n * per v → size ≤ greatest_regular → size + 2 ≤ greatest_regular
-numbers_left V3 n size full few = omega (arith, full, few)
-numbers_left V4 n size full few = omega (arith, full, few)

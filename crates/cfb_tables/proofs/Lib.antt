@@ -1,7 +1,6 @@
 pub mod Appended
 pub mod DifatChains
 pub mod Entering
-pub mod Early
 pub mod EntryChanges
 pub mod FatEntries
 pub mod Fresh

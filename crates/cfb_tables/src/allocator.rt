@@ -163,7 +163,6 @@ impl<F: ReadMedium> Allocator<F> {
 
     /// A part of a sector as a part of the file: the one with this index among those of so many bytes, at this offset in it.
     /// `InvalidData` where the sector isn't there, the part doesn't lie in it, or the offset is past its end.
-    #[tactic(auto, using(crate::proofs::Early::ends_early))]
     pub fn seek_within_subsector(
         &self,
         sector_id: u32,

@@ -17,7 +17,6 @@ const DIFAT: u64 = 68;
 const HEADER_END: u64 = 512;
 
 // Whether a part of the file has no byte of a sector.
-#[tactic(auto, using(crate::proofs::Early::starts_early, crate::proofs::Early::ends_early))]
 fn is_apart(version: Version, sector_id: u32, place: u64, count: usize) -> bool
     requires { place + count < 2 ^ 63 }
     ensures { IsTrue result ↔ ((sector_start version sector_id + sector_len version ≤ place) ⊎ (place + count ≤ sector_start version sector_id)) }

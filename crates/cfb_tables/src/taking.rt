@@ -91,7 +91,6 @@ impl<F: Medium> Allocator<F> {
     // Leaves the FAT with a place, and memory, for one sector more. `Full` where no number is left, and `Memory`, each with
     // nothing changed; after a fault in a write it has failed. A FAT that is full ends long before the numbers do, so there
     // are numbers for its sectors and the DIFAT's.
-    #[tactic(auto, using(crate::proofs::Growth::numbers_left))]
     fn make_room(&mut self) -> Result<(), Error>
         requires live { has_failed_here self.old ≡ false }
         requires orderly { IsTrue (orderly_of self.old) }

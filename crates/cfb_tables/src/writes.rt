@@ -14,7 +14,6 @@ use cfb_sectors::ChangesSectors;
 
 impl<F: ReadMedium> Allocator<F> {
     /// Whether so many bytes from a place of the file on may be written: they end in its sectors, and none is one of the tables.
-    #[tactic(auto, using(crate::proofs::Entering::ends_in_time))]
     pub fn may_write(&self, place: u64, count: usize) -> bool
         ensures { IsTrue result ↔ MayWrite self.now place count }
     {
@@ -37,7 +36,6 @@ impl<F: Medium> Allocator<F> {
 
     /// Writes over the bytes from an offset of a sector on, also those of the sectors behind it. `InvalidData` where so many
     /// bytes don't lie in the sectors, or one of them is of the tables; then nothing is changed. After a fault it has failed.
-    #[tactic(auto, using(crate::proofs::Entering::ends_in_time))]
     pub fn write_contiguous(
         &mut self,
         sector_id: u32,
