@@ -234,12 +234,8 @@ fn chains_extend_in_turn(rt: HostRuntime) -> Result<(), Fail> {
     Ok(())
 }
 
-// A file of version 3 whose FAT is full: so many sectors of the FAT, then those of the DIFAT beyond the header's 109, and one
-// chain of a sector for each of the others.
-fn full_file(alloc: Global, fat_count: u32) -> Result<Allocator<MemoryMedium>, Error>
-    requires { (109 ≤ fat_count) × (fat_count ≤ 1000) }
-{
-    let difat_count = (fat_count - 109).div_ceil(127);
+// The header of such a file: its numbers of the tables, and the 109 FAT sectors at the front.
+fn full_header(alloc: Global, fat_count: u32, difat_count: u32) -> Result<Vec<u8>, Error> {
     let mut bytes = Vec::new(alloc);
     bytes.resize(44, 7)?;
     bytes.extend_from_slice(&fat_count.to_le_bytes())?;
@@ -254,15 +250,13 @@ fn full_file(alloc: Global, fat_count: u32) -> Result<Allocator<MemoryMedium>, E
     for sector_id in 0..109_u32 {
         bytes.extend_from_slice(&sector_id.to_le_bytes())?;
     }
-    for _entry in 0..fat_count {
-        bytes.extend_from_slice(&FAT_SECTOR.to_le_bytes())?;
-    }
-    for _entry in 0..difat_count {
-        bytes.extend_from_slice(&DIFAT_SECTOR.to_le_bytes())?;
-    }
-    for _entry in fat_count + difat_count..fat_count * 128 {
-        bytes.extend_from_slice(&END_OF_CHAIN.to_le_bytes())?;
-    }
+    Ok(bytes)
+}
+
+// The DIFAT's sectors of such a file, behind those of the FAT.
+fn push_difat(bytes: &mut Vec<u8>, fat_count: u32, difat_count: u32) -> Result<(), Error>
+    requires { (109 ≤ fat_count) × (fat_count ≤ 1000) × (difat_count ≤ 10) }
+{
     for index in 0..difat_count {
         for slot in 0..127 {
             let sector_id = 109 + index * 127 + slot;
@@ -280,6 +274,26 @@ fn full_file(alloc: Global, fat_count: u32) -> Result<Allocator<MemoryMedium>, E
         };
         bytes.extend_from_slice(&next.to_le_bytes())?;
     }
+    Ok(())
+}
+
+// A file of version 3 whose FAT is full: so many sectors of the FAT, then those of the DIFAT beyond the header's 109, and one
+// chain of a sector for each of the others.
+fn full_file(alloc: Global, fat_count: u32) -> Result<Allocator<MemoryMedium>, Error>
+    requires { (109 ≤ fat_count) × (fat_count ≤ 1000) }
+{
+    let difat_count = (fat_count - 109).div_ceil(127);
+    let mut bytes = full_header(alloc, fat_count, difat_count)?;
+    for _entry in 0..fat_count {
+        bytes.extend_from_slice(&FAT_SECTOR.to_le_bytes())?;
+    }
+    for _entry in 0..difat_count {
+        bytes.extend_from_slice(&DIFAT_SECTOR.to_le_bytes())?;
+    }
+    for _entry in fat_count + difat_count..fat_count * 128 {
+        bytes.extend_from_slice(&END_OF_CHAIN.to_le_bytes())?;
+    }
+    push_difat(&mut bytes, fat_count, difat_count)?;
     bytes.resize(512 * (fat_count as usize * 128 + 1), 0)?;
     let len = bytes.len() as u64;
     let mut sectors = Sectors::new(Version::V3, len, MemoryMedium::from_bytes(alloc, bytes));
