@@ -114,6 +114,9 @@ impl<'a, H: GrowsChains> Chain<'a, H> {
         ensures stays { OnErr result (position_of self.new ≡ position_of self.old) }
         ensures same { IsSameBut self.old self.new }
         ensures live { OnOk result ((H.failed (holder_of self.old) ≡ false) × (H.failed (holder_of self.new) ≡ false)) }
+        ensures refused_either { IsErrOf result InvalidData → ((IsTrue (H.orderly (holder_of self.old)) → IsLinked (H.fat (holder_of self.old)) (sectors_of self.old) → ⊥) × H.rests (holder_of self.old) (holder_of self.new) × (sectors_of self.new ≡ sectors_of self.old))
+            ⊎ ((mid : H) × (more : List ℕ) × (changed : List ℕ) × (sectors_of self.new ≡ sectors_of self.old ++ more) × H.grows more changed (holder_of self.old) mid
+            × (H.may_write mid (place_in (version_of self.old) (sectors_of self.new) (position_of self.old)) (min (length bytes.now) (left_in (version_of self.old) (position_of self.old))) → ⊥) × H.rests mid (holder_of self.new)) }
         ensures refused { IsErrOf result InvalidData → H.version (holder_of self.old) ≡ version_of self.old
             → (IsTrue (H.orderly (holder_of self.old)) → IsLinked (H.fat (holder_of self.old)) (sectors_of self.old) → ⊥) × H.rests (holder_of self.old) (holder_of self.new) × (sectors_of self.new ≡ sectors_of self.old) }
         ensures full { IsErrOf result Full → (H.is_full (holder_of self.old) ⊎ (greatest_regular < length (sectors_of self.old))) × H.rests (holder_of self.old) (holder_of self.new) × (sectors_of self.new ≡ sectors_of self.old) }
@@ -163,6 +166,10 @@ impl<'a, H: GrowsChains> Chain<'a, H> {
         ensures rests_inside { position_of self.old < length (sectors_of self.old) * sector_len (version_of self.old)
             → (H.may_write (holder_of self.old) (place_in (version_of self.old) (sectors_of self.old) (position_of self.old)) (min (length bytes.now) (left_in (version_of self.old) (position_of self.old))) → ⊥)
             → H.rests (holder_of self.old) (holder_of self.new) }
+        ensures refused_either { IsErrOf result InvalidData → position_of self.old ≡ length (sectors_of self.old) * sector_len (version_of self.old)
+            → ((IsTrue (H.orderly (holder_of self.old)) → IsLinked (H.fat (holder_of self.old)) (sectors_of self.old) → ⊥) × H.rests (holder_of self.old) (holder_of self.new) × (sectors_of self.new ≡ sectors_of self.old))
+            ⊎ ((mid : H) × (more : List ℕ) × (changed : List ℕ) × (sectors_of self.new ≡ sectors_of self.old ++ more) × H.grows more changed (holder_of self.old) mid
+            × (H.may_write mid (place_in (version_of self.old) (sectors_of self.new) (position_of self.old)) (min (length bytes.now) (left_in (version_of self.old) (position_of self.old))) → ⊥) × H.rests mid (holder_of self.new)) }
         ensures refused_behind { IsErrOf result InvalidData → position_of self.old ≡ length (sectors_of self.old) * sector_len (version_of self.old) → H.version (holder_of self.old) ≡ version_of self.old
             → (IsTrue (H.orderly (holder_of self.old)) → IsLinked (H.fat (holder_of self.old)) (sectors_of self.old) → ⊥) × H.rests (holder_of self.old) (holder_of self.new) × (sectors_of self.new ≡ sectors_of self.old) }
         ensures full { IsErrOf result Full → (H.is_full (holder_of self.old) ⊎ (greatest_regular < length (sectors_of self.old))) × H.rests (holder_of self.old) (holder_of self.new) × (sectors_of self.new ≡ sectors_of self.old) }
