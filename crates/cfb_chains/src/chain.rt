@@ -26,8 +26,8 @@ pub struct Chain<'a, H: HasSectors> {
 impl<'a, H: HasSectors> Chain<'a, H> {
     ghost use Rattle.cfb_chains.specs.ChainViews.{holder_of, init_of, position_of, sectors_of, version_of, IsSame};
 
-    /// The chain of these sectors, at its first byte. What it takes in later holds at first what `init` says, and the links
-    /// have it too.
+    /// The chain of these sectors, at its first byte. What it takes in later holds at first what `init` says; the links follow
+    /// what it takes in and frees.
     pub fn new(holder: &'a mut H, links: &'a mut Links, init: SectorInit) -> Chain<'a, H>
         ensures same_reference { result.holder.ghost_name ≡ holder.entry.ghost_name }
         ensures same_links { result.links.ghost_name ≡ links.entry.ghost_name }

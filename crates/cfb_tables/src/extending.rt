@@ -8,10 +8,10 @@ ghost use Rattle.cfb_medium.specs.Versions.{sector_len};
 ghost use Rattle.cfb_medium.specs.declared.error.Error.TheVariants.{Failed, Full, InvalidData};
 ghost use Rattle.cfb_sectors.specs.Copies.{copies};
 ghost use Rattle.cfb_sectors.specs.Initial.{initial};
-ghost use Rattle.cfb_sectors.specs.Sectors.{free, joined, sector, sector_start, Chain as IsChain};
+ghost use Rattle.cfb_sectors.specs.Sectors.{free, greatest_regular, joined, sector, sector_start, Chain as IsChain};
 ghost use Rattle.cfb_tables.specs.Changing.{MayWrite};
 ghost use Rattle.cfb_tables.specs.Growing.{tables_of, IsFull, TakesIn};
-ghost use Rattle.std.specs.Prelude.{false, length, slice_get, true, IfErr, IfOk, IsErrOf, IsTrue, List, OnErr, OnOk, Some, ℕ, [], ◌∷◌, ◌++◌, ◌-◌, ◌≡◌, ◌≤◌, ◌⊎◌};
+ghost use Rattle.std.specs.Prelude.{false, length, slice_get, true, IfErr, IfOk, IsErrOf, IsTrue, List, OnErr, OnOk, Some, ℕ, [], ◌∷◌, ◌+◌, ◌++◌, ◌-◌, ◌<◌, ◌≡◌, ◌≤◌, ◌⊎◌};
 
 use crate::Allocator;
 use cfb_chains::{Chain, Links};
@@ -23,8 +23,8 @@ impl<F: Medium> Allocator<F> {
 
     /// Extends the chain from a start by one sector behind its last, and gives its number: a free one, or where there is none
     /// but a table's, one behind all others. `InvalidData` where the FAT has no such chain, it has no sector, or the tables
-    /// can't be changed, `Full` where no number is left, and `Memory`, each with nothing changed.
-    /// After a fault in a write it has failed ([MS-CFB] 2.3).
+    /// can't be changed, `Full` where no number is left, and `Memory`, each with nothing changed. After a fault in a write it
+    /// has failed ([MS-CFB] 2.3).
     pub fn extend_chain(&mut self, start: u32, init: SectorInit) -> Result<u32, Error>
         ensures extends { IfOk result (λ n. (ids : List ℕ) × (last : ℕ) × IsChain (fat_of self.old) start (ids ++ last ∷ []) × IsChain (fat_of self.new) start (ids ++ last ∷ n ∷ [])
             × TakesIn (n ∷ []) (last ∷ n ∷ []) self.old self.new) }
@@ -54,7 +54,8 @@ impl<F: Medium> Allocator<F> {
     }
 
     /// Extends the chain from a start by so many sectors behind its last, each as `extend_chain` does. `InvalidData` where the
-    /// FAT has no such chain, it has no sector, or the tables can't be changed, `Full` where no number is left for one of them. After an error some of them may be in the chain; after a fault in a write it has failed.
+    /// FAT has no such chain, it has no sector, or the tables can't be changed, `Full` where no number is left for one of them.
+    /// After an error some of them may be in the chain; after a fault in a write it has failed.
     pub fn extend_chain_by(
         &mut self,
         start: u32,
@@ -68,6 +69,7 @@ impl<F: Medium> Allocator<F> {
         ensures some { OnErr result ((more : List ℕ) × (changed : List ℕ) × TakesIn more changed self.old self.new) }
         ensures live { OnOk result ((has_failed_here self.old ≡ false) × (has_failed_here self.new ≡ false)) }
         ensures refused { IsErrOf result InvalidData → IsTrue (orderly_of self.old) → (ids : List ℕ) (last : ℕ) → IsChain (fat_of self.old) start (ids ++ last ∷ []) → ⊥ }
+        ensures full { IsErrOf result Full → IsFull self.new ⊎ ((ids : List ℕ) × IsChain (fat_of self.old) start ids × (greatest_regular < length ids + count)) }
         ensures failed { has_failed_here self.old ≡ true → IsErrOf result Failed × AllRests self.old self.new }
         ensures cause { IfErr result (HasCauseBelow self.old self.new) }
         ensures fault { IfErr result (λ e. IsFaultUnless ⊥ e ⊎ (e ≡ InvalidData) ⊎ (e ≡ Full)) }
@@ -98,6 +100,7 @@ impl<F: Medium> Allocator<F> {
             ≡ joined (links_version links.old) (bytes_of self.old) (ids_of links.old) ++ copies (length (ids_of links.new) - length (ids_of links.old)) (initial init (sector_len (links_version links.old)))) }
         ensures live { OnOk result ((has_failed_here self.old ≡ false) × (has_failed_here self.new ≡ false)) }
         ensures refused { IsErrOf result InvalidData → IsTrue (orderly_of self.old) → IsLinked (fat_of self.old) (ids_of links.old) → ⊥ }
+        ensures full { IsErrOf result Full → IsFull self.new ⊎ (greatest_regular < sectors_for (links_version links.old) len) }
         ensures failed { has_failed_here self.old ≡ true → IsErrOf result Failed × AllRests self.old self.new }
         ensures cause { IfErr result (HasCauseBelow self.old self.new) }
         ensures fault { IfErr result (λ e. IsFaultUnless ⊥ e ⊎ (e ≡ InvalidData) ⊎ (e ≡ Full)) }
