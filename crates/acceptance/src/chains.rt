@@ -1,12 +1,12 @@
-// DIFAT, FAT and chains of files in memory: worked rows.
+//! DIFAT, FAT and chains of files in memory: worked rows.
 ghost use Rattle.std.specs.Prelude.{length, ◌+◌, ◌≡◌, ◌≤◌};
 
 use cfb_chains::Chain;
+use cfb_fat::{Allocator, read_difat};
 use cfb_medium::{Error, MemoryMedium, Version};
 use cfb_sectors::{
     DIFAT_SECTOR, END_OF_CHAIN, FAT_SECTOR, FREE_SECTOR, Sector, SectorInit, Sectors,
 };
-use cfb_tables::{Allocator, read_difat};
 use std::alloc::Global;
 use std::io::SeekFrom;
 use std::test::Fail;
@@ -297,8 +297,8 @@ fn full_file(alloc: Global, fat_count: u32) -> Result<Allocator<MemoryMedium>, E
     bytes.resize(512 * (fat_count as usize * 128 + 1), 0)?;
     let len = bytes.len() as u64;
     let mut sectors = Sectors::new(Version::V3, len, MemoryMedium::from_bytes(alloc, bytes));
-    let (difat_sectors, fat_sectors) = read_difat(alloc, &mut sectors)?;
-    Allocator::new(alloc, sectors, difat_sectors, fat_sectors).map_err(|refused| refused.1)
+    let difat = read_difat(alloc, &mut sectors)?;
+    Allocator::new(alloc, sectors, difat.sectors, difat.fat_sectors).map_err(|refused| refused.1)
 }
 
 #[test]
@@ -311,6 +311,16 @@ fn full_fat_grows_past_the_header(rt: HostRuntime) -> Result<(), Fail> {
     assert_eq!(rt; bytes.len(), 512 * 13956);
     assert_eq!(rt; &bytes[44..48], [110, 0, 0, 0].as_slice());
     assert_eq!(rt; &bytes[72..76], [1, 0, 0, 0].as_slice());
+    assert_eq!(rt; &bytes[68..72], 13952_u32.to_le_bytes().as_slice());
+    let marks = 512 * 13954;
+    assert_eq!(rt;
+        &bytes[marks..marks + 4],
+        DIFAT_SECTOR.to_le_bytes().as_slice()
+    );
+    assert_eq!(rt;
+        &bytes[marks + 4..marks + 8],
+        FAT_SECTOR.to_le_bytes().as_slice()
+    );
     Ok(())
 }
 

@@ -1,10 +1,11 @@
-// Inserts, updates and deletes over rows and a pool in memory: worked rows.
+//! Inserts, updates and deletes over rows and a pool in memory: worked rows.
 use cfb_medium::Error;
 use msi_changes::{Delete, Insert, Update};
 use msi_expr::Expr;
-use msi_pool::{StringPool, StringRef, Value, ValueRef};
+use msi_pool::{StringPool, StringRef, ValueRef};
 use msi_tables::{Column, Table};
 use msi_texts::CodePage;
+use msi_values::Value;
 use std::alloc::Global;
 use std::rc::Rc;
 use std::test::Fail;

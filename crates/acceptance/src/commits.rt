@@ -1,4 +1,4 @@
-// What a commit leaves, and how often it writes.
+//! What a commit leaves, and how often it writes.
 use crate::faulty::FaultyDevice;
 use crate::logs::{device, open_log};
 use cfb_medium::{Medium, ReadMedium};

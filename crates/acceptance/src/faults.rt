@@ -1,4 +1,4 @@
-// Each device call fails once: the answer is that of the device, and `has_failed` tells the truth.
+//! Each device call fails once: the answer is that of the device, and `has_failed` tells the truth.
 use crate::faulty::FaultyDevice;
 use crate::logs::{device, open_log};
 use cfb_medium::{Error, Medium, ReadMedium};

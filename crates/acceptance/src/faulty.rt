@@ -1,6 +1,6 @@
-// A device that counts its calls, and fails one of them.
-ghost use Rattle.std.specs.Prelude.{◌≡◌, ◌≤◌, false, refl};
-ghost use Rattle.std.proofs.Common.{arith, sym};
+//! A device that counts its calls, and fails one of them.
+ghost use Rattle.std.specs.Prelude.{◌≡◌, ◌≤◌, ⊤, false, refl};
+ghost use Rattle.std.proofs.Common.{arith, inl, sym};
 ghost use Rattle.staged.specs.Memory.{memory_files};
 ghost use Rattle.staged.specs.Device.{Rests, counted_up};
 ghost use Rattle.staged.specs.declared.device.Which.TheVariants.{Home, Log};
@@ -91,6 +91,12 @@ impl Device for FaultyDevice {
 
     ghost rests = { λ a b. (a.home_writes ≡ b.home_writes) × (a.log_writes ≡ b.log_writes) × (a.failures ≤ b.failures) };
 
+    ghost moment = { λ _. 0 };
+
+    ghost may_leave = { λ _ _. ⊤ };
+
+    ghost left_since = { λ _ _ _. ⊤ };
+
     fn len(&mut self, which: Which) -> Result<u64, Error> {
         if self.fuse.blows() {
             return Err(self.fault());
@@ -135,4 +141,14 @@ impl Device for FaultyDevice {
     ghost rests_refl = { λ d. (refl, refl, Prim.omega arith) };
 
     ghost rests_keeps = { λ a b rests. record { as_honest = refl; same = λ never. absurd (Prim.cc never); unwritten = elim [ Home ↦ sym rests.0 | Log ↦ sym rests.1 ]; counted = rests.2 } };
+
+    ghost counts_now = { λ _ _ _ _ _. tt };
+
+    ghost only_now = { λ _ _ _. tt };
+
+    ghost rests_leaves = { λ _ _ _. record { later = Prim.omega arith; each = λ _ _. tt; before = λ _ _ _ _. inl tt } };
+
+    ghost rests_remember = { λ _ _ _ _ _ _ _. tt };
+
+    ghost shows_now = { λ _ _. tt };
 }

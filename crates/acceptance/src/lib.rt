@@ -1,5 +1,5 @@
 //! Tests from outside: of the store and of sessions over a device that fails one of its calls, of sectors and their chains, of texts,
-//! values and pools, and of tables.
+//! values and pools, of expressions, and of tables.
 #![tactic(auto)]
 
 #[cfg(test)]
@@ -9,13 +9,21 @@ mod changes;
 #[cfg(test)]
 mod commits;
 #[cfg(test)]
+mod container;
+#[cfg(test)]
+mod expressions;
+#[cfg(test)]
 mod faults;
 #[cfg(test)]
 mod faulty;
 #[cfg(test)]
+mod lists;
+#[cfg(test)]
 mod logs;
 #[cfg(test)]
 mod pool;
+#[cfg(test)]
+mod properties;
 #[cfg(test)]
 mod queries;
 #[cfg(test)]
@@ -23,6 +31,7 @@ mod sectors;
 #[cfg(test)]
 mod sessions;
 pub mod shelf;
+pub mod survivor;
 #[cfg(test)]
 mod tables;
 #[cfg(test)]

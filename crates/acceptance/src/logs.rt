@@ -1,4 +1,4 @@
-// What a recovery makes of a log.
+//! What a recovery makes of a log.
 use cfb_medium::Error;
 use staged::{MemoryDevice, Recovered, Which, recover};
 use std::alloc::Global;

@@ -1,7 +1,8 @@
-// What the format's own worked examples say of values and pools.
+//! What the format's own worked examples say of values and pools.
 use cfb_medium::Error;
-use msi_pool::{StringPool, StringPoolBuilder, StringRef, Value, ValueRef};
+use msi_pool::{StringPool, StringPoolBuilder, StringRef, ValueRef};
 use msi_texts::{Category, CodePage, LanguageId};
+use msi_values::Value;
 use std::alloc::Global;
 use std::test::Fail;
 use uuid::Uuid;
@@ -47,7 +48,7 @@ fn identifiers_stand_in_braces(rt: HostRuntime) -> Result<(), Fail> {
     Ok(())
 }
 
-/// The pool of two streams.
+// The pool of two streams.
 fn pool_of(alloc: Global, mut pool: &[u8], mut data: &[u8]) -> Result<StringPool, Error> {
     let builder = StringPoolBuilder::read_from_pool(alloc, &mut pool)?;
     builder.build_from_data(alloc, &mut data)

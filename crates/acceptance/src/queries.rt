@@ -1,4 +1,4 @@
-// Selects of tables in memory.
+//! Selects of tables in memory.
 use crate::shelf::Shelf;
 use cfb_medium::Error;
 use msi_expr::Expr;

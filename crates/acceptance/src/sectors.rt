@@ -1,4 +1,4 @@
-// The sectors of a file in memory: one worked row.
+//! The sectors of a file in memory: one worked row.
 use cfb_medium::{MemoryMedium, Version};
 use cfb_sectors::{END_OF_CHAIN, FREE_SECTOR, Sector, SectorInit, Sectors, Validation, u32_at};
 use std::test::Fail;

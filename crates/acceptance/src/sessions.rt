@@ -1,10 +1,10 @@
-// Sessions from outside: what they answer, what they write, and what a fault of the device makes of them.
+//! Sessions from outside: what they answer, what they write, and what a fault of the device makes of them.
 use crate::faulty::FaultyDevice;
 use crate::logs::device;
 use cfb_medium::Error;
 use installer::{Answer, Command, Session};
-use msi_pool::Value;
 use msi_texts::decode;
+use msi_values::Value;
 use one_table::{Column, Insert, Select};
 use plain::{Content, read_tree};
 use staged::{Device, MemoryDevice, Which};

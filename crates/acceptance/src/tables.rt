@@ -1,13 +1,14 @@
-// Columns, tables and rows from outside: worked cells, values, bits and streams.
+//! Columns, tables and rows from outside: worked cells, values, bits and streams.
 ghost use Rattle.std.specs.Prelude.{◌≡◌, IfOk, length};
 ghost use Rattle.std.specs.Rc.{rc_value};
 ghost use Rattle.msi_tables.specs.Held.{heading_of};
 ghost use Rattle.msi_tables.specs.Row.{ValueRow};
 
 use cfb_medium::Error;
-use msi_pool::{StringRef, Value, ValueRef};
+use msi_pool::{StringRef, ValueRef};
 use msi_tables::{Column, ColumnType, Row, Rows, Table};
 use msi_texts::Category;
+use msi_values::Value;
 use std::alloc::Global;
 use std::rc::Rc;
 use std::test::Fail;

@@ -227,6 +227,10 @@ among_both all xs ys first second n none k below same =
 pub among_more : (all more xs : List ℕ) → AreAmong all xs → AreAmong (all ++ more) xs
 among_more all more xs h n none = h n (λ k below same. none k (simp length-append (omega (arith, below))) (get_or_append_left all more 0 k below ∙ same))
 
+pub ends_here : {W R X : Type 0} → W ⊎ R → W ⊎ R ⊎ X
+ends_here (inl w) = inl w
+ends_here (inr r) = inr (inl r)
+
 -- where a refusal has left no state of failure nothing was changed
 pub rests_yet : {A R I U : Type 0} (failed : Bool) → (A × ((failed ≡ true) ⊎ R)) ⊎ I ⊎ U → (I → R) → (U → R) → failed ≡ false → R
 rests_yet failed (inl (a, inl wrong)) refused full live = absurd (let clash : true ≡ false = sym wrong ∙ live in cc)

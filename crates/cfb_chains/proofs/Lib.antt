@@ -5,5 +5,7 @@ pub mod ChainGrowing
 pub mod ChainParts
 pub mod ChainWriting
 pub mod Extending
+pub mod LongerTables
 pub mod Overwriting
+pub mod Owners
 pub mod Staying

@@ -53,6 +53,22 @@ module _ (old : List ℕ) (at : ℕ) where
       ∙ get_or-append_right (x ∷ xs) rest (i - length (front old at)) 0 there
       ∙ get_or-drop (at + length (x ∷ xs)) old (i - length (front old at) - length (x ∷ xs)) 0 ∙ ap (λ k. get_or old k 0) sum
 
+length_over : (b : List ℕ) (x : ℕ) (xs : List ℕ) (at : ℕ) → length (overwritten b at (x ∷ xs)) ≡ at + (length (x ∷ xs) + (length b - (at + length (x ∷ xs))))
+length_over b x xs at =
+    let front_size = length-front b at in
+    let rest_size = length-drop (at + length (x ∷ xs)) b in
+    ap length (parts b at x xs) ∙ length-append (front b at) ((x ∷ xs) ++ drop (at + length (x ∷ xs)) b) ∙ ap (λ n. n + length ((x ∷ xs) ++ drop (at + length (x ∷ xs)) b)) front_size
+    ∙ ap (λ n. at + n) (length-append (x ∷ xs) (drop (at + length (x ∷ xs)) b) ∙ ap (λ n. length (x ∷ xs) + n) rest_size)
+
+-- nothing is cut off, and what is written is there
+pub over_longer : (b xs : List ℕ) (at : ℕ) → length b ≤ length (overwritten b at xs)
+over_longer b [] at = omega arith
+over_longer b (x ∷ xs) at = let size = length_over b x xs at in omega (arith, size)
+
+pub over_reaches : (b xs : List ℕ) (at : ℕ) → 0 < length xs → at + length xs ≤ length (overwritten b at xs)
+over_reaches b [] at some = absurd (omega arith)
+over_reaches b (x ∷ xs) at some = let size = length_over b x xs at in omega (arith, size)
+
 pub length-filled : (b : List ℕ) (place n : ℕ) → length (filled_part b place n) ≡ n
 length-filled b place n = simp (length-take, length-append, length-replicate) (omega arith)
 

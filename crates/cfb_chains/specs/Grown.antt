@@ -1,5 +1,5 @@
 -- Chains that the FAT has, and that may be written.
-use Rattle.std.specs.Prelude.{ℕ, List, slice_index_or}
+use Rattle.std.specs.Prelude.{ℕ, ◌⊎◌, List, slice_index_or}
 use Rattle.std.specs.List.{AllByRecursion}
 use Rattle.cfb_medium.specs.declared.version.Version.{Version}
 use Rattle.cfb_medium.specs.Versions.{sector_len}
@@ -8,6 +8,10 @@ use Rattle.cfb_sectors.specs.Sectors.{end_of_chain, sector_start, Chain as IsCha
 -- the FAT has the chain of these sectors ([MS-CFB] 2.3)
 abbrev pub IsLinked : List ℕ → List ℕ → Type 0
 IsLinked fat sectors = IsChain fat (slice_index_or sectors 0 end_of_chain) sectors
+
+-- the second state comes from the first by a write or by reads alone, or by one of these and being made to fail then
+abbrev pub Ends : {H : Type 0} → (H → H → Type 0) → (H → H → Type 0) → (H → H → Type 0) → H → H → Type 0
+Ends {H} writes rests fails old new = writes old new ⊎ rests old new ⊎ ((mid : H) × (writes old mid ⊎ rests old mid) × fails mid new)
 
 -- each of these sectors may be written whole
 abbrev pub AreWritable : (ℕ → ℕ → Type 0) → Version → List ℕ → Type 0

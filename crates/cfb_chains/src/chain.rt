@@ -1,12 +1,13 @@
-// The bytes of a chain of sectors, read from a position on.
+//! The bytes of a chain of sectors, read from a position on.
 ghost use Rattle.cfb_medium.specs.Calls.{IsFaultUnless};
 ghost use Rattle.cfb_medium.specs.Versions.{sector_len};
 ghost use Rattle.cfb_medium.specs.declared.error.Error.TheVariants.{Failed};
+ghost use Rattle.cfb_chains.specs.Grown.{IsLinked};
 ghost use Rattle.cfb_chains.specs.Positions.{left_in, place_in};
 ghost use Rattle.cfb_chains.specs.LinkViews.{ids_of, links_version};
-ghost use Rattle.cfb_sectors.specs.Sectors.{end_of_chain, greatest_regular, joined};
+ghost use Rattle.cfb_sectors.specs.Sectors.{end_of_chain, greatest_regular, joined, Chain as IsChain};
 ghost use Rattle.cfb_sectors.specs.Seeking.{Finds, IsNotFound};
-ghost use Rattle.std.specs.Prelude.{drop, false, length, slice_index_or, take, true, vec_len, IfErr, IfOk, IsErrOf, IsTrue, OnErr, OnOk, ℕ, ◌*◌, ◌+◌, ◌-◌, ◌<◌, ◌≡◌, ◌≤◌};
+ghost use Rattle.std.specs.Prelude.{drop, false, length, slice_index_or, take, true, vec_len, IfErr, IfOk, IsErrOf, IsTrue, List, OnErr, OnOk, ℕ, ◌*◌, ◌+◌, ◌-◌, ◌<◌, ◌≡◌, ◌≤◌};
 
 use crate::Links;
 use cfb_medium::{Error, Version};
@@ -50,6 +51,17 @@ impl<'a, H: HasSectors> Chain<'a, H> {
             Some(sector_id) => *sector_id,
             None => END_OF_CHAIN,
         }
+    }
+
+    // Its last sector, or "end of chain" where it has none: a table with the chain has one from there.
+    pub(crate) fn last_sector_id(&self) -> u32
+        ensures { (table : List ℕ) → IsLinked table (sectors_of self.now) → (ids : List ℕ) × IsChain table result ids }
+    {
+        let count = self.links.sector_ids().len();
+        if count == 0 {
+            return END_OF_CHAIN;
+        }
+        self.links.sector_ids()[count - 1]
     }
 
     /// How many sectors it has.

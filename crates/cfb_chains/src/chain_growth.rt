@@ -1,4 +1,4 @@
-// Chains that become longer.
+//! Chains that become longer.
 ghost use Rattle.cfb_chains.specs.Changes.{AreAmong};
 ghost use Rattle.cfb_chains.specs.Grown.{AreWritable, IsLinked};
 ghost use Rattle.cfb_medium.specs.Calls.{IsFaultUnless};
@@ -115,5 +115,50 @@ impl<'a, H: GrowsChains> Chain<'a, H> {
             }
         }
         Ok(())
+    }
+
+    // Takes in sectors until there are so many. What is refused is refused before the first; where it stops half way, the layer
+    // is made to fail.
+    pub(crate) fn lengthen_to(&mut self, count: usize) -> Result<(), Error>
+        requires live { H.failed (holder_of self.old) ≡ false }
+        requires more { length (sectors_of self.old) ≤ count }
+        ensures grows { (more : List ℕ) × (changed : List ℕ) × (sectors_of self.new ≡ sectors_of self.old ++ more) × H.grows more changed (holder_of self.old) (holder_of self.new)
+            × (IsLinked (H.fat (holder_of self.old)) (sectors_of self.old) → AreAmong (sectors_of self.new) changed) }
+        ensures count { OnOk result (length (sectors_of self.new) ≡ count) }
+        ensures few { length (sectors_of self.new) ≤ count }
+        ensures linked { OnOk result (IsLinked (H.fat (holder_of self.old)) (sectors_of self.old) → IsLinked (H.fat (holder_of self.new)) (sectors_of self.new)) }
+        ensures writable { OnOk result (H.version (holder_of self.old) ≡ version_of self.old → AreWritable (H.may_write (holder_of self.old)) (version_of self.old) (sectors_of self.old)
+            → AreWritable (H.may_write (holder_of self.new)) (version_of self.old) (sectors_of self.new)) }
+        ensures filled { OnOk result (IsTrue (H.honest (holder_of self.old)) → H.version (holder_of self.old) ≡ version_of self.old → IsLinked (H.fat (holder_of self.old)) (sectors_of self.old)
+            → AreWritable (H.may_write (holder_of self.old)) (version_of self.old) (sectors_of self.old)
+            → joined (version_of self.old) (H.bytes (holder_of self.new)) (sectors_of self.new)
+            ≡ joined (version_of self.old) (H.bytes (holder_of self.old)) (sectors_of self.old) ++ copies (length (sectors_of self.new) - length (sectors_of self.old)) (initial (init_of self.old) (sector_len (version_of self.old)))) }
+        ensures same { IsSameBut self.old self.new }
+        ensures position { position_of self.new ≡ position_of self.old }
+        ensures live { OnOk result (H.failed (holder_of self.new) ≡ false) }
+        ensures refused { IsErrOf result InvalidData → IsTrue (H.orderly (holder_of self.old)) → IsLinked (H.fat (holder_of self.old)) (sectors_of self.old) → ⊥ }
+        ensures full { IsErrOf result Full → H.failed (holder_of self.new) ≡ false → IsTrue (H.orderly (holder_of self.old)) × (H.lacks (holder_of self.old) (count - length (sectors_of self.old)) ⊎ (greatest_regular + 1 < count)) }
+        ensures after { OnErr result ((H.failed (holder_of self.new) ≡ true) ⊎ (H.rests (holder_of self.old) (holder_of self.new) × (sectors_of self.new ≡ sectors_of self.old))) }
+        ensures cause { IfErr result (H.has_cause (holder_of self.old) (holder_of self.new)) }
+        ensures fault { IfErr result (λ e. IsFaultUnless ⊥ e ⊎ (e ≡ InvalidData) ⊎ (e ≡ Full)) }
+    {
+        let wanted = count - self.num_sectors();
+        if wanted == 0 {
+            return Ok(());
+        }
+        let last = self.last_sector_id();
+        if let Err(error) = self.holder.check_growth(last, wanted) {
+            return Err(error);
+        }
+        if let Err(error) = self.links.reserve(wanted) {
+            return Err(error);
+        }
+        match self.grow_to(count) {
+            Ok(()) => Ok(()),
+            Err(error) => {
+                self.holder.fail();
+                Err(error)
+            }
+        }
     }
 }

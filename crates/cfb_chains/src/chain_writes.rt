@@ -1,6 +1,6 @@
-// The bytes of a chain of sectors, written from a position on.
+//! The bytes of a chain of sectors, written from a position on.
 ghost use Rattle.cfb_chains.specs.Changes.{AreAmong};
-ghost use Rattle.cfb_chains.specs.Grown.{AreWritable, IsLinked};
+ghost use Rattle.cfb_chains.specs.Grown.{AreWritable, Ends, IsLinked};
 ghost use Rattle.cfb_chains.specs.Changes.{AreOnce};
 ghost use Rattle.cfb_chains.specs.Positions.{left_in, place_in, tail_in};
 ghost use Rattle.cfb_medium.specs.Bytes.{overwritten};
@@ -101,7 +101,7 @@ impl<'a, H: GrowsChains> Chain<'a, H> {
         ensures count { IfOk result (λ n. n ≡ min (length bytes.now) (left_in (version_of self.old) (position_of self.old))) }
         ensures grows { (more : List ℕ) × (changed : List ℕ) × (mid : H) × (sectors_of self.new ≡ sectors_of self.old ++ more) × H.grows more changed (holder_of self.old) mid
             × (IsLinked (H.fat (holder_of self.old)) (sectors_of self.old) → AreAmong (sectors_of self.new) changed)
-            × (H.writes (place_in (version_of self.old) (sectors_of self.new) (position_of self.old)) (take (left_in (version_of self.old) (position_of self.old)) bytes.now) mid (holder_of self.new) ⊎ H.rests mid (holder_of self.new)) }
+            × Ends (H.writes (place_in (version_of self.old) (sectors_of self.new) (position_of self.old)) (take (left_in (version_of self.old) (position_of self.old)) bytes.now)) H.rests H.fails mid (holder_of self.new) }
         ensures longer { length (sectors_of self.new) ≤ length (sectors_of self.old) + 1 }
         ensures linked { OnOk result (IsLinked (H.fat (holder_of self.old)) (sectors_of self.old) → IsLinked (H.fat (holder_of self.new)) (sectors_of self.new)) }
         ensures writable { OnOk result (H.version (holder_of self.old) ≡ version_of self.old → AreWritable (H.may_write (holder_of self.old)) (version_of self.old) (sectors_of self.old)
@@ -114,30 +114,32 @@ impl<'a, H: GrowsChains> Chain<'a, H> {
         ensures stays { OnErr result (position_of self.new ≡ position_of self.old) }
         ensures same { IsSameBut self.old self.new }
         ensures live { OnOk result ((H.failed (holder_of self.old) ≡ false) × (H.failed (holder_of self.new) ≡ false)) }
-        ensures refused_either { IsErrOf result InvalidData → ((IsTrue (H.orderly (holder_of self.old)) → IsLinked (H.fat (holder_of self.old)) (sectors_of self.old) → ⊥) × H.rests (holder_of self.old) (holder_of self.new) × (sectors_of self.new ≡ sectors_of self.old))
-            ⊎ ((mid : H) × (more : List ℕ) × (changed : List ℕ) × (sectors_of self.new ≡ sectors_of self.old ++ more) × H.grows more changed (holder_of self.old) mid
-            × (H.may_write mid (place_in (version_of self.old) (sectors_of self.new) (position_of self.old)) (min (length bytes.now) (left_in (version_of self.old) (position_of self.old))) → ⊥) × H.rests mid (holder_of self.new)) }
+        ensures refused_either { IsErrOf result InvalidData → H.failed (holder_of self.new) ≡ false → IsTrue (H.orderly (holder_of self.old)) → IsLinked (H.fat (holder_of self.old)) (sectors_of self.old) → ⊥ }
         ensures refused { IsErrOf result InvalidData → H.version (holder_of self.old) ≡ version_of self.old
             → (IsTrue (H.orderly (holder_of self.old)) → IsLinked (H.fat (holder_of self.old)) (sectors_of self.old) → ⊥) × H.rests (holder_of self.old) (holder_of self.new) × (sectors_of self.new ≡ sectors_of self.old) }
         ensures full { IsErrOf result Full → (H.is_full (holder_of self.old) ⊎ (greatest_regular < length (sectors_of self.old))) × H.rests (holder_of self.old) (holder_of self.new) × (sectors_of self.new ≡ sectors_of self.old) }
         ensures failed { H.failed (holder_of self.old) ≡ true → IsErrOf result Failed × H.rests (holder_of self.old) (holder_of self.new) × (sectors_of self.new ≡ sectors_of self.old) }
         ensures cause { IfErr result (H.has_cause (holder_of self.old) (holder_of self.new)) }
-        ensures fault { IfErr result (λ e. (IsFaultUnless ⊥ e × ((H.failed (holder_of self.new) ≡ true) ⊎ (H.rests (holder_of self.old) (holder_of self.new) × (sectors_of self.new ≡ sectors_of self.old)))) ⊎ (e ≡ InvalidData) ⊎ (e ≡ Full)) }
+        ensures after { OnErr result ((H.failed (holder_of self.new) ≡ true) ⊎ (H.rests (holder_of self.old) (holder_of self.new) × (sectors_of self.new ≡ sectors_of self.old))) }
+        ensures fault { IfErr result (λ e. IsFaultUnless ⊥ e ⊎ (e ≡ InvalidData) ⊎ (e ≡ Full)) }
     {
         if let Err(error) = self.append_sector() {
             return Err(error);
         }
         match self.write_inside(bytes) {
             Ok(count) => Ok(count),
-            Err(error) => Err(error),
+            Err(error) => {
+                self.holder.fail();
+                Err(error)
+            }
         }
     }
 
     /// Writes from the position on what its sector takes, and moves the position behind that. At the chain's end a sector is
     /// taken in first, in the FAT too, and holds what the chain's `init` says but for what is written; where there is nothing
     /// to write nothing is done. `InvalidData` where the layer may not write there, which isn't so of a new sector, or its
-    /// tables can't be changed or haven't the chain, `Full` where no sector's number is left. Then nothing is changed. After a
-    /// fault in a write the layer has failed ([MS-CFB] 2.3).
+    /// tables can't be changed or haven't the chain, `Full` where no sector's number is left. After an error nothing is
+    /// changed, or the layer has failed ([MS-CFB] 2.3).
     pub fn write(&mut self, bytes: &[u8]) -> Result<usize, Error>
         ensures count { IfOk result (λ n. n ≡ min (length bytes.now) (left_in (version_of self.old) (position_of self.old))) }
         ensures written { IfOk result (λ n. position_of self.old < length (sectors_of self.old) * sector_len (version_of self.old) → IsTrue (H.honest (holder_of self.old)) → AreOnce (sectors_of self.old)
@@ -150,7 +152,7 @@ impl<'a, H: GrowsChains> Chain<'a, H> {
             ≡ overwritten (joined (version_of self.old) (H.bytes (holder_of self.old)) (sectors_of self.old) ++ initial (init_of self.old) (sector_len (version_of self.old))) (position_of self.old) (take n bytes.now)) }
         ensures grows { (more : List ℕ) × (changed : List ℕ) × (mid : H) × (sectors_of self.new ≡ sectors_of self.old ++ more) × H.grows more changed (holder_of self.old) mid
             × (IsLinked (H.fat (holder_of self.old)) (sectors_of self.old) → AreAmong (sectors_of self.new) changed)
-            × (H.writes (place_in (version_of self.old) (sectors_of self.new) (position_of self.old)) (take (left_in (version_of self.old) (position_of self.old)) bytes.now) mid (holder_of self.new) ⊎ H.rests mid (holder_of self.new)) }
+            × Ends (H.writes (place_in (version_of self.old) (sectors_of self.new) (position_of self.old)) (take (left_in (version_of self.old) (position_of self.old)) bytes.now)) H.rests H.fails mid (holder_of self.new) }
         ensures inside { position_of self.old < length (sectors_of self.old) * sector_len (version_of self.old) → sectors_of self.new ≡ sectors_of self.old }
         ensures empty { length bytes.now ≡ 0 → sectors_of self.new ≡ sectors_of self.old }
         ensures longer { length (sectors_of self.new) ≤ length (sectors_of self.old) + 1 }
@@ -166,16 +168,15 @@ impl<'a, H: GrowsChains> Chain<'a, H> {
         ensures rests_inside { position_of self.old < length (sectors_of self.old) * sector_len (version_of self.old)
             → (H.may_write (holder_of self.old) (place_in (version_of self.old) (sectors_of self.old) (position_of self.old)) (min (length bytes.now) (left_in (version_of self.old) (position_of self.old))) → ⊥)
             → H.rests (holder_of self.old) (holder_of self.new) }
-        ensures refused_either { IsErrOf result InvalidData → position_of self.old ≡ length (sectors_of self.old) * sector_len (version_of self.old)
-            → ((IsTrue (H.orderly (holder_of self.old)) → IsLinked (H.fat (holder_of self.old)) (sectors_of self.old) → ⊥) × H.rests (holder_of self.old) (holder_of self.new) × (sectors_of self.new ≡ sectors_of self.old))
-            ⊎ ((mid : H) × (more : List ℕ) × (changed : List ℕ) × (sectors_of self.new ≡ sectors_of self.old ++ more) × H.grows more changed (holder_of self.old) mid
-            × (H.may_write mid (place_in (version_of self.old) (sectors_of self.new) (position_of self.old)) (min (length bytes.now) (left_in (version_of self.old) (position_of self.old))) → ⊥) × H.rests mid (holder_of self.new)) }
+        ensures refused_either { IsErrOf result InvalidData → position_of self.old ≡ length (sectors_of self.old) * sector_len (version_of self.old) → H.failed (holder_of self.new) ≡ false
+            → IsTrue (H.orderly (holder_of self.old)) → IsLinked (H.fat (holder_of self.old)) (sectors_of self.old) → ⊥ }
         ensures refused_behind { IsErrOf result InvalidData → position_of self.old ≡ length (sectors_of self.old) * sector_len (version_of self.old) → H.version (holder_of self.old) ≡ version_of self.old
             → (IsTrue (H.orderly (holder_of self.old)) → IsLinked (H.fat (holder_of self.old)) (sectors_of self.old) → ⊥) × H.rests (holder_of self.old) (holder_of self.new) × (sectors_of self.new ≡ sectors_of self.old) }
         ensures full { IsErrOf result Full → (H.is_full (holder_of self.old) ⊎ (greatest_regular < length (sectors_of self.old))) × H.rests (holder_of self.old) (holder_of self.new) × (sectors_of self.new ≡ sectors_of self.old) }
         ensures failed { H.failed (holder_of self.old) ≡ true → IsErrOf result Failed × H.rests (holder_of self.old) (holder_of self.new) × (sectors_of self.new ≡ sectors_of self.old) }
         ensures cause { IfErr result (H.has_cause (holder_of self.old) (holder_of self.new)) }
-        ensures fault { IfErr result (λ e. (IsFaultUnless ⊥ e × ((H.failed (holder_of self.new) ≡ true) ⊎ (H.rests (holder_of self.old) (holder_of self.new) × (sectors_of self.new ≡ sectors_of self.old)))) ⊎ (e ≡ InvalidData) ⊎ (e ≡ Full)) }
+        ensures after { OnErr result ((H.failed (holder_of self.new) ≡ true) ⊎ (H.rests (holder_of self.old) (holder_of self.new) × (sectors_of self.new ≡ sectors_of self.old))) }
+        ensures fault { IfErr result (λ e. IsFaultUnless ⊥ e ⊎ (e ≡ InvalidData) ⊎ (e ≡ Full)) }
     {
         if self.position < self.len() {
             return self.write_inside(bytes);

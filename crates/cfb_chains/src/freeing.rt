@@ -1,4 +1,4 @@
-// Chains that are freed, at whatever height.
+//! Chains that are freed, at whatever height.
 ghost use Rattle.cfb_chains.specs.Changes.{DifferAt, HaveEntry};
 ghost use Rattle.cfb_medium.specs.Calls.{IsFaultUnless};
 ghost use Rattle.cfb_medium.specs.declared.error.Error.TheVariants.{Failed, InvalidData};

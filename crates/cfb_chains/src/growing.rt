@@ -1,4 +1,4 @@
-// Chains that take sectors into use, at whatever height.
+//! Chains that take sectors into use, at whatever height.
 ghost use Rattle.cfb_chains.specs.Changes.{IsFreeIn, StayBut};
 ghost use Rattle.cfb_chains.specs.Changes.{IsBeside, IsNoneOf};
 ghost use Rattle.cfb_medium.specs.Calls.{IsFaultUnless};
@@ -25,6 +25,9 @@ pub trait GrowsChains: FreesChains {
 
     /// No sector's number is left for one more.
     ghost is_full: { Self → Type 0 };
+
+    /// Fewer numbers of sectors are left than this.
+    ghost lacks: { Self → ℕ → Type 0 };
 
     /// The second state comes from the first by taking these sectors into use, and a change of at most these entries of the
     /// FAT.
@@ -63,6 +66,16 @@ pub trait GrowsChains: FreesChains {
         ensures cause { IfErr result (Self.has_cause self.old self.new) }
         ensures fault { IfErr result (λ e. (IsFaultUnless ⊥ e × ((Self.failed self.new ≡ true) ⊎ Self.rests self.old self.new)) ⊎ (e ≡ InvalidData) ⊎ (e ≡ Full)) };
 
+    /// Sees whether the chain from a start can take in so many sectors: `InvalidData` where the FAT has no such chain or the
+    /// tables can't be changed, and then `Full` where fewer numbers are left. Nothing is changed.
+    fn check_growth(&self, start: u32, count: usize) -> Result<(), Error>
+        ensures ready { OnOk result (IsTrue (Self.orderly self.now)) }
+        ensures refused { IsErrOf result InvalidData → IsTrue (Self.orderly self.now) → (ids : List ℕ) → IsChain (Self.fat self.now) start ids → ⊥ }
+        ensures full { IsErrOf result Full → IsTrue (Self.orderly self.now) × lacks self.now count }
+        ensures failed { Self.failed self.now ≡ true → IsErrOf result Failed }
+        ensures cause { IfErr result (Self.has_cause self.now self.now) }
+        ensures fault { IfErr result (λ e. IsFaultUnless ⊥ e ⊎ (e ≡ InvalidData) ⊎ (e ≡ Full)) };
+
     // what stands in the FAT and may be written stays
     ghost grows_keep: { (taken entries : List ℕ) (a b : Self) → grows taken entries a b → (Self.honest b ≡ Self.honest a) × (version b ≡ version a)
         × (Self.failed b ≡ false → (Self.failed a ≡ false) × AllByRecursion (IsFreeIn (Self.fat a)) taken × StayBut entries (Self.fat a) (Self.fat b)
@@ -73,6 +86,9 @@ pub trait GrowsChains: FreesChains {
     ghost grows_rest: { (entries : List ℕ) (a b : Self) → Self.rests a b → grows [] entries a b };
 
     ghost grows_then: { (taken entries more others : List ℕ) (a b c : Self) → grows taken entries a b → grows more others b c → grows (taken ++ more) (entries ++ others) a c };
+
+    // what was done before it was made to fail
+    ghost grows_fails: { (taken entries : List ℕ) (a b c : Self) → grows taken entries a b → Self.fails b c → grows taken entries a c };
 
     ghost grows_cause: { (taken entries : List ℕ) (a b c : Self) (e : Error) → grows taken entries a b → Self.failed b ≡ false → Self.has_cause b c e → Self.has_cause a c e };
 }

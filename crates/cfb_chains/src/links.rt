@@ -1,4 +1,4 @@
-// The sectors of a chain, in order.
+//! The sectors of a chain, in order.
 ghost use Rattle.cfb_medium.specs.declared.error.Error.TheVariants.{Full, InvalidData, Memory};
 ghost use Rattle.cfb_sectors.specs.Sectors.{greatest_regular, Chain as IsChain};
 ghost use Rattle.std.specs.Prelude.{length, take, vec_len, IfErr, IfOk, IsErrOf, List, OnOk, ℕ, [], ◌+◌, ◌++◌, ◌<◌, ◌∷◌, ◌≡◌, ◌≤◌, ◌⊎◌};
@@ -40,14 +40,14 @@ impl Links {
         self.version
     }
 
-    /// Takes all sectors away.
+    // Takes all sectors away.
     pub(crate) fn clear(&mut self)
         ensures { (ids_of self.new ≡ []) × (links_version self.new ≡ links_version self.old) }
     {
         self.sector_ids.clear();
     }
 
-    /// Makes room for one sector more. `Full` where there is no number for it.
+    // Makes room for one sector more. `Full` where there is no number for it.
     pub(crate) fn reserve_one(&mut self) -> Result<(), Error>
         ensures room { OnOk result (HasRoom self.new) }
         ensures same { (ids_of self.new ≡ ids_of self.old) × (links_version self.new ≡ links_version self.old) }
@@ -60,7 +60,19 @@ impl Links {
         Ok(())
     }
 
-    /// Takes in a sector behind the last.
+    // Makes room for so many sectors more. `Full` where there are not so many numbers.
+    pub(crate) fn reserve(&mut self, count: usize) -> Result<(), Error>
+        ensures same { (ids_of self.new ≡ ids_of self.old) × (links_version self.new ≡ links_version self.old) }
+        ensures error { IfErr result (λ e. (e ≡ Memory) ⊎ ((e ≡ Full) × (greatest_regular + 1 < length (ids_of self.old) + count))) }
+    {
+        if count > MAX_REGULAR_SECTOR as usize + 1 - self.sector_ids.len() {
+            return Err(Error::Full);
+        }
+        self.sector_ids.reserve(count)?;
+        Ok(())
+    }
+
+    // Takes in a sector behind the last.
     pub(crate) fn push_reserved(&mut self, sector_id: u32)
         requires { HasRoom self.old }
         ensures { (ids_of self.new ≡ ids_of self.old ++ sector_id ∷ []) × (links_version self.new ≡ links_version self.old) }
@@ -68,7 +80,7 @@ impl Links {
         self.sector_ids.push_reserved(sector_id);
     }
 
-    /// Keeps so many sectors, those at the front.
+    // Keeps so many sectors, those at the front.
     pub(crate) fn truncate(&mut self, count: usize)
         ensures { (ids_of self.new ≡ take count (ids_of self.old)) × (links_version self.new ≡ links_version self.old) }
     {

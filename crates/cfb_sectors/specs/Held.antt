@@ -71,6 +71,13 @@ module _ {F : Type 0} {g : Ghosts F} where
     pub live : has_failed_here new ≡ false → has_failed_here old ≡ false
     pub bytes : has_failed_here new ≡ false → IsHonest old → bytes_of new ≡ change (bytes_of old)
 
+  -- it is as it was, but every call is refused
+  pub record Fails (old new : Sectors F g) : Type 0 where
+    pub medium : medium_of new ≡ medium_of old
+    pub version : version_of new ≡ version_of old
+    pub count : count_of new ≡ count_of old
+    pub failed : has_failed_here new ≡ true
+
   -- these bytes were written at this place, and as many sectors are there
   abbrev pub Writes : ℕ → List ℕ → Sectors F g → Sectors F g → Type 0
   Writes place bytes old new = Changes (λ b. overwritten b place bytes) old new × (count_of new ≡ count_of old)

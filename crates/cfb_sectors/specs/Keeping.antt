@@ -1,13 +1,13 @@
 -- What reads and writes keep, and the causes of errors after them.
 use Rattle.std.specs.Prelude.{◌≡◌, ℕ, ◌+◌, ◌≤◌, ◌||◌, false, true, List, IsTrue, refl}
-use Rattle.std.proofs.Common.{le_trans, sym, subst, ◌∙◌}
+use Rattle.std.proofs.Common.{ap, le_trans, sym, subst, ◌∙◌}
 use Rattle.cfb_medium.specs.Bytes.{overwritten}
 use Rattle.cfb_medium.specs.Calls.{HasCause}
 use Rattle.cfb_medium.specs.declared.error.Error.{Error}
 use Rattle.cfb_medium.specs.declared.error.Error.TheVariants.{Device, Failed}
 use Rattle.cfb_medium.specs.declared.medium.ReadMedium.{Ghosts}
 use Rattle.cfb_sectors.specs.declared.sectors.Sectors.{Sectors}
-use Rattle.cfb_sectors.specs.Held.{bytes_of, has_failed_here, EndsIn, HasItsCause, IsHonest, Rests, Writes}
+use Rattle.cfb_sectors.specs.Held.{bytes_of, has_failed_here, EndsIn, Fails, HasItsCause, IsHonest, Rests, Writes}
 
 module _ {F : Type 0} {g : Ghosts F} where
   pub rests_keep : (a b : Sectors F g) → Rests a b → (g.honest b.inner ≡ g.honest a.inner) × (has_failed_here b ≡ has_failed_here a) × (IsHonest a → bytes_of b ≡ bytes_of a)
@@ -26,6 +26,13 @@ module _ {F : Type 0} {g : Ghosts F} where
     device = λ is. absurd (other is);
     earlier = λ is. subst (λ f. IsTrue (f || g.failed start)) (sym (failed is)) refl;
   }
+
+  pub fails_keep : (a b : Sectors F g) → Fails a b → (g.honest b.inner ≡ g.honest a.inner) × (has_failed_here b ≡ true)
+  fails_keep a b h = (ap g.honest h.medium, h.failed)
+
+  -- a cause stays the cause of the error where the layer is made to fail
+  pub fails_cause : (a b c : Sectors F g) (e : Error) → HasItsCause a b e → Fails b c → HasItsCause a c e
+  fails_cause a b c e cause h = λ start from. subst (λ m. HasCause g.failures (λ m. has_failed_here a || g.failed m) start m e) (sym h.medium) (cause start from)
 
   pub may_part : (it : Sectors F g) (place count part size : ℕ) → EndsIn it place count → place ≤ part → part + size ≤ place + count → EndsIn it part size
   may_part it place count part size ends from within = le_trans within ends

@@ -1,4 +1,4 @@
-// The sectors of a medium, as what any layer above has.
+//! The sectors of a medium, as what any layer above has.
 ghost use Rattle.cfb_sectors.specs.Keeping as Keeping;
 ghost use Rattle.cfb_sectors.specs.Resting as Resting;
 
@@ -42,11 +42,17 @@ impl<F: ReadMedium> HasSectors for Sectors<F> {
 }
 
 impl<F: Medium> ChangesSectors for Sectors<F> {
-    ghost use Rattle.cfb_sectors.specs.Held.{EndsIn, Writes};
+    ghost use Rattle.cfb_sectors.specs.Held.{EndsIn, Fails, Writes};
 
     ghost may_write = { EndsIn };
 
     ghost writes = { Writes };
+
+    ghost fails = { Fails };
+
+    fn fail(&mut self) {
+        Sectors::fail(self)
+    }
 
     fn write_part(&mut self, place: u64, bytes: &[u8]) -> Result<(), Error> {
         if self.is_failed() {
@@ -58,6 +64,10 @@ impl<F: Medium> ChangesSectors for Sectors<F> {
         self.write_at(place, bytes)?;
         Ok(())
     }
+
+    ghost fails_keep = { Keeping.fails_keep };
+
+    ghost fails_cause = { Keeping.fails_cause };
 
     ghost may_part = { Keeping.may_part };
 

@@ -1,4 +1,4 @@
-// Numbers of the format.
+//! Numbers of the format.
 
 /// A header's bytes; in version 4 zeros follow them up to a sector's end.
 pub const HEADER_LEN: usize = 512;

@@ -1,4 +1,4 @@
-// The header of a compound file.
+//! The header of a compound file.
 ghost use Rattle.cfb_medium.specs.declared.error.Error.TheVariants.{InvalidData, Memory, UnexpectedEof};
 ghost use Rattle.cfb_medium.specs.declared.version.Version.{Version};
 ghost use Rattle.cfb_sectors.specs.Appended.{Begins};
@@ -32,7 +32,7 @@ pub struct Header {
     pub initial_difat_entries: [u32; NUM_DIFAT_ENTRIES_IN_HEADER],
 }
 
-/// The version of the header that the bytes begin with, if they begin with one.
+// The version of the header that the bytes begin with, if they begin with one.
 fn version_of(bytes: &[u8]) -> Option<Version>
     ensures { MatchOption result ((v : Version) → IsHeader v bytes.now → ⊥) (λ v. IsHeader v bytes.now) }
 {
@@ -52,7 +52,7 @@ fn version_of(bytes: &[u8]) -> Option<Version>
     }
 }
 
-/// Whether a reader of this kind takes this number of directory sectors.
+// Whether a reader of this kind takes this number of directory sectors.
 fn is_taken(validation: Validation, version: Version, num_dir_sectors: u32) -> bool
     ensures { IsTrue result ↔ IsTaken validation version num_dir_sectors }
 {

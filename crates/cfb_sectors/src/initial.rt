@@ -1,4 +1,4 @@
-// What sectors hold when they are taken into use.
+//! What sectors hold when they are taken into use.
 ghost use Rattle.cfb_medium.specs.Numbers.{number_bytes};
 ghost use Rattle.cfb_sectors.specs.Copies.{copies};
 ghost use Rattle.std.specs.Prelude.{length, replicate, take, ◌*◌, ◌/◌, ◌%◌, ◌<◌, ◌≡◌, ◌≤◌};
@@ -49,7 +49,7 @@ fn fill_entries(bytes: &mut [u8], entry: &[u8; DIR_ENTRY_LEN])
 impl SectorInit {
     ghost use Rattle.cfb_sectors.specs.Initial.{initial};
 
-    /// Fills the bytes with what they hold at first.
+    // Fills the bytes with what they hold at first.
     #[tactic(auto, unfolding(crate::specs::Initial::initial))]
     pub(crate) fn fill(self, bytes: &mut [u8])
         requires whole { length bytes.old % 128 ≡ 0 }

@@ -1,4 +1,4 @@
-// One sector, or a part of it, read and written from a position on.
+//! One sector, or a part of it, read and written from a position on.
 ghost use Rattle.cfb_medium.specs.Bytes.{overwritten};
 ghost use Rattle.cfb_medium.specs.Calls.{IsFaultUnless};
 ghost use Rattle.cfb_medium.specs.declared.error.Error.{Error};
@@ -62,6 +62,14 @@ pub trait ChangesSectors: HasSectors {
     /// The second state comes from the first by a write of these bytes at this place.
     ghost writes: { ℕ → List ℕ → Self → Self → Type 0 };
 
+    /// The second state is the first, but every call is refused.
+    ghost fails: { Self → Self → Type 0 };
+
+    /// Leaves it in a state in which every call is refused, as a fault in a write does: for a layer above, where what it
+    /// changes by several calls has come half way.
+    fn fail(&mut self)
+        ensures { fails self.old self.new };
+
     /// Writes over the bytes from a place of the file on. `InvalidData` where they may not be written, and then nothing is
     /// changed. After a fault it has failed.
     fn write_part(&mut self, place: u64, bytes: &[u8]) -> Result<(), Error>
@@ -75,6 +83,10 @@ pub trait ChangesSectors: HasSectors {
         ensures failed { Self.failed self.old ≡ true → IsErrOf result Failed × Self.rests self.old self.new }
         ensures cause { IfErr result (Self.has_cause self.old self.new) }
         ensures fault { IfErr result (λ e. (IsFaultUnless ⊥ e × (Self.failed self.new ≡ true)) ⊎ (e ≡ InvalidData)) };
+
+    ghost fails_keep: { (a b : Self) → fails a b → (Self.honest b ≡ Self.honest a) × (Self.failed b ≡ true) };
+
+    ghost fails_cause: { (a b c : Self) (e : Error) → Self.has_cause a b e → fails b c → Self.has_cause a c e };
 
     // what may be written whole may be written in part
     ghost may_part: { (it : Self) (place count part size : ℕ) → may_write it place count → place ≤ part → part + size ≤ place + count → may_write it part size };

@@ -1,4 +1,4 @@
-// A medium seen as a header's sector and those behind it.
+//! A medium seen as a header's sector and those behind it.
 ghost use Rattle.cfb_medium.specs.Bytes.{overwritten};
 ghost use Rattle.cfb_medium.specs.Calls.{Extends, IsFaultUnless};
 ghost use Rattle.cfb_medium.specs.Versions.{sector_len};
@@ -27,7 +27,7 @@ pub struct Sectors<F: ReadMedium> {
 }
 
 impl<F: ReadMedium> Sectors<F> {
-    ghost use Rattle.cfb_sectors.specs.Held.{bytes_of, count_of, has_failed_here, medium_of, version_of, EndsIn, HasItsCause, IsHonest, IsRefused, LiesIn, Rests};
+    ghost use Rattle.cfb_sectors.specs.Held.{bytes_of, count_of, has_failed_here, medium_of, version_of, EndsIn, Fails, HasItsCause, IsHonest, IsRefused, LiesIn, Rests};
     ghost use Rattle.cfb_sectors.specs.SectorViews.{part_len, part_position, part_start};
 
     /// The sectors of a medium of so many bytes.
@@ -129,6 +129,14 @@ impl<F: ReadMedium> Sectors<F> {
         ensures { result ≡ has_failed_here self.now }
     {
         self.failed
+    }
+
+    /// Leaves it in a state in which every call is refused, as a fault in a write does: for a layer above, where what it
+    /// changes by several calls has come half way.
+    pub fn fail(&mut self)
+        ensures { Fails self.old self.new }
+    {
+        self.failed = true;
     }
 
     /// Where a sector begins in the file.

@@ -1,4 +1,4 @@
-// The two ways of reading.
+//! The two ways of reading.
 ghost use Rattle.std.specs.Prelude.{IsTrue, ◌≡◌, ◌↔◌};
 ghost use Rattle.cfb_sectors.specs.declared.validation.Validation.TheVariants.{Strict};
 

@@ -1,5 +1,6 @@
 -- Writing a whole medium over.
 use Rattle.std.proofs.Common.{◌≡◌, ◌≢◌, ◌≤◌, ◌+◌, ◌-◌, ℕ, List, [], ◌∷◌, ◌++◌, length, drop, replicate, ◌⊎◌, refl, sym, ap, ◌∙◌, arith, ⊎_elim, inl, inr, rules, Bool, true, false}
+use Rattle.std.proofs.lemmas.Bool.{both_ways}
 use Rattle.std.proofs.lemmas.List.{drop_all, take_all, nil_from_length, append-nil}
 use Rattle.std.specs.Prelude.{Result, Err}
 use Rattle.cfb_medium.specs.Bytes.{overwritten, Serves}
@@ -36,17 +37,13 @@ served_whole bytes old new count serves same long =
     let all : count ≡ length bytes = omega (arith, serves.smaller, same) in
     sym (take_all count new (omega (arith, all, same, long))) ∙ serves.front ∙ take_all count bytes (omega (arith, all))
 
--- a truth value isn't both
-pub not_both : (b : Bool) → b ≡ false → b ≡ true → ⊥
-not_both b f t = grind (arith, f, t)
-
 abbrev tag : Error → Bool
 tag Failed = true
 tag _ = false
 
 -- a fault isn't that of an earlier one
 pub not_earlier : (e : Error) → (e ≡ Memory) ⊎ (e ≡ Device) → e ≡ Failed → ⊥
-not_earlier e kind is = ⊎_elim (λ memory. not_both (tag e) (ap tag memory) (ap tag is)) (λ device. not_both (tag e) (ap tag device) (ap tag is)) kind
+not_earlier e kind is = ⊎_elim (λ memory. both_ways (tag e) (ap tag memory) (ap tag is)) (λ device. both_ways (tag e) (ap tag device) (ap tag is)) kind
 
 -- errors that are equal as results
 pub err_same : {X : Type 0} (a b : Error) → ◌≡◌ {A = Result X Error} (Err a) (Err b) → a ≡ b

@@ -1,5 +1,5 @@
 -- How a session goes along a list of commands.
-use Rattle.std.specs.Prelude.{◌≡◌, ◌⊎◌, ◌<◌, ◌-◌, ◌^◌, ℕ, Bool, true, false, List, [], ◌∷◌, ◌++◌, Option, Some}
+use Rattle.std.specs.Prelude.{◌≡◌, ◌⊎◌, ◌<◌, ◌≤◌, ◌-◌, ◌^◌, ℕ, Bool, true, false, List, [], ◌∷◌, ◌++◌, Option, Some, Result, Ok, Err}
 use Rattle.msi.specs.Package.{Package}
 use Rattle.installer.specs.Request.{Request, is_reading}
 use Rattle.installer.specs.Request as command
@@ -38,14 +38,14 @@ committed_after old command.commit told.done = Some old.held
 committed_after old request reply = old.committed
 
 -- One command: its step; or a fault that leaves the package; or one by which the session fails, which no command that reads meets; and a
--- session that has failed refuses.
+-- session that has failed refuses. No failure of the device is counted back.
 pub data Goes (old : Course) (request : Request) (reply : Reply) (new : Course) : Type 0 where
   steps : old.phase ≡ running → LimitedStep old.held request reply new.held → new.committed ≡ committed_after old request reply
-      → new.phase ≡ running → Goes old request reply new
+      → new.phase ≡ running → old.failures ≤ new.failures → Goes old request reply new
   stays : (e : Error) → old.phase ≡ running → reply ≡ told.refused e → IsFault old e new → new ≡ record old { failures = new.failures }
-      → Goes old request reply new
+      → old.failures ≤ new.failures → Goes old request reply new
   fails : (e : Error) → old.phase ≡ running → reply ≡ told.refused e → IsFault old e new → is_reading request ≡ false
-      → new ≡ record old { failures = new.failures; phase = failed } → Goes old request reply new
+      → new ≡ record old { failures = new.failures; phase = failed } → old.failures ≤ new.failures → Goes old request reply new
   refuses : old.phase ≡ failed → reply ≡ told.refused Failed → new ≡ old → Goes old request reply new
 
 -- the commit that this command begins, unless the session has failed before
@@ -54,6 +54,12 @@ marks_of old command.commit told.done = record { held = old.held; done = true } 
 marks_of old command.commit (told.refused Failed) = []
 marks_of old command.commit reply = record { held = old.held; done = false } ∷ []
 marks_of old request reply = []
+
+-- the commit that a call of its own begins, unless the session has failed before
+abbrev pub commit_marks : Bool → Package → Result (Unit {0}) Error → List Mark
+commit_marks true held outcome = []
+commit_marks false held (Ok u) = record { held = held; done = true } ∷ []
+commit_marks false held (Err e) = record { held = held; done = false } ∷ []
 
 -- one reply for each request, with the commits that they begin
 abbrev pub Runs : Course → List Request → List Reply → List Mark → Course → Type 0

@@ -1,9 +1,11 @@
--- What a recovery gives after a call that returned.
-use Rattle.std.specs.Prelude.{◌≡◌, ◌⊎◌, ◌≤◌, ℕ, false, List, [], ◌∷◌, Some, IsTrue}
+-- What a recovery gives after a call, and after a stop in one.
+use Rattle.std.specs.Prelude.{◌≡◌, ◌⊎◌, ◌≤◌, ℕ, false, List, [], ◌∷◌, map, Option, Some, IsTrue}
+use Rattle.cfb_medium.specs.Stops.{LeavesOnly}
 use Rattle.cfb_tree.specs.Names.{ascii_letters}
 use Rattle.msi.specs.Package.{MeansPackage}
 use Rattle.staged.specs.Files.{Files}
 use Rattle.staged.specs.Log.{recovered}
+use Rattle.staged.specs.Steps.{GivenBy}
 use Rattle.staged.specs.declared.device.Device.{Ghosts}
 use Rattle.installer.specs.Course.{Mark}
 
@@ -17,9 +19,43 @@ MayBeFound lists (m ∷ marks) bytes = MayBeFound (λ b. MeansPackage ascii_lett
 abbrev pub GivesOneOf : (List ℕ → Type 0) → Files → Type 0
 GivesOneOf lists files = (bytes : List ℕ) × (recovered files ≡ Some bytes) × lists bytes
 
--- what a call that begins these commits leaves on the device when it returns
-pub record Survives {D : Type 0} (g : Ghosts D) (old new : D) (marks : List Mark) : Type 0 where
+-- what a recovery of the files that are shown gives when a call that begins these commits has returned
+pub record FoundAtReturn {D : Type 0} (g : Ghosts D) (old new : D) (marks : List Mark) : Type 0 where
   pub honest : g.honest new ≡ g.honest old
   pub counted : g.failures old ≤ g.failures new
   pub at_return : IsTrue (g.honest old) → (given : List ℕ) → recovered (g.content old) ≡ Some given
       → GivesOneOf (MayBeFound (λ b. b ≡ given) marks) (g.content new)
+
+-- the same commit, as one that was only begun
+abbrev pub begun : Mark → Mark
+begun m = record m { done = false }
+
+-- a recovery gave one of these lists
+abbrev pub IsGiven : (List ℕ → Type 0) → Option (List ℕ) → Type 0
+IsGiven lists given = (bytes : List ℕ) × (given ≡ Some bytes) × lists bytes
+
+abbrev pub AllGive : (List ℕ → Type 0) → (Option (List ℕ) → Type 0) → Type 0
+AllGive lists outcomes = (given : Option (List ℕ)) → outcomes given → IsGiven lists given
+
+abbrev pub AnyList : List ℕ → Type 0
+AnyList bytes = Unit {0}
+
+module _ {D : Type 0} (g : Ghosts D) where
+  -- what a recovery would give of what a stop may leave now, or might have left since a moment
+  abbrev pub gives : D → Option (List ℕ) → Type 0
+  gives d = GivenBy (g.may_leave d)
+
+  abbrev pub given_since : D → ℕ → Option (List ℕ) → Type 0
+  given_since d moment = GivenBy (g.left_since d moment)
+
+  abbrev pub listed : D → List ℕ → Type 0
+  listed d bytes = gives d (Some bytes)
+
+  -- A call that begins these commits. Where a recovery gives a list of whatever a stop may leave when the call begins, then of whatever
+  -- one leaves in the call it gives what might be found before, or a package whose commit the call began; and at the call's return
+  -- what the commits that were answered leave of these.
+  pub record Survives (old new : D) (marks : List Mark) : Type 0 where
+    pub honest : g.honest new ≡ g.honest old
+    pub counted : g.failures old ≤ g.failures new
+    pub any_moment : IsTrue (g.honest old) → AllGive AnyList (gives old) → LeavesOnly g.moment given_since old new (IsGiven (MayBeFound (listed old) (map begun marks)))
+    pub at_return : IsTrue (g.honest old) → AllGive AnyList (gives old) → AllGive (MayBeFound (listed old) marks) (gives new)

@@ -1,19 +1,21 @@
-// A session on a package.
-ghost use Rattle.std.specs.Prelude.{◌≡◌, ◌≢◌, ◌⊎◌, ◌≤◌, ◌<◌, ◌-◌, ◌^◌, ℕ, List, [], ◌∷◌, ◌++◌, Option, Some, None, map, length, take, IsTrue, true, false, IfOk, IfErr, OnOk, OnErr, IsErrOf, refl};
+//! A session on a package.
+ghost use Rattle.std.specs.Prelude.{◌≡◌, ◌≢◌, ◌⊎◌, ◌≤◌, ◌<◌, ◌-◌, ◌^◌, ℕ, List, [], ◌∷◌, ◌++◌, Option, Some, None, map, length, take, IsTrue, true, false, IfOk, IfErr, OnOk, OnErr, IsErrOf, MatchResult, refl};
 ghost use Rattle.cfb_medium.specs.Calls.{Extends};
+ghost use Rattle.cfb_medium.specs.Stops.{LeavesOnly};
 ghost use Rattle.cfb_medium.specs.declared.error.Error.TheVariants as error;
 ghost use Rattle.cfb_tree.specs.Names.{ascii_letters};
 ghost use Rattle.msi.specs.Package.{Package, MeansPackage};
 ghost use Rattle.staged.specs.Device.{Rests, IsDeviceFault, IsMemoryOrFault};
 ghost use Rattle.staged.specs.Log.{recovered, logged, MalformedLog, IsPublished};
-ghost use Rattle.staged.specs.Settled.{IsSettled};
-ghost use Rattle.staged.specs.Staged.{device_of, staged_bytes, is_failed, Continues};
+ghost use Rattle.staged.specs.Steps.{GivesAlike};
+ghost use Rattle.staged.specs.Settled.{IsSettled, HasPublished};
+ghost use Rattle.staged.specs.Staged.{device_of, staged_bytes, staged_moment, staged_left_since, staged_may_leave, is_failed, Continues};
 ghost use Rattle.staged.specs.Recovery.{IsMalformedOrFault};
 ghost use Rattle.one_table.specs.Held.{image_in, package_in};
 ghost use Rattle.one_table.specs.Requests.{select_said};
 ghost use Rattle.one_table.specs.Contents.{package_of as bare};
-ghost use Rattle.installer.specs.Course.{Course, Mark, Runs, Goes, committed_after, marks_of, running};
-ghost use Rattle.installer.specs.Survival.{Survives};
+ghost use Rattle.installer.specs.Course.{Course, Mark, Runs, Goes, committed_after, commit_marks, marks_of, running};
+ghost use Rattle.installer.specs.Survival.{FoundAtReturn, Survives};
 ghost use Rattle.installer.specs.Refusals.{IsCreateRefusal, IsReadRefusal};
 ghost use Rattle.installer.specs.Said.{said, told_by};
 ghost use Rattle.installer.specs.LimitedStep.{LimitedStep};
@@ -46,9 +48,10 @@ impl<D: Device> Session<D> {
         ensures package { IfOk result (λ session. package_of session ≡ bare None) }
         ensures sound { IfOk result (λ session. has_failed session ≡ false) }
         ensures empty { IsTrue (D.honest device) → IfOk result (λ session. recovered (D.content device) ≡ Some []) }
-        ensures survives { IfOk result (λ session. Survives D.Device device (device_below session) []) }
+        ensures survives { MatchResult result (λ session. Survives D.Device device (device_below session) []) (λ refusal. Survives D.Device device refusal.0 []) }
+        ensures found { IfOk result (λ session. FoundAtReturn D.Device device (device_below session) []) }
         ensures refused { IfErr result (λ refusal. IsCreateRefusal D.Device device refusal.0 refusal.1) }
-        ensures left { IfErr result (λ refusal. refusal.1 ≢ error.Device → Survives D.Device device refusal.0 []) }
+        ensures found_too { IfErr result (λ refusal. refusal.1 ≢ error.Device → FoundAtReturn D.Device device refusal.0 []) }
     {
         let mut medium = match recovered_medium(alloc, device) {
             Ok(medium) => medium,
@@ -70,9 +73,10 @@ impl<D: Device> Session<D> {
     pub fn open(alloc: Global, device: D) -> Result<Session<D>, (D, Error)>
         ensures package { IsTrue (D.honest device) → IfOk result (λ session. (bytes : List ℕ) × (recovered (D.content device) ≡ Some bytes) × MeansPackage ascii_letters bytes (package_of session)) }
         ensures sound { IfOk result (λ session. has_failed session ≡ false) }
-        ensures survives { IfOk result (λ session. Survives D.Device device (device_below session) []) }
+        ensures survives { MatchResult result (λ session. Survives D.Device device (device_below session) []) (λ refusal. Survives D.Device device refusal.0 []) }
+        ensures found { IfOk result (λ session. FoundAtReturn D.Device device (device_below session) []) }
         ensures refused { IfErr result (λ refusal. IsReadRefusal D.failures device refusal.0 refusal.1) }
-        ensures left { IfErr result (λ refusal. refusal.1 ≢ error.Device → Survives D.Device device refusal.0 []) }
+        ensures found_too { IfErr result (λ refusal. refusal.1 ≢ error.Device → FoundAtReturn D.Device device refusal.0 []) }
     {
         let mut medium = match recovered_medium(alloc, device) {
             Ok(medium) => medium,
@@ -92,7 +96,8 @@ impl<D: Device> Session<D> {
     pub fn run(&mut self, commands: &[Command]) -> Result<Vec<Answer>, Error>
         ensures ran { IfOk result (λ answers. (start : Course) → IsAt self.old start
             → (end : Course) × (marks : List Mark) × Runs start (map said commands.now) (map told_by answers.items) marks end × IsAt self.new end
-            × (end.phase ≡ running → Survives D.Device (device_below self.old) (device_below self.new) marks)) }
+            × Survives D.Device (device_below self.old) (device_below self.new) marks
+            × (end.phase ≡ running → FoundAtReturn D.Device (device_below self.old) (device_below self.new) marks)) }
         ensures none_ran { IfErr result (λ e. (e ≡ error.Memory) × (self.new ≡ self.old)) }
     {
         let mut answers = Vec::with_capacity(self.alloc, commands.len())?;
@@ -106,8 +111,10 @@ impl<D: Device> Session<D> {
     fn answer(&mut self, command: &Command) -> Answer
         ensures goes { (committed : Option Package) → Goes (course_of self.old committed) (said command.now) (told_by result)
             (course_of self.new (committed_after (course_of self.old committed) (said command.now) (told_by result))) }
-        ensures survives { has_failed self.new ≡ false → (committed : Option Package)
+        ensures survives { (committed : Option Package)
             → Survives D.Device (device_below self.old) (device_below self.new) (marks_of (course_of self.old committed) (said command.now) (told_by result)) }
+        ensures found { has_failed self.new ≡ false → (committed : Option Package)
+            → FoundAtReturn D.Device (device_below self.old) (device_below self.new) (marks_of (course_of self.old committed) (said command.now) (told_by result)) }
     {
         if self.has_failed() {
             return Answer::Refused(Error::Failed);
@@ -136,6 +143,7 @@ impl<D: Device> Session<D> {
     /// as it was, or the session has failed. `Failed` where it has failed before.
     pub fn commit(&mut self) -> Result<(), Error>
         ensures published { IsTrue (D.honest (device_below self.old)) → OnOk result ((bytes : List ℕ) × IsPublished (D.content (device_below self.new)) bytes × MeansPackage ascii_letters bytes (package_of self.old)) }
+        ensures survives { Survives D.Device (device_below self.old) (device_below self.new) (commit_marks (has_failed self.old) (package_of self.old) result) }
         ensures package { package_of self.new ≡ package_of self.old }
         ensures sound { OnOk result (has_failed self.new ≡ false) }
         ensures earlier { IsErrOf result error.Failed → has_failed self.old ≡ true }
@@ -191,6 +199,7 @@ fn recovered_medium<D: Device>(alloc: Global, device: D) -> Result<Staged<D>, (D
     ensures sound { IfOk result (λ medium. is_failed medium ≡ false) }
     ensures honest { IfOk result (λ medium. D.honest (device_of medium) ≡ D.honest device) }
     ensures failures { IfOk result (λ medium. D.failures device ≤ D.failures (device_of medium)) }
+    ensures stops { IsTrue (D.honest device) → MatchResult result (λ medium. LeavesOnly D.moment D.left_since device (device_of medium) (GivesAlike (D.may_leave device))) (λ refusal. LeavesOnly D.moment D.left_since device refusal.0 (GivesAlike (D.may_leave device))) }
     ensures err { IfErr result (λ refusal. IsMalformedOrFault D.failures device refusal.0 refusal.1) }
     ensures malformed { IsTrue (D.honest device) → IfErr result (λ refusal. refusal.1 ≡ error.InvalidData → logged (D.content device) ≡ MalformedLog) }
     ensures left { IfErr result (λ refusal. refusal.1 ≡ error.InvalidData → Extends D.rests device refusal.0) }
@@ -212,7 +221,8 @@ fn publish<D: Device>(medium: &mut Staged<D>, image: &[u8]) -> Result<(), Error>
     requires sound { is_failed medium.old ≡ false }
     requires short { length image.now < 2 ^ 17 }
     requires covers { IsTrue (D.honest (device_of medium.old)) → length (staged_bytes medium.old) ≤ length image.now }
-    ensures published { IsTrue (D.honest (device_of medium.old)) → OnOk result (IsPublished (D.content (device_of medium.new)) image.now) }
+    ensures published { IsTrue (D.honest (device_of medium.old)) → OnOk result (HasPublished D.Device (device_of medium.new) image.now) }
+    ensures stops { IsTrue (D.honest (device_of medium.old)) → LeavesOnly (λ m. staged_moment m) (λ m moment. staged_left_since m moment) medium.old medium.new (λ given. staged_may_leave medium.old given ⊎ (given ≡ Some image.now)) }
     ensures covers { IsTrue (D.honest (device_of medium.old)) → is_failed medium.new ≡ false → length (staged_bytes medium.new) ≤ length image.now }
     ensures settled { IsTrue (D.honest (device_of medium.old)) → is_failed medium.new ≡ false → IsSettled D.Device (device_of medium.old) → IsSettled D.Device (device_of medium.new) }
     ensures sound { OnOk result (is_failed medium.new ≡ false) }

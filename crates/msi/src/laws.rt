@@ -1,4 +1,4 @@
-// Laws of the definitions, each the contract of a function.
+//! Laws of the definitions, each the contract of a function.
 ghost use Rattle.std.specs.Prelude.{◌≡◌, ◌↔◌, ℕ, List, Ok, Some, slice_get};
 ghost use Rattle.std.specs.List.{remove};
 ghost use Rattle.cfb_tree.specs.Names.{Letters, name_key};

@@ -1,71 +1,21 @@
 -- Rows in another order: their keys are as distinct, and they make the same uses of texts.
-use Rattle.std.proofs.Common.{◌≡◌, ◌∙◌, ℕ, zero, suc, ◌+◌, ◌≤◌, Bool, true, false, not, cond, List, [], ◌∷◌, ◌++◌, map, length, filter, refl, sym, ap, subst, arith}
-use Rattle.std.specs.Cmp.{IsStrictWeakOrder}
+use Rattle.std.proofs.Common.{◌≡◌, ◌∙◌, ◌+◌, Bool, true, false, not, List, [], ◌∷◌, map, length, refl, sym, ap, arith}
 use Rattle.std.specs.List.{AllByRecursion, IsDistinct}
-use Rattle.std.specs.List.Sorted.{IsPermutation, IsStableBy, ties}
+use Rattle.std.specs.List.Sorted.{IsPermutation}
 use Rattle.std.specs.Ordering.{is_eq, is_lt}
-use Rattle.std.proofs.lemmas.List.Sorted.{All-permutation, IsPermutation-append_right, IsPermutation-filter_both, IsPermutation-map, IsPermutation-refl, IsPermutation-sym, IsPermutation-trans, sum_by-IsPermutation}
-use Rattle.std.proofs.lemmas.List.Sums.{count_by-le-length, length-filter}
+use Rattle.std.proofs.lemmas.List.Sorted.{All-permutation, IsPermutation-map, IsPermutation-trans, sum_by-IsPermutation}
 use Rattle.std.proofs.lemmas.Map.Keys.{IsDistinct-IsPermutation, IsDistinct-cons, IsDistinct-from_apart, IsDistinct-head, IsDistinct-tail}
-use Rattle.msi_pool.specs.Datum.{Datum}
+use Rattle.msi_values.specs.Datum.{Datum}
 use Rattle.msi_pool.specs.Pool.{Pool}
 use Rattle.msi_tables.specs.Rows.{IsStored, Row, row_cmp}
 use Rattle.msi_tables.specs.Table.{IsStoredByKeys, Table, are_distinct, has_key, key_cmp, key_values, row_data, row_key_cmp}
+use Rattle.msi_tables.proofs.Arranged.{moved}
 use Rattle.msi_tables.proofs.Keys.{key_order}
 use Rattle.msi_tables.proofs.Stored.{stored_order}
 use Rattle.msi_changes.specs.Laws.{StoredAlike}
-use Rattle.msi_changes.proofs.DistinctKeys.{one_key, both, neither}
+use Rattle.msi_changes.proofs.DistinctKeys.{one_key, neither}
+use Rattle.std.proofs.lemmas.Bool.{and_parts}
 use Rattle.msi_changes.proofs.RowUses.{row_uses}
-
--- ---- an arrangement has the elements of the list
-
-filters_turn : {X : Type 0} (a b : X → Bool) (xs : List X) → filter a (filter b xs) ≡ filter b (filter a xs)
-filters_turn a b [] = refl
-filters_turn a b (x ∷ xs) = on (a x) (b x) refl refl (filters_turn a b xs)
-  where
-    on : (p q : Bool) → a x ≡ p → b x ≡ q → filter a (filter b xs) ≡ filter b (filter a xs)
-        → filter a (cond q (x ∷ filter b xs) (filter b xs)) ≡ filter b (cond p (x ∷ filter a xs) (filter a xs))
-    on true true is_a is_b rest = rw (is_a, is_b, rest) refl
-    on true false is_a is_b rest = rw (is_b, rest) refl
-    on false true is_a is_b rest = rw (is_a, rest) refl
-    on false false is_a is_b rest = rest
-
-module _ {X : Type 0} (lt : X → X → Bool) (o : IsStrictWeakOrder lt) where
-  below_itself : (x : X) (b : Bool) → lt x x ≡ b → lt x x ≡ false
-  below_itself x true e = o.one_way x x e
-  below_itself x false e = e
-
-  ties_itself : (x : X) → ties lt x x ≡ true
-  ties_itself x = rw (below_itself x (lt x x) refl) refl
-
-  -- what ties with the first, and the others
-  abbrev other : X → X → Bool
-  other x z = not (ties lt x z)
-
-  rest_of : (x : X) (xs : List X) → filter (other x) (x ∷ xs) ≡ filter (other x) xs
-  rest_of x xs = ap (λ b. cond (not b) (x ∷ filter (other x) xs) (filter (other x) xs)) (ties_itself x)
-
-  joined : (x : X) (xs ys : List X) → IsStableBy lt (x ∷ xs) ys → IsPermutation (filter (other x) (x ∷ xs)) (filter (other x) ys) → IsPermutation (x ∷ xs) ys
-  joined x xs ys stable rest =
-      let front : List X = filter (ties lt x) (x ∷ xs) in
-      let P : List X → Type 0 = λ zs. IsPermutation ys (zs ++ filter (other x) ys) in
-      let one : IsPermutation (x ∷ xs) (front ++ filter (other x) (x ∷ xs)) = IsPermutation-filter_both (ties lt x) (other x) (λ z. refl) (x ∷ xs) in
-      let two : IsPermutation (front ++ filter (other x) (x ∷ xs)) (front ++ filter (other x) ys) = IsPermutation-append_right front (filter (other x) (x ∷ xs)) (filter (other x) ys) rest in
-      let three : IsPermutation ys (front ++ filter (other x) ys) = subst P (stable x) (IsPermutation-filter_both (ties lt x) (other x) (λ z. refl) ys) in
-      IsPermutation-trans (x ∷ xs) (front ++ filter (other x) (x ∷ xs)) ys one
-      (IsPermutation-trans (front ++ filter (other x) (x ∷ xs)) (front ++ filter (other x) ys) ys two (IsPermutation-sym ys (front ++ filter (other x) ys) three))
-
-  moved : (n : ℕ) (xs ys : List X) → length xs ≤ n → IsStableBy lt xs ys → IsPermutation xs ys
-  moved n [] [] few stable = IsPermutation-refl []
-  moved n [] (y ∷ ys) few stable = absurd (none_left (ap (λ b. cond b (y ∷ filter (ties lt y) ys) (filter (ties lt y) ys)) (sym (ties_itself y)) ∙ stable y))
-    where
-      none_left : y ∷ filter (ties lt y) ys ≡ [] → ⊥
-      none_left e = cc e
-  moved zero (x ∷ xs) ys few stable = absurd (omega (arith, few))
-  moved (suc n) (x ∷ xs) ys few stable =
-      let fewer : length (filter (other x) (x ∷ xs)) ≤ n = rw (rest_of x xs) (omega (arith, few, length-filter (other x) xs, count_by-le-length (other x) xs)) in
-      joined x xs ys stable (moved n (filter (other x) (x ∷ xs)) (filter (other x) ys) fewer
-      (λ z. filters_turn (ties lt z) (other x) ys ∙ ap (filter (other x)) (stable z) ∙ filters_turn (other x) (ties lt z) (x ∷ xs)))
 
 -- ---- keys
 
@@ -83,7 +33,7 @@ none_is k (x ∷ xs) h = rw h.0 (none_is k xs h.1)
 
 all_apart : (ks : List (List Datum)) → are_distinct ks ≡ true → IsDistinct is_one ks
 all_apart [] h = IsDistinct-from_apart is_one [] (λ i j d before within. absurd (omega (arith, within)))
-all_apart (k ∷ ks) h = let parts = both (not (has_key ks k)) (are_distinct ks) h in IsDistinct-cons is_one k ks (apart k ks parts.0) (all_apart ks parts.1)
+all_apart (k ∷ ks) h = let parts = and_parts (not (has_key ks k)) (are_distinct ks) h in IsDistinct-cons is_one k ks (apart k ks parts.0) (all_apart ks parts.1)
 
 distinct_again : (ks : List (List Datum)) → IsDistinct is_one ks → are_distinct ks ≡ true
 distinct_again [] h = refl

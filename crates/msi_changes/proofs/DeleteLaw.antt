@@ -9,7 +9,7 @@ use Rattle.std.proofs.lemmas.List.Sums.{sum_by-append, sum_by-cons}
 use Rattle.cfb_medium.specs.declared.error.Error.{Error}
 use Rattle.cfb_medium.specs.declared.error.Error.TheVariants.{InvalidInput}
 use Rattle.msi_texts.specs.Results.{◌>>=◌, unless_not}
-use Rattle.msi_pool.specs.Datum.{Datum}
+use Rattle.msi_values.specs.Datum.{Datum}
 use Rattle.msi_pool.specs.Pool.{Pool}
 use Rattle.msi_tables.specs.Rows.{Row}
 use Rattle.msi_tables.specs.Table.{Table, are_distinct, has_key, key_cmp, key_values, keys_of, row_data}
@@ -19,7 +19,8 @@ use Rattle.msi_changes.specs.Changes.{all_taken_back, deleted}
 use Rattle.msi_expr.specs.Conditions.{knows_condition, matches}
 use Rattle.msi_changes.proofs.CellUses.{HasUses, IsPlaced, Leaves, fewer_stay, same_uses, use_of}
 use Rattle.msi_changes.proofs.InsertLaw.{keys_are}
-use Rattle.msi_changes.proofs.DistinctKeys.{both, neither}
+use Rattle.msi_changes.proofs.DistinctKeys.{neither}
+use Rattle.std.proofs.lemmas.Bool.{and_parts}
 use Rattle.msi_changes.proofs.RowUses.{IsWhole, cells_left, row_stays, row_uses}
 use Rattle.msi_changes.proofs.TurnUses.{All-head, list_stays, uses_all}
 use Rattle.msi_changes.proofs.UsesKept.{are_whole, have_uses, uses_kept}
@@ -50,7 +51,7 @@ module _ (kept : Row → Bool) (key : Row → List Datum) where
   pub fewer_distinct : (rows : List Row) → are_distinct (map key rows) ≡ true → are_distinct (map key (filter kept rows)) ≡ true
   fewer_distinct [] h = refl
   fewer_distinct (row ∷ rows) h =
-      let parts = both (not (has_key (map key rows) (key row))) (are_distinct (map key rows)) h in
+      let parts = and_parts (not (has_key (map key rows) (key row))) (are_distinct (map key rows)) h in
       on (kept row) (still_new (key row) rows parts.0) (fewer_distinct rows parts.1)
     where
       on : (b : Bool) → not (has_key (map key (filter kept rows)) (key row)) ≡ true → are_distinct (map key (filter kept rows)) ≡ true → are_distinct (map key (cond b (row ∷ filter kept rows) (filter kept rows))) ≡ true

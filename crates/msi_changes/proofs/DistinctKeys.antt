@@ -1,4 +1,5 @@
 -- New keys behind distinct ones leave all distinct.
+use Rattle.std.proofs.lemmas.Bool.{and_parts}
 use Rattle.std.proofs.Common.{◌≡◌, ◌∙◌, Bool, true, false, not, List, [], ◌∷◌, ◌++◌, refl, ap, Ok, Err, if◌then◌else◌}
 use Rattle.std.specs.Prelude.{◌||◌, ◌&&◌}
 use Rattle.std.specs.Cmp.Lexicographic.{lists_total}
@@ -7,7 +8,7 @@ use Rattle.std.specs.Ordering.{is_eq, ordering_reverse}
 use Rattle.std.specs.declared.cmp.Ordering.{Ordering}
 use Rattle.std.specs.declared.cmp.Ordering.TheVariants.{Less, Equal, Greater}
 use Rattle.cfb_medium.specs.declared.error.Error.TheVariants.{AlreadyExists, InvalidInput}
-use Rattle.msi_pool.specs.Datum.{Datum}
+use Rattle.msi_values.specs.Datum.{Datum}
 use Rattle.msi_tables.specs.Table.{are_distinct, has_key, key_cmp}
 use Rattle.msi_tables.proofs.Keys.{datum_cmp_total}
 use Rattle.msi_changes.specs.Changes.{new_keys}
@@ -30,16 +31,11 @@ neither false false h = (refl, refl)
 neither true b h = absurd (cc h)
 neither false true h = absurd (cc h)
 
-pub both : (a b : Bool) → (a && b) ≡ true → (a ≡ true) × (b ≡ true)
-both true true h = (refl, refl)
-both true false h = absurd (cc h)
-both false b h = absurd (cc h)
-
 -- keys that are not among a list and one more
 without_first : (k : List Datum) (keys new : List (List Datum)) → are_new (k ∷ keys) new ≡ true → (has_key new k ≡ false) × (are_new keys new ≡ true)
 without_first k keys [] h = (refl, refl)
 without_first k keys (q ∷ qs) h =
-    let parts = both (not (is_eq (key_cmp k q) || has_key keys q)) (are_new (k ∷ keys) qs) h in
+    let parts = and_parts (not (is_eq (key_cmp k q) || has_key keys q)) (are_new (k ∷ keys) qs) h in
     let here = neither (is_eq (key_cmp k q)) (has_key keys q) parts.0 in
     let rest = without_first k keys qs parts.1 in
     (rw (one_key q k ∙ here.0) rest.0, rw here.1 rest.1)
@@ -75,6 +71,6 @@ not_false true h = absurd (cc h)
 pub distinct_behind : (stored new : List (List Datum)) → are_distinct stored ≡ true → are_new stored new ≡ true → are_distinct new ≡ true → are_distinct (stored ++ new) ≡ true
 distinct_behind [] new a b c = c
 distinct_behind (s ∷ ss) new a b c =
-    let parts = both (not (has_key ss s)) (are_distinct ss) a in
+    let parts = and_parts (not (has_key ss s)) (are_distinct ss) a in
     let first = without_first s ss new b in
     rw (has_either ss new s (not_false (has_key ss s) parts.0) first.0) (distinct_behind ss new parts.1 first.1 c)

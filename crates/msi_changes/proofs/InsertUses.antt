@@ -7,7 +7,7 @@ use Rattle.std.proofs.lemmas.List.Sums.{sum_by-append}
 use Rattle.cfb_medium.specs.declared.error.Error.{Error}
 use Rattle.cfb_medium.specs.declared.error.Error.TheVariants.{InvalidData, InvalidInput}
 use Rattle.msi_texts.specs.Results.{◌>>=◌, unless_not}
-use Rattle.msi_pool.specs.Datum.{Datum}
+use Rattle.msi_values.specs.Datum.{Datum}
 use Rattle.msi_pool.specs.Pool.{Pool}
 use Rattle.msi_columns.specs.Column.{Column, are_valid, is_valid}
 use Rattle.msi_tables.specs.Rows.{Row, max_rows}
@@ -15,7 +15,7 @@ use Rattle.msi_tables.specs.Table.{Table, are_distinct, key_values, keys_of}
 use Rattle.msi_changes.specs.Laws.{AreUses, KeepsUses}
 use Rattle.msi_changes.specs.Changes.{inserted, new_keys, rows_counted}
 use Rattle.msi_changes.proofs.CellUses.{fewer_stay, same_uses}
-use Rattle.msi_changes.proofs.DistinctKeys.{both}
+use Rattle.std.proofs.lemmas.Bool.{and_parts}
 use Rattle.msi_changes.proofs.RowUses.{GivesRows, IsWhole, row_uses, rows_given}
 use Rattle.msi_changes.proofs.TurnUses.{uses_all}
 use Rattle.msi_changes.proofs.UsesKept.{are_whole, have_uses, uses_kept}
@@ -24,12 +24,12 @@ valid_length : (columns : List Column) (ds : List Datum) → are_valid columns d
 valid_length [] [] valid = refl
 valid_length [] (d ∷ ds) valid = absurd (cc valid)
 valid_length (c ∷ cs) [] valid = absurd (cc valid)
-valid_length (c ∷ cs) (d ∷ ds) valid = ap (λ n. suc n) (valid_length cs ds (both (is_valid c d) (are_valid cs ds) valid).1)
+valid_length (c ∷ cs) (d ∷ ds) valid = ap (λ n. suc n) (valid_length cs ds (and_parts (is_valid c d) (are_valid cs ds) valid).1)
 
 valid_lengths : (columns : List Column) (rs : List (List Datum)) → list_all (are_valid columns) rs ≡ true → All (λ ds. length ds ≡ length columns) rs
 valid_lengths columns [] valid = λ k d within. absurd (omega (arith, within))
 valid_lengths columns (ds ∷ rs) valid =
-    let are = both (are_valid columns ds) (list_all (are_valid columns) rs) valid in
+    let are = and_parts (are_valid columns ds) (list_all (are_valid columns) rs) valid in
     All-cons (λ ds. length ds ≡ length columns) ds rs (valid_length columns ds are.0) (valid_lengths columns rs are.1)
 
 module _ (may : Bool) (pool : Pool) (t : Table) (new_rows : List (List Datum)) (others : ℕ → ℕ) (uses : AreUses t.columns others pool t.rows) where

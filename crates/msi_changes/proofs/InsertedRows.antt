@@ -5,7 +5,7 @@ use Rattle.std.specs.List.{list_all}
 use Rattle.cfb_medium.specs.declared.error.Error.{Error}
 use Rattle.cfb_medium.specs.declared.error.Error.TheVariants.{InvalidInput}
 use Rattle.msi_texts.specs.Results.{◌>>=◌, or_refused}
-use Rattle.msi_pool.specs.Datum.{Datum, null, number, text, binary}
+use Rattle.msi_values.specs.Datum.{Datum, null, number, text, binary}
 use Rattle.msi_pool.specs.Pool.{Pool, last_place, place_among, used}
 use Rattle.msi_pool.specs.Refs.{is_counted}
 use Rattle.msi_pool.specs.declared.stringref.ValueRef.{ValueRef}

@@ -10,8 +10,9 @@ use Rattle.std.proofs.lemmas.List.{length-map}
 use Rattle.msi_pool.specs.declared.stringref.ValueRef.{ValueRef}
 use Rattle.std.proofs.lemmas.List.Folds.{list_all-map}
 use Rattle.std.specs.declared.alloc.Global.{Global}
-use Rattle.msi_pool.specs.Datum.{Datum, data_of}
-use Rattle.msi_pool.specs.declared.value.Value.{Value}
+use Rattle.msi_values.specs.Datum.{Datum, data_of}
+use Rattle.msi_values.specs.declared.borrowed.BorrowedValue.{BorrowedValue}
+use Rattle.msi_values.specs.declared.value.Value.{Value}
 use Rattle.msi_columns.specs.Held.{columns_of}
 use Rattle.msi_tables.specs.Held.{rows_held}
 use Rattle.msi_columns.specs.declared.column.Column.{Column as HeldColumn}
@@ -19,7 +20,8 @@ use Rattle.msi_pool.specs.Pool.{Pool}
 use Rattle.msi_columns.specs.Column.{Column, are_valid}
 use Rattle.msi_tables.specs.Rows.{Row, max_rows}
 use Rattle.msi_tables.specs.Table.{Table, are_distinct, key_values, keys_of, row_data}
-use Rattle.msi_changes.proofs.NewKeys.{keys_said}
+use Rattle.msi_changes.specs.Keys.{HaveSameKeys, keys_said}
+use Rattle.msi_changes.proofs.NewKeys.{stored_same}
 use Rattle.msi_changes.specs.Applied.{IsAccepted}
 use Rattle.msi_changes.specs.Changes.{inserted, new_keys, rows_counted}
 
@@ -48,23 +50,23 @@ pub rows_valid : (columns : List HeldColumn) (said : List Column) (rows : List (
 rows_valid columns said rows b same is = list_all-map (are_valid said) (λ row. data_of row.items) rows ∙ sym (rw same at is)
 
 -- the keys of rows, as they were read
-abbrev pub AreKeys : List HeldColumn → Pool → List Row → List (Vec Value Global) → Type 0
+abbrev pub AreKeys : List HeldColumn → Pool → List Row → List (Vec BorrowedValue Global) → Type 0
 AreKeys columns pool rows keys = keys_said keys ≡ map (λ row. key_values (columns_of columns) (row_data pool row)) rows
 
-pub keys_distinct : (columns : List HeldColumn) (said : List Column) (pool : Pool) (rows : List Row) (keys held : List (Vec Value Global)) (b : Bool) → columns_of columns ≡ said
-    → AreKeys columns pool rows keys → held ≡ keys → b ≡ are_distinct (keys_said held) → are_distinct (map (λ row. key_values said (row_data pool row)) rows) ≡ b
-keys_distinct columns said pool rows keys held b same are read is =
+pub keys_distinct : (columns : List HeldColumn) (said : List Column) (pool : Pool) (rows : List Row) (keys : List (Vec BorrowedValue Global)) (b : Bool) → columns_of columns ≡ said
+    → AreKeys columns pool rows keys → are_distinct (keys_said keys) ≡ b → are_distinct (map (λ row. key_values said (row_data pool row)) rows) ≡ b
+keys_distinct columns said pool rows keys b same are is =
     let h : keys_said keys ≡ map (λ row. key_values said (row_data pool row)) rows = rw same at are in
-    sym (is ∙ ap (λ k. are_distinct (keys_said k)) read ∙ ap are_distinct h)
+    ap are_distinct (sym h) ∙ is
 
-pub keys_judged : (columns : List HeldColumn) (said : List Column) (pool : Pool) (rows : List Row) (keys held : List (Vec Value Global)) (new_rows : List (Vec Value Global))
-    (new held_new : List (Vec Value Global)) (r : Result (Unit {0}) Error) → columns_of columns ≡ said → AreKeys columns pool rows keys → held ≡ keys
-    → keys_said new ≡ map (key_values (columns_of columns)) (map (λ row. data_of row.items) new_rows) → held_new ≡ new → new_keys (keys_said held) [] (keys_said held_new) ≡ r
+pub keys_judged : (columns : List HeldColumn) (said : List Column) (pool : Pool) (rows : List Row) (keys stored : List (Vec BorrowedValue Global)) (new_rows : List (Vec Value Global))
+    (new : List (Vec BorrowedValue Global)) (r : Result (Unit {0}) Error) → columns_of columns ≡ said → AreKeys columns pool rows keys → HaveSameKeys (keys_said keys) (keys_said stored)
+    → keys_said new ≡ map (key_values (columns_of columns)) (map (λ row. data_of row.items) new_rows) → new_keys (keys_said stored) [] (keys_said new) ≡ r
     → new_keys (map (λ row. key_values said (row_data pool row)) rows) [] (map (key_values said) (map (λ row. data_of row.items) new_rows)) ≡ r
-keys_judged columns said pool rows keys held new_rows new held_new r same are read are_new read_new is =
+keys_judged columns said pool rows keys stored new_rows new r same are held are_new is =
     let one : keys_said keys ≡ map (λ row. key_values said (row_data pool row)) rows = rw same at are in
     let two : keys_said new ≡ map (key_values said) (map (λ row. data_of row.items) new_rows) = rw same at are_new in
-    let three : new_keys (keys_said keys) [] (keys_said new) ≡ r = rw (read, read_new) at is in
+    let three : new_keys (keys_said keys) [] (keys_said new) ≡ r = sym (stored_same (keys_said keys) (keys_said stored) [] (keys_said new) held) ∙ is in
     rw (one, two) at three
 
 -- how many rows there would be

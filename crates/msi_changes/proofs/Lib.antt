@@ -10,7 +10,9 @@ pub mod Inserting
 pub mod Kept
 pub mod NewKeys
 pub mod PlaceCounts
+pub mod Refused
 pub mod RowUses
+pub mod Shapes
 pub mod TurnUses
 pub mod Turns
 pub mod UpdateLaw

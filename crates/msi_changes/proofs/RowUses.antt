@@ -8,7 +8,7 @@ use Rattle.std.proofs.lemmas.List.Sums.{get_or-le-sum_by, sum_by-cons, sum_by-se
 use Rattle.std.proofs.lemmas.Option.{unwrap_or-slice_get}
 use Rattle.cfb_medium.specs.declared.error.Error.{Error}
 use Rattle.msi_texts.specs.Results.{◌>>=◌}
-use Rattle.msi_pool.specs.Datum.{Datum}
+use Rattle.msi_values.specs.Datum.{Datum}
 use Rattle.msi_pool.specs.Pool.{Pool}
 use Rattle.msi_pool.specs.declared.stringref.ValueRef.{ValueRef}
 use Rattle.msi_pool.specs.declared.stringref.ValueRef.TheVariants as cell
@@ -17,7 +17,7 @@ use Rattle.msi_tables.specs.Rows.{Row}
 use Rattle.msi_tables.specs.Table.{datum_at, row_data}
 use Rattle.msi_tables.proofs.Searches.{place_below}
 use Rattle.msi_changes.specs.Changes.{all_taken_back, cell_set, cells_set, counted, is_valid_set, option_first, row_counted, row_set, rows_counted, rows_set, taken_back, values_set}
-use Rattle.msi_changes.proofs.DistinctKeys.{both}
+use Rattle.std.proofs.lemmas.Bool.{and_parts}
 use Rattle.msi_changes.proofs.CellUses.{HasUses, Stays, Gives, IsPlaced, Leaves, after_ok, all_stay, cell_counted, cell_stays, cell_taken, fewer_stay, same_uses, stays_then, use_of}
 use Rattle.msi_changes.proofs.TurnUses.{All-head, list_stays, turns_give, uses_all}
 
@@ -133,7 +133,7 @@ module _ (columns : List Column) where
       → IfOk (cells_set columns p row sets) (GivesRow (length columns) others p (values_set columns (row_data p row) sets))
   cells_give p row [] others whole valid h = record { counts = h; reads = refl; fine = whole; stays = all_stay others p }
   cells_give p row (s ∷ ss) others whole valid h =
-      let are = both (is_valid_set columns s) (list_all (is_valid_set columns) ss) valid in
+      let are = and_parts (is_valid_set columns s) (list_all (is_valid_set columns) ss) valid in
       let place = unwrap_or (column_place columns s.0) 0 in
       let within : place < length row = (let inside = set_within columns s are.0 in rw (whole.cells) inside) in
       after_ok _ _ (cell_set columns p row s) (λ r. cells_set columns r.1 r.0 ss) (cell_set_gives (length columns) p row place s.1 others whole within h)

@@ -1,4 +1,5 @@
 -- An update sets its cells, and distinct keys stay distinct.
+use Rattle.std.proofs.lemmas.Bool.{or_parts}
 use Rattle.std.proofs.Common.{◌≡◌, ◌∙◌, ℕ, zero, suc, ◌<◌, Bool, true, false, not, List, [], ◌∷◌, map, length, refl, ap, subst, arith, Option, Some, None, Result, Ok, Err, if◌then◌else◌}
 use Rattle.std.specs.Prelude.{◌||◌, ◌&&◌, bytes_eq, IfOk, option_to_list, slice_get, slice_set, unwrap_or}
 use Rattle.std.specs.List.{All, list_all, list_any}
@@ -7,7 +8,7 @@ use Rattle.std.proofs.lemmas.List.Sums.{sum_by-cons}
 use Rattle.cfb_medium.specs.declared.error.Error.{Error}
 use Rattle.cfb_medium.specs.declared.error.Error.TheVariants.{AlreadyExists, InvalidInput}
 use Rattle.msi_texts.specs.Results.{◌>>=◌, unless_not}
-use Rattle.msi_pool.specs.Datum.{Datum}
+use Rattle.msi_values.specs.Datum.{Datum}
 use Rattle.msi_pool.specs.Pool.{Pool}
 use Rattle.msi_columns.specs.Column.{Column, column_place, is_valid}
 use Rattle.msi_tables.specs.Rows.{Row}
@@ -19,22 +20,18 @@ use Rattle.msi_changes.specs.Changes.{is_valid_set, keys_after, option_first, ro
 use Rattle.msi_expr.specs.Conditions.{knows_condition, matches}
 use Rattle.msi_changes.proofs.CellUses.{Gives, same_uses}
 use Rattle.msi_changes.proofs.InsertLaw.{keys_are}
-use Rattle.msi_changes.proofs.DistinctKeys.{both}
+use Rattle.std.proofs.lemmas.Bool.{and_parts}
 use Rattle.msi_changes.proofs.RowUses.{IsWhole, row_uses, row_wanted, rows_give}
 use Rattle.msi_changes.proofs.TurnUses.{uses_all}
 use Rattle.msi_changes.proofs.UsesKept.{are_whole, have_uses, uses_kept}
 
 -- ---- columns that are no keys
 
-neither : (a b : Bool) → (a || b) ≡ false → (a ≡ false) × (b ≡ false)
-neither false b h = (refl, h)
-neither true b h = absurd (cc h)
-
 key_stays : (columns : List Column) (ds : List Datum) (i : ℕ) (d : Datum) → i < length columns → list_any (λ c. c.key) (option_to_list (slice_get columns i)) ≡ false
     → key_values columns (slice_set ds i d) ≡ key_values columns ds
 key_stays [] ds i d within not_key = absurd (omega (arith, within))
 key_stays (c ∷ cs) [] i d within not_key = refl
-key_stays (c ∷ cs) (x ∷ xs) zero d within not_key = rw ((neither c.key false not_key).0) refl
+key_stays (c ∷ cs) (x ∷ xs) zero d within not_key = rw ((or_parts c.key false not_key).0) refl
 key_stays (c ∷ cs) (x ∷ xs) (suc i) d within not_key = rw (key_stays cs xs i d (omega (arith, within)) not_key) refl
 
 module _ (columns : List Column) where
@@ -50,8 +47,8 @@ module _ (columns : List Column) where
   keys_stay : (sets : List (List ℕ × Datum)) (ds : List Datum) → list_all (is_valid_set columns) sets ≡ true → sets_key columns sets ≡ false → key_values columns (values_set columns ds sets) ≡ key_values columns ds
   keys_stay [] ds valid no_key = refl
   keys_stay (s ∷ ss) ds valid no_key =
-      let are = both (is_valid_set columns s) (list_all (is_valid_set columns) ss) valid in
-      let not_keys = neither (list_any (λ c. c.key) (option_first (column_place columns s.0) columns)) (sets_key columns ss) no_key in
+      let are = and_parts (is_valid_set columns s) (list_all (is_valid_set columns) ss) valid in
+      let not_keys = or_parts (list_any (λ c. c.key) (option_first (column_place columns s.0) columns)) (sets_key columns ss) no_key in
       keys_stay ss (slice_set ds (unwrap_or (column_place columns s.0) 0) s.1) are.1 not_keys.1 ∙ one_stays s ds are.0 not_keys.0
 
 -- ---- the law
@@ -117,7 +114,7 @@ module _ (may : Bool) (pool : Pool) (t : Table) (sets : List (List ℕ × Datum)
       on (list_all (is_valid_set t.columns) sets && knows_condition t.columns condition && may) refl (not (sets_key t.columns sets) || are_distinct (keys_after pool t sets condition)) refl
     where
       go : (v : Bool) → (v && knows_condition t.columns condition && may) ≡ true → v ≡ true
-      go v is = (both v (knows_condition t.columns condition) (both (v && knows_condition t.columns condition) may is).0).0
+      go v is = (and_parts v (knows_condition t.columns condition) (and_parts (v && knows_condition t.columns condition) may is).0).0
 
       on : (a : Bool) → (list_all (is_valid_set t.columns) sets && knows_condition t.columns condition && may) ≡ a
           → (b : Bool) → (not (sets_key t.columns sets) || are_distinct (keys_after pool t sets condition)) ≡ b

@@ -3,8 +3,10 @@ use Rattle.std.proofs.Common.{◌≡◌, ◌∙◌, ℕ, zero, suc, ◌≤◌, a
 use Rattle.std.specs.Prelude.{◌&&◌, option_map, option_to_list, slice_set, bytes_eq, find}
 use Rattle.std.specs.List.{list_any, position}
 use Rattle.std.proofs.Math.Bool.{or-false}
-use Rattle.msi_pool.specs.Datum.{Datum, data_of, datum_of}
-use Rattle.msi_pool.specs.declared.value.Value.{Value}
+use Rattle.msi_values.specs.Borrowed.{borrowed_data, borrowed_datum}
+use Rattle.msi_values.specs.declared.borrowed.BorrowedValue.{BorrowedValue}
+use Rattle.msi_values.specs.Datum.{Datum, datum_of}
+use Rattle.msi_values.specs.declared.value.Value.{Value}
 use Rattle.cfb_medium.specs.declared.error.Error.TheVariants.{AlreadyExists, InvalidInput}
 use Rattle.std.proofs.Common.{◌+◌, ◌<◌, add-one, drop, drop-cons, get_or, String, Err}
 use Rattle.std.proofs.lemmas.List.Folds.{list_all-map}
@@ -68,20 +70,20 @@ set_past (y ∷ ys) zero x past = absurd (omega (arith, past))
 set_past (y ∷ ys) (suc i) x past = ap (λ zs. y ∷ zs) (set_past ys i x (omega (arith, past)))
 
 -- values set in a list as it is kept
-pub set_said : (vs : List Value) (i : ℕ) (v : Value) → data_of (slice_set vs i v) ≡ slice_set (data_of vs) i (datum_of v)
+pub set_said : (vs : List BorrowedValue) (i : ℕ) (v : BorrowedValue) → borrowed_data (slice_set vs i v) ≡ slice_set (borrowed_data vs) i (borrowed_datum v)
 set_said [] i v = refl
 set_said (x ∷ xs) zero v = refl
-set_said (x ∷ xs) (suc i) v = ap (λ ds. datum_of x ∷ ds) (set_said xs i v)
+set_said (x ∷ xs) (suc i) v = ap (λ ds. borrowed_datum x ∷ ds) (set_said xs i v)
 
 -- one value more
-pub values_step : (columns : List Column) (sets : List (String Global × Value)) (i : ℕ) (set : String Global × Value) (vs new : List Value) (name : List ℕ) (found : Option ℕ) (place : ℕ) (v : Value)
-    → i < length sets → set ≡ get_or sets i set → name ≡ string_bytes set.0 → found ≡ column_place columns name → place ≡ unwrap_or found 0 → datum_of v ≡ datum_of set.1 → new ≡ slice_set vs place v
-    → values_set columns (data_of vs) (sets_of (drop i sets)) ≡ values_set columns (data_of new) (sets_of (drop (i + 1) sets))
+pub values_step : (columns : List Column) (sets : List (String Global × Value)) (i : ℕ) (set : String Global × Value) (vs new : List BorrowedValue) (name : List ℕ) (found : Option ℕ) (place : ℕ) (v : BorrowedValue)
+    → i < length sets → set ≡ get_or sets i set → name ≡ string_bytes set.0 → found ≡ column_place columns name → place ≡ unwrap_or found 0 → borrowed_datum v ≡ datum_of set.1 → new ≡ slice_set vs place v
+    → values_set columns (borrowed_data vs) (sets_of (drop i sets)) ≡ values_set columns (borrowed_data new) (sets_of (drop (i + 1) sets))
 values_step columns sets i set vs new name found place v within is named at first same after =
     let front : drop i sets ≡ set ∷ drop (i + 1) sets = rw add-one (drop-cons sets i set within ∙ ap (λ y. y ∷ drop (suc i) sets) (sym is)) in
     let where_it_is : place ≡ unwrap_or (column_place columns (string_bytes set.0)) 0 = first ∙ ap (λ o. unwrap_or o 0) (at ∙ ap (column_place columns) named) in
-    let now : data_of new ≡ slice_set (data_of vs) (unwrap_or (column_place columns (string_bytes set.0)) 0) (datum_of set.1) =
-    ap data_of after ∙ set_said vs place v ∙ ap (slice_set (data_of vs) place) same ∙ ap (λ p. slice_set (data_of vs) p (datum_of set.1)) where_it_is in
+    let now : borrowed_data new ≡ slice_set (borrowed_data vs) (unwrap_or (column_place columns (string_bytes set.0)) 0) (datum_of set.1) =
+    ap borrowed_data after ∙ set_said vs place v ∙ ap (slice_set (borrowed_data vs) place) same ∙ ap (λ p. slice_set (borrowed_data vs) p (datum_of set.1)) where_it_is in
     rw (front, now) refl
 
 module _ (pool : Pool) (t : Table) (sets : List (List ℕ × Datum)) (condition : Option Formula) where

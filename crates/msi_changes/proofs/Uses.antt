@@ -1,7 +1,7 @@
 -- Uses of texts in a pool, as the queries count them.
 use Rattle.std.proofs.Common.{◌≡◌, Bool, true, false, refl, Option, Some, None, Ok, Err, ◌==◌, not, ℕ, rules, option_map, if◌then◌else◌}
 use Rattle.cfb_medium.specs.declared.error.Error.TheVariants.{InvalidData, InvalidInput}
-use Rattle.msi_pool.specs.Datum.{Datum, null, number, text, binary}
+use Rattle.msi_values.specs.Datum.{Datum, null, number, text, binary}
 use Rattle.msi_texts.specs.Results.{or_refused}
 use Rattle.msi_pool.specs.Pool.{Pool, place, at_place, used, without_use}
 use Rattle.msi_pool.specs.PoolState.{PoolState}

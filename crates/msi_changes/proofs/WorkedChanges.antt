@@ -4,7 +4,7 @@ use Rattle.std.specs.Prelude.{Some, None, Ok, Err, codes}
 use Rattle.std.specs.Fmt.{debug_escape}
 use Rattle.std.specs.Str.{chars}
 use Rattle.std.proofs.Math.Utf8.{encode}
-use Rattle.msi_pool.specs.Datum.{null, number, text}
+use Rattle.msi_values.specs.Datum.{null, number, text}
 use Rattle.msi_pool.specs.Pool.{Pool}
 use Rattle.msi_columns.specs.Column.{plain, as_key, but_null}
 use Rattle.msi_tables.specs.Rows.{Row}

@@ -1,7 +1,7 @@
 -- Changes that are applied to a table in memory and its rows.
 use Rattle.std.specs.Prelude.{◌≡◌, ◌+◌, ◌||◌, ℕ, Option, Bool, true, not, List, [], map, filter, flat_map, length, nat_le, Result, Ok}
 use Rattle.std.specs.List.{list_all}
-use Rattle.msi_pool.specs.Datum.{Datum}
+use Rattle.msi_values.specs.Datum.{Datum}
 use Rattle.msi_pool.specs.Pool.{Pool}
 use Rattle.msi_columns.specs.Column.{are_valid}
 use Rattle.msi_tables.specs.Rows.{Row, max_rows}

@@ -2,7 +2,7 @@
 use Rattle.std.specs.Prelude.{ℕ, Bool, not, ◌&&◌, ◌||◌, List, [], ◌∷◌, ◌++◌, map, length, filter, flat_map, nat_le, ◌+◌, ◌==◌, if◌then◌else◌, Option, Some, None, option_map, unwrap_or, Result, Ok, Err, bytes_eq, slice_get, slice_set, option_to_list}
 use Rattle.std.specs.List.{list_all, list_any}
 use Rattle.msi_texts.specs.Results.{◌>>=◌, unless_not, or_refused}
-use Rattle.msi_pool.specs.Datum.{Datum, null, number, text, binary}
+use Rattle.msi_values.specs.Datum.{Datum, null, number, text, binary}
 use Rattle.msi_pool.specs.Pool.{Pool, place, used, without_use, at_place}
 use Rattle.msi_columns.specs.Column.{Column, are_valid, is_valid, column_place}
 use Rattle.msi_tables.specs.Rows.{Row, max_rows}

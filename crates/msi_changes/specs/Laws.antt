@@ -1,17 +1,29 @@
 -- What the laws of changed tables speak of: the uses of texts, and rows as they are read.
 use Rattle.std.specs.Prelude.{◌≡◌, ◌<◌, ◌==◌, ◌+◌, ◌||◌, ℕ, Option, Bool, true, false, not, List, ◌++◌, map, filter, length, sum_by, count_by}
 use Rattle.std.specs.List.{list_all}
-use Rattle.msi_pool.specs.Datum.{Datum}
+use Rattle.msi_values.specs.Datum.{Datum}
 use Rattle.msi_pool.specs.Pool.{Pool, at_place}
+use Rattle.msi_pool.specs.PoolKept.{AreFreeEmpty}
 use Rattle.msi_pool.specs.Refs.{is_counted}
 use Rattle.msi_pool.specs.declared.stringref.ValueRef.{ValueRef}
 use Rattle.msi_pool.specs.declared.stringref.ValueRef.TheVariants as cell
 use Rattle.msi_columns.specs.Column.{Column}
-use Rattle.msi_tables.specs.Rows.{HaveCells, Row}
+use Rattle.msi_tables.specs.Rows.{AreWritable, HaveCells, Row}
 use Rattle.msi_tables.specs.Table.{Table, are_distinct, keys_of, row_data}
 use Rattle.msi_expr.specs.Formula.{Formula}
 use Rattle.msi_expr.specs.Conditions.{matches}
 use Rattle.msi_changes.specs.Changes.{sets_key, values_after}
+
+-- the pool keeps its page and the width of its references, and no text comes to stand at a free place
+pub record KeepsPlaces (old new : Pool) : Type 0 where
+  pub page : new.page ≡ old.page
+  pub long : new.long ≡ old.long
+  pub empty : AreFreeEmpty old.places → AreFreeEmpty new.places
+
+-- rows that can be written are left such rows, and the pool is kept
+pub record KeepsShape (pool : Pool) (t : Table) (after : List Row × Pool) : Type 0 where
+  pub writable : AreWritable pool.long t.columns t.rows → AreWritable pool.long t.columns after.0
+  pub kept : KeepsPlaces pool after.1
 
 -- each text of these rows has a use in the pool
 abbrev pub AreCounted : Pool → List Row → Type 0

@@ -1,5 +1,6 @@
 pub mod Applied
 pub mod Changes
+pub mod Keys
 pub mod Laws
 pub mod Printed
 pub mod Said

@@ -1,7 +1,7 @@
 -- How inserts, updates and deletes are printed.
 use Rattle.std.specs.Prelude.{ℕ, List, [], ◌∷◌, ◌++◌, map, Option, Some, codes}
 use Rattle.std.specs.Fmt.{◌++?◌}
-use Rattle.msi_pool.specs.Datum.{Datum, datum_text}
+use Rattle.msi_values.specs.Datum.{Datum, datum_text}
 use Rattle.msi_expr.specs.Formula.{Formula}
 use Rattle.msi_expr.specs.Printed.{condition_text, separated}
 

@@ -1,8 +1,8 @@
 -- What inserts, updates and deletes in memory say.
 use Rattle.std.specs.Prelude.{ℕ, List, map, Option, String, string_bytes}
 use Rattle.std.specs.declared.alloc.Global.{Global}
-use Rattle.msi_pool.specs.Datum.{Datum, data_of, datum_of}
-use Rattle.msi_pool.specs.declared.value.Value.{Value}
+use Rattle.msi_values.specs.Datum.{Datum, data_of, datum_of}
+use Rattle.msi_values.specs.declared.value.Value.{Value}
 use Rattle.msi_expr.specs.Formula.{Formula}
 use Rattle.msi_expr.specs.Conditions.{condition_of}
 use Rattle.msi_changes.specs.declared.delete.Delete.{Delete}

@@ -1,15 +1,16 @@
-// Uses of texts: values become cells, and cells are taken back.
+//! Uses of texts: values become cells, and cells are taken back.
 ghost use Rattle.std.specs.Prelude.{◌≡◌, false, map};
 ghost use Rattle.msi_texts.specs.Results.{Answers};
-ghost use Rattle.msi_pool.specs.Datum.{data_of, datum_of};
+ghost use Rattle.msi_values.specs.Datum.{data_of, datum_of};
 ghost use Rattle.msi_changes.specs.Changes.{all_taken_back, counted, row_counted, rows_counted, taken_back};
 ghost use Rattle.msi_tables.specs.Held.{rows_held};
 
 use cfb_medium::Error;
-use msi_pool::{StringPool, Value, ValueRef};
+use msi_pool::{StringPool, ValueRef};
+use msi_values::Value;
 use std::alloc::Global;
 
-/// A value as a cell, with its text counted in the pool. `InvalidInput` where the pool is full.
+// A value as a cell, with its text counted in the pool. `InvalidInput` where the pool is full.
 #[tactic(auto, using(crate::proofs::Uses::counted_so, crate::proofs::Uses::full_so, crate::proofs::Uses::marked))]
 pub(crate) fn count_value(
     alloc: Global,
@@ -23,7 +24,7 @@ pub(crate) fn count_value(
     ValueRef::create(value, pool)
 }
 
-/// The cells of a row of values, whose texts are counted in the pool. `InvalidInput` where the pool is full.
+// The cells of a row of values, whose texts are counted in the pool. `InvalidInput` where the pool is full.
 #[tactic(auto, using(crate::proofs::Turns::turned, crate::proofs::Turns::refused, crate::proofs::Turns::ended, crate::proofs::Turns::begun))]
 pub(crate) fn count_row(
     alloc: Global,
@@ -40,7 +41,7 @@ pub(crate) fn count_row(
     Ok(cells)
 }
 
-/// The cells of rows of values, likewise.
+// The cells of rows of values, likewise.
 #[tactic(auto, using(crate::proofs::Turns::turned, crate::proofs::Turns::refused, crate::proofs::Turns::ended, crate::proofs::Turns::begun))]
 pub(crate) fn count_rows(
     alloc: Global,
@@ -57,7 +58,7 @@ pub(crate) fn count_rows(
     Ok(cells)
 }
 
-/// Takes the use of a cell's text back. `InvalidData` where its place has no use.
+// Takes the use of a cell's text back. `InvalidData` where its place has no use.
 #[tactic(auto, using(crate::proofs::Uses::taken_so, crate::proofs::Uses::unused_so, crate::proofs::Uses::taken_marked))]
 pub(crate) fn take_back_cell(pool: &mut StringPool, cell: ValueRef) -> Result<(), Error>
     ensures takes { Answers (λ _. pool.new.pool) result (taken_back pool.old.pool cell) }
@@ -66,7 +67,7 @@ pub(crate) fn take_back_cell(pool: &mut StringPool, cell: ValueRef) -> Result<()
     cell.remove(pool)
 }
 
-/// Takes the uses of all cells of a row back. `InvalidData` where a place has no use.
+// Takes the uses of all cells of a row back. `InvalidData` where a place has no use.
 pub(crate) fn take_back(pool: &mut StringPool, row: &[ValueRef]) -> Result<(), Error>
     ensures takes { Answers (λ _. pool.new.pool) result (all_taken_back pool.old.pool row.now) }
     ensures marked { pool.new.modified ≡ false → pool.new ≡ pool.old }

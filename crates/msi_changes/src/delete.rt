@@ -1,4 +1,4 @@
-// Deletes.
+//! Deletes.
 ghost use Rattle.std.specs.Prelude.{◌≡◌, false, true, IfOk, IsTrue, None, Ok, OnErr};
 ghost use Rattle.std.specs.Rc.{rc_value};
 ghost use Rattle.msi_texts.specs.Results.{Answers};
@@ -8,6 +8,7 @@ ghost use Rattle.msi_changes.specs.Changes.{deleted};
 ghost use Rattle.msi_expr.specs.Conditions.{knows_condition, matches, condition_of, narrowed};
 ghost use Rattle.msi_changes.specs.Said.{delete_condition, delete_name};
 ghost use Rattle.msi_tables.specs.Held.{heading_of, rows_held};
+ghost use Rattle.msi_tables.specs.Rows.{AreWritable};
 
 use crate::counting::take_back;
 use cfb_medium::Error;
@@ -60,6 +61,22 @@ impl Delete {
     /// `InvalidInput` where the condition names a column that isn't there, `InvalidData` where a text has no use to take back.
     /// After an error the pool is as it was.
     pub fn apply(
+        &self,
+        alloc: Global,
+        table: &Rc<Table>,
+        rows: Vec<Vec<ValueRef>>,
+        pool: &mut StringPool,
+    ) -> Result<Vec<Vec<ValueRef>>, Error>
+        ensures deletes { Answers (λ left. (rows_held left.items, pool.new.pool)) result (deleted true pool.old.pool (with_rows (heading_of (rc_value table.now)) (rows_held rows.items)) (delete_condition self.now)) }
+        ensures shape { AreWritable pool.old.pool.long (heading_of (rc_value table.now)).columns (rows_held rows.items) → IfOk result (λ after. AreWritable pool.old.pool.long (heading_of (rc_value table.now)).columns (rows_held after.items)) }
+        ensures marked { pool.new.modified ≡ false → pool.new ≡ pool.old }
+        ensures err { OnErr result (pool.new ≡ pool.old) }
+    {
+        self.changed(alloc, table, rows, pool)
+    }
+
+    // The same without a word on which rows can be written.
+    fn changed(
         &self,
         alloc: Global,
         table: &Rc<Table>,

@@ -1,20 +1,22 @@
-// Inserts.
+//! Inserts.
 ghost use Rattle.cfb_medium.specs.declared.error.Error.TheVariants.{Memory};
 ghost use Rattle.std.specs.Prelude.{◌≡◌, ◌⊎◌, ◌++◌, [], ◌∷◌, false, true, IfErr, IfOk, OnErr, OnOk, Err, Ok, map};
 ghost use Rattle.msi_texts.specs.Results.{Answers};
-ghost use Rattle.msi_pool.specs.Datum.{data_of};
+ghost use Rattle.msi_values.specs.Datum.{data_of};
 ghost use Rattle.msi_changes.specs.Applied.{with_rows, IsAccepted};
 ghost use Rattle.msi_changes.specs.Changes.{inserted};
 ghost use Rattle.msi_changes.specs.Said.{insert_name, insert_rows};
 ghost use Rattle.msi_tables.specs.Held.{heading_of, rows_held};
+ghost use Rattle.msi_tables.specs.Rows.{AreWritable};
 
 use crate::counting::count_rows;
-use crate::keys::{are_distinct, check_new_keys, keys_of, keys_of_values};
+use crate::keys::{check_new_keys, key_set, keys_of, keys_of_values};
 use crate::printing::fmt_rows;
 use crate::validity::are_rows;
 use cfb_medium::Error;
-use msi_pool::{StringPool, Value, ValueRef};
+use msi_pool::{StringPool, ValueRef};
 use msi_tables::Table;
+use msi_values::Value;
 use std::alloc::Global;
 use std::fmt;
 
@@ -92,6 +94,22 @@ impl Insert {
         pool: &mut StringPool,
     ) -> Result<Vec<Vec<ValueRef>>, Error>
         ensures inserts { Answers (λ all. (rows_held all.items, pool.new.pool)) result (inserted true pool.old.pool (with_rows (heading_of table.now) (rows_held rows.items)) (insert_rows self.now)) }
+        ensures shape { AreWritable pool.old.pool.long (heading_of table.now).columns (rows_held rows.items) → IfOk result (λ after. AreWritable pool.old.pool.long (heading_of table.now).columns (rows_held after.items)) }
+        ensures marked { pool.new.modified ≡ false → pool.new ≡ pool.old }
+        ensures err { OnErr result (pool.new ≡ pool.old) }
+    {
+        self.changed(alloc, table, rows, pool)
+    }
+
+    // The same without a word on which rows can be written.
+    fn changed(
+        &self,
+        alloc: Global,
+        table: &Table,
+        rows: Vec<Vec<ValueRef>>,
+        pool: &mut StringPool,
+    ) -> Result<Vec<Vec<ValueRef>>, Error>
+        ensures inserts { Answers (λ all. (rows_held all.items, pool.new.pool)) result (inserted true pool.old.pool (with_rows (heading_of table.now) (rows_held rows.items)) (insert_rows self.now)) }
         ensures marked { pool.new.modified ≡ false → pool.new ≡ pool.old }
         ensures err { OnErr result (pool.new ≡ pool.old) }
     {
@@ -126,12 +144,13 @@ fn judge(
     if !are_rows(columns, new_rows) {
         return Err(Error::InvalidInput);
     }
-    let stored = keys_of(alloc, pool, columns, rows)?;
-    if !are_distinct(&stored) {
-        return Err(Error::InvalidData);
-    }
+    let keys = keys_of(alloc, pool, columns, rows)?;
+    let stored = match key_set(alloc, keys)? {
+        None => return Err(Error::InvalidData),
+        Some(stored) => stored,
+    };
     let new = keys_of_values(alloc, columns, new_rows)?;
-    match check_new_keys(&stored, &new) {
+    match check_new_keys(alloc, &stored, new) {
         Err(error) => return Err(error),
         Ok(()) => {}
     }

@@ -1,42 +1,42 @@
-// Keys of rows.
+//! Keys of rows, whose values stand where they are kept.
 ghost use Rattle.cfb_medium.specs.declared.error.Error.TheVariants.{Memory};
-ghost use Rattle.std.specs.List.{list_any};
-ghost use Rattle.std.specs.Ordering.{is_eq};
-ghost use Rattle.std.specs.Prelude.{◌≡◌, ◌++◌, [], map, OnOk, IfErr, IfOk, MatchResult, Err, Ok};
-ghost use Rattle.msi_pool.specs.Datum.{data_of};
+ghost use Rattle.std.specs.Prelude.{◌≡◌, ◌⊎◌, ◌++◌, [], false, true, map, OnOk, IfErr, IfOk, MatchOption, Err, Ok};
+ghost use Rattle.msi_values.specs.Borrowed.{borrowed_data};
+ghost use Rattle.msi_values.specs.Datum.{data_of};
 ghost use Rattle.msi_changes.specs.Changes.{new_keys};
+ghost use Rattle.msi_changes.specs.Keys.{HaveSameKeys, keys_said};
 ghost use Rattle.msi_columns.specs.Held.{columns_of};
 ghost use Rattle.msi_tables.specs.Held.{rows_held};
-ghost use Rattle.msi_tables.specs.Table.{are_distinct, key_cmp, key_values, row_data};
+ghost use Rattle.msi_tables.specs.Table.{are_distinct, key_values, row_data};
 
 use cfb_medium::Error;
-use msi_pool::{StringPool, Value, ValueRef};
+use msi_pool::{StringPool, ValueRef};
 use msi_tables::Column;
+use msi_values::{BorrowedValue, Value};
 use std::alloc::Global;
-use std::cmp::Ordering;
+use std::collections::BTreeSet;
 
-/// The values of the key columns. The one error is `Memory`.
-pub(crate) fn key_of(
+// The values of the key columns. The one error is `Memory`.
+pub(crate) fn key_of<'a>(
     alloc: Global,
     columns: &[Column],
-    values: &[Value],
-) -> Result<Vec<Value>, Error>
-    ensures ok { IfOk result (λ key. data_of key.items ≡ key_values (columns_of columns.now) (data_of values.now)) }
+    values: &[BorrowedValue<'a>],
+) -> Result<Vec<BorrowedValue<'a>>, Error>
+    ensures ok { IfOk result (λ key. borrowed_data key.items ≡ key_values (columns_of columns.now) (borrowed_data values.now)) }
     ensures err { IfErr result (λ e. e ≡ Memory) }
 {
     let mut key = Vec::new(alloc);
-    add_key_of(alloc, columns, values, &mut key)?;
+    add_key_of(columns, values, &mut key)?;
     Ok(key)
 }
 
 // Adds the values of the key columns. The one error is `Memory`.
-fn add_key_of(
-    alloc: Global,
+fn add_key_of<'a>(
     columns: &[Column],
-    values: &[Value],
-    key: &mut Vec<Value>,
+    values: &[BorrowedValue<'a>],
+    key: &mut Vec<BorrowedValue<'a>>,
 ) -> Result<(), Error>
-    ensures ok { OnOk result (data_of key.new.items ≡ data_of key.old.items ++ key_values (columns_of columns.now) (data_of values.now)) }
+    ensures ok { OnOk result (borrowed_data key.new.items ≡ borrowed_data key.old.items ++ key_values (columns_of columns.now) (borrowed_data values.now)) }
     ensures err { IfErr result (λ e. e ≡ Memory) }
 {
     match columns {
@@ -45,38 +45,50 @@ fn add_key_of(
             [] => Ok(()),
             [value, values @ ..] => {
                 if column.is_primary_key() {
-                    key.push(value.clone(alloc)?)?;
+                    key.push(*value)?;
                 }
-                add_key_of(alloc, columns, values, key)
+                add_key_of(columns, values, key)
             }
         },
     }
 }
 
-/// The values of a row. The one error is `Memory`.
-pub(crate) fn values_of(
+// The values of a row. The one error is `Memory`.
+pub(crate) fn values_of<'a>(
     alloc: Global,
-    pool: &StringPool,
+    pool: &'a StringPool,
     row: &[ValueRef],
-) -> Result<Vec<Value>, Error>
-    ensures ok { IfOk result (λ values. data_of values.items ≡ row_data pool.now.pool row.now) }
+) -> Result<Vec<BorrowedValue<'a>>, Error>
+    ensures ok { IfOk result (λ values. borrowed_data values.items ≡ row_data pool.now.pool row.now) }
     ensures err { IfErr result (λ e. e ≡ Memory) }
 {
     let mut values = Vec::new(alloc);
     for cell in row {
-        values.push(cell.to_value(alloc, pool)?)?;
+        values.push(cell.borrowed(pool))?;
     }
     Ok(values)
 }
 
-/// The keys of rows. The one error is `Memory`.
-pub(crate) fn keys_of(
+// The values of a row of values. The one error is `Memory`.
+fn borrowed<'a>(alloc: Global, row: &'a [Value]) -> Result<Vec<BorrowedValue<'a>>, Error>
+    ensures ok { IfOk result (λ values. borrowed_data values.items ≡ data_of row.now) }
+    ensures err { IfErr result (λ e. e ≡ Memory) }
+{
+    let mut values = Vec::new(alloc);
+    for value in row {
+        values.push(value.borrowed())?;
+    }
+    Ok(values)
+}
+
+// The keys of rows. The one error is `Memory`.
+pub(crate) fn keys_of<'a>(
     alloc: Global,
-    pool: &StringPool,
+    pool: &'a StringPool,
     columns: &[Column],
     rows: &[Vec<ValueRef>],
-) -> Result<Vec<Vec<Value>>, Error>
-    ensures ok { IfOk result (λ keys. map (λ key. data_of key.items) keys.items ≡ map (λ row. key_values (columns_of columns.now) (row_data pool.now.pool row)) (rows_held rows.now)) }
+) -> Result<Vec<Vec<BorrowedValue<'a>>>, Error>
+    ensures ok { IfOk result (λ keys. keys_said keys.items ≡ map (λ row. key_values (columns_of columns.now) (row_data pool.now.pool row)) (rows_held rows.now)) }
     ensures err { IfErr result (λ e. e ≡ Memory) }
 {
     let mut keys = Vec::new(alloc);
@@ -87,70 +99,56 @@ pub(crate) fn keys_of(
     Ok(keys)
 }
 
-/// The keys of rows of values. The one error is `Memory`.
-pub(crate) fn keys_of_values(
+// The keys of rows of values. The one error is `Memory`.
+pub(crate) fn keys_of_values<'a>(
     alloc: Global,
     columns: &[Column],
-    rows: &[Vec<Value>],
-) -> Result<Vec<Vec<Value>>, Error>
-    ensures ok { IfOk result (λ keys. map (λ key. data_of key.items) keys.items ≡ map (key_values (columns_of columns.now)) (map (λ row. data_of row.items) rows.now)) }
+    rows: &'a [Vec<Value>],
+) -> Result<Vec<Vec<BorrowedValue<'a>>>, Error>
+    ensures ok { IfOk result (λ keys. keys_said keys.items ≡ map (key_values (columns_of columns.now)) (map (λ row. data_of row.items) rows.now)) }
     ensures err { IfErr result (λ e. e ≡ Memory) }
 {
     let mut keys = Vec::new(alloc);
     for row in rows {
-        keys.push(key_of(alloc, columns, row)?)?;
+        let values = borrowed(alloc, row)?;
+        keys.push(key_of(alloc, columns, &values)?)?;
     }
     Ok(keys)
 }
 
-// Whether two keys are one.
-fn is_same_key(key: &[Value], other: &[Value]) -> bool
-    ensures { result ≡ is_eq (key_cmp (data_of key.now) (data_of other.now)) }
+// The keys in their order, where none stands twice. The one error is `Memory`.
+pub(crate) fn key_set<'a>(
+    alloc: Global,
+    keys: Vec<Vec<BorrowedValue<'a>>>,
+) -> Result<Option<BTreeSet<Vec<BorrowedValue<'a>>>>, Error>
+    ensures ok { IfOk result (λ found. MatchOption found (are_distinct (keys_said keys.entry.items) ≡ false)
+        (λ set. (are_distinct (keys_said keys.entry.items) ≡ true) × HaveSameKeys (keys_said keys.entry.items) (keys_said set.keys))) }
+    ensures err { IfErr result (λ e. e ≡ Memory) }
 {
-    match key {
-        [] => other.is_empty(),
-        [value, key @ ..] => match other {
-            [] => false,
-            [second, other @ ..] => {
-                value.compare(second) == Ordering::Equal && is_same_key(key, other)
-            }
-        },
-    }
-}
-
-// Whether the key is one of these.
-
-fn has_key(keys: &[Vec<Value>], key: &[Value]) -> bool
-    ensures { result ≡ list_any (λ other. is_eq (key_cmp (data_of other.items) (data_of key.now))) keys.now }
-{
-    keys.iter().any(|other| is_same_key(other, key))
-}
-
-/// Whether no key stands twice.
-pub(crate) fn are_distinct(keys: &[Vec<Value>]) -> bool
-    ensures { result ≡ are_distinct (map (λ key. data_of key.items) keys.now) }
-{
-    let mut left = keys;
-    while let [key, rest @ ..] = left {
-        if has_key(rest, key) {
-            return false;
+    let mut set = BTreeSet::new(alloc);
+    for key in keys {
+        if !set.insert(key)? {
+            return Ok(None);
         }
-        left = rest;
     }
-    true
+    Ok(Some(set))
 }
 
-/// Whether each new key in turn is neither stored (else `AlreadyExists`) nor an earlier new one (else `InvalidInput`).
-pub(crate) fn check_new_keys(stored: &[Vec<Value>], new: &[Vec<Value>]) -> Result<(), Error>
-    ensures { MatchResult result (λ _. new_keys (map (λ key. data_of key.items) stored.now) [] (map (λ key. data_of key.items) new.now) ≡ Ok tt)
-        (λ e. new_keys (map (λ key. data_of key.items) stored.now) [] (map (λ key. data_of key.items) new.now) ≡ Err e) }
+// Whether each new key in turn is neither stored (else `AlreadyExists`) nor an earlier new one (else `InvalidInput`).
+pub(crate) fn check_new_keys<'a>(
+    alloc: Global,
+    stored: &BTreeSet<Vec<BorrowedValue<'a>>>,
+    new: Vec<Vec<BorrowedValue<'a>>>,
+) -> Result<(), Error>
+    ensures ok { OnOk result (new_keys (keys_said stored.now.keys) [] (keys_said new.entry.items) ≡ Ok tt) }
+    ensures err { IfErr result (λ e. (e ≡ Memory) ⊎ (new_keys (keys_said stored.now.keys) [] (keys_said new.entry.items) ≡ Err e)) }
 {
-    for at in 0..new.len() {
-        let key = new[at].as_slice();
-        if has_key(stored, key) {
+    let mut earlier = BTreeSet::new(alloc);
+    for key in new {
+        if stored.contains(&key) {
             return Err(Error::AlreadyExists);
         }
-        if has_key(&new[..at], key) {
+        if !earlier.insert(key)? {
             return Err(Error::InvalidInput);
         }
     }

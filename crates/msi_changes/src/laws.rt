@@ -1,13 +1,14 @@
-// Laws of changed tables, each of a function that does nothing.
+//! Laws of changed tables, each of a function that does nothing.
+ghost use Rattle.cfb_medium.specs.declared.error.Error.TheVariants.{InvalidInput};
 ghost use Rattle.msi_expr.specs.Formula.{Formula};
-ghost use Rattle.msi_pool.specs.Datum.{Datum};
+ghost use Rattle.msi_values.specs.Datum.{Datum};
 ghost use Rattle.msi_pool.specs.Pool.{Pool};
-ghost use Rattle.msi_changes.specs.Laws.{AddsRows, AreCounted, AreUses, KeepsUses, LeavesRows, SetsCells, StoredAlike};
+ghost use Rattle.msi_changes.specs.Laws.{AddsRows, AreCounted, AreUses, KeepsShape, KeepsUses, LeavesRows, SetsCells, StoredAlike};
 ghost use Rattle.msi_changes.specs.Changes.{deleted, inserted, updated};
 ghost use Rattle.msi_columns.specs.Column.{Column};
 ghost use Rattle.msi_tables.specs.Rows.{IsStored, Row};
 ghost use Rattle.msi_tables.specs.Table.{IsStoredByKeys, Table};
-ghost use Rattle.std.specs.Prelude.{Bool, IfOk, List, Option, ℕ};
+ghost use Rattle.std.specs.Prelude.{◌≡◌, Bool, Err, IfOk, List, MatchResult, Option, true, false, ℕ};
 
 /// An insert that is accepted adds exactly its rows, and no key stands twice after it, where each text of the stored rows has
 /// its use in the pool.
@@ -46,4 +47,19 @@ pub fn inserts_count_their_texts()
 pub fn stored_rows_keep_keys_distinct()
     ensures stored { (pool : Pool) (t : Table) (stored : List Row) → IsStored t.columns t.rows stored → StoredAlike pool t stored }
     ensures by_keys { (pool : Pool) (t : Table) (stored : List Row) → IsStoredByKeys pool t.columns t.rows stored → StoredAlike pool t stored }
+{}
+
+/// After an insert, an update or a delete that is accepted, rows that can be written are left where they could be written before,
+/// and the pool keeps its page, the width of its references, and its free places empty.
+pub fn changed_rows_can_be_written()
+    ensures inserted { (may : Bool) (pool : Pool) (t : Table) (new_rows : List (List Datum)) → IfOk (inserted may pool t new_rows) (KeepsShape pool t) }
+    ensures updated { (may : Bool) (pool : Pool) (t : Table) (sets : List (List ℕ × Datum)) (condition : Option Formula) → IfOk (updated may pool t sets condition) (KeepsShape pool t) }
+    ensures deleted { (may : Bool) (pool : Pool) (t : Table) (condition : Option Formula) → IfOk (deleted may pool t condition) (KeepsShape pool t) }
+{}
+
+/// Where a table may not be changed, an insert is refused as it else would be, and as `InvalidInput` where it else would be
+/// accepted. So the answer can be told from an insert into a copy.
+#[tactic(auto, using(crate::proofs::Refused::refused_likewise))]
+pub fn forbidden_inserts_are_refused_likewise()
+    ensures { (pool : Pool) (t : Table) (new_rows : List (List Datum)) → MatchResult (inserted true pool t new_rows) (λ after. inserted false pool t new_rows ≡ Err InvalidInput) (λ e. inserted false pool t new_rows ≡ Err e) }
 {}

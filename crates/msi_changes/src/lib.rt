@@ -14,7 +14,8 @@ mod validity;
 pub use delete::Delete;
 pub use insert::Insert;
 pub use laws::{
-    deletes_leave_the_other_rows, inserts_add_their_rows, inserts_count_their_texts,
+    changed_rows_can_be_written, deletes_leave_the_other_rows,
+    forbidden_inserts_are_refused_likewise, inserts_add_their_rows, inserts_count_their_texts,
     stored_rows_keep_keys_distinct, updates_keep_keys_distinct,
 };
 pub use update::Update;

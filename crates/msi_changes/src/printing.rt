@@ -1,12 +1,12 @@
-// Lists of values as changes are printed: one after another with ", " between.
+//! Lists of values as changes are printed: one after another with ", " between.
 ghost use Rattle.std.specs.Prelude.{◌≡◌, codes, map};
 ghost use Rattle.std.specs.Fmt.{DisplaysOnOk};
-ghost use Rattle.msi_pool.specs.Datum.{data_of, datum_of, datum_text};
+ghost use Rattle.msi_values.specs.Datum.{data_of, datum_of, datum_text};
 ghost use Rattle.msi_expr.specs.Printed.{separated};
 ghost use Rattle.msi_changes.specs.Printed.{set_text, values_text};
 ghost use Rattle.msi_changes.specs.Said.{sets_of};
 
-use msi_pool::Value;
+use msi_values::Value;
 use std::fmt;
 
 // Writes a value.
@@ -40,7 +40,7 @@ fn fmt_row<W: fmt::Write>(f: &mut fmt::Formatter<W>, values: &[Value]) -> fmt::R
     f.write_str(")")
 }
 
-/// Writes the rows.
+// Writes the rows.
 pub(crate) fn fmt_rows<W: fmt::Write>(f: &mut fmt::Formatter<W>, rows: &[Vec<Value>]) -> fmt::Result
     ensures { DisplaysOnOk W.write_str_gives f.old result (separated (codes ", ") (map values_text (map (λ row. data_of row.items) rows.now))) f.new }
 {
@@ -55,7 +55,7 @@ pub(crate) fn fmt_rows<W: fmt::Write>(f: &mut fmt::Formatter<W>, rows: &[Vec<Val
     }
 }
 
-/// Writes the columns with their new values.
+// Writes the columns with their new values.
 pub(crate) fn fmt_sets<W: fmt::Write>(
     f: &mut fmt::Formatter<W>,
     sets: &[(String, Value)],

@@ -1,18 +1,18 @@
-// New values for the columns of a row, as an update sets them.
-ghost use Rattle.cfb_medium.specs.declared.error.Error.TheVariants.{Memory};
-ghost use Rattle.msi_pool.specs.Datum.{data_of, datum_of};
+//! New values for the columns of a row, as an update sets them.
+ghost use Rattle.msi_values.specs.Borrowed.{borrowed_data};
 ghost use Rattle.msi_changes.specs.Changes.{cell_set, cells_set, is_valid_set, option_first, values_set};
 ghost use Rattle.msi_changes.specs.Said.{set_of, sets_of};
 ghost use Rattle.msi_columns.specs.Column.{column_place};
 ghost use Rattle.msi_tables.specs.Held.{heading_of};
 ghost use Rattle.msi_texts.specs.Results.{Answers};
 ghost use Rattle.std.specs.List.{list_all, list_any};
-ghost use Rattle.std.specs.Prelude.{◌≡◌, false, slice_set, string_bytes, IfErr, OnOk};
+ghost use Rattle.std.specs.Prelude.{◌≡◌, false, slice_set, string_bytes};
 
 use crate::counting::{count_value, take_back_cell};
 use cfb_medium::Error;
-use msi_pool::{StringPool, Value, ValueRef};
+use msi_pool::{StringPool, ValueRef};
 use msi_tables::Table;
+use msi_values::{BorrowedValue, Value};
 use std::alloc::Global;
 
 // Whether the table has the column, and it takes the value.
@@ -26,7 +26,7 @@ fn is_set(table: &Table, set: &(String, Value)) -> bool
     }
 }
 
-/// Whether the table has all these columns, and each takes its value.
+// Whether the table has all these columns, and each takes its value.
 pub(crate) fn are_sets(table: &Table, sets: &[(String, Value)]) -> bool
     ensures { result ≡ list_all (λ set. is_valid_set (heading_of table.now).columns (set_of set)) sets.now }
 {
@@ -44,7 +44,7 @@ fn is_of_key(table: &Table, set: &(String, Value)) -> bool
     }
 }
 
-/// Whether a column of the key is among those that are set.
+// Whether a column of the key is among those that are set.
 pub(crate) fn sets_key(table: &Table, sets: &[(String, Value)]) -> bool
     ensures { result ≡ list_any (λ set. list_any (λ column. column.key) (option_first (column_place (heading_of table.now).columns (string_bytes set.0)) (heading_of table.now).columns)) sets.now }
 {
@@ -61,22 +61,19 @@ fn put<T: Drop>(items: &mut Vec<T>, place: usize, item: T)
     }
 }
 
-/// Sets values of a row. The one error is `Memory`.
+// Sets values of a row.
 #[tactic(auto, using(crate::proofs::Updating::set_said))]
-pub(crate) fn set_values(
-    alloc: Global,
+pub(crate) fn set_values<'a>(
     table: &Table,
-    values: &mut Vec<Value>,
-    sets: &[(String, Value)],
-) -> Result<(), Error>
-    ensures ok { OnOk result (data_of values.new.items ≡ values_set (heading_of table.now).columns (data_of values.old.items) (sets_of sets.now)) }
-    ensures err { IfErr result (λ e. e ≡ Memory) }
+    values: &mut Vec<BorrowedValue<'a>>,
+    sets: &'a [(String, Value)],
+)
+    ensures { borrowed_data values.new.items ≡ values_set (heading_of table.now).columns (borrowed_data values.old.items) (sets_of sets.now) }
 {
     for (name, value) in sets {
         let place = table.index_for_column_name(name).unwrap_or(0);
-        put(values, place, value.clone(alloc)?);
+        put(values, place, value.borrowed());
     }
-    Ok(())
 }
 
 // Sets a cell of a row: the use of the old text is taken back, and the new one is counted. `InvalidData` where the old one
@@ -105,7 +102,7 @@ fn set_cell(
     Ok(())
 }
 
-/// Sets cells of a row, each in turn.
+// Sets cells of a row, each in turn.
 pub(crate) fn set_cells(
     alloc: Global,
     table: &Table,

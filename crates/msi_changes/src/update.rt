@@ -1,23 +1,27 @@
-// Updates.
+//! Updates.
 ghost use Rattle.cfb_medium.specs.declared.error.Error.TheVariants.{Memory};
 ghost use Rattle.std.specs.Prelude.{◌≡◌, ◌⊎◌, ◌++◌, [], ◌∷◌, false, true, map, Err, IfErr, IfOk, IsTrue, None, Ok, OnErr, OnOk};
 ghost use Rattle.std.specs.Rc.{rc_value};
 ghost use Rattle.msi_texts.specs.Results.{Answers};
-ghost use Rattle.msi_pool.specs.Datum.{data_of, datum_of};
+ghost use Rattle.msi_values.specs.Borrowed.{borrowed_data};
+ghost use Rattle.msi_values.specs.Datum.{datum_of};
 ghost use Rattle.msi_expr.specs.Formula.{formula_of};
 ghost use Rattle.msi_changes.specs.Applied.{judged, with_rows, MaySet};
 ghost use Rattle.msi_changes.specs.Changes.{key_after, keys_after, rows_set, updated};
+ghost use Rattle.msi_changes.specs.Keys.{keys_said};
 ghost use Rattle.msi_expr.specs.Conditions.{knows_condition, matches, condition_of, narrowed};
 ghost use Rattle.msi_changes.specs.Said.{sets_of, update_condition, update_name, update_sets};
 ghost use Rattle.msi_tables.specs.Held.{heading_of, rows_held};
+ghost use Rattle.msi_tables.specs.Rows.{AreWritable};
 
-use crate::keys::{are_distinct, key_of, values_of};
+use crate::keys::{key_of, key_set, values_of};
 use crate::printing::fmt_sets;
 use crate::setting::{are_sets, set_cells, set_values, sets_key};
 use cfb_medium::Error;
 use msi_expr::{Expr, fmt_condition, knows_condition, matches, narrowed};
-use msi_pool::{StringPool, Value, ValueRef};
+use msi_pool::{StringPool, ValueRef};
 use msi_tables::Table;
+use msi_values::{BorrowedValue, Value};
 use std::alloc::Global;
 use std::fmt;
 use std::rc::Rc;
@@ -97,6 +101,22 @@ impl Update {
         pool: &mut StringPool,
     ) -> Result<Vec<Vec<ValueRef>>, Error>
         ensures updates { Answers (λ after. (rows_held after.items, pool.new.pool)) result (updated true pool.old.pool (with_rows (heading_of (rc_value table.now)) (rows_held rows.items)) (update_sets self.now) (update_condition self.now)) }
+        ensures shape { AreWritable pool.old.pool.long (heading_of (rc_value table.now)).columns (rows_held rows.items) → IfOk result (λ after. AreWritable pool.old.pool.long (heading_of (rc_value table.now)).columns (rows_held after.items)) }
+        ensures marked { pool.new.modified ≡ false → pool.new ≡ pool.old }
+        ensures err { OnErr result (pool.new ≡ pool.old) }
+    {
+        self.changed(alloc, table, rows, pool)
+    }
+
+    // The same without a word on which rows can be written.
+    fn changed(
+        &self,
+        alloc: Global,
+        table: &Rc<Table>,
+        rows: Vec<Vec<ValueRef>>,
+        pool: &mut StringPool,
+    ) -> Result<Vec<Vec<ValueRef>>, Error>
+        ensures updates { Answers (λ after. (rows_held after.items, pool.new.pool)) result (updated true pool.old.pool (with_rows (heading_of (rc_value table.now)) (rows_held rows.items)) (update_sets self.now) (update_condition self.now)) }
         ensures marked { pool.new.modified ≡ false → pool.new ≡ pool.old }
         ensures err { OnErr result (pool.new ≡ pool.old) }
     {
@@ -138,23 +158,24 @@ fn judge(
         return Ok(());
     }
     let keys = keys_after(alloc, pool, table, rows, sets, condition)?;
-    if !are_distinct(&keys) {
-        return Err(Error::AlreadyExists);
+    match key_set(alloc, keys)? {
+        None => return Err(Error::AlreadyExists),
+        Some(_) => {}
     }
     Ok(())
 }
 
 // The keys that the rows would have. The one error is `Memory`.
-fn keys_after(
+fn keys_after<'a>(
     alloc: Global,
-    pool: &StringPool,
+    pool: &'a StringPool,
     table: &Rc<Table>,
     rows: &[Vec<ValueRef>],
-    sets: &[(String, Value)],
+    sets: &'a [(String, Value)],
     condition: &Option<Expr>,
-) -> Result<Vec<Vec<Value>>, Error>
+) -> Result<Vec<Vec<BorrowedValue<'a>>>, Error>
     requires { IsTrue (knows_condition (heading_of (rc_value table.now)).columns (condition_of condition.now)) }
-    ensures ok { IfOk result (λ keys. map (λ key. data_of key.items) keys.items ≡ keys_after pool.now.pool (with_rows (heading_of (rc_value table.now)) (rows_held rows.now)) (sets_of sets.now) (condition_of condition.now)) }
+    ensures ok { IfOk result (λ keys. keys_said keys.items ≡ keys_after pool.now.pool (with_rows (heading_of (rc_value table.now)) (rows_held rows.now)) (sets_of sets.now) (condition_of condition.now)) }
     ensures err { IfErr result (λ e. e ≡ Memory) }
 {
     let mut keys = Vec::new(alloc);
@@ -165,21 +186,21 @@ fn keys_after(
 }
 
 // The key that a row would have. The one error is `Memory`.
-fn key_after(
+fn key_after<'a>(
     alloc: Global,
-    pool: &StringPool,
+    pool: &'a StringPool,
     table: &Rc<Table>,
     row: &[ValueRef],
-    sets: &[(String, Value)],
+    sets: &'a [(String, Value)],
     condition: &Option<Expr>,
-) -> Result<Vec<Value>, Error>
+) -> Result<Vec<BorrowedValue<'a>>, Error>
     requires { IsTrue (knows_condition (heading_of (rc_value table.now)).columns (condition_of condition.now)) }
-    ensures ok { IfOk result (λ key. data_of key.items ≡ key_after pool.now.pool (heading_of (rc_value table.now)).columns (sets_of sets.now) (condition_of condition.now) row.now) }
+    ensures ok { IfOk result (λ key. borrowed_data key.items ≡ key_after pool.now.pool (heading_of (rc_value table.now)).columns (sets_of sets.now) (condition_of condition.now) row.now) }
     ensures err { IfErr result (λ e. e ≡ Memory) }
 {
     let mut values = values_of(alloc, pool, row)?;
     if matches(alloc, pool, table, condition, row)? {
-        set_values(alloc, table, &mut values, sets)?;
+        set_values(table, &mut values, sets);
     }
     key_of(alloc, table.columns(), &values)
 }

@@ -1,12 +1,12 @@
-// Which values the columns of a table take.
+//! Which values the columns of a table take.
 ghost use Rattle.std.specs.List.{list_all};
 ghost use Rattle.std.specs.Prelude.{◌≡◌};
-ghost use Rattle.msi_pool.specs.Datum.{data_of};
+ghost use Rattle.msi_values.specs.Datum.{data_of};
 ghost use Rattle.msi_columns.specs.Column.{are_valid};
 ghost use Rattle.msi_columns.specs.Held.{columns_of};
 
-use msi_pool::Value;
 use msi_tables::Column;
+use msi_values::Value;
 
 // Whether the row has a value for each column, and each column takes its own.
 fn is_row(columns: &[Column], values: &[Value]) -> bool
@@ -21,7 +21,7 @@ fn is_row(columns: &[Column], values: &[Value]) -> bool
     }
 }
 
-/// Whether all these rows are such.
+// Whether all these rows are such.
 pub(crate) fn are_rows(columns: &[Column], rows: &[Vec<Value>]) -> bool
     ensures { result ≡ list_all (λ row. are_valid (columns_of columns.now) (data_of row.items)) rows.now }
 {

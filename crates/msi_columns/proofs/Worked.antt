@@ -2,7 +2,7 @@
 use Rattle.std.proofs.Common.{◌≡◌, true, false, [], ◌∷◌, refl, option_map, pos, negsuc}
 use Rattle.std.specs.Prelude.{Some, None, codes}
 use Rattle.msi_texts.specs.Numbers.{le_bytes}
-use Rattle.msi_pool.specs.Datum.{null, number}
+use Rattle.msi_values.specs.Datum.{null, number}
 use Rattle.msi_columns.specs.Cell.{cell_number}
 use Rattle.msi_columns.specs.Column.{Column, plain, type_bits, is_valid, as_key, but_null}
 use Rattle.msi_columns.specs.declared.column.ColumnType.TheVariants as kind
@@ -39,3 +39,18 @@ lowest_kept_for_null = refl
 
 null_taken : is_valid no_number null ≡ true
 null_taken = refl
+
+abbrev long_number : Column
+long_number = plain (codes "Length") kind.Int32
+
+highest_of_32_bits_taken : is_valid long_number (number (pos 2147483647)) ≡ true
+highest_of_32_bits_taken = refl
+
+past_highest_of_32_bits : is_valid long_number (number (pos 2147483648)) ≡ false
+past_highest_of_32_bits = refl
+
+past_all_bits : is_valid long_number (number (pos 1099511627776)) ≡ false
+past_all_bits = refl
+
+lowest_of_32_bits_kept_for_null : is_valid long_number (number (negsuc 2147483647)) ≡ false
+lowest_of_32_bits_kept_for_null = refl

@@ -1,4 +1,4 @@
-// Building columns.
+//! Building columns.
 #![tactic(auto, unfolding(crate::specs::Held::column_of, crate::specs::Held::built))]
 
 ghost use Rattle.std.specs.Prelude.{◌≡◌, true, Some, None, IfOk, IfErr, MatchResult, map};

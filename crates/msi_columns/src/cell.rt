@@ -1,4 +1,4 @@
-// How a cell is read and written.
+//! How a cell is read and written.
 ghost use Rattle.std.specs.Prelude.{◌≡◌, ◌↔◌, ◌≤◌, ◌<◌, ◌^◌, ◌*◌, length, take, drop, Some, None, OnOk, OnErr, IfOk, IfErr, IsOk, IsErrOf};
 ghost use Rattle.msi_texts.specs.Numbers.{le_bytes, le_number};
 ghost use Rattle.msi_columns.specs.Cell.{width_of, cell_value, cell_number, above, AppendsCell, IsInvalidInputOrMemory};
@@ -66,7 +66,7 @@ impl ColumnType {
         }
     }
 
-    /// The number that a cell is written as.
+    // The number that a cell is written as.
     fn number_of(&self, value: ValueRef, long_string_refs: bool) -> Option<u32>
         ensures { result ≡ cell_number long_string_refs self.now value }
     {
@@ -122,7 +122,7 @@ impl ColumnType {
     }
 }
 
-/// The number that two to four bytes spell, the lowest first.
+// The number that two to four bytes spell, the lowest first.
 fn number_of(bytes: &[u8]) -> u32
     requires { length bytes.now ≤ 4 }
     ensures value { result ≡ le_number bytes.now }
@@ -141,7 +141,7 @@ fn number_of(bytes: &[u8]) -> u32
     }
 }
 
-/// The four bytes of a number, the lowest first.
+// The four bytes of a number, the lowest first.
 fn bytes_of(number: u32) -> [u8; 4]
     ensures { result ≡ le_bytes 4 number }
 {
@@ -153,7 +153,7 @@ fn bytes_of(number: u32) -> [u8; 4]
     ]
 }
 
-/// What is above half of a range, or null at its lower end.
+// What is above half of a range, or null at its lower end.
 fn number_above(half: u32, number: u32) -> ValueRef
     requires half { half ≤ 2 ^ 31 }
     requires below { number < 2 * half }

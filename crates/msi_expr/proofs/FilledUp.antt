@@ -1,8 +1,7 @@
 -- A row that is filled up with nulls matches as it did.
-use Rattle.std.proofs.Common.{◌≡◌, ◌∙◌, sym, ap, ap₂, ℕ, zero, suc, ◌+◌, ◌-◌, ◌<◌, List, [], ◌∷◌, refl, Bool, true, false, arith, cond, length, drop}
+use Rattle.std.proofs.Common.{◌≡◌, ◌∙◌, sym, ap, ap₂, ℕ, zero, suc, List, [], ◌∷◌, refl, Bool, true, false, arith, cond, length}
 use Rattle.std.specs.Prelude.{◌&&◌, bytes_eq, slice_index_or, is_some, option_map, Option, Some, None}
-use Rattle.std.proofs.lemmas.List.{get_or-drop, drop-drop}
-use Rattle.msi_pool.specs.Datum.{Datum, null, counts_as_true}
+use Rattle.msi_values.specs.Datum.{Datum, null, counts_as_true}
 use Rattle.msi_columns.specs.Column.{Column, has_column, column_place}
 use Rattle.msi_tables.specs.Row.{cell_named, named_cells}
 use Rattle.msi_expr.specs.Formula.{Formula, literal, column, unary, two, both, either, worth, has_columns, or_null}
@@ -63,18 +62,33 @@ known_there columns ds (two o a b) same = ap₂ (λ x y. x && y) (known_there co
 known_there columns ds (both a b) same = ap₂ (λ x y. x && y) (known_there columns ds a same) (known_there columns ds b same)
 known_there columns ds (either a b) same = ap₂ (λ x y. x && y) (known_there columns ds a same) (known_there columns ds b same)
 
-next : (left : ℕ) (ds : List Datum) → filled_up (suc left) ds ≡ slice_index_or ds 0 null ∷ filled_up left (drop 1 ds)
-next left [] = refl
-next left (d ∷ ds) = refl
+-- each column that is known is there
+pub all_there : (columns : List Column) (ds : List Datum) (f : Formula) → has_columns (named_cells columns (filled_up (length columns) ds)) f ≡ knows columns f
+all_there columns ds f = known_there columns (filled_up (length columns) ds) f (filled_length (length columns) ds)
 
--- the next value
-pub filled_next : (n place : ℕ) (ds : List Datum) → place < n →
-    filled_up (n - place) (drop place ds) ≡ slice_index_or ds place null ∷ filled_up (n - (place + 1)) (drop (place + 1) ds)
-filled_next n place ds below =
-    let one : n - place ≡ suc (n - (place + 1)) = omega (arith, below) in
-    let head : slice_index_or (drop place ds) 0 null ≡ slice_index_or ds place null = get_or-drop place ds 0 null ∙ ap (λ i. slice_index_or ds i null) (omega arith) in
-    let rest : drop 1 (drop place ds) ≡ drop (place + 1) ds = drop-drop 1 place ds in
-    ap (λ m. filled_up m (drop place ds)) one ∙ next (n - (place + 1)) (drop place ds) ∙ ap₂ (λ x xs. x ∷ filled_up (n - (place + 1)) xs) head rest
+-- the value of a column stands at its place; where there is none, null does
+pub named_place : (columns : List Column) (ds : List Datum) (name : List ℕ) → cell_named name (named_cells columns (filled_up (length columns) ds)) ≡ option_map (λ i. slice_index_or ds i null) (column_place columns name)
+named_place [] ds name = refl
+named_place (c ∷ cs) [] name = rw (position_cons (λ c. bytes_eq c.name name) c cs) (go (bytes_eq c.name name) (named_place cs [] name))
+  where
+    go : (b : Bool) → cell_named name (named_cells cs (filled_up (length cs) [])) ≡ option_map (λ i. slice_index_or [] i null) (column_place cs name)
+        → cond b (Some null) (cell_named name (named_cells cs (filled_up (length cs) []))) ≡ option_map (λ i. slice_index_or [] i null) (cond b (Some 0) (option_map (λ i. suc i) (column_place cs name)))
+    go true ih = refl
+    go false ih = ih ∙ later (column_place cs name)
+      where
+        later : (o : Option ℕ) → option_map (λ i. slice_index_or [] i null) o ≡ option_map (λ i. slice_index_or [] i null) (option_map (λ i. suc i) o)
+        later None = refl
+        later (Some i) = refl
+named_place (c ∷ cs) (d ∷ ds) name = rw (position_cons (λ c. bytes_eq c.name name) c cs) (go (bytes_eq c.name name) (named_place cs ds name))
+  where
+    go : (b : Bool) → cell_named name (named_cells cs (filled_up (length cs) ds)) ≡ option_map (λ i. slice_index_or ds i null) (column_place cs name)
+        → cond b (Some d) (cell_named name (named_cells cs (filled_up (length cs) ds))) ≡ option_map (λ i. slice_index_or (d ∷ ds) i null) (cond b (Some 0) (option_map (λ i. suc i) (column_place cs name)))
+    go true ih = refl
+    go false ih = ih ∙ later (column_place cs name)
+      where
+        later : (o : Option ℕ) → option_map (λ i. slice_index_or ds i null) o ≡ option_map (λ i. slice_index_or (d ∷ ds) i null) (option_map (λ i. suc i) o)
+        later None = refl
+        later (Some i) = refl
 
 -- what a row is worth, filled up
 pub seen_whole : (columns : List Column) (ds : List Datum) (f : Formula) (d : Datum) → d ≡ worth (named_cells columns (filled_up (length columns) ds)) f →

@@ -2,7 +2,7 @@
 use Rattle.std.proofs.Common.{◌≡◌, ℕ, List, [], ◌∷◌, refl, pos, negsuc}
 use Rattle.std.specs.Prelude.{Some, codes}
 use Rattle.std.specs.Fmt.{digits}
-use Rattle.msi_pool.specs.Datum.{Datum, null, number, text}
+use Rattle.msi_values.specs.Datum.{Datum, null, number, text}
 use Rattle.msi_expr.specs.Formula.{Formula, literal, column, two, either, worth, shown, built, built_of_two, names_after}
 use Rattle.msi_expr.specs.declared.operators.BinOp.TheVariants as binary_op
 use Rattle.msi_expr.specs.declared.operators.UnOp.TheVariants as unary_op

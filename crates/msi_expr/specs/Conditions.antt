@@ -1,6 +1,6 @@
 -- Conditions on rows: what they say, which columns they name, and of which rows they count as true.
 use Rattle.std.specs.Prelude.{ℕ, zero, suc, Bool, true, ◌&&◌, List, [], ◌∷◌, Option, Some, None, option_map}
-use Rattle.msi_pool.specs.Datum.{Datum, null, counts_as_true}
+use Rattle.msi_values.specs.Datum.{Datum, null, counts_as_true}
 use Rattle.msi_pool.specs.Pool.{Pool}
 use Rattle.msi_columns.specs.Column.{Column, has_column}
 use Rattle.msi_tables.specs.Row.{Cells, named_cells}

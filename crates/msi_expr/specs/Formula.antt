@@ -1,10 +1,10 @@
 -- What an expression is, what it is worth on a row, and how it is printed.
-use Rattle.std.specs.Prelude.{ℕ, ◌+◌, ◌^◌, ◌==◌, Bool, true, not, List, [], ◌∷◌, ◌++◌, nat_lt, bytes_eq, if◌then◌else◌, Option, Some, None, ℤ, pos, negsuc, ◌+ℤ◌, ◌-ℤ◌, ◌*ℤ◌, neg_ℤ, int_div, string_bytes, codes, ◌&&◌, is_some}
+use Rattle.std.specs.Prelude.{ℕ, ◌+◌, ◌^◌, ◌==◌, Bool, true, false, not, List, [], ◌∷◌, ◌++◌, nat_lt, bytes_eq, if◌then◌else◌, Option, Some, None, ℤ, pos, negsuc, ◌+ℤ◌, ◌-ℤ◌, ◌*ℤ◌, neg_ℤ, int_div, string_bytes, codes, ◌&&◌, is_some}
 use Rattle.std.specs.List.{list_any}
 use Rattle.std.specs.Int.{w32, int_bit_and, int_bit_or, int_bit_xor, int_bit_not, int_shl, int_shr}
 use Rattle.std.specs.Ordering.{is_eq, is_ne, is_lt, is_le, is_gt, is_ge}
 use Rattle.std.specs.Fmt.{◌++?◌}
-use Rattle.msi_pool.specs.Datum.{Datum, null, number, text, datum_of, datum_cmp, counts_as_true, truth, datum_text}
+use Rattle.msi_values.specs.Datum.{Datum, null, number, text, datum_of, datum_cmp, counts_as_true, truth, datum_text}
 use Rattle.msi_tables.specs.Row.{Cells, cell_named}
 use Rattle.msi_expr.specs.declared.expr.Expr.{Expr}
 use Rattle.msi_expr.specs.declared.ast.Ast.{Ast}
@@ -218,3 +218,34 @@ IsArithmetic binary_op.Gt = ⊥
 IsArithmetic binary_op.Ge = ⊥
 IsArithmetic binary_op.Add = ⊥
 IsArithmetic _ = Unit {0}
+
+-- ---- equations of columns
+
+-- the name of a column, where the expression is one
+abbrev pub column_name : Formula → Option (List ℕ)
+column_name (column name) = Some name
+column_name (literal d) = None
+column_name (unary o a) = None
+column_name (two o a b) = None
+column_name (both a b) = None
+column_name (either a b) = None
+
+-- the operator asks whether two values are equal
+abbrev pub is_equality : BinOp → Bool
+is_equality binary_op.Eq = true
+is_equality _ = false
+
+-- two names, where both are there
+abbrev pub pair_of : Option (List ℕ) → Option (List ℕ) → Option (List ℕ × List ℕ)
+pair_of (Some a) (Some b) = Some (a, b)
+pair_of (Some a) None = None
+pair_of None b = None
+
+-- the two columns of an expression that asks whether they are equal, and nothing else
+abbrev pub equated_in : Formula → Option (List ℕ × List ℕ)
+equated_in (two o a b) = if is_equality o then pair_of (column_name a) (column_name b) else None
+equated_in (literal d) = None
+equated_in (column name) = None
+equated_in (unary o a) = None
+equated_in (both a b) = None
+equated_in (either a b) = None

@@ -1,3 +1,4 @@
 pub mod Conditions
 pub mod Formula
 pub mod Printed
+pub mod Worths

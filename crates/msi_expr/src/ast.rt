@@ -1,16 +1,17 @@
-// The inside of an expression: a tree of literals, columns and operators.
-ghost use Rattle.std.specs.Prelude.{◌≡◌, Some, IsTrue, Ok, OnOk, map, bytes_eq};
+//! The inside of an expression: a tree of literals, columns and operators.
+ghost use Rattle.std.specs.Prelude.{◌≡◌, Some, IsTrue, Ok, OnOk, map, bytes_eq, option_map};
 ghost use Rattle.std.specs.Fmt.{DisplaysOnOk};
+ghost use Rattle.std.specs.Option.{option_copied};
 ghost use Rattle.std.specs.List.{list_any};
 ghost use Rattle.msi_texts.specs.Results.{Answers};
-ghost use Rattle.msi_pool.specs.Datum.{datum_of};
-ghost use Rattle.msi_expr.specs.Formula.{ast_formula, bracket, worth, has_columns, names_after, noted, shown};
-ghost use Rattle.msi_tables.specs.Row.{cells_of};
+ghost use Rattle.msi_values.specs.Datum.{datum_of};
+ghost use Rattle.msi_expr.specs.Formula.{ast_formula, bracket, column_name, equated_in, worth, has_columns, names_after, noted, shown};
+ghost use Rattle.msi_expr.specs.Worths.{worth_said};
 
 use crate::operators::{BinOp, UnOp};
+use crate::record::{Record, Worth};
 use cfb_medium::Error;
-use msi_pool::Value;
-use msi_tables::Row;
+use msi_values::Value;
 use std::alloc::{AllocError, Global};
 use std::fmt;
 
@@ -26,35 +27,39 @@ pub enum Ast {
 }
 
 impl Ast {
-    /// What the expression is worth on a row.
-    pub(crate) fn eval(&self, alloc: Global, row: &Row) -> Result<Value, Error>
-        requires { IsTrue (has_columns (cells_of row.now) (ast_formula self.now)) }
-        ensures { Answers datum_of result (Ok (worth (cells_of row.now) (ast_formula self.now))) }
+    // What the expression is worth on a row.
+    pub(crate) fn eval<'a, R: Record>(
+        &'a self,
+        alloc: Global,
+        row: &'a R,
+    ) -> Result<Worth<'a>, Error>
+        requires { IsTrue (has_columns (R.cells row.now) (ast_formula self.now)) }
+        ensures { Answers worth_said result (Ok (worth (R.cells row.now) (ast_formula self.now))) }
     {
         match self {
-            Ast::Literal(value) => value.clone(alloc),
-            Ast::Column(name) => row.get(name.as_str()).unwrap().clone(alloc),
+            Ast::Literal(value) => Ok(Worth::Borrowed(value.borrowed())),
+            Ast::Column(name) => Ok(Worth::Borrowed(row.value(name.as_str()).unwrap())),
             Ast::UnOp(op, arg) => {
                 let value = arg.eval(alloc, row)?;
-                Ok(op.apply(value))
+                Ok(Worth::Made(op.apply(value.borrowed())))
             }
             Ast::BinOp(op, arg1, arg2) => {
                 let value1 = arg1.eval(alloc, row)?;
                 let value2 = arg2.eval(alloc, row)?;
-                Ok(op.apply(value1, value2)?)
+                Ok(Worth::Made(op.apply(alloc, value1.borrowed(), value2.borrowed())?))
             }
             Ast::And(arg1, arg2) => {
                 let holds = arg1.eval(alloc, row)?.to_bool() && arg2.eval(alloc, row)?.to_bool();
-                Ok(Value::from_bool(holds))
+                Ok(Worth::Made(Value::from_bool(holds)))
             }
             Ast::Or(arg1, arg2) => {
                 let holds = arg1.eval(alloc, row)?.to_bool() || arg2.eval(alloc, row)?.to_bool();
-                Ok(Value::from_bool(holds))
+                Ok(Worth::Made(Value::from_bool(holds)))
             }
         }
     }
 
-    /// Writes the expression where a strength is asked for.
+    // Writes the expression where a strength is asked for.
     pub(crate) fn fmt_at<W: fmt::Write>(&self, f: &mut fmt::Formatter<W>, asked: u32) -> fmt::Result
         ensures { DisplaysOnOk W.write_str_gives f.old result (shown asked (ast_formula self.now)) f.new }
     {
@@ -90,7 +95,32 @@ impl Ast {
         }
     }
 
-    /// Adds the names of its columns that aren't among these yet.
+    // The name of the column that it is.
+    fn column_name(&self) -> Option<&str>
+        ensures { option_copied result ≡ column_name (ast_formula self.now) }
+    {
+        match self {
+            Ast::Column(name) => Some(name.as_str()),
+            Ast::Literal(_) | Ast::UnOp(..) | Ast::BinOp(..) | Ast::And(..) | Ast::Or(..) => None,
+        }
+    }
+
+    // The names of two columns, where it asks whether they are equal, and nothing else.
+    pub(crate) fn equated(&self) -> Option<(&str, &str)>
+        ensures { option_map (λ names. (names.0.now, names.1.now)) result ≡ equated_in (ast_formula self.now) }
+    {
+        match self {
+            Ast::BinOp(op, arg1, arg2) => {
+                if !op.is_equality() {
+                    return None;
+                }
+                Some((arg1.column_name()?, arg2.column_name()?))
+            }
+            Ast::Literal(_) | Ast::Column(_) | Ast::UnOp(..) | Ast::And(..) | Ast::Or(..) => None,
+        }
+    }
+
+    // Adds the names of its columns that aren't among these yet.
     pub(crate) fn add_names<'a>(&'a self, names: &mut Vec<&'a str>) -> Result<(), AllocError>
         ensures { OnOk result (map (λ n. n.now) names.new.items ≡ names_after (map (λ n. n.now) names.old.items) (ast_formula self.now)) }
     {

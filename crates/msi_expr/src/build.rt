@@ -1,15 +1,15 @@
-// How expressions are built. An operator on literals alone is applied at once, but for `and` and `or`. `Memory` comes where there is
-// no memory; what a call was given is then gone.
+//! How expressions are built. An operator on literals alone is applied at once, but for `and` and `or`. `Memory` comes where there is
+//! no memory; what a call was given is then gone.
 ghost use Rattle.std.specs.Prelude.{◌≡◌, Ok};
 ghost use Rattle.msi_texts.specs.Results.{Answers};
-ghost use Rattle.msi_pool.specs.Datum.{null, number, text, truth};
+ghost use Rattle.msi_values.specs.Datum.{null, number, text, truth};
 ghost use Rattle.msi_expr.specs.Formula.{formula_of, literal, column, both, either, built, built_of_two};
 
 use crate::ast::Ast;
 use crate::expr::Expr;
 use crate::operators::{BinOp, UnOp};
 use cfb_medium::Error;
-use msi_pool::Value;
+use msi_values::Value;
 use std::alloc::Global;
 
 impl Expr {
@@ -213,7 +213,7 @@ impl Expr {
     {
         match self.ast {
             Ast::Literal(value) => Ok(Expr {
-                ast: Ast::Literal(op.apply(value)),
+                ast: Ast::Literal(op.apply(value.borrowed())),
             }),
             arg => Ok(Expr {
                 ast: Ast::UnOp(op, Box::new(alloc, arg)?),
@@ -226,7 +226,7 @@ impl Expr {
     {
         match (self.ast, rhs.ast) {
             (Ast::Literal(value1), Ast::Literal(value2)) => Ok(Expr {
-                ast: Ast::Literal(op.apply(value1, value2)?),
+                ast: Ast::Literal(op.apply(alloc, value1.borrowed(), value2.borrowed())?),
             }),
             (arg1, arg2) => {
                 let left = Box::new(alloc, arg1)?;

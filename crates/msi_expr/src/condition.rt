@@ -1,4 +1,4 @@
-// Conditions on rows.
+//! Conditions on rows.
 ghost use Rattle.std.specs.Prelude.{◌≡◌, Ok};
 ghost use Rattle.std.specs.Fmt.{DisplaysOnOk};
 ghost use Rattle.msi_texts.specs.Results.{Answers};

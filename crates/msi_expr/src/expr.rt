@@ -1,14 +1,14 @@
-// Expressions as they are seen from outside.
-ghost use Rattle.std.specs.Prelude.{Ok, IsTrue, [], map};
+//! Expressions as they are seen from outside.
+ghost use Rattle.std.specs.Prelude.{◌≡◌, Ok, IsTrue, [], map, option_map};
 ghost use Rattle.msi_texts.specs.Results.{Answers};
-ghost use Rattle.msi_pool.specs.Datum.{datum_of};
-ghost use Rattle.msi_expr.specs.Formula.{formula_of, worth, has_columns, names_after};
+ghost use Rattle.msi_values.specs.Datum.{datum_of};
+ghost use Rattle.msi_expr.specs.Formula.{equated_in, formula_of, worth, has_columns, names_after};
 ghost use Rattle.msi_tables.specs.Row.{cells_of};
 
 use crate::ast::Ast;
 use cfb_medium::Error;
-use msi_pool::Value;
 use msi_tables::Row;
+use msi_values::Value;
 use std::alloc::Global;
 use std::fmt;
 
@@ -24,7 +24,7 @@ impl Expr {
         requires { IsTrue (has_columns (cells_of row.now) (formula_of self.now)) }
         ensures { Answers datum_of result (Ok (worth (cells_of row.now) (formula_of self.now))) }
     {
-        self.ast.eval(alloc, row)
+        self.ast.eval(alloc, row)?.into_value(alloc)
     }
 
     /// The names of its columns, each once, in the order in which they first stand. `Memory` where there is no memory for the list.
@@ -34,6 +34,13 @@ impl Expr {
         let mut names = Vec::new(alloc);
         self.ast.add_names(&mut names)?;
         Ok(names)
+    }
+
+    /// The names of two columns, where it asks whether they are equal, and nothing else.
+    pub fn equated(&self) -> Option<(&str, &str)>
+        ensures { option_map (λ names. (names.0.now, names.1.now)) result ≡ equated_in (formula_of self.now) }
+    {
+        self.ast.equated()
     }
 }
 

@@ -8,6 +8,7 @@ mod expr;
 mod laws;
 mod matching;
 mod operators;
+mod record;
 
 pub use condition::{fmt_condition, narrowed};
 pub use expr::Expr;

@@ -1,19 +1,18 @@
-// Conditions judged on rows of cells.
+//! Conditions judged on rows of cells.
 ghost use Rattle.cfb_medium.specs.declared.error.Error.TheVariants.{Memory};
 ghost use Rattle.msi_expr.specs.Formula.{formula_of, names_after};
-ghost use Rattle.msi_pool.specs.Datum.{data_of};
-ghost use Rattle.msi_expr.specs.Conditions.{filled_up, knows, knows_condition, matches, condition_of};
+ghost use Rattle.msi_expr.specs.Conditions.{knows, knows_condition, matches, condition_of};
 ghost use Rattle.msi_columns.specs.Column.{has_column};
 ghost use Rattle.msi_tables.specs.Held.{heading_of};
-ghost use Rattle.msi_tables.specs.Table.{row_data};
 ghost use Rattle.std.specs.List.{list_all};
 ghost use Rattle.std.specs.Prelude.{◌≡◌, IfErr, IfOk, IsTrue, Some, map};
 ghost use Rattle.std.specs.Rc.{rc_value};
 
 use crate::expr::Expr;
+use crate::record::StoredRow;
 use cfb_medium::Error;
-use msi_pool::{StringPool, Value, ValueRef};
-use msi_tables::{Row, Table};
+use msi_pool::{StringPool, ValueRef};
+use msi_tables::Table;
 use std::alloc::Global;
 use std::rc::Rc;
 
@@ -67,7 +66,6 @@ pub fn matches(
 }
 
 /// Whether the expression counts as true on the row. The one error is `Memory`.
-#[tactic(auto, using(crate::proofs::FilledUp::known_there))]
 pub fn holds(
     alloc: Global,
     pool: &StringPool,
@@ -79,26 +77,23 @@ pub fn holds(
     ensures ok { IfOk result (λ holds. holds ≡ matches pool.now.pool (heading_of (rc_value table.now)).columns (Some (formula_of expr.now)) row.now) }
     ensures err { IfErr result (λ e. e ≡ Memory) }
 {
-    let values = filled_values(alloc, pool, table.columns().len(), row)?;
-    let row = Row::new(table.clone()?, values);
-    let value = expr.eval(alloc, &row)?;
-    Ok(value.to_bool())
+    stored_holds(alloc, pool, table, expr, row)
 }
 
-// The first values of a row, as many as asked for, with nulls behind those that it has.
-fn filled_values(
+// The same of a table that isn't shared.
+#[tactic(auto, using(crate::proofs::FilledUp::all_there, crate::proofs::FilledUp::seen_whole))]
+fn stored_holds(
     alloc: Global,
     pool: &StringPool,
-    count: usize,
-    row: &[ValueRef],
-) -> Result<Vec<Value>, Error>
-    ensures ok { IfOk result (λ values. data_of values.items ≡ filled_up count (row_data pool.now.pool row.now)) }
+    table: &Table,
+    expr: &Expr,
+    cells: &[ValueRef],
+) -> Result<bool, Error>
+    requires { IsTrue (knows (heading_of table.now).columns (formula_of expr.now)) }
+    ensures ok { IfOk result (λ holds. holds ≡ matches pool.now.pool (heading_of table.now).columns (Some (formula_of expr.now)) cells.now) }
     ensures err { IfErr result (λ e. e ≡ Memory) }
 {
-    let mut values = Vec::new(alloc);
-    for place in 0..count {
-        let cell = row.get(place).copied().unwrap_or(ValueRef::Null);
-        values.push(cell.to_value(alloc, pool)?)?;
-    }
-    Ok(values)
+    let row = StoredRow { pool, table, cells };
+    let worth = expr.ast.eval(alloc, &row)?;
+    Ok(worth.to_bool())
 }

@@ -1,10 +1,11 @@
-// Operators: what they make of values, how they are written, how strongly they bind.
+//! Operators: what they make of values, how they are written, how strongly they bind.
 ghost use Rattle.std.specs.Prelude.{◌≡◌, ◌≤◌, IfOk, MatchOption, Some, None};
-ghost use Rattle.msi_pool.specs.Datum.{null, number, datum_of};
-ghost use Rattle.msi_expr.specs.Formula.{one_applied, two_applied, strength, sign_of, prefix_of, count_of, IsArithmetic};
+ghost use Rattle.msi_values.specs.Borrowed.{borrowed_datum};
+ghost use Rattle.msi_values.specs.Datum.{null, number, datum_of};
+ghost use Rattle.msi_expr.specs.Formula.{one_applied, two_applied, strength, sign_of, prefix_of, count_of, is_equality, IsArithmetic};
 
-use msi_pool::Value;
-use std::alloc::AllocError;
+use msi_values::{BorrowedValue, Value};
+use std::alloc::{AllocError, Global};
 
 /// An operator on one value.
 #[derive(Clone, Copy)]
@@ -35,16 +36,16 @@ pub enum BinOp {
 }
 
 impl UnOp {
-    pub(crate) fn apply(self, arg: Value) -> Value
-        ensures { datum_of result ≡ one_applied self (datum_of arg) }
+    pub(crate) fn apply(self, arg: BorrowedValue<'_>) -> Value
+        ensures { datum_of result ≡ one_applied self (borrowed_datum arg.entry) }
     {
         match self {
             UnOp::Neg => match arg {
-                Value::Int(number) => or_null(number.checked_neg()),
+                BorrowedValue::Int(number) => or_null(number.checked_neg()),
                 _ => Value::Null,
             },
             UnOp::BitNot => match arg {
-                Value::Int(number) => Value::Int(!number),
+                BorrowedValue::Int(number) => Value::Int(!number),
                 _ => Value::Null,
             },
             UnOp::BoolNot => Value::from_bool(!arg.to_bool()),
@@ -82,30 +83,36 @@ fn shift_count(distance: i32) -> Option<u32>
 }
 
 impl BinOp {
-    pub(crate) fn apply(self, arg1: Value, arg2: Value) -> Result<Value, AllocError>
-        ensures { IfOk result (λ v. datum_of v ≡ two_applied self (datum_of arg1) (datum_of arg2)) }
+    pub(crate) fn apply(
+        self,
+        alloc: Global,
+        arg1: BorrowedValue<'_>,
+        arg2: BorrowedValue<'_>,
+    ) -> Result<Value, AllocError>
+        ensures { IfOk result (λ v. datum_of v ≡ two_applied self (borrowed_datum arg1.entry) (borrowed_datum arg2.entry)) }
     {
         match self {
-            BinOp::Eq => Ok(Value::from_bool(arg1.compare(&arg2).is_eq())),
-            BinOp::Ne => Ok(Value::from_bool(arg1.compare(&arg2).is_ne())),
-            BinOp::Lt => Ok(Value::from_bool(arg1.compare(&arg2).is_lt())),
-            BinOp::Le => Ok(Value::from_bool(arg1.compare(&arg2).is_le())),
-            BinOp::Gt => Ok(Value::from_bool(arg1.compare(&arg2).is_gt())),
-            BinOp::Ge => Ok(Value::from_bool(arg1.compare(&arg2).is_ge())),
+            BinOp::Eq => Ok(Value::from_bool(arg1.compare(arg2).is_eq())),
+            BinOp::Ne => Ok(Value::from_bool(arg1.compare(arg2).is_ne())),
+            BinOp::Lt => Ok(Value::from_bool(arg1.compare(arg2).is_lt())),
+            BinOp::Le => Ok(Value::from_bool(arg1.compare(arg2).is_le())),
+            BinOp::Gt => Ok(Value::from_bool(arg1.compare(arg2).is_gt())),
+            BinOp::Ge => Ok(Value::from_bool(arg1.compare(arg2).is_ge())),
             BinOp::Add => match (arg1, arg2) {
-                (Value::Str(mut text1), Value::Str(text2)) => {
-                    text1.push_str(text2.as_str())?;
-                    Ok(Value::Str(text1))
+                (BorrowedValue::Str(text1), BorrowedValue::Str(text2)) => {
+                    let mut joined = String::from_str(alloc, text1)?;
+                    joined.push_str(text2)?;
+                    Ok(Value::Str(joined))
                 }
-                (Value::Int(number1), Value::Int(number2)) => Ok(or_null(number1.checked_add(
-                    number2,
-                ))),
+                (BorrowedValue::Int(number1), BorrowedValue::Int(number2)) => {
+                    Ok(or_null(number1.checked_add(number2)))
+                }
                 _ => Ok(Value::Null),
             },
             _ => match (arg1, arg2) {
-                (Value::Int(number1), Value::Int(number2)) => Ok(self.apply_numbers(
-                    number1, number2,
-                )),
+                (BorrowedValue::Int(number1), BorrowedValue::Int(number2)) => {
+                    Ok(self.apply_numbers(number1, number2))
+                }
                 _ => Ok(Value::Null),
             },
         }
@@ -131,6 +138,12 @@ impl BinOp {
             },
             _ => Value::Null,
         }
+    }
+
+    pub(crate) fn is_equality(self) -> bool
+        ensures { result ≡ is_equality self }
+    {
+        matches!(self, BinOp::Eq)
     }
 
     pub(crate) fn sign(self) -> &'static str

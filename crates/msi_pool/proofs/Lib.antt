@@ -1,9 +1,7 @@
-pub mod DataOrder
-pub mod Commas
-pub mod QuotedText
 pub mod PoolHeads
 pub mod PoolReads
 pub mod PoolFound
 pub mod PoolPlaces
 pub mod PoolRoundTrip
+pub mod PoolStays
 pub mod Worked

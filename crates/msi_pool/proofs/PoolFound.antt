@@ -152,40 +152,48 @@ page_begun n rest o = or_refused o InvalidData >>= λ page. heads_begun page n (
 abbrev number_begun : Result (ℕ × List ℕ) Error → Result Begun Error
 number_begun r = r >>= λ id. page_begun id.0 id.1 (page_id (page_number id.0))
 
--- the pool is found
-pub pooled_pool_is_read : (pool_bytes data_bytes : List ℕ) (pool : Pool) → Pooled pool_bytes data_bytes pool → (begun pool_bytes >>= λ b. pool_of b data_bytes) ≡ Ok pool
-pooled_pool_is_read pool_bytes data_bytes pool h =
-    let n = h.id + width_bit pool.long in
-    let low = page_below h.id pool.page h.page in
-    let hs = map head_in_numbers h.stored in
-    let few : nat_lt (length hs) (2 ^ 32) ≡ true = less_tested (length hs) (2 ^ 32) (subst (λ m. m < 2 ^ 32) (sym (length-map h.stored head_in_numbers)) h.few) in
-    let begins : begun pool_bytes ≡ begun_ok pool.page n hs =
-    ap number_begun (ap (number_at 4) h.begins ∙ four_taken n h.heads (with_width h.id pool.long low))
-    ∙ ap (page_begun n h.heads) (ap page_id (page_alone h.id pool.long low) ∙ h.page)
-    ∙ ap (heads_begun pool.page n) (heads_found (length h.heads) h.stored h.heads h.heads_are (omega arith))
-    ∙ ap (heads_tested pool.page n hs) few in
-    let texts : texts_at hs data_bytes ≡ Ok h.stored = ap (texts_at hs) h.joined ∙ texts_found h.stored h.unread in
-    ap (λ r. r >>= λ b. pool_of b data_bytes) begins
-    ∙ ap (λ r. (r >>= λ stored. places_ok stored) >>= λ places. pool_ok (width_of n) places) texts
-    ∙ ap₂ pool_ok (width_alone h.id pool.long low) (sym h.texts)
-  where
-    less_tested : (a b : ℕ) → a < b → nat_lt a b ≡ true
-    less_tested a b l = grind (arith, nat_tests)
+module _ (pool_bytes data_bytes : List ℕ) (pool : Pool) (h : Pooled pool_bytes data_bytes pool) where
+  -- what the first stream tells
+  abbrev pub told : Begun
+  told = begun_with pool.page (h.id + width_bit pool.long) (map head_in_numbers h.stored)
 
-    with_width : (id : ℕ) (long : Bool) → id < 2 ^ 31 → id + width_bit long < 2 ^ 32
-    with_width id true l = omega arith
-    with_width id false l = omega arith
+  pub pool_is_begun : begun pool_bytes ≡ Ok told
+  pool_is_begun =
+      let n = h.id + width_bit pool.long in
+      let low = page_below h.id pool.page h.page in
+      let hs = map head_in_numbers h.stored in
+      let few : nat_lt (length hs) (2 ^ 32) ≡ true = less_tested (length hs) (2 ^ 32) (subst (λ m. m < 2 ^ 32) (sym (length-map h.stored head_in_numbers)) h.few) in
+      ap number_begun (ap (number_at 4) h.begins ∙ four_taken n h.heads (with_width h.id pool.long low))
+      ∙ ap (page_begun n h.heads) (ap page_id (page_alone h.id pool.long low) ∙ h.page)
+      ∙ ap (heads_begun pool.page n) (heads_found (length h.heads) h.stored h.heads h.heads_are (omega arith))
+      ∙ ap (heads_tested pool.page n hs) few
+    where
+      less_tested : (a b : ℕ) → a < b → nat_lt a b ≡ true
+      less_tested a b l = grind (arith, nat_tests)
 
-    page_alone : (id : ℕ) (long : Bool) → id < 2 ^ 31 → page_number (id + width_bit long) ≡ id
-    page_alone id true l = grind (arith, nat_tests)
-    page_alone id false l = grind (arith, nat_tests)
+      with_width : (id : ℕ) (long : Bool) → id < 2 ^ 31 → id + width_bit long < 2 ^ 32
+      with_width id true l = omega arith
+      with_width id false l = omega arith
 
-    width_alone : (id : ℕ) (long : Bool) → id < 2 ^ 31 → width_of (id + width_bit long) ≡ long
-    width_alone id true l = grind (arith, nat_tests)
-    width_alone id false l = grind (arith, nat_tests)
+      page_alone : (id : ℕ) (long : Bool) → id < 2 ^ 31 → page_number (id + width_bit long) ≡ id
+      page_alone id true l = grind (arith, nat_tests)
+      page_alone id false l = grind (arith, nat_tests)
 
-    places_ok : List Stored → Result (List Place) Error
-    places_ok stored = Ok (map (place_read pool.page) stored)
+  -- the texts are those that the second has
+  pub texts_are_stored : texts_at (map head_in_numbers h.stored) data_bytes ≡ Ok h.stored
+  texts_are_stored = ap (texts_at (map head_in_numbers h.stored)) h.joined ∙ texts_found h.stored h.unread
 
-    pool_ok : Bool → List Place → Result Pool Error
-    pool_ok long places = Ok (record { page = pool.page; long = long; places = places })
+  pub pooled_pool_is_read : pool_of told data_bytes ≡ Ok pool
+  pooled_pool_is_read =
+      ap (λ r. (r >>= λ stored. places_ok stored) >>= λ places. pool_ok (width_of (h.id + width_bit pool.long)) places) texts_are_stored
+      ∙ ap₂ pool_ok (width_alone h.id pool.long (page_below h.id pool.page h.page)) (sym h.texts)
+    where
+      width_alone : (id : ℕ) (long : Bool) → id < 2 ^ 31 → width_of (id + width_bit long) ≡ long
+      width_alone id true l = grind (arith, nat_tests)
+      width_alone id false l = grind (arith, nat_tests)
+
+      places_ok : List Stored → Result (List Place) Error
+      places_ok stored = Ok (map (place_read pool.page) stored)
+
+      pool_ok : Bool → List Place → Result Pool Error
+      pool_ok long places = Ok (record { page = pool.page; long = long; places = places })

@@ -1,5 +1,3 @@
-pub mod Datum
-pub mod Layout
 pub mod Pool
 pub mod PoolKept
 pub mod PoolState

@@ -1,9 +1,19 @@
 -- Which pools their two streams give back.
-use Rattle.std.specs.Prelude.{◌≡◌, ◌<◌, ◌^◌, IsTrue, List, [], ◌∷◌, length}
+use Rattle.std.specs.Prelude.{◌≡◌, ℕ, ◌<◌, ◌^◌, IsTrue, List, [], ◌∷◌, length, All}
 use Rattle.std.specs.Str.{is_utf8}
 use Rattle.msi_texts.specs.declared.codepage.CodePage.{CodePage}
 use Rattle.msi_texts.specs.Page.{encoded, fits}
 use Rattle.msi_pool.specs.Pool.{Pool, Place}
+
+-- no text stands at a free place
+abbrev pub AreFreeEmpty : List Place → Type 0
+AreFreeEmpty ps = All (λ p. p.count ≡ 0 → p.text ≡ []) ps
+
+-- a text that fits the page, with a length that fits its field
+pub record CanBeKept (page : CodePage) (text : List ℕ) : Type 0 where
+  pub utf8 : IsTrue (is_utf8 text)
+  pub fit : IsTrue (fits page text)
+  pub size : length (encoded page text) < 2 ^ 32
 
 -- a place whose text fits the page, with a length and a count that fit their fields; a free one holds the empty text
 pub record IsKept (page : CodePage) (p : Place) : Type 0 where

@@ -1,8 +1,9 @@
 -- How the pool's two streams are read, with their refusals.
-use Rattle.std.specs.Prelude.{ℕ, zero, suc, ◌-◌, ◌^◌, Bool, ◌&&◌, List, [], ◌∷◌, map, length, nat_lt, nat_le, ◌==◌, if◌then◌else◌, sum_by, Result, Ok}
+use Rattle.std.specs.Prelude.{ℕ, zero, suc, ◌-◌, ◌^◌, Bool, ◌&&◌, List, [], ◌∷◌, map, length, nat_lt, nat_le, ◌==◌, if◌then◌else◌, sum_by, Result, Ok, bytes_eq}
+use Rattle.std.specs.List.{list_all}
 use Rattle.msi_texts.specs.Results.{◌>>=◌, unless_not, or_refused}
 use Rattle.msi_texts.specs.Reading.{bytes_at, number_at}
-use Rattle.msi_texts.specs.Page.{decoded, page_id}
+use Rattle.msi_texts.specs.Page.{encoded, decoded, page_id}
 use Rattle.msi_pool.specs.Pool.{Pool, Place, Stored}
 use Rattle.msi_texts.specs.declared.codepage.CodePage.{CodePage}
 use Rattle.cfb_medium.specs.declared.error.Error.{Error}
@@ -66,3 +67,15 @@ text_len heads = sum_by (λ h. h.0) heads
 -- the second stream
 abbrev pub pool_of : Begun → List ℕ → Result Pool Error
 pool_of b bytes = places_at b.page b.heads bytes >>= λ places. Ok (record { page = b.page; long = b.long; places = places })
+
+-- the bytes of a text are those that it is written as
+abbrev pub gives_back : CodePage → List ℕ → Bool
+gives_back page bytes = bytes_eq (encoded page (decoded page bytes)) bytes
+
+-- so are those of all texts
+abbrev pub stored_give_back : CodePage → Heads → List ℕ → Result Bool Error
+stored_give_back page heads bytes = texts_at heads bytes >>= λ stored. Ok (list_all (λ s. gives_back page s.0) stored)
+
+-- the same of the second stream
+abbrev pub texts_give_back : Begun → List ℕ → Result Bool Error
+texts_give_back b bytes = stored_give_back b.page b.heads bytes

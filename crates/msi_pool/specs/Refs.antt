@@ -4,7 +4,7 @@ use Rattle.msi_pool.specs.declared.stringref.ValueRef.{ValueRef}
 use Rattle.msi_pool.specs.declared.stringref.ValueRef.TheVariants as cell
 use Rattle.msi_texts.specs.Results.{◌>>=◌}
 use Rattle.msi_texts.specs.Reading.{number_at}
-use Rattle.msi_pool.specs.Datum.{Datum, null, number, text, binary}
+use Rattle.msi_values.specs.Datum.{Datum, null, number, text, binary}
 use Rattle.msi_pool.specs.Pool.{Pool, place, used, without_use, at_place}
 use Rattle.msi_pool.specs.PoolState.{PoolState, changed_to}
 use Rattle.cfb_medium.specs.declared.error.Error.{Error}

@@ -1,58 +1,39 @@
-// Laws of the definitions, each the contract of a function.
-ghost use Rattle.std.specs.Prelude.{◌≡◌, ◌↔◌, ◌<◌, ℕ, List, IsTrue, fold, Ok, slice_index};
-ghost use Rattle.msi_pool.specs.Datum.{datum_of};
-ghost use Rattle.msi_pool.specs.Pool.{Pool, Pooled, pool_stream, data_stream};
-ghost use Rattle.msi_pool.specs.PoolKept.{IsWritable};
-ghost use Rattle.msi_pool.specs.PoolReading.{Begun, begun, pool_of};
-ghost use Rattle.msi_pool.specs.contracts.value.ValueHash.TheImpl.{ghosts as hash_of};
+//! Laws of the definitions, each the contract of a function.
+ghost use Rattle.std.specs.Prelude.{◌≡◌, ◌↔◌, ◌<◌, ℕ, List, IsTrue, Ok, slice_index};
+ghost use Rattle.std.specs.List.{list_all};
+ghost use Rattle.msi_texts.specs.declared.codepage.CodePage.{CodePage};
+ghost use Rattle.msi_pool.specs.Pool.{Place, Pool, Pooled, pool_stream, data_stream, with_use, without_use};
+ghost use Rattle.msi_pool.specs.PoolKept.{AreFreeEmpty, AreKept, CanBeKept, IsWritable};
+ghost use Rattle.msi_pool.specs.PoolReading.{Begun, begun, gives_back, pool_of, texts_give_back};
 
 use crate::stringref::ValueRef;
-use crate::value::Value;
 use std::cmp::Ordering;
-use std::hash::{Hash, Hasher};
 
 /// The two streams that a pool writes are read as that pool, where its texts fit.
 pub fn written_pools_are_read()
     ensures { (pool : Pool) → IsWritable pool → Pooled (pool_stream pool) (data_stream pool) pool }
 {}
 
-/// The builder finds in two streams just the pool that they hold: one that they hold is read, and what
-/// is read is what they hold.
+/// The builder finds in two streams just the pool that they hold: one that they hold is read, with its
+/// answer whether the texts give their bytes back, and what is read is what they hold.
 pub fn pools_are_read_as_they_are_held()
-    ensures found { (pool_bytes data_bytes : List ℕ) (pool : Pool) → Pooled pool_bytes data_bytes pool → (builder : Begun) × (begun pool_bytes ≡ Ok builder) × (pool_of builder data_bytes ≡ Ok pool) }
+    ensures found { (pool_bytes data_bytes : List ℕ) (pool : Pool) (pooled : Pooled pool_bytes data_bytes pool) → (builder : Begun) × (begun pool_bytes ≡ Ok builder) × (pool_of builder data_bytes ≡ Ok pool)
+        × (texts_give_back builder data_bytes ≡ Ok (list_all (λ s. gives_back pool.page s.0) pooled.stored)) }
     ensures held { (pool_bytes data_bytes : List ℕ) (builder : Begun) (pool : Pool) → ((i : ℕ) → slice_index pool_bytes i < 256) → begun pool_bytes ≡ Ok builder → pool_of builder data_bytes ≡ Ok pool → Pooled pool_bytes data_bytes pool }
 {}
 
-/// Whether two values are equal by their order: that is where they say the same, as `==` tells.
-pub fn values_compare_equal(one: &Value, other: &Value) -> bool
-    ensures { IsTrue result ↔ (datum_of one.now ≡ datum_of other.now) }
-{
-    one.compare(other) == Ordering::Equal
-}
+/// Uses that are counted and taken back leave free places empty, and a pool whose places are kept stays such
+/// a pool, where the texts can be kept.
+pub fn uses_leave_places_kept()
+    ensures used_empty { (text : List ℕ) (places : List Place) → AreFreeEmpty places → AreFreeEmpty (with_use text places) }
+    ensures taken_empty { (n : ℕ) (places : List Place) → AreFreeEmpty places → AreFreeEmpty (without_use n places) }
+    ensures used_kept { (page : CodePage) (text : List ℕ) (places : List Place) → CanBeKept page text → AreKept page places → AreKept page (with_use text places) }
+    ensures taken_kept { (page : CodePage) (n : ℕ) (places : List Place) → AreKept page places → AreKept page (without_use n places) }
+{}
 
 /// Whether two cells are equal by their order: that is where they are one, as `==` tells.
 pub fn cells_compare_equal(one: ValueRef, other: ValueRef) -> bool
     ensures { IsTrue result ↔ (one ≡ other) }
 {
     one.cmp(&other) == Ordering::Equal
-}
-
-/// Values that say the same give their hashers the same, and so leave two alike that were alike before.
-pub fn equal_values_hash_alike<H: Hasher>(one: &Value, other: &Value, first: &mut H, second: &mut H)
-    requires { datum_of one.now ≡ datum_of other.now }
-    ensures first { first.new ≡ fold H.write first.old (hash_of.hash_input one.now) }
-    ensures second { second.new ≡ fold H.write second.old (hash_of.hash_input one.now) }
-    ensures alike { first.old ≡ second.old → first.new ≡ second.new }
-{
-    hash_both(one, other, first, second);
-}
-
-/// Equal values give their hashers the same.
-fn hash_both<T: Hash, H: Hasher>(one: &T, other: &T, first: &mut H, second: &mut H)
-    requires { IsTrue (T.eq one.now other.now) }
-    ensures first { first.new ≡ fold H.write first.old (T.hash_input one.now) }
-    ensures second { second.new ≡ fold H.write second.old (T.hash_input one.now) }
-{
-    one.hash(first);
-    other.hash(second);
 }

@@ -1,19 +1,15 @@
-//! Values of cells, and the string pool of a Windows Installer database.
+//! The string pool of a Windows Installer database, and the cells that refer to it.
 #![tactic(auto)]
 
 mod laws;
-mod numbers;
 mod poolbuilder;
-mod quoted;
 mod stringpool;
 mod stringref;
-mod value;
 
 pub use laws::{
-    cells_compare_equal, equal_values_hash_alike, pools_are_read_as_they_are_held,
-    values_compare_equal, written_pools_are_read,
+    cells_compare_equal, pools_are_read_as_they_are_held, uses_leave_places_kept,
+    written_pools_are_read,
 };
 pub use poolbuilder::StringPoolBuilder;
 pub use stringpool::StringPool;
 pub use stringref::{StringRef, ValueRef};
-pub use value::Value;

@@ -1,16 +1,15 @@
-// Reading the string pool from its two streams.
+//! Reading the string pool from its two streams.
 ghost use Rattle.std.specs.Prelude.{◌≡◌, ◌⊎◌, ◌+◌, ◌<◌, ◌≤◌, ◌^◌, ℕ, pos, [], false, length, Ok, Err, IfOk, IfErr, OnOk, OnErr, drop, take, string_bytes};
 ghost use Rattle.msi_texts.specs.Results.{Answers};
 ghost use Rattle.msi_texts.specs.Reading.{number_at};
-ghost use Rattle.msi_pool.specs.PoolReading.{head_at, heads_at, begun, pool_of, page_number, places_at, text_len};
+ghost use Rattle.msi_pool.specs.PoolReading.{head_at, heads_at, begun, gives_back, pool_of, page_number, places_at, stored_give_back, text_len, texts_give_back};
 ghost use Rattle.msi_texts.specs.Page.{decoded};
 ghost use Rattle.msi_pool.specs.Pool.{places_of};
 ghost use Rattle.cfb_medium.specs.declared.error.Error.TheVariants.{UnexpectedEof, Memory};
 
-use crate::numbers::{read_u16, read_u32};
 use crate::stringpool::{LONG_STRING_REFS_BIT, StringPool};
 use cfb_medium::Error;
-use msi_texts::CodePage;
+use msi_texts::{CodePage, read_u16, read_u32};
 use std::alloc::Global;
 use std::marker::Model;
 
@@ -34,7 +33,7 @@ impl Model for StringPoolBuilder {
     ghost invariant = { λ b. length b.heads.items < 2 ^ 32 };
 }
 
-/// Takes the length and the count of the next place.
+// Takes the length and the count of the next place.
 fn read_head(reader: &mut &[u8]) -> Result<(u32, u16), Error>
     ensures ok { IfOk result (λ head. head_at reader.old.now ≡ Ok (head, reader.new.now)) }
     ensures error { IfErr result (λ e. head_at reader.old.now ≡ Err e) }
@@ -48,7 +47,7 @@ fn read_head(reader: &mut &[u8]) -> Result<(u32, u16), Error>
     }
 }
 
-/// The length and the count of each place. A rest of one byte is ignored.
+// The length and the count of each place. A rest of one byte is ignored.
 fn read_heads(alloc: Global, bytes: &[u8]) -> Result<Vec<(u32, u16)>, Error>
     ensures { Answers (λ heads. heads.items) result (heads_at (length bytes.now) bytes.now) }
 {
@@ -97,9 +96,49 @@ impl StringPoolBuilder {
         *reader = rest;
         Ok(StringPool::from_strings(self.codepage, self.long_string_refs, strings))
     }
+
+    /// Whether each text of the data stream gives its bytes back when it is written under the page.
+    /// UnexpectedEof where bytes are missing.
+    pub fn gives_back(&self, alloc: Global, bytes: &[u8]) -> Result<bool, Error>
+        ensures { Answers (λ gives. gives) result (texts_give_back self.now bytes.now) }
+    {
+        texts_give_back(alloc, self.codepage, self.heads.as_slice(), bytes)
+    }
 }
 
-/// Takes the next text.
+// Whether each text gives its bytes back when it is written under the page.
+fn texts_give_back(
+    alloc: Global,
+    codepage: CodePage,
+    heads: &[(u32, u16)],
+    bytes: &[u8],
+) -> Result<bool, Error>
+    ensures { Answers (λ gives. gives) result (stored_give_back codepage heads.now bytes.now) }
+{
+    let mut rest = bytes;
+    let mut all = true;
+    for (len, _) in heads {
+        let (text, behind) = rest
+            .split_at_checked(*len as usize)
+            .ok_or(Error::UnexpectedEof)?;
+        let gives = gives_back(alloc, codepage, text)?;
+        all = all && gives;
+        rest = behind;
+    }
+    Ok(all)
+}
+
+// Whether a text gives its bytes back.
+fn gives_back(alloc: Global, codepage: CodePage, bytes: &[u8]) -> Result<bool, Error>
+    ensures ok { IfOk result (λ gives. gives ≡ gives_back codepage bytes.now) }
+    ensures err { IfErr result (λ e. e ≡ Memory) }
+{
+    let text = codepage.decode(alloc, bytes)?;
+    let again = codepage.encode(alloc, text.as_str())?;
+    Ok(again.as_slice() == bytes)
+}
+
+// Takes the next text.
 fn read_text(
     alloc: Global,
     codepage: CodePage,
@@ -119,7 +158,7 @@ fn read_text(
     codepage.decode(alloc, &bytes[..len])
 }
 
-/// Takes the texts of these places.
+// Takes the texts of these places.
 fn read_texts(
     alloc: Global,
     codepage: CodePage,
@@ -138,7 +177,7 @@ fn read_texts(
     Ok(strings)
 }
 
-/// The number of a page without the bit for references of three bytes.
+// The number of a page without the bit for references of three bytes.
 fn page_number(id: u32) -> i32
     ensures { result ≡ pos (page_number id) }
 {

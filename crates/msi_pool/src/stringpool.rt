@@ -1,4 +1,4 @@
-// The string pool: texts, each with the number of its uses.
+//! The string pool: texts, each with the number of its uses.
 ghost use Rattle.std.specs.Prelude.{◌≡◌, ◌↔◌, ◌⊎◌, ◌+◌, ◌<◌, ◌≤◌, ◌^◌, ◌++◌, ℕ, [], true, false, IsTrue, nat_lt, map, length, Some, None, IfOk, OnOk, OnErr, IfErr, IsErrOf, string_bytes, slice_get};
 ghost use Rattle.std.specs.List.{flat_map, list_all};
 ghost use Rattle.msi_texts.specs.Numbers.{le_bytes};
@@ -7,23 +7,22 @@ ghost use Rattle.msi_pool.specs.Pool.{place, place_among, last_place, with_use, 
 ghost use Rattle.msi_pool.specs.PoolState.{changed_to, is_in_size, length_limit};
 ghost use Rattle.cfb_medium.specs.declared.error.Error.TheVariants.{InvalidInput, InvalidData, Memory};
 
-use crate::numbers::{write_u16, write_u32};
 use crate::stringref::StringRef;
 use cfb_medium::Error;
-use msi_texts::CodePage;
+use msi_texts::{CodePage, write_u16, write_u32};
 use std::alloc::{AllocError, Global};
 use std::marker::Model;
 
-/// The greatest number that a reference of two bytes names.
+// The greatest number that a reference of two bytes names.
 const LAST_SHORT_REF: usize = 65535;
 
-/// The greatest number that a reference of three bytes names.
+// The greatest number that a reference of three bytes names.
 const LAST_LONG_REF: usize = 16777215;
 
-/// The bit of the page's number that tells of references of three bytes.
+// The bit of the page's number that tells of references of three bytes.
 pub(crate) const LONG_STRING_REFS_BIT: u32 = 0x8000_0000;
 
-/// No text and no pool stream may have so many bytes.
+// No text and no pool stream may have so many bytes.
 const LENGTH_LIMIT: usize = 4294967295;
 
 /// The string pool of a package: texts at places from 1 on, each with the number of its uses. A place
@@ -48,7 +47,7 @@ impl Model for StringPool {
     ghost invariant = { λ p. length p.strings.items < 2 ^ 32 };
 }
 
-/// The first place that takes a use of the text, or the length.
+// The first place that takes a use of the text, or the length.
 fn first_place(strings: &[(String, u16)], text: &str) -> usize
     ensures place { result + 1 ≡ place_among text.now (places_of strings.now) }
     ensures bound { result ≤ length strings.now }
@@ -61,7 +60,7 @@ fn first_place(strings: &[(String, u16)], text: &str) -> usize
     strings.len()
 }
 
-/// Copies of texts with their counts.
+// Copies of texts with their counts.
 fn copied_strings(alloc: Global, strings: &[(String, u16)]) -> Result<Vec<(String, u16)>, Error>
     ensures ok { IfOk result (λ copies. places_of copies.items ≡ places_of strings.now) }
     ensures size { IfOk result (λ copies. length copies.items ≡ length strings.now) }
@@ -74,7 +73,7 @@ fn copied_strings(alloc: Global, strings: &[(String, u16)]) -> Result<Vec<(Strin
     Ok(copies)
 }
 
-/// Counts a use of the text at the first place that takes it.
+// Counts a use of the text at the first place that takes it.
 fn count_at(strings: &mut Vec<(String, u16)>, index: usize, text: String) -> Result<(), Error>
     requires place { index + 1 ≡ place_among (string_bytes text) (places_of strings.old.items) }
     requires inside { index ≤ length strings.old.items }
@@ -106,7 +105,7 @@ impl StringPool {
         }
     }
 
-    /// The pool of these strings, as it was read.
+    // The pool of these strings, as it was read.
     pub(crate) fn from_strings(
         codepage: CodePage,
         long_string_refs: bool,
@@ -179,7 +178,7 @@ impl StringPool {
         self.is_modified = false;
     }
 
-    /// Notes that the pool may differ from its streams.
+    // Notes that the pool may differ from its streams.
     fn mark_modified(&mut self)
         ensures { self.new ≡ changed_to self.old.pool }
     {
@@ -278,7 +277,7 @@ impl StringPool {
     }
 }
 
-/// Appends how a length and a count are written: a length of 0 with a count stands for the one behind it.
+// Appends how a length and a count are written: a length of 0 with a count stands for the one behind it.
 fn write_head(bytes: &mut Vec<u8>, len: u32, count: u16) -> Result<(), AllocError>
     ensures { OnOk result (bytes.new.items ≡ bytes.old.items ++ head_bytes len count) }
 {
@@ -295,7 +294,7 @@ fn write_head(bytes: &mut Vec<u8>, len: u32, count: u16) -> Result<(), AllocErro
     }
 }
 
-/// Appends the length and the count of each place.
+// Appends the length and the count of each place.
 fn write_heads(
     bytes: &mut Vec<u8>,
     codepage: CodePage,
@@ -315,7 +314,7 @@ fn write_heads(
     Ok(())
 }
 
-/// The bytes of the texts, one after the other.
+// The bytes of the texts, one after the other.
 fn text_bytes(
     alloc: Global,
     codepage: CodePage,
@@ -332,14 +331,14 @@ fn text_bytes(
     Ok(bytes)
 }
 
-/// The greatest number of a place.
+// The greatest number of a place.
 fn last_place(long: bool) -> usize
     ensures { result ≡ last_place long }
 {
     if long { LAST_LONG_REF } else { LAST_SHORT_REF }
 }
 
-/// Takes back a use at a place.
+// Takes back a use at a place.
 fn uncount_at(strings: &mut Vec<(String, u16)>, string_ref: StringRef) -> Result<(), Error>
     ensures ok { OnOk result (places_of strings.new.items ≡ without_use string_ref (places_of strings.old.items)) }
     ensures unused { IsErrOf result InvalidData ↔ ((at_place (places_of strings.old.items) string_ref).count ≡ 0) }

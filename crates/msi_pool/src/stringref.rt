@@ -1,14 +1,15 @@
-// References to the string pool, and what a stored cell holds.
+//! References to the string pool, and what a stored cell holds.
 ghost use Rattle.std.specs.Prelude.{◌≡◌, ◌↔◌, ◌⊎◌, ◌+◌, ◌<◌, ◌≤◌, ◌^◌, ◌++◌, ℕ, true, false, Some, None, Ok, Err, IfOk, IfErr, OnOk, OnErr, IsErrOf};
 ghost use Rattle.msi_texts.specs.Numbers.{le_bytes};
-ghost use Rattle.msi_pool.specs.Datum.{datum_of};
+ghost use Rattle.msi_values.specs.Borrowed.{borrowed_datum};
+ghost use Rattle.msi_values.specs.Datum.{datum_of};
 ghost use Rattle.msi_pool.specs.Refs.{ref_width, ref_of, number_of, ref_at, fits_width, cell_of, with_value, is_counted, without_value, value_at};
 ghost use Rattle.cfb_medium.specs.declared.error.Error.TheVariants.{InvalidInput, InvalidData, Memory};
 
-use crate::numbers::{read_u16, read_u24, write_u16, write_u24};
 use crate::stringpool::StringPool;
-use crate::value::Value;
 use cfb_medium::Error;
+use msi_texts::{read_u16, read_u24, write_u16, write_u24};
+use msi_values::{BorrowedValue, Value};
 use std::alloc::Global;
 use std::marker::Model;
 
@@ -39,7 +40,7 @@ impl StringRef {
         StringRef { number }
     }
 
-    /// The place's index in the list.
+    // The place's index in the list.
     pub(crate) fn index(self) -> usize
         ensures { result + 1 ≡ self }
     {
@@ -111,16 +112,16 @@ fn ref_of(number: u32) -> Option<StringRef>
     }
 }
 
-/// An indirect value from one cell in a database table row.
+/// What a cell of a stored row holds: of a text only its place in the pool.
 #[derive(Clone, Copy, Debug, PartialEq, Eq, PartialOrd, Ord)]
 pub enum ValueRef {
-    /// A null value.
+    /// Nothing.
     Null,
-    /// An integer value.
+    /// A number.
     Int(i32),
-    /// A string value.
+    /// A text, by its place.
     Str(StringRef),
-    /// A binary stream.
+    /// A stream of bytes, which stands outside the table.
     Binary,
 }
 
@@ -153,6 +154,18 @@ impl ValueRef {
         match self {
             ValueRef::Str(string_ref) => string_pool.decref(string_ref),
             ValueRef::Null | ValueRef::Int(_) | ValueRef::Binary => Ok(()),
+        }
+    }
+
+    /// The value of the cell, whose text stands in the pool.
+    pub fn borrowed(self, string_pool: &StringPool) -> BorrowedValue<'_>
+        ensures { borrowed_datum result ≡ value_at string_pool.now.pool self }
+    {
+        match self {
+            ValueRef::Null => BorrowedValue::Null,
+            ValueRef::Int(number) => BorrowedValue::Int(number),
+            ValueRef::Str(string_ref) => BorrowedValue::Str(string_pool.get(string_ref)),
+            ValueRef::Binary => BorrowedValue::Binary,
         }
     }
 

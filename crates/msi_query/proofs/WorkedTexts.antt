@@ -2,7 +2,7 @@
 use Rattle.std.proofs.Common.{◌≡◌, ℕ, [], refl, pos}
 use Rattle.std.specs.Prelude.{Some, None, codes}
 use Rattle.std.specs.Fmt.{digits}
-use Rattle.msi_pool.specs.Datum.{number}
+use Rattle.msi_values.specs.Datum.{number}
 use Rattle.msi_expr.specs.Formula.{Formula, literal, column, two}
 use Rattle.msi_query.specs.Query.{query, inner_join}
 use Rattle.msi_query.specs.Query as source

@@ -1,4 +1,4 @@
-// Of rows those that a condition lets through, and of columns those that are asked for.
+//! Of rows those that a condition lets through, and of columns those that are asked for.
 ghost use Rattle.cfb_medium.specs.declared.error.Error.TheVariants.{Memory};
 ghost use Rattle.msi_pool.specs.Pool.{Pool};
 ghost use Rattle.msi_query.specs.Answered.{answered, table_held};
@@ -19,8 +19,8 @@ use msi_tables::{Column, Table};
 use std::alloc::Global;
 use std::rc::Rc;
 
-/// The rows that the condition lets through, and of them the columns of these names, in this order; no names stand for
-/// all. `InvalidInput` where there is no such column, or none that the condition names.
+// The rows that the condition lets through, and of them the columns of these names, in this order; no names stand for
+// all. `InvalidInput` where there is no such column, or none that the condition names.
 pub(crate) fn cut(
     alloc: Global,
     pool: &StringPool,

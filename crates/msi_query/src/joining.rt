@@ -1,8 +1,10 @@
-// Tables joined: each left row with the right rows for which a condition counts as true.
+//! Tables joined: each left row with the right rows for which a condition counts as true.
 ghost use Rattle.cfb_medium.specs.declared.error.Error.TheVariants.{Memory};
 ghost use Rattle.msi_expr.specs.Formula.{formula_of};
 ghost use Rattle.msi_pool.specs.declared.stringref.ValueRef.TheVariants as cell;
 ghost use Rattle.msi_query.specs.Answered.{answered};
+ghost use Rattle.msi_query.specs.Grouped.{rows_lent};
+ghost use Rattle.msi_query.specs.RightSides.{IsRightSide};
 ghost use Rattle.msi_query.specs.Query.{inner_joined, left_joined, or_once, pairs_with};
 ghost use Rattle.msi_expr.specs.Conditions.{knows};
 ghost use Rattle.msi_columns.specs.Column.{side_column, but_null};
@@ -13,6 +15,7 @@ ghost use Rattle.std.specs.List.{flat_map};
 ghost use Rattle.std.specs.Prelude.{◌≡◌, ◌++◌, map, replicate, IfErr, IfOk, IsTrue, OnOk};
 ghost use Rattle.std.specs.Rc.{rc_value};
 
+use crate::grouping::RightSide;
 use cfb_medium::Error;
 use msi_expr::{Expr, holds, knows};
 use msi_pool::{StringPool, ValueRef};
@@ -20,8 +23,8 @@ use msi_tables::{Column, Table};
 use std::alloc::Global;
 use std::rc::Rc;
 
-/// The pairs of rows for which the expression counts as true, left row by left row. `InvalidInput` where it names a column
-/// that neither side has.
+// The pairs of rows for which the expression counts as true, left row by left row. `InvalidInput` where it names a column
+// that neither side has.
 pub(crate) fn inner_joined(
     alloc: Global,
     pool: &StringPool,
@@ -39,11 +42,12 @@ pub(crate) fn inner_joined(
         return Err(Error::InvalidInput);
     }
     let shared = Rc::new(alloc, table.clone(alloc)?)?;
-    let rows = inner_rows(alloc, pool, &shared, on, &left.1, &right.1)?;
+    let own = left.0.columns().len();
+    let rows = inner_rows(alloc, pool, &shared, on, &left.1, &right.1, own)?;
     Ok((table, rows))
 }
 
-/// The same, and a left row without a partner once, with nulls; the columns of the right side take null.
+// The same, and a left row without a partner once, with nulls; the columns of the right side take null.
 pub(crate) fn left_joined(
     alloc: Global,
     pool: &StringPool,
@@ -62,7 +66,8 @@ pub(crate) fn left_joined(
         return Err(Error::InvalidInput);
     }
     let shared = Rc::new(alloc, table.clone(alloc)?)?;
-    let rows = left_rows(alloc, pool, &shared, on, &left.1, &right.1, width)?;
+    let own = left.0.columns().len();
+    let rows = left_rows(alloc, pool, &shared, on, &left.1, &right.1, own, width)?;
     Ok((table, rows))
 }
 
@@ -91,7 +96,7 @@ fn prefixed_nullable(alloc: Global, prefix: &str, columns: &[Column]) -> Result<
     Ok(copies)
 }
 
-// The pairs of each left row.
+// The pairs of each left row, where left rows have so many cells.
 fn inner_rows(
     alloc: Global,
     pool: &StringPool,
@@ -99,19 +104,17 @@ fn inner_rows(
     on: &Expr,
     left: &[Vec<ValueRef>],
     right: &[Vec<ValueRef>],
+    own: usize,
 ) -> Result<Vec<Vec<ValueRef>>, Error>
     requires { IsTrue (knows (heading_of (rc_value table.now)).columns (formula_of on.now)) }
     ensures ok { IfOk result (λ rows. rows_held rows.items ≡ flat_map (pairs_with pool.now.pool (heading_of (rc_value table.now)).columns (formula_of on.now) (rows_held right.now)) (rows_held left.now)) }
     ensures err { IfErr result (λ e. e ≡ Memory) }
 {
-    let mut rows = Vec::new(alloc);
-    for row in left {
-        add_pairs(alloc, pool, table, on, row, right, &mut rows)?;
-    }
-    Ok(rows)
+    let side = RightSide::new(alloc, pool, table, on, own, right)?;
+    inner_pairs(alloc, pool, table, on, left, &side)
 }
 
-// The pairs of each left row; one without pairs once, with so many nulls.
+// The same, and a left row without pairs once, with so many nulls.
 fn left_rows(
     alloc: Global,
     pool: &StringPool,
@@ -119,15 +122,58 @@ fn left_rows(
     on: &Expr,
     left: &[Vec<ValueRef>],
     right: &[Vec<ValueRef>],
+    own: usize,
     width: usize,
 ) -> Result<Vec<Vec<ValueRef>>, Error>
     requires { IsTrue (knows (heading_of (rc_value table.now)).columns (formula_of on.now)) }
     ensures ok { IfOk result (λ rows. rows_held rows.items ≡ flat_map (λ row. or_once (row ++ replicate width cell.Null) (pairs_with pool.now.pool (heading_of (rc_value table.now)).columns (formula_of on.now) (rows_held right.now) row)) (rows_held left.now)) }
     ensures err { IfErr result (λ e. e ≡ Memory) }
 {
+    let side = RightSide::new(alloc, pool, table, on, own, right)?;
+    left_pairs(alloc, pool, table, on, left, &side, width)
+}
+
+// The pairs of each left row with those of this side.
+fn inner_pairs<'a>(
+    alloc: Global,
+    pool: &'a StringPool,
+    table: &Rc<Table>,
+    on: &Expr,
+    left: &[Vec<ValueRef>],
+    side: &RightSide<'a>,
+) -> Result<Vec<Vec<ValueRef>>, Error>
+    requires knows { IsTrue (knows (heading_of (rc_value table.now)).columns (formula_of on.now)) }
+    requires side { IsRightSide pool.now.pool (heading_of (rc_value table.now)).columns (formula_of on.now) side.now }
+    ensures ok { IfOk result (λ rows. rows_held rows.items ≡ flat_map (pairs_with pool.now.pool (heading_of (rc_value table.now)).columns (formula_of on.now) (rows_held side.now.rows.now)) (rows_held left.now)) }
+    ensures err { IfErr result (λ e. e ≡ Memory) }
+{
     let mut rows = Vec::new(alloc);
     for row in left {
-        add_or_once(alloc, pool, table, on, row, right, width, &mut rows)?;
+        let others = side.partners(pool, row);
+        add_pairs(alloc, pool, table, on, row, others, &mut rows)?;
+    }
+    Ok(rows)
+}
+
+// The same, and a left row without pairs once, with so many nulls.
+fn left_pairs<'a>(
+    alloc: Global,
+    pool: &'a StringPool,
+    table: &Rc<Table>,
+    on: &Expr,
+    left: &[Vec<ValueRef>],
+    side: &RightSide<'a>,
+    width: usize,
+) -> Result<Vec<Vec<ValueRef>>, Error>
+    requires knows { IsTrue (knows (heading_of (rc_value table.now)).columns (formula_of on.now)) }
+    requires side { IsRightSide pool.now.pool (heading_of (rc_value table.now)).columns (formula_of on.now) side.now }
+    ensures ok { IfOk result (λ rows. rows_held rows.items ≡ flat_map (λ row. or_once (row ++ replicate width cell.Null) (pairs_with pool.now.pool (heading_of (rc_value table.now)).columns (formula_of on.now) (rows_held side.now.rows.now) row)) (rows_held left.now)) }
+    ensures err { IfErr result (λ e. e ≡ Memory) }
+{
+    let mut rows = Vec::new(alloc);
+    for row in left {
+        let others = side.partners(pool, row);
+        add_or_once(alloc, pool, table, on, row, others, width, &mut rows)?;
     }
     Ok(rows)
 }
@@ -140,12 +186,12 @@ fn add_or_once(
     table: &Rc<Table>,
     on: &Expr,
     left: &[ValueRef],
-    right: &[Vec<ValueRef>],
+    right: &[&[ValueRef]],
     width: usize,
     rows: &mut Vec<Vec<ValueRef>>,
 ) -> Result<(), Error>
     requires { IsTrue (knows (heading_of (rc_value table.now)).columns (formula_of on.now)) }
-    ensures ok { OnOk result (rows_held rows.new.items ≡ rows_held rows.old.items ++ or_once (left.now ++ replicate width cell.Null) (pairs_with pool.now.pool (heading_of (rc_value table.now)).columns (formula_of on.now) (rows_held right.now) left.now)) }
+    ensures ok { OnOk result (rows_held rows.new.items ≡ rows_held rows.old.items ++ or_once (left.now ++ replicate width cell.Null) (pairs_with pool.now.pool (heading_of (rc_value table.now)).columns (formula_of on.now) (rows_lent right.now) left.now)) }
     ensures err { IfErr result (λ e. e ≡ Memory) }
 {
     let before = rows.len();
@@ -164,11 +210,11 @@ fn add_pairs(
     table: &Rc<Table>,
     on: &Expr,
     left: &[ValueRef],
-    right: &[Vec<ValueRef>],
+    right: &[&[ValueRef]],
     rows: &mut Vec<Vec<ValueRef>>,
 ) -> Result<(), Error>
     requires { IsTrue (knows (heading_of (rc_value table.now)).columns (formula_of on.now)) }
-    ensures ok { OnOk result (rows_held rows.new.items ≡ rows_held rows.old.items ++ pairs_with pool.now.pool (heading_of (rc_value table.now)).columns (formula_of on.now) (rows_held right.now) left.now) }
+    ensures ok { OnOk result (rows_held rows.new.items ≡ rows_held rows.old.items ++ pairs_with pool.now.pool (heading_of (rc_value table.now)).columns (formula_of on.now) (rows_lent right.now) left.now) }
     ensures err { IfErr result (λ e. e ≡ Memory) }
 {
     for other in right {

@@ -1,4 +1,4 @@
-// Names of columns as a select is printed: one after another with ", " between.
+//! Names of columns as a select is printed: one after another with ", " between.
 ghost use Rattle.std.specs.Prelude.{◌≡◌, codes, map, string_bytes, Some};
 ghost use Rattle.std.specs.Fmt.{DisplaysOnOk};
 ghost use Rattle.msi_expr.specs.Printed.{separated};
@@ -21,7 +21,7 @@ fn fmt_listed<W: fmt::Write>(f: &mut fmt::Formatter<W>, names: &[String]) -> fmt
     }
 }
 
-/// Writes the names of the columns that are asked for, or a star.
+// Writes the names of the columns that are asked for, or a star.
 pub(crate) fn fmt_names<W: fmt::Write>(f: &mut fmt::Formatter<W>, names: &[String]) -> fmt::Result
     ensures { DisplaysOnOk W.write_str_gives f.old result (names_text (map string_bytes names.now)) f.new }
 {

@@ -1,4 +1,4 @@
-// Selects.
+//! Selects.
 ghost use Rattle.std.specs.Prelude.{◌≡◌, [], Ok, Some, None, codes, map};
 ghost use Rattle.std.specs.Fmt.{DisplaysOnOk, ◌++?◌};
 ghost use Rattle.msi_texts.specs.Results.{Answers};

@@ -1,4 +1,4 @@
-// Where queries find tables.
+//! Where queries find tables.
 ghost use Rattle.cfb_medium.specs.declared.error.Error.{Error};
 ghost use Rattle.msi_query.specs.Sources.{Tables};
 ghost use Rattle.msi_tables.specs.Held.{heading_of, rows_held};

@@ -1,4 +1,4 @@
-// A table of a source with its rows.
+//! A table of a source with its rows.
 ghost use Rattle.cfb_medium.specs.declared.error.Error.TheVariants.{NotFound};
 ghost use Rattle.msi_query.specs.Answered.{answered};
 ghost use Rattle.msi_query.specs.Sources.{AnswersOf};
@@ -10,7 +10,7 @@ use msi_pool::ValueRef;
 use msi_tables::Table;
 use std::alloc::Global;
 
-/// The table of a name with its rows. `NotFound` where there is none; faults are those of the source.
+// The table of a name with its rows. `NotFound` where there is none; faults are those of the source.
 pub(crate) fn stored<S: TableSource>(
     alloc: Global,
     source: &mut S,

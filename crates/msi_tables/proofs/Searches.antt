@@ -4,7 +4,7 @@ use Rattle.std.specs.Prelude.{option_map, option_and_then, slice_get, find, byte
 use Rattle.std.specs.List.{prefix_len, position_or_len, position}
 use Rattle.std.proofs.lemmas.Grind.{common_steps}
 use Rattle.std.proofs.lemmas.List.{length-map}
-use Rattle.msi_pool.specs.Datum.{Datum}
+use Rattle.msi_values.specs.Datum.{Datum}
 use Rattle.msi_columns.specs.Column.{Column, column_place}
 use Rattle.msi_tables.specs.Row.{ValueRow, cell_named, cells_of, named_cells}
 use borrow.Author.Tests.{ltb-true}

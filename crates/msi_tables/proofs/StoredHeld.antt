@@ -6,10 +6,13 @@ use Rattle.std.specs.declared.alloc.Global.{Global}
 use Rattle.std.specs.Ordering.{is_lt}
 use Rattle.std.specs.List.Sorted.{IsSortedBy, IsStableBy, ties}
 use Rattle.std.proofs.lemmas.List.{get_or-map, length-map}
+use Rattle.msi_pool.specs.Pool.{Pool}
 use Rattle.msi_pool.specs.declared.stringref.ValueRef.{ValueRef}
 use Rattle.msi_columns.specs.Column.{Column}
-use Rattle.msi_tables.specs.Rows.{IsStored, row_cmp, row_less, skips_of}
+use Rattle.msi_tables.specs.Rows.{IsArranged, IsStored, row_cmp, row_less, skips_of}
 use Rattle.msi_tables.specs.Held.{rows_held}
+use Rattle.msi_tables.specs.Table.{key_less, row_key_cmp}
+use Rattle.msi_tables.proofs.Keys.{key_order}
 use Rattle.msi_tables.proofs.Stored.{stored_order}
 
 module _ {X Y : Type 0} (f : X → Y) (lt : Y → Y → Bool) where
@@ -84,4 +87,12 @@ pub stored_held : (columns : List Column) (old new : List (Vec ValueRef Global))
 stored_held columns old new sorted stable = record {
   sorted = sorted_map (λ row. row.items) (λ a b. is_lt (row_cmp columns a b)) new sorted;
   stable = stable_map (λ row. row.items) (λ a b. is_lt (row_cmp columns a b)) (stored_order columns) old new stable;
+}
+
+-- and what the sort by keys leaves is the list by keys
+pub listed_held : (pool : Pool) (columns : List Column) (old new : List (Vec ValueRef Global)) →
+    IsSortedBy (key_less pool columns) new → IsStableBy (key_less pool columns) old new → IsArranged (row_key_cmp pool columns) (rows_held old) (rows_held new)
+listed_held pool columns old new sorted stable = record {
+  sorted = sorted_map (λ row. row.items) (λ a b. is_lt (row_key_cmp pool columns a b)) new sorted;
+  stable = stable_map (λ row. row.items) (λ a b. is_lt (row_key_cmp pool columns a b)) (key_order pool columns) old new stable;
 }

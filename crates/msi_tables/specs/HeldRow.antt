@@ -1,7 +1,7 @@
 -- A row in memory, as what it says.
 use Rattle.std.specs.Prelude.{◌≡◌, length}
 use Rattle.std.specs.Rc.{rc_value}
-use Rattle.msi_pool.specs.Datum.{data_of}
+use Rattle.msi_values.specs.Datum.{data_of}
 use Rattle.msi_tables.specs.Row.{ValueRow}
 use Rattle.msi_tables.specs.Held.{heading_of}
 use Rattle.msi_tables.specs.declared.row.Row.TheInside.{Inside}

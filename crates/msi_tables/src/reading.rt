@@ -1,4 +1,4 @@
-// Reading the rows of a table's stream.
+//! Reading the rows of a table's stream.
 
 ghost use Rattle.std.specs.Prelude.{◌≡◌, ◌*◌, ◌+◌, ◌<◌, ◌≤◌, ◌^◌, ℕ, List, length, map, IfOk, SomeIff};
 ghost use Rattle.msi_tables.specs.Rows.{row_at, row_width, row_count, kinds_of, numbers_from, IsRead};
@@ -10,10 +10,10 @@ use msi_columns::{Column, ColumnType};
 use msi_pool::ValueRef;
 use std::alloc::{AllocError, Global};
 
-/// The greatest number of rows in a table.
+// The greatest number of rows in a table.
 const MAX_ROWS: usize = 65536;
 
-/// The rows that the bytes hold, column after column. InvalidData where there are too many.
+// The rows that the bytes hold, column after column. InvalidData where there are too many.
 pub(crate) fn read_rows(
     alloc: Global,
     columns: &[Column],
@@ -30,7 +30,7 @@ pub(crate) fn read_rows(
     Ok(read_counted(alloc, &kinds, long, count, bytes)?)
 }
 
-/// The types of columns.
+// The types of columns.
 fn kinds_of(alloc: Global, columns: &[Column]) -> Result<Vec<ColumnType>, AllocError>
     ensures { IfOk result (λ kinds. kinds.items ≡ kinds_of (columns_of columns.now)) }
 {
@@ -41,7 +41,7 @@ fn kinds_of(alloc: Global, columns: &[Column]) -> Result<Vec<ColumnType>, AllocE
     Ok(kinds)
 }
 
-/// The bytes of a row; none where they are more than a number holds.
+// The bytes of a row; none where they are more than a number holds.
 fn row_width(kinds: &[ColumnType], long: bool) -> Option<usize>
     ensures { SomeIff result (row_width long kinds.now < 2 ^ 64) (row_width long kinds.now) }
 {
@@ -52,7 +52,7 @@ fn row_width(kinds: &[ColumnType], long: bool) -> Option<usize>
     Some(width)
 }
 
-/// How many whole rows so many bytes hold.
+// How many whole rows so many bytes hold.
 fn row_count(kinds: &[ColumnType], long: bool, len: usize) -> usize
     ensures count { (bytes : List ℕ) → length bytes ≡ len → result ≡ row_count long kinds.now bytes }
     ensures fits { result * row_width long kinds.now ≤ len }
@@ -64,7 +64,7 @@ fn row_count(kinds: &[ColumnType], long: bool, len: usize) -> usize
     }
 }
 
-/// So many rows.
+// So many rows.
 fn read_counted(
     alloc: Global,
     kinds: &[ColumnType],
@@ -83,7 +83,7 @@ fn read_counted(
     Ok(rows)
 }
 
-/// Row `r` of `n` rows that the bytes hold.
+// Row `r` of `n` rows that the bytes hold.
 fn read_row(
     alloc: Global,
     kinds: &[ColumnType],

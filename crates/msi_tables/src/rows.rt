@@ -1,4 +1,4 @@
-// Rows of a table, one after the other.
+//! Rows of a table, one after the other.
 #![tactic(auto, unfolding(crate::specs::Held::heading_of, crate::specs::RowsLeft::rows_columns, crate::specs::RowsLeft::rows_left))]
 
 ghost use Rattle.std.specs.Prelude.{◌≡◌, length};

@@ -1,4 +1,4 @@
-// Writing the rows of a table's stream, in the order in which they are stored.
+//! Writing the rows of a table's stream, in the order in which they are stored.
 
 ghost use Rattle.std.specs.Prelude.{◌≡◌, ◌++◌, ◌<◌, ℕ, List, length, map, drop, Some, None, OnOk};
 ghost use Rattle.std.specs.List.Sorted.{IsSortedBy, IsStableBy, IsPermutation};
@@ -13,7 +13,7 @@ use msi_texts::Category;
 use std::alloc::AllocError;
 use std::cmp::Ordering;
 
-/// Appends the rows in their stored order, column after column; after an error nothing is appended.
+// Appends the rows in their stored order, column after column; after an error nothing is appended.
 pub(crate) fn write_rows(
     columns: &[Column],
     long: bool,
@@ -35,7 +35,7 @@ pub(crate) fn write_rows(
     }
 }
 
-/// Brings rows into the stored order.
+// Brings rows into the stored order.
 fn sort_rows(rows: &mut Vec<Vec<ValueRef>>, columns: &[Column]) -> Result<(), AllocError>
     ensures sorted { OnOk result (IsSortedBy (row_less (skips_of (columns_of columns.now))) rows.new.items) }
     ensures stable { IsStableBy (row_less (skips_of (columns_of columns.now))) rows.old.items rows.new.items }
@@ -44,7 +44,7 @@ fn sort_rows(rows: &mut Vec<Vec<ValueRef>>, columns: &[Column]) -> Result<(), Al
     rows.sort_by(|a, b| compare_rows(columns, a.as_slice(), b.as_slice()))
 }
 
-/// The order of two rows: by column from the left, without those of the category Binary.
+// The order of two rows: by column from the left, without those of the category Binary.
 fn compare_rows(columns: &[Column], a: &[ValueRef], b: &[ValueRef]) -> Ordering
     ensures { result ≡ row_cmp (columns_of columns.now) a.now b.now }
 {
@@ -67,15 +67,15 @@ fn compare_rows(columns: &[Column], a: &[ValueRef], b: &[ValueRef]) -> Ordering
     }
 }
 
-/// Whether the order of rows passes over a column.
+// Whether the order of rows passes over a column.
 fn is_skipped(column: &Column) -> bool
     ensures { result ≡ is_skipped (column_of column.now).category }
 {
     column.category() == Some(Category::Binary)
 }
 
-/// Appends the rows as they stand, column after column. InvalidInput where a value can't stand in its column; then, and
-/// after Memory, more may have been appended.
+// Appends the rows as they stand, column after column. InvalidInput where a value can't stand in its column; then, and
+// after Memory, more may have been appended.
 fn append_rows(
     columns: &[Column],
     long: bool,
@@ -94,7 +94,7 @@ fn append_rows(
     Ok(())
 }
 
-/// Appends the cell at a place of each row.
+// Appends the cell at a place of each row.
 fn append_column(
     coltype: ColumnType,
     long: bool,

@@ -1,5 +1,5 @@
 -- Bytes that have characters come back from their text.
-use Rattle.std.proofs.Common.{◌≡◌, ◌≢◌, ℕ, zero, suc, ◌+◌, ◌-◌, ◌<◌, ◌≤◌, Bool, true, false, cond, not, List, [], ◌∷◌, map, length, get_or, Some, unwrap_or, refl, ap, ap₂, ◌∙◌, arith}
+use Rattle.std.proofs.Common.{◌≡◌, ◌≢◌, ℕ, zero, suc, ◌+◌, ◌-◌, ◌<◌, ◌≤◌, Bool, true, false, cond, not, List, [], ◌∷◌, map, length, get_or, Option, Some, None, is_some, unwrap_or, refl, ap, ap₂, ◌∙◌, arith}
 use Rattle.std.specs.Prelude.{nat_lt, nat_le, ◌==◌, ◌&&◌, encode_utf8_all}
 use Rattle.std.specs.Str.{is_utf8, chars}
 use Rattle.std.specs.Str.Lossy.{utf8_lossy}
@@ -11,7 +11,7 @@ use Rattle.std.proofs.lemmas.List.Folds.{list_any_at}
 use Rattle.std.proofs.lemmas.Str.{utf8_lossy-IsUtf8, IsUtf8-from_is_utf8, chars-encodes}
 use Rattle.msi_texts.specs.declared.codepage.CodePage.{CodePage}
 use Rattle.msi_texts.specs.declared.codepage.CodePage.TheVariants as page
-use Rattle.msi_texts.specs.Page.{is_utf8_page, high_half, char_of, byte_of, number_in, encoded, decoded, has_characters}
+use Rattle.msi_texts.specs.Page.{is_utf8_page, high_half, char_of, byte_of, number_in, encoded, decoded, fits, has_characters}
 
 -- none stands twice
 abbrev is_distinct : List ℕ → Bool
@@ -134,3 +134,25 @@ read_as p bytes utf8 = cond utf8 (utf8_lossy bytes) (encode_utf8_all (map (char_
 
 pub read_bytes_come_back : (p : CodePage) (bytes text : List ℕ) (utf8 : Bool) → utf8 ≡ is_utf8_page p → text ≡ read_as p bytes utf8 → has_characters p bytes ≡ true → encoded p text ≡ bytes
 read_bytes_come_back p bytes text utf8 is e h = ap (encoded p) (e ∙ ap (read_as p bytes) is) ∙ bytes_come_back p bytes h
+
+-- a byte that comes back from its character has one
+byte_stands : (p : CodePage) (b : ℕ) → unwrap_or (byte_of p (char_of p b)) 63 ≡ b → is_some (byte_of p (char_of p b)) ≡ true
+byte_stands p b h = on (byte_of p (char_of p b)) refl h
+  where
+    on : (o : Option ℕ) → byte_of p (char_of p b) ≡ o → unwrap_or o 63 ≡ b → is_some o ≡ true
+    on (Some n) e k = refl
+    on None e k = absurd (cc (ap (λ x. byte_of p (char_of p x)) k, e))
+
+bytes_stand : (p : CodePage) (bs : List ℕ) → map (λ c. unwrap_or (byte_of p c) 63) (map (char_of p) bs) ≡ bs → list_all (λ c. is_some (byte_of p c)) (map (char_of p) bs) ≡ true
+bytes_stand p [] h = refl
+bytes_stand p (b ∷ bs) h = ap₂ (λ x y. x && y) (byte_stands p b (cc)) (bytes_stand p bs (cc))
+
+pub text_given_back_fits : (p : CodePage) (bytes : List ℕ) → encoded p (decoded p bytes) ≡ bytes → fits p (decoded p bytes) ≡ true
+text_given_back_fits p bytes h = go (is_utf8_page p) h
+  where
+    go : (b : Bool) → cond b (cond b (utf8_lossy bytes) (encode_utf8_all (map (char_of p) bytes))) (map (λ c. unwrap_or (byte_of p c) 63) (chars (cond b (utf8_lossy bytes) (encode_utf8_all (map (char_of p) bytes))))) ≡ bytes →
+        cond b true (list_all (λ c. is_some (byte_of p c)) (chars (cond b (utf8_lossy bytes) (encode_utf8_all (map (char_of p) bytes))))) ≡ true
+    go true k = refl
+    go false k =
+        let same = chars-encodes (map (char_of p) bytes) (scalars_of p bytes) in
+        rw same (bytes_stand p bytes (rw same at k))

@@ -1,8 +1,8 @@
 -- Whether std reads a text as a number.
-use Rattle.std.proofs.Common.{◌≡◌, ℕ, suc, ◌^◌, ◌<◌, ◌≤◌, Bool, true, false, cond, not, List, [], ◌∷◌, length, Result, Ok, Err, is_ok, ℤ, pos, neg_ℤ, refl, arith}
-use Rattle.std.specs.Prelude.{nat_lt, nat_le, ◌==◌, ◌&&◌}
+use Rattle.std.proofs.Common.{◌≡◌, ℕ, suc, ◌^◌, ◌<◌, ◌≤◌, Bool, true, false, cond, not, List, [], ◌∷◌, length, Result, Ok, Err, is_ok, ℤ, pos, neg_ℤ, refl, sym, ap, arith}
+use Rattle.std.specs.Prelude.{nat_lt, nat_le, ◌==◌, ◌&&◌, if◌then◌else◌, Some, None}
 use Rattle.std.specs.Bool.{Decides}
-use Rattle.std.specs.Result.{OkIff}
+use Rattle.std.specs.Result.{OkIff, result_ok}
 use Rattle.std.specs.List.{list_all}
 use Rattle.std.specs.Char.{is_ascii_digit, digit_value}
 use Rattle.std.specs.Int.{w16, w32}
@@ -75,3 +75,8 @@ pub parsed_32 : {E : Type 0} (bs : List ℕ) (r : Result ℤ E) → ParsesSigned
 parsed_32 bs r h =
     let ds = without_leading_sign bs in
     same_from_decides (is_ok r) (reads_signed (2 ^ 31) bs) (ok_decides r _ (signed_digits_value 10 bs) h) (Decides-and _ _ (numeral_decides ds) (range_32 (starts_with_minus bs) (digits_value 10 ds)))
+
+-- the number that std reads
+pub number_parsed : {E : Type 0} (k : ℕ) (bs : List ℕ) (r : Result ℕ E) → ParsesUnsigned k 10 bs r → (if reads_unsigned (2 ^ k) bs then Some (digits_value 10 (without_leading_plus bs)) else None) ≡ result_ok r
+number_parsed {E} k bs (Ok x) h = let read : reads_unsigned (2 ^ k) bs ≡ true = sym (parsed_unsigned {E = E} k bs (Ok x) h) in rw read (ap Some (sym h.1))
+number_parsed {E} k bs (Err e) h = let read : reads_unsigned (2 ^ k) bs ≡ false = sym (parsed_unsigned {E = E} k bs (Err e) h) in rw read

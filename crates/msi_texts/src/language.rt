@@ -1,4 +1,4 @@
-// Language identifiers and their tags.
+//! Language identifiers and their tags.
 ghost use Rattle.std.specs.Prelude.{◌≡◌, ◌%◌, ◌<◌, ◌^◌, ℕ, Some, true, false, map, bytes_eq, find};
 ghost use Rattle.std.specs.Fmt.{decimal, styled_decimal, digits, WritesOnOk};
 ghost use Rattle.msi_texts.specs.Language.{joined_id, primary_of, sub_of, tag_of, tagged, languages};
@@ -24,7 +24,7 @@ impl Model for LanguageId {
     ghost inverse = { λ n. record { id = n } };
 }
 
-/// The identifiers that have a tag.
+// The identifiers that have a tag.
 const TAGGED_IDS: [u16; 36] = [
     0x0001, 0x0004, 0x0005, 0x0006, 0x0007, 0x0008, 0x0009, 0x000a, 0x000b, 0x000c, 0x000d, 0x000e,
     0x0010, 0x0011, 0x0012, 0x0013, 0x0015, 0x0016, 0x0019, 0x001d, 0x001f, 0x0407, 0x0409, 0x040a,
@@ -95,7 +95,7 @@ impl LanguageId {
     }
 }
 
-/// The tag of an identifier.
+// The tag of an identifier.
 fn tag_of(id: u16) -> &'static str
     ensures { result.now ≡ tag_of id }
 {
@@ -140,7 +140,7 @@ fn tag_of(id: u16) -> &'static str
     }
 }
 
-/// The identifier of a tag.
+// The identifier of a tag.
 fn tagged_id(tag: &str) -> Option<u16>
     ensures { result ≡ find (λ id. bytes_eq (tag_of id) tag.now) (map (λ l. l.0) languages) }
 {

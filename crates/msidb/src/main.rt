@@ -4,7 +4,7 @@
 
 use cfb_medium::Error;
 use installer::{Answer, Command, Session};
-use msi_pool::Value;
+use msi_values::Value;
 use one_table::{Column, Insert, Select};
 use staged::MemoryDevice;
 use std::alloc::Global;

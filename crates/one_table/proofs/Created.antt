@@ -1,11 +1,12 @@
 -- What a new table makes of the package, and why others are refused.
+use Rattle.std.proofs.lemmas.Bool.{and_parts}
 use Rattle.std.proofs.Common.{◌≡◌, ℕ, ◌<◌, ◌≤◌, Bool, true, false, cond, List, [], ◌∷◌, map, length, refl, sym, ap, ◌∙◌, arith, Ok, Err, Some, None}
 use Rattle.std.specs.Prelude.{◌&&◌, not, ◌==◌, nat_le, bytes_eq, chars, Option, is_some}
 use Rattle.std.specs.List.{list_all, list_any}
 use Rattle.std.specs.Ordering.{is_lt}
 use Rattle.std.specs.declared.cmp.Ordering.{Ordering}
 use Rattle.std.proofs.lemmas.Bool.Decides.{nat_tests}
-use Rattle.msi_pool.specs.Datum.{text}
+use Rattle.msi_values.specs.Datum.{text}
 use Rattle.msi_texts.specs.Category.{is_identifier}
 use Rattle.msi_pool.specs.Pool.{Pool, Place}
 use Rattle.msi_texts.specs.StreamName.{is_valid_name}
@@ -161,10 +162,6 @@ well_named name columns e valid = go (is_identifier name) e
     go true e = rw valid e
     go false e = absurd (cc)
 
-and_true : (a b : Bool) → (a && b) ≡ true → (a ≡ true) × (b ≡ true)
-and_true true b e = (refl, e)
-and_true false b e = absurd (cc)
-
 -- what a named table and column have
 pub named_table : (name : List ℕ) (columns : List Column) → are_named name columns ≡ true → is_identifier name ≡ true
 named_table name columns e = go (is_identifier name) e
@@ -255,7 +252,7 @@ kept_name o kept name has =
         of_only (Some t) kept has = same (bytes_eq t.name name) refl has
           where
             same : (b : Bool) → bytes_eq t.name name ≡ b → has_table (package_of (Some t)) name ≡ true → is_valid_name true (chars name) ≡ true
-            same true e has = rw (sym (same_bytes t.name name e)) (and_true (is_identifier t.name) (is_valid_name true (chars t.name)) (kept.each t refl).named).1
+            same true e has = rw (sym (same_bytes t.name name e)) (and_parts (is_identifier t.name) (is_valid_name true (chars t.name)) (kept.each t refl).named).1
             same false e has = absurd (let none = found_none (Some t) name ea eb (λ u is. let one : u ≡ t = cc in rw one e) in let h = (rw none at has) in cc)
 
 -- a new table is kept

@@ -1,4 +1,5 @@
 -- Keys that an insert accepts stay distinct, in whatever order they are kept.
+use Rattle.std.proofs.lemmas.Bool.{and_parts, or_parts}
 use Rattle.std.proofs.Common.{◌≡◌, ℕ, ◌+◌, ◌≤◌, Bool, true, false, cond, List, [], ◌∷◌, ◌++◌, refl, sym, ap, ◌∙◌, arith, Ok, Err}
 use Rattle.std.specs.Prelude.{◌||◌, ◌&&◌, not, sum_by, IsPermutation}
 use Rattle.std.specs.List.{list_any}
@@ -9,7 +10,7 @@ use Rattle.std.specs.Cmp.{IsTotalOrder}
 use Rattle.std.proofs.lemmas.Cmp.{tied_itself, alike_right, lists_total}
 use Rattle.std.proofs.lemmas.List.Sorted.{sum_by-IsPermutation}
 use Rattle.std.proofs.lemmas.List.Sums.{sum_by-append, sum_by-cons}
-use Rattle.msi_pool.specs.Datum.{Datum}
+use Rattle.msi_values.specs.Datum.{Datum}
 use Rattle.msi_tables.specs.Table.{key_cmp, has_key, are_distinct}
 use Rattle.msi_tables.proofs.Keys.{datum_cmp_total}
 use Rattle.msi_changes.specs.Changes.{new_keys}
@@ -39,14 +40,10 @@ alike : (xs : List (List Datum)) (x k : List Datum) → key_cmp x k ≡ Equal �
 alike [] x k e = refl
 alike (y ∷ ys) x k e = rw (alike_right key_total x k y e, alike ys x k e) refl
 
-or_false : (a b : Bool) → (a || b) ≡ false → (a ≡ false) × (b ≡ false)
-or_false true b e = absurd (cc)
-or_false false b e = (refl, e)
-
 times_none : (k : List Datum) (xs : List (List Datum)) → has_key xs k ≡ false → times k xs ≡ 0
 times_none k [] e = refl
 times_none k (x ∷ xs) e =
-    let both = or_false (is_eq (key_cmp x k)) (has_key xs k) e in
+    let both = or_parts (is_eq (key_cmp x k)) (has_key xs k) e in
     more k x xs ∙ rw (both.0, times_none k xs both.1) refl
 
 times_some : (k : List Datum) (xs : List (List Datum)) → has_key xs k ≡ true → 1 ≤ times k xs
@@ -57,10 +54,6 @@ times_some k (x ∷ xs) e = rw (more k x xs) (go (is_eq (key_cmp x k)) e (times_
     go true e later = omega arith
     go false e later = omega (arith, later e)
 
-and_true : (a b : Bool) → (a && b) ≡ true → (a ≡ true) × (b ≡ true)
-and_true true b e = (refl, e)
-and_true false b e = absurd (cc)
-
 not_true : (a : Bool) → not a ≡ true → a ≡ false
 not_true true e = absurd (cc)
 not_true false e = refl
@@ -69,7 +62,7 @@ not_true false e = refl
 pub once : (xs : List (List Datum)) → are_distinct xs ≡ true → (k : List Datum) → times k xs ≤ 1
 once [] e k = omega arith
 once (x ∷ xs) e k =
-    let both = and_true (not (has_key xs x)) (are_distinct xs) e in
+    let both = and_parts (not (has_key xs x)) (are_distinct xs) e in
     let none = not_true (has_key xs x) both.0 in
     rw (more k x xs) (go (is_eq (key_cmp x k)) refl none (once xs both.1 k))
   where

@@ -1,4 +1,5 @@
 -- Which table a name finds.
+use Rattle.std.proofs.lemmas.Bool.{or_parts}
 use Rattle.std.proofs.Common.{◌≡◌, ℕ, Bool, true, false, cond, List, [], ◌∷◌, refl, sym, ◌∙◌, subst, Some, None, find, Option, arith}
 use Rattle.std.specs.Prelude.{bytes_eq, ◌||◌}
 use Rattle.std.specs.Ordering.{is_lt}
@@ -53,10 +54,6 @@ bytes_same xs = grind (arith, bytes_eq-Decides xs xs)
 pub bytes_swap : (xs ys : List ℕ) → bytes_eq xs ys ≡ bytes_eq ys xs
 bytes_swap xs ys = grind (arith, bytes_eq-Decides xs ys, bytes_eq-Decides ys xs)
 
-neither : (a b : Bool) → (a || b) ≡ false → (a ≡ false) × (b ≡ false)
-neither true b e = absurd (cc)
-neither false b e = (refl, e)
-
 -- the names that are taken
 pub record IsFree (name : List ℕ) : Type 0 where
   pub tables : bytes_eq name tables_name ≡ false
@@ -67,10 +64,10 @@ pub record IsFree (name : List ℕ) : Type 0 where
 
 pub is_free : (name : List ℕ) → is_taken name ≡ false → IsFree name
 is_free name e =
-    let a = neither (bytes_eq name tables_name || bytes_eq name columns_name || bytes_eq name validation_name || bytes_eq name pool_name) (bytes_eq name data_name) e in
-    let b = neither (bytes_eq name tables_name || bytes_eq name columns_name || bytes_eq name validation_name) (bytes_eq name pool_name) a.0 in
-    let c = neither (bytes_eq name tables_name || bytes_eq name columns_name) (bytes_eq name validation_name) b.0 in
-    let d = neither (bytes_eq name tables_name) (bytes_eq name columns_name) c.0 in
+    let a = or_parts (bytes_eq name tables_name || bytes_eq name columns_name || bytes_eq name validation_name || bytes_eq name pool_name) (bytes_eq name data_name) e in
+    let b = or_parts (bytes_eq name tables_name || bytes_eq name columns_name || bytes_eq name validation_name) (bytes_eq name pool_name) a.0 in
+    let c = or_parts (bytes_eq name tables_name || bytes_eq name columns_name) (bytes_eq name validation_name) b.0 in
+    let d = or_parts (bytes_eq name tables_name) (bytes_eq name columns_name) c.0 in
     record { tables = d.0; columns = d.1; validation = c.1; pool = b.1; strings = a.1 }
 
 -- the table of all columns
@@ -85,7 +82,7 @@ found_tables None kept = refl
 found_tables (Some t) kept =
     put_others (λ u. bytes_eq u.name tables_name) (only_table t) (own_tables (Some t)) ((is_free t.name (kept.each t refl).free).tables)
 
--- neither of the two has the name
+-- or_parts of the two has the name
 pub others_found : (o : Option Only) (name : List ℕ) → bytes_eq name columns_name ≡ false → bytes_eq name tables_name ≡ false → table_named (own_tables o) name ≡ None
 others_found o name c t =
     find_cond (λ u. bytes_eq u.name name) (columns_table o) (tables_table o ∷ []) false (bytes_swap columns_name name ∙ c)

@@ -1,4 +1,5 @@
 -- Identifiers are ASCII, and short ones can name a table and its stream.
+use Rattle.std.proofs.lemmas.Bool.{and_parts}
 use Rattle.std.proofs.Common.{◌≡◌, ℕ, zero, suc, ◌+◌, ◌*◌, ◌<◌, ◌≤◌, Bool, true, false, cond, List, [], ◌∷◌, length, refl, arith, Some, None, ◌-◌, lit<}
 use Rattle.std.specs.Prelude.{◌&&◌, ◌||◌, ◌==◌, nat_le, nat_lt, chars}
 use Rattle.std.specs.List.{list_all, flat_map, AllByRecursion}
@@ -13,15 +14,11 @@ use Rattle.msi.specs.Package.{stream_name}
 use Rattle.msi_texts.specs.Category.{is_identifier, begins_name, is_name_byte}
 use Rattle.msi_texts.specs.StreamName.{is_valid_name, is_between, spelled, letter_value, table_prefix}
 
-and_true : (a b : Bool) → (a && b) ≡ true → (a ≡ true) × (b ≡ true)
-and_true true b e = (refl, e)
-and_true false b e = absurd (cc)
-
 -- an identifier has the bytes of names alone
 pub name_bytes : (name : List ℕ) → is_identifier name ≡ true → list_all is_name_byte name ≡ true
 name_bytes [] e = absurd (cc)
 name_bytes (b ∷ bs) e =
-    let both = and_true (begins_name b) (list_all is_name_byte bs) e in
+    let both = and_parts (begins_name b) (list_all is_name_byte bs) e in
     rw (both.0, both.1) refl
 
 pub name_byte_ascii : (b : ℕ) → is_name_byte b ≡ true → b < 128
@@ -30,7 +27,7 @@ name_byte_ascii b e = grind (arith, nat_tests, e)
 pub ascii_bytes : (bs : List ℕ) → list_all is_name_byte bs ≡ true → IsAscii bs
 ascii_bytes [] e = λ i. omega arith
 ascii_bytes (b ∷ bs) e =
-    let both = and_true (is_name_byte b) (list_all is_name_byte bs) e in
+    let both = and_parts (is_name_byte b) (list_all is_name_byte bs) e in
     below (name_byte_ascii b both.0) (ascii_bytes bs both.1)
   where
     below : b < 128 → IsAscii bs → IsAscii (b ∷ bs)
@@ -59,11 +56,11 @@ has_value b e =
 pub spelled_half : (cs : List ℕ) → list_all is_name_byte cs ≡ true → (2 * length (spelled cs) ≤ length cs + 1) × AllByRecursion (λ c. (0x3800 ≤ c) × (c < 0x4840)) (spelled cs)
 spelled_half [] e = (omega arith, tt)
 spelled_half (c ∷ []) e =
-    let v = has_value c (and_true (is_name_byte c) true e).0 in
+    let v = has_value c (and_parts (is_name_byte c) true e).0 in
     rw v.1 (omega arith, ((omega arith, omega (arith, v.2)), tt))
 spelled_half (c ∷ d ∷ rest) e =
-    let first = and_true (is_name_byte c) (list_all is_name_byte (d ∷ rest)) e in
-    let second = and_true (is_name_byte d) (list_all is_name_byte rest) first.1 in
+    let first = and_parts (is_name_byte c) (list_all is_name_byte (d ∷ rest)) e in
+    let second = and_parts (is_name_byte d) (list_all is_name_byte rest) first.1 in
     let v = has_value c first.0 in
     let w = has_value d second.0 in
     let later = spelled_half rest second.1 in

@@ -1,4 +1,5 @@
 -- What an insert makes of a table, and why others are refused.
+use Rattle.std.proofs.lemmas.Bool.{and_parts}
 use Rattle.std.proofs.Common.{◌≡◌, ℕ, ◌+◌, ◌≤◌, Bool, true, false, cond, List, [], ◌∷◌, ◌++◌, map, length, refl, sym, ap, ◌∙◌, arith, Ok, Err, Some, None, ℤ}
 use Rattle.std.specs.Prelude.{◌&&◌, ◌||◌, not, Result, nat_le}
 use Rattle.std.specs.List.{list_all, list_any}
@@ -27,7 +28,7 @@ use Rattle.msi_tables.specs.Table.{IsStoredByKeys, Table, table_named, row_data,
 use Rattle.std.proofs.Common.{subst}
 use Rattle.one_table.specs.Limits.{InsertsFew}
 use Rattle.msi_texts.specs.Results.{◌>>=◌, unless_not}
-use Rattle.msi_pool.specs.Datum.{Datum, null, number, text, binary}
+use Rattle.msi_values.specs.Datum.{Datum, null, number, text, binary}
 use Rattle.msi_pool.specs.Pool.{Pool}
 use Rattle.msi_columns.specs.Column.{Column, is_valid, are_valid}
 use Rattle.msi_changes.specs.Changes.{inserted, new_keys, rows_counted}
@@ -121,17 +122,13 @@ module _ (P : Package) (name : List ℕ) (new_rows : List (List Datum)) where
 
 -- ---- the one table
 
-and_true : (a b : Bool) → (a && b) ≡ true → (a ≡ true) × (b ≡ true)
-and_true true b e = (refl, e)
-and_true false b e = absurd (cc)
-
 module _ (column : List ℕ) where
   -- a valid row is a key
   one_key : (ds : List Datum) → are_valid (key_column column ∷ []) ds ≡ true → (ds ≡ key_data (key_said ds)) × (is_key (key_said ds) ≡ true)
   one_key [] e = absurd (cc)
   one_key (null ∷ ds) e = absurd (cc)
-  one_key (number z ∷ []) e = (refl, (and_true (is_key z) true e).0)
-  one_key (number z ∷ d ∷ ds) e = absurd (let h = (and_true (is_key z) false e).1 in cc)
+  one_key (number z ∷ []) e = (refl, (and_parts (is_key z) true e).0)
+  one_key (number z ∷ d ∷ ds) e = absurd (let h = (and_parts (is_key z) false e).1 in cc)
   one_key (text t ∷ ds) e = absurd (cc)
   one_key (binary ∷ ds) e = absurd (cc)
 
@@ -139,7 +136,7 @@ module _ (column : List ℕ) where
       → (rows ≡ map key_data (keys_said rows)) × (list_all is_key (keys_said rows) ≡ true)
   all_keys [] e = (refl, refl)
   all_keys (row ∷ rows) e =
-      let both = and_true (are_valid (key_column column ∷ []) row) (list_all (are_valid (key_column column ∷ [])) rows) e in
+      let both = and_parts (are_valid (key_column column ∷ []) row) (list_all (are_valid (key_column column ∷ [])) rows) e in
       let first = one_key row both.0 in
       let later = all_keys rows both.1 in
       (rw (sym first.0, sym later.0) refl, rw (first.1, later.1) refl)
@@ -189,7 +186,7 @@ all_any p (x ∷ xs) = rw (all_any p xs) (elim (p x) as (λ b. (b && not (list_a
 all_append : (p : ℤ → Bool) (xs ys : List ℤ) → list_all p xs ≡ true → list_all p ys ≡ true → list_all p (xs ++ ys) ≡ true
 all_append p [] ys a b = b
 all_append p (x ∷ xs) ys a b =
-    let both = and_true (p x) (list_all p xs) a in
+    let both = and_parts (p x) (list_all p xs) a in
     rw (both.0, all_append p xs ys both.1 b) refl
 
 all_permuted : (p : ℤ → Bool) (xs ys : List ℤ) → IsPermutation xs ys → list_all p xs ≡ true → list_all p ys ≡ true

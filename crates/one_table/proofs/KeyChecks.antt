@@ -1,22 +1,44 @@
 -- New keys in turn.
 use Rattle.std.proofs.Common.{◌≡◌, ℕ, suc, ◌+◌, ◌<◌, Bool, true, false, List, [], ◌∷◌, ◌++◌, length, take, drop, refl, sym, ap, ◌∙◌, Err, get_or, add-one, drop-cons, Vec}
-use Rattle.std.specs.Prelude.{Result, if◌then◌else◌}
+use Rattle.std.specs.Prelude.{Result, ◌||◌, if◌then◌else◌}
 use Rattle.std.specs.List.{list_any, list_all}
 use Rattle.std.specs.Ordering.{is_eq}
-use Rattle.msi_pool.specs.Datum.{Datum}
+use Rattle.msi_values.specs.Datum.{Datum}
 use Rattle.msi_tables.specs.Table.{has_key, key_cmp, key_values}
 use Rattle.msi_columns.proofs.Choices.{list_any_map}
-use Rattle.msi_changes.proofs.NewKeys.{after_turn, turn as one_turn}
+use Rattle.msi_changes.specs.Changes.{new_keys}
+use Rattle.msi_changes.proofs.NewKeys.{earlier_same}
 use Rattle.std.proofs.lemmas.List.Folds.{list_all-map}
 use Rattle.std.specs.declared.alloc.Global.{Global}
 use Rattle.std.proofs.lemmas.List.{map-append, take_more}
-use Rattle.msi_pool.specs.Datum.{data_of}
-use Rattle.msi_pool.specs.declared.value.Value.{Value}
+use Rattle.msi_values.specs.Datum.{data_of}
+use Rattle.msi_values.specs.declared.value.Value.{Value}
 use Rattle.msi_columns.specs.Column.{Column, are_valid}
 use Rattle.one_table.specs.Rules.{keys_held, keys_judged, keys_by, rows_said, judged}
 use Rattle.msi_texts.specs.Results.{◌>>=◌, unless_not}
 use Rattle.cfb_medium.specs.declared.error.Error.{Error}
-use Rattle.cfb_medium.specs.declared.error.Error.TheVariants.{InvalidInput}
+use Rattle.cfb_medium.specs.declared.error.Error.TheVariants.{AlreadyExists, InvalidInput}
+
+or_swap : (a b c : Bool) → (a || (b || c)) ≡ (b || (a || c))
+or_swap true true c = refl
+or_swap true false c = refl
+or_swap false true c = refl
+or_swap false false c = refl
+
+-- a key behind others is found as one before them
+has_key_behind : (keys : List (List Datum)) (x k : List Datum) → has_key (keys ++ x ∷ []) k ≡ has_key (x ∷ keys) k
+has_key_behind [] x k = refl
+has_key_behind (y ∷ ys) x k =
+    ap (λ b. is_eq (key_cmp y k) || b) (has_key_behind ys x k) ∙ or_swap (is_eq (key_cmp y k)) (is_eq (key_cmp x k)) (has_key ys k)
+
+-- what a turn answers, or leaves to the next
+abbrev after_turn : Bool → Bool → Result (Unit {0}) Error → Result (Unit {0}) Error
+after_turn stored earlier next = if stored then Err AlreadyExists else (if earlier then Err InvalidInput else next)
+
+-- one turn, with the earlier keys in the order in which they came
+one_turn : (stored earlier rest : List (List Datum)) (k : List Datum)
+    → new_keys stored earlier (k ∷ rest) ≡ after_turn (has_key stored k) (has_key earlier k) (new_keys stored (earlier ++ k ∷ []) rest)
+one_turn stored earlier rest k = ap (after_turn (has_key stored k) (has_key earlier k)) (earlier_same stored (k ∷ earlier) (earlier ++ k ∷ []) rest (λ q. sym (has_key_behind earlier k q)))
 
 -- one of the rows has the key of these values
 abbrev pub held_any : List Column → List (Vec Value Global) → List Value → Bool

@@ -1,4 +1,5 @@
 -- The rows that the package's tables' streams hold.
+use Rattle.std.proofs.lemmas.Bool.{and_parts}
 use Rattle.std.proofs.Common.{◌≡◌, ℕ, zero, suc, ◌+◌, ◌*◌, ◌/◌, ◌-◌, ◌<◌, ◌≤◌, Bool, true, false, cond, List, [], ◌∷◌, ◌++◌, map, length, refl, sym, ap, ◌∙◌, arith, Some, None, ℤ, pos, negsuc, append_assoc, length-append}
 use Rattle.std.specs.Prelude.{◌&&◌, slice_range, nat_le, bytes_eq, Option, ◌^◌, ◌-ℤ◌}
 use Rattle.std.specs.List.{list_all}
@@ -22,10 +23,6 @@ above_some : (half k : ℕ) → 0 < k → above half k ≡ cell.Int (pos k -ℤ 
 above_some half zero some = absurd (omega (arith, some))
 above_some half (suc k) some = refl
 
-and_true : (a b : Bool) → (a && b) ≡ true → (a ≡ true) × (b ≡ true)
-and_true true b e = (refl, e)
-and_true false b e = absurd (cc)
-
 -- a key's cell
 key_cell : (z : ℤ) → is_key z ≡ true → (key_number z < 2 ^ 16) × (cell_value kind.Int16 (key_number z) ≡ cell.Int z)
 key_cell (pos n) e =
@@ -47,7 +44,7 @@ rows_from : (all before : List ℕ) (keys : List ℤ) (start count : ℕ) → al
     → map (row_at false count all 0 (kind.Int16 ∷ [])) (numbers_from start (length keys)) ≡ map key_row keys
 rows_from all before [] start count is here fit = refl
 rows_from all before (z ∷ zs) start count is here fit =
-    let both = and_true (is_key z) (list_all is_key zs) fit in
+    let both = and_parts (is_key z) (list_all is_key zs) fit in
     let cell_of = key_cell z both.0 in
     let joined : all ≡ (before ++ le_bytes 2 (key_number z)) ++ keys_bytes zs = is ∙ sym (append_assoc before (le_bytes 2 (key_number z)) (keys_bytes zs)) in
     let longer : length (before ++ le_bytes 2 (key_number z)) ≡ 2 * (suc start) = length-append before (le_bytes 2 (key_number z)) ∙ omega (arith, here) in

@@ -1,4 +1,5 @@
 -- The streams of a package pack it.
+use Rattle.std.proofs.lemmas.Bool.{and_parts}
 use Rattle.std.proofs.Common.{◌≡◌, ℕ, zero, suc, ◌<◌, ◌≤◌, Bool, true, false, cond, List, [], ◌∷◌, ◌++◌, map, length, refl, sym, ap, ◌∙◌, subst, arith, Some, None, Ok, get_or, pos}
 use Rattle.std.specs.Prelude.{◌&&◌, ◌||◌, not, ◌↔◌, ◌^◌, IsTrue, Option, bytes_eq, find, filter, unwrap_or, All, Contains}
 use Rattle.std.specs.Str.{chars}
@@ -13,7 +14,7 @@ use Rattle.msi_pool.specs.Pool.{Place, pool_stream, data_stream, at_place}
 use Rattle.msi_pool.specs.PoolKept.{IsWritable}
 use Rattle.msi_pool.specs.PoolKept.{IsKept as IsKeptPlace}
 use Rattle.msi_pool.proofs.PoolRoundTrip.{written_pool_is_read}
-use Rattle.msi_pool.specs.Datum.{Datum, text, number}
+use Rattle.msi_values.specs.Datum.{Datum, text, number}
 use Rattle.msi_texts.specs.StreamName.{is_valid_name}
 use Rattle.msi_tables.specs.Rows.{rows_of, kinds_of}
 use Rattle.msi_tables.specs.Table.{Table, row_data}
@@ -49,13 +50,9 @@ use Rattle.msi_columns.specs.declared.column.ColumnType.TheVariants as kind
 use Rattle.one_table.specs.Contents.{key_row}
 use Rattle.one_table.proofs.KeyRows.{key_rows, columns_read, tables_read}
 
-and_true : (a b : Bool) → (a && b) ≡ true → (a ≡ true) × (b ≡ true)
-and_true true b e = (refl, e)
-and_true false b e = absurd (cc)
-
 -- the table's name is an identifier
 pub table_identifier : (t : Only) → IsKept t → is_identifier t.name ≡ true
-table_identifier t kept = (and_true (is_identifier t.name) (is_valid_name true (chars t.name)) kept.named).0
+table_identifier t kept = (and_parts (is_identifier t.name) (is_valid_name true (chars t.name)) kept.named).0
 
 -- ---- what stands at each name
 

@@ -1,4 +1,5 @@
 -- Names of the package's streams are told apart as the names of its tables are.
+use Rattle.std.proofs.lemmas.Bool.{and_parts}
 use Rattle.std.proofs.Common.{◌≡◌, ℕ, zero, suc, ◌+◌, ◌<◌, ◌≤◌, Bool, true, false, List, [], ◌∷◌, map, refl, sym, ap, ◌∙◌, arith, lit≤}
 use Rattle.std.specs.Prelude.{◌==◌, ◌&&◌, bytes_eq, codes}
 use Rattle.std.specs.List.{list_all, flat_map, range_with_len, AllByRecursion}
@@ -31,15 +32,11 @@ unfolding name_key
 key_past [] h = refl
 key_past (c ∷ cs) h = rw (letter_past 26 0 c (omega (arith, h.0)), key_past cs h.1) refl
 
-and_true : (a b : Bool) → (a && b) ≡ true → (a ≡ true) × (b ≡ true)
-and_true true b e = (refl, e)
-and_true false b e = absurd (cc)
-
 -- an identifier has no characters that stand for letters
 plain_bytes : (bs : List ℕ) → list_all is_name_byte bs ≡ true → is_plain_name bs ≡ true
 plain_bytes [] e = refl
 plain_bytes (b ∷ bs) e =
-    let both = and_true (is_name_byte b) (list_all is_name_byte bs) e in
+    let both = and_parts (is_name_byte b) (list_all is_name_byte bs) e in
     let ascii = name_byte_ascii b both.0 in
     let one : is_plain b ≡ true = grind (arith, nat_tests, ascii) in
     rw (one, plain_bytes bs both.1) refl

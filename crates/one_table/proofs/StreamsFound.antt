@@ -45,9 +45,6 @@ stream_found name ss = rw (objects_of ss, find_object name ss) (bytes_of_object 
 
 -- ---- the streams of the database itself
 
-abbrev pub by_table : List ℕ → List ℕ → Bool
-by_table name other = bytes_eq name other
-
 module _ (o : Option Only) where
   -- which of them has the name of a table's stream
   pub own_found : (name : List ℕ) → is_identifier name ≡ true → find (has_name (stream_name name)) (own_streams o)

@@ -3,8 +3,8 @@ use Rattle.std.specs.Prelude.{◌≡◌, ◌⊎◌, Result, Ok, Err, map, string
 use Rattle.std.specs.declared.alloc.Global.{Global}
 use Rattle.cfb_medium.specs.declared.error.Error.{Error}
 use Rattle.cfb_medium.specs.declared.error.Error.TheVariants.{Memory}
-use Rattle.msi_pool.specs.declared.value.Value.{Value}
-use Rattle.msi_pool.specs.Datum.{data_of}
+use Rattle.msi_values.specs.declared.value.Value.{Value}
+use Rattle.msi_values.specs.Datum.{data_of}
 use Rattle.msi_query.specs.Query.{Query}
 use Rattle.msi.specs.Package.{Package}
 use Rattle.msi.specs.Calls.{Shown}

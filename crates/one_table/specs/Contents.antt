@@ -1,7 +1,7 @@
 -- A package of at most one table beside its own two, as plain lists, and the package that it stands for.
 use Rattle.std.specs.Prelude.{◌≡◌, ℕ, ◌≤◌, Bool, true, false, List, [], ◌∷◌, map, length, Option, Some, None, ℤ, pos, negsuc, ◌&&◌, int_le, bytes_eq, if◌then◌else◌, string_bytes, option_map, Ok}
 use Rattle.std.specs.List.{list_all}
-use Rattle.msi_pool.specs.Datum.{Datum, number}
+use Rattle.msi_values.specs.Datum.{Datum, number}
 use Rattle.msi_texts.specs.Category.{is_identifier}
 use Rattle.msi_pool.specs.Pool.{Pool, Place}
 use Rattle.msi_texts.specs.declared.codepage.CodePage.TheVariants as page
@@ -14,7 +14,7 @@ use Rattle.msi_columns.specs.declared.column.ColumnType.TheVariants as kind
 use Rattle.msi.specs.Package.{Package}
 use Rattle.msi.specs.Calls.{table_put, title_of}
 use Rattle.msi.specs.declared.kind.PackageType.TheVariants.{Installer}
-use Rattle.msi_props.specs.Summary.{edited, set_text, new_summary}
+use Rattle.msi_summary.specs.Summary.{edited, set_text, new_summary}
 use denote.Ref.{Bor}
 use Rattle.one_table.specs.Limits.{is_taken, InsertsFew, CreatesBare}
 use Rattle.cfb_tree.specs.Names.{ascii_letters}

@@ -3,7 +3,7 @@
 use Rattle.std.specs.Prelude.{◌≡◌, ℕ, Bool, true, false, not, ◌&&◌, ◌||◌, List, [], ◌∷◌, ◌++◌, map, length, nat_le, ◌==◌, Some, None, Result, Ok, bytes_eq, is_none}
 use Rattle.std.specs.List.{list_all, list_any}
 use Rattle.msi_texts.specs.Results.{◌>>=◌, unless_not}
-use Rattle.msi_pool.specs.Datum.{Datum, text}
+use Rattle.msi_values.specs.Datum.{Datum, text}
 use Rattle.msi_texts.specs.Category.{is_identifier}
 use Rattle.msi_pool.specs.Pool.{Pool}
 use Rattle.msi_columns.specs.Column.{Column, are_valid}

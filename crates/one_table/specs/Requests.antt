@@ -1,6 +1,6 @@
 -- Columns, inserts and selects as what they say.
 use Rattle.std.specs.Prelude.{ℕ, List, map, None, string_bytes}
-use Rattle.msi_pool.specs.Datum.{Datum, data_of}
+use Rattle.msi_values.specs.Datum.{Datum, data_of}
 use Rattle.msi_columns.specs.Column.{plain, Column as Described}
 use Rattle.msi_columns.specs.declared.column.ColumnType.{ColumnType}
 use Rattle.msi_query.specs.Query.{Query, query, table}

@@ -2,8 +2,8 @@
 use Rattle.std.specs.Prelude.{List, [], map, Result}
 use Rattle.std.specs.List.{list_all}
 use Rattle.msi_texts.specs.Results.{◌>>=◌, unless_not}
-use Rattle.msi_pool.specs.Datum.{Datum, data_of}
-use Rattle.msi_pool.specs.declared.value.Value.{Value}
+use Rattle.msi_values.specs.Datum.{Datum, data_of}
+use Rattle.msi_values.specs.declared.value.Value.{Value}
 use Rattle.msi_columns.specs.Column.{Column, plain, are_valid}
 use Rattle.msi_tables.specs.Table.{key_values}
 use Rattle.msi_changes.specs.Changes.{new_keys}

@@ -1,4 +1,4 @@
-// Columns of a table.
+//! Columns of a table.
 ghost use Rattle.std.specs.Prelude.{◌≡◌, IfOk, IfErr, string_bytes, true, false};
 ghost use Rattle.cfb_medium.specs.declared.error.Error.TheVariants.{Memory};
 ghost use Rattle.msi_columns.specs.declared.column.ColumnType.TheVariants as kind;

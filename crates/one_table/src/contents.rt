@@ -1,4 +1,4 @@
-// The package as plain lists.
+//! The package as plain lists.
 ghost use Rattle.std.specs.Prelude.{◌≡◌, ◌⊎◌, ◌||◌, ◌∷◌, ◌≤◌, ◌<◌, ◌^◌, [], ℕ, List, length, nat_lt, true, Err, string_bytes, IfOk, IfErr, MatchOption, Some, None, bytes_eq};
 ghost use Rattle.msi_tables.specs.Schema.{columns_name, tables_name};
 ghost use Rattle.cfb_medium.specs.declared.error.Error.TheVariants.{Memory, InvalidData};
@@ -21,7 +21,7 @@ use crate::sheet::{Sheet, columns_sheet, only_sheet, tables_sheet};
 use crate::streams::{ASCII_LETTERS, all_streams};
 use crate::{Column, Insert, Select};
 use cfb_medium::Error;
-use msi_pool::Value;
+use msi_values::Value;
 use plain::{Facts, read_tree, write_image};
 use std::alloc::Global;
 

@@ -1,11 +1,11 @@
-// Inserts.
+//! Inserts.
 ghost use Rattle.std.specs.Prelude.{◌≡◌, [], ◌∷◌, ◌++◌, IfOk, IfErr, map};
 ghost use Rattle.cfb_medium.specs.declared.error.Error.TheVariants.{Memory};
-ghost use Rattle.msi_pool.specs.Datum.{data_of};
+ghost use Rattle.msi_values.specs.Datum.{data_of};
 ghost use Rattle.one_table.specs.Requests.{insert_table, insert_rows};
 
 use cfb_medium::Error;
-use msi_pool::Value;
+use msi_values::Value;
 use std::alloc::Global;
 
 /// Rows of values for a table.

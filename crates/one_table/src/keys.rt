@@ -1,14 +1,14 @@
-// The keys of the one table.
+//! The keys of the one table.
 ghost use Rattle.std.specs.Prelude.{◌≡◌, ◌++◌, IfOk, IfErr, IsPermutation, map};
 ghost use Rattle.std.specs.Ordering.{int_cmp};
 ghost use Rattle.cfb_medium.specs.declared.error.Error.TheVariants.{Memory};
-ghost use Rattle.msi_pool.specs.Datum.{data_of};
+ghost use Rattle.msi_values.specs.Datum.{data_of};
 ghost use Rattle.msi_tables.specs.Rows.{IsArranged};
 ghost use Rattle.one_table.specs.Rules.{rows_said};
 ghost use Rattle.one_table.specs.Contents.{key_said, keys_said};
 
 use cfb_medium::Error;
-use msi_pool::Value;
+use msi_values::Value;
 use std::alloc::Global;
 
 // The number that a row begins with.

@@ -1,7 +1,7 @@
-// Names of tables and columns.
+//! Names of tables and columns.
 ghost use Rattle.std.specs.Prelude.{◌≡◌, ◌==◌, ◌&&◌, not, length, nat_le, bytes_eq};
 ghost use Rattle.std.specs.List.{list_all, list_any};
-ghost use Rattle.msi_texts.specs.Category.{is_identifier, begins_name, is_name_byte};
+ghost use Rattle.msi_texts.specs.Category.{is_identifier};
 ghost use Rattle.msi.specs.Calls.{names_distinct};
 ghost use Rattle.one_table.specs.Limits.{is_number_key};
 ghost use Rattle.one_table.specs.Requests.{column_said, columns_said};
@@ -9,36 +9,13 @@ ghost use Rattle.one_table.specs.Naming.{are_named};
 
 use crate::Column;
 use msi_tables::ColumnType;
-
-// An ASCII letter or `_`.
-fn begins_name(byte: u8) -> bool
-    ensures { result ≡ begins_name byte }
-{
-    byte.is_ascii_alphabetic() || byte == b'_'
-}
-
-// A letter or `_`, a digit or `.`.
-fn is_name_byte(byte: u8) -> bool
-    ensures { result ≡ is_name_byte byte }
-{
-    begins_name(byte) || byte.is_ascii_digit() || byte == b'.'
-}
-
-// Whether all bytes are such.
-fn are_name_bytes(bytes: &[u8]) -> bool
-    ensures { result ≡ list_all is_name_byte bytes.now }
-{
-    bytes.iter().all(|byte| is_name_byte(*byte))
-}
+use msi_texts::Category;
 
 // A letter or `_`, and then letters, digits, `_` and `.`.
 pub fn is_identifier(name: &str) -> bool
     ensures { result ≡ is_identifier name.now }
 {
-    match name.as_bytes() {
-        [] => false,
-        [first, rest @ ..] => begins_name(*first) && are_name_bytes(rest),
-    }
+    Category::Identifier.validate(name)
 }
 
 // Whether one of the columns has the name.

@@ -1,4 +1,4 @@
-// The package of a file that was written here.
+//! The package of a file that was written here.
 ghost use Rattle.std.specs.Prelude.{◌≡◌, IfErr, IsTrue, map};
 ghost use Rattle.std.specs.List.{list_all, list_any};
 ghost use Rattle.std.specs.Ordering.{int_eq};

@@ -1,15 +1,15 @@
-// What an insert's rows must be.
+//! What an insert's rows must be.
 ghost use Rattle.std.specs.Prelude.{◌≡◌, ◌⊎◌, ◌≤◌, ◌<◌, ◌==◌, ◌||◌, nat_le, chars, ℕ, List, length, map, MatchResult, Ok, Err, [], take};
 ghost use Rattle.std.specs.List.{list_all, list_any};
 ghost use Rattle.std.specs.Ordering.{is_eq};
-ghost use Rattle.msi_pool.specs.Datum.{datum_of, data_of};
+ghost use Rattle.msi_values.specs.Datum.{datum_of, data_of};
 ghost use Rattle.msi_columns.specs.Column.{plain, is_valid, are_valid};
 ghost use Rattle.msi_tables.specs.Table.{key_values, key_cmp};
 ghost use Rattle.one_table.specs.Rules.{unnamed_column, unnamed_columns, rows_said, keys_judged, judged};
 
 use cfb_medium::Error;
-use msi_pool::Value;
 use msi_tables::ColumnType;
+use msi_values::Value;
 use std::cmp::Ordering;
 
 // A column's type, and whether it belongs to the key.

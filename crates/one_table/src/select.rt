@@ -1,4 +1,4 @@
-// Selects.
+//! Selects.
 ghost use Rattle.std.specs.Prelude.{◌≡◌, [], IfOk, IfErr, map, None};
 ghost use Rattle.cfb_medium.specs.declared.error.Error.TheVariants.{Memory};
 ghost use Rattle.msi_query.specs.Query.{query, table};

@@ -1,4 +1,4 @@
-// A table as it is read.
+//! A table as it is read.
 ghost use Rattle.std.specs.Prelude.{◌≡◌, IfOk, IfErr, [], None, Some, Option, map, string_bytes};
 ghost use Rattle.cfb_medium.specs.declared.error.Error.TheVariants.{Memory};
 ghost use Rattle.one_table.specs.Contents.{Only, only_of, only_table, columns_table, tables_table, places_of, own_places, pool_with, only_lent};
@@ -7,8 +7,8 @@ ghost use Rattle.one_table.specs.Sheets.{IsSheet};
 use crate::contents::OnlyTable;
 use crate::rules::KeyedType;
 use cfb_medium::Error;
-use msi_pool::Value;
 use msi_tables::ColumnType;
+use msi_values::Value;
 use std::alloc::Global;
 
 // The names and types of a table's columns, and its rows as values.

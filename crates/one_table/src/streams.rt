@@ -1,4 +1,4 @@
-// The streams that the package is written as, and the whole image.
+//! The streams that the package is written as, and the whole image.
 ghost use Rattle.std.specs.Prelude.{◌≡◌, ◌⊎◌, ◌++◌, ◌∷◌, ◌≤◌, [], IfOk, IfErr, OnOk, length, string_bytes, IsTrue, true, Some, None, map, codes, chars};
 ghost use Rattle.cfb_medium.specs.declared.error.Error.TheVariants.{Memory, Full};
 ghost use Rattle.cfb_tree.specs.Names.{ascii_letters, name_cmp};

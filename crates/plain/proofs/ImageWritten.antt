@@ -1,4 +1,5 @@
 -- An image that was written is the image of its root and streams, and means them.
+use Rattle.std.proofs.lemmas.Bool.{and_parts}
 use Rattle.std.proofs.Common.{◌≡◌, ℕ, ◌-◌, ◌*◌, ◌≤◌, List, [], ◌∷◌, ◌++◌, length, map, replicate, ap, sym, subst, ◌∙◌, append_assoc, Bool, true, false, ◌&&◌, refl}
 use Rattle.std.specs.Char.{IsScalar}
 use Rattle.std.specs.List.{filter, flat_map, range_with_len, AllByRecursion}
@@ -41,13 +42,9 @@ module _ (root : Facts) (ss : List NamedStream) (n : ℕ) (many : n ≡ length s
       (k ∙ ap (λ xs. xs ++ filled 0 4096 (plan_of ss).mini_stream)
       (j ∙ ap (λ xs. xs ++ number_bytes (filled free 1024 (plan_of ss).mini_fat)) second))
 
-both : (a b : Bool) → (a && b) ≡ true → (a ≡ true) × (b ≡ true)
-both true b h = (refl, h)
-both false b h = absurd (cc)
-
 all_scalars : (cs : List ℕ) → scalars cs ≡ true → AllByRecursion IsScalar cs
 all_scalars [] h = tt
-all_scalars (c ∷ cs) h = let parts = both (scalar c) (scalars cs) h in (parts.0, all_scalars cs parts.1)
+all_scalars (c ∷ cs) h = let parts = and_parts (scalar c) (scalars cs) h in (parts.0, all_scalars cs parts.1)
 
 all_named : (streams : List GivenStream) → AllByRecursion (λ s. length (name_units s.name) ≤ 31) (stream_views streams)
     → AllByRecursion (λ s. AllByRecursion IsScalar s.name × (length (name_units s.name) ≤ 31)) (stream_views streams)

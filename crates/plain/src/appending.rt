@@ -6,7 +6,7 @@ ghost use Rattle.std.specs.Int.{to_le_bytes, w16, w32, w64};
 ghost use Rattle.std.specs.List.{flat_map, range_with_len};
 ghost use Rattle.std.specs.Prelude.{length, replicate, OnOk, ◌*◌, ◌+◌, ◌++◌, ◌-◌, ◌<◌, ◌≡◌, ◌≤◌, ◌^◌};
 
-use crate::sectors::END_OF_CHAIN;
+use cfb_sectors::END_OF_CHAIN;
 use std::alloc::AllocError;
 
 /// Appends a number of two bytes.
@@ -94,7 +94,7 @@ pub fn push_range(out: &mut Vec<u8>, count: u32) -> Result<(), AllocError>
     Ok(())
 }
 
-/// How many bytes are wanting up to whole parts of `size`.
+// How many bytes are wanting up to whole parts of `size`.
 fn wanting(size: usize, n: usize) -> usize
     requires { 0 < size }
     ensures { result ≡ parts size n * size - n }

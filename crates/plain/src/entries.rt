@@ -9,13 +9,10 @@ ghost use Rattle.std.specs.List.{flat_map, range_with_len};
 ghost use Rattle.std.specs.Prelude.{chars, length, replicate, IfOk, OnOk, ◌+◌, ◌++◌, ◌-◌, ◌≡◌, ◌≤◌, ◌∷◌};
 
 use crate::appending::{push_bytes, push_u16, push_u32, push_u64, push_units, push_words};
-use crate::directory::{Entry, Facts, NO_ENTRY, clsid_of};
+use crate::directory::{Entry, Facts, clsid_of};
 use crate::names::letters_of;
-use crate::sectors::END_OF_CHAIN;
+use cfb_sectors::{COLOR_BLACK, END_OF_CHAIN, NO_STREAM};
 use std::alloc::{AllocError, Global};
-
-/// The colour of each entry that is written.
-const BLACK: u8 = 1;
 
 /// Facts of which all bytes are zero.
 pub const NO_FACTS: Facts = Facts {
@@ -25,7 +22,7 @@ pub const NO_FACTS: Facts = Facts {
     modified: 0,
 };
 
-/// Appends what an entry has between its name and its facts.
+// Appends what an entry has between its name and its facts.
 fn push_links(out: &mut Vec<u8>, e: &Entry) -> Result<(), AllocError>
     ensures { OnOk result (out.new.items ≡ out.old.items ++ (to_le_bytes w16 e.now.name_len ++ e.now.kind ∷ e.now.color
         ∷ to_le_bytes w32 e.now.left ++ to_le_bytes w32 e.now.right ++ to_le_bytes w32 e.now.child)) }
@@ -36,7 +33,7 @@ fn push_links(out: &mut Vec<u8>, e: &Entry) -> Result<(), AllocError>
     push_words(out, &[e.left, e.right, e.child])
 }
 
-/// Appends an entry's facts but its CLSID, and where its bytes are.
+// Appends an entry's facts but its CLSID, and where its bytes are.
 fn push_place(out: &mut Vec<u8>, e: &Entry) -> Result<(), AllocError>
     ensures { OnOk result (out.new.items ≡ out.old.items ++ (to_le_bytes w32 e.now.facts.state_bits ++ to_le_bytes w64 e.now.facts.created
         ++ to_le_bytes w64 e.now.facts.modified ++ to_le_bytes w32 e.now.start ++ to_le_bytes w64 e.now.size)) }
@@ -71,7 +68,7 @@ pub fn push_unused(out: &mut Vec<u8>, count: usize) -> Result<(), AllocError>
     Ok(())
 }
 
-/// A name's UTF-16 units.
+// A name's UTF-16 units.
 fn units_of_name(alloc: Global, name: &str) -> Result<Vec<u16>, AllocError>
     ensures { IfOk result (λ v. v.items ≡ name_units (chars name.now)) }
 {
@@ -84,7 +81,7 @@ fn units_of_name(alloc: Global, name: &str) -> Result<Vec<u16>, AllocError>
     Ok(all)
 }
 
-/// The units in an entry's field, with zeros behind them.
+// The units in an entry's field, with zeros behind them.
 fn name_field(units: &[u16]) -> [u16; 32]
     requires { length units.now ≤ 31 }
     ensures { result ≡ units.now ++ replicate (32 - length units.now) 0 }
@@ -104,10 +101,10 @@ pub fn named_entry(alloc: Global, name: &str, kind: u8) -> Result<Entry, AllocEr
         name_units: name_field(&units),
         name_len: 2 * units.len() as u16 + 2,
         kind,
-        color: BLACK,
-        left: NO_ENTRY,
-        right: NO_ENTRY,
-        child: NO_ENTRY,
+        color: COLOR_BLACK,
+        left: NO_STREAM,
+        right: NO_STREAM,
+        child: NO_STREAM,
         facts: NO_FACTS,
         start: END_OF_CHAIN,
         size: 0,

@@ -18,35 +18,26 @@ ghost use Rattle.std.specs.Prelude.{chars, codes, if◌then◌else◌, length, m
 use crate::appending::{
     push_bytes, push_filled, push_numbers, push_range, push_run, push_units, push_words,
 };
-use crate::directory::{Entry, Facts, KIND_ROOT, KIND_STREAM, NO_ENTRY};
+use crate::directory::{Entry, Facts};
 use crate::entries::{named_entry, push_entry, push_unused};
 use crate::plan::Plan;
-use crate::sectors::{END_OF_CHAIN, FREE, SIGNATURE};
 use cfb_medium::Error;
+use cfb_sectors::{
+    BYTE_ORDER_MARK, END_OF_CHAIN, FAT_SECTOR, FREE_SECTOR, MAGIC_NUMBER, MINI_SECTOR_LEN,
+    MINOR_VERSION, NO_STREAM, OBJ_TYPE_ROOT, OBJ_TYPE_STREAM,
+};
 use std::alloc::{AllocError, Global};
 
-/// The minor version that is written.
-const MINOR_VERSION: u16 = 0x3E;
-
-/// The mark that numbers have their lowest byte first.
-const BYTE_ORDER: u16 = 0xFFFE;
-
-/// The mark of a sector of the FAT.
-const FAT_SECTOR: u32 = 0xFFFF_FFFD;
-
-/// A sector's bytes.
+// A sector's bytes.
 const SECTOR_LEN: usize = 4096;
 
-/// A mini sector's bytes.
-const MINI_SECTOR_LEN: usize = 64;
-
-/// A stream of fewer bytes lies in mini sectors.
+// A stream of fewer bytes lies in mini sectors.
 const MINI_CUTOFF: usize = 4096;
 
-/// The sectors that a FAT sector, or the mini sectors that a mini FAT sector, tells of.
+// The sectors that a FAT sector, or the mini sectors that a mini FAT sector, tells of.
 const TABLE_ENTRIES: u32 = 1024;
 
-/// The FAT sectors that a header has room for.
+// The FAT sectors that a header has room for.
 const HEADER_ENTRIES: u32 = 109;
 
 /// A stream that stands in the root.
@@ -56,7 +47,7 @@ pub struct NamedStream {
     pub bytes: Vec<u8>,
 }
 
-/// How many parts of `size` hold so many bytes.
+// How many parts of `size` hold so many bytes.
 fn parts(size: usize, n: usize) -> usize
     requires { 0 < size }
     ensures { result ≡ parts size n }
@@ -64,14 +55,14 @@ fn parts(size: usize, n: usize) -> usize
     if n == 0 { 0 } else { (n - 1) / size + 1 }
 }
 
-/// Whether the stream lies in mini sectors.
+// Whether the stream lies in mini sectors.
 fn is_short(s: &NamedStream) -> bool
     ensures { result ≡ is_short (stream_view s.now) }
 {
     s.bytes.len() < MINI_CUTOFF
 }
 
-/// The mini sectors of all short streams, or the greatest number if they are more.
+// The mini sectors of all short streams, or the greatest number if they are more.
 fn mini_sectors(streams: &[NamedStream]) -> u64
     ensures { result ≡ min (sum_of (counts 64 (filter is_short (stream_views streams.now)))) (2 ^ 64 - 1) }
 {
@@ -84,7 +75,7 @@ fn mini_sectors(streams: &[NamedStream]) -> u64
     count
 }
 
-/// The sectors of all long streams, or the greatest number if they are more.
+// The sectors of all long streams, or the greatest number if they are more.
 fn long_sectors(streams: &[NamedStream]) -> u64
     ensures { result ≡ min (sum_of (counts 4096 (filter (λ s. not (is_short s)) (stream_views streams.now)))) (2 ^ 64 - 1) }
 {
@@ -97,7 +88,7 @@ fn long_sectors(streams: &[NamedStream]) -> u64
     count
 }
 
-/// The plan for these streams, unless the header has no room for so many FAT sectors.
+// The plan for these streams, unless the header has no room for so many FAT sectors.
 fn plan_of(streams: &[NamedStream]) -> Option<Plan>
     ensures some { IfSome result (λ p. IsPlan p (plan_of (stream_views streams.now))) }
     ensures none { IfNone result (109 < (plan_of (stream_views streams.now)).fat_count) }
@@ -126,14 +117,14 @@ fn plan_of(streams: &[NamedStream]) -> Option<Plan>
     })
 }
 
-/// The start of a run of so many sectors.
+// The start of a run of so many sectors.
 fn run_start(at: u32, count: u32) -> u32
     ensures { result ≡ run_start at count }
 {
     if count == 0 { END_OF_CHAIN } else { at }
 }
 
-/// Appends the FAT entries of the long streams, the first in this sector.
+// Appends the FAT entries of the long streams, the first in this sector.
 fn push_long_runs(out: &mut Vec<u8>, streams: &[NamedStream], first: u32) -> Result<(), AllocError>
     requires { first + sum_of (counts 4096 (filter (λ s. not (is_short s)) (stream_views streams.now))) < 2 ^ 32 }
     ensures { OnOk result (out.new.items ≡ out.old.items ++ number_bytes (runs first (counts 4096 (filter (λ s. not (is_short s)) (stream_views streams.now))))) }
@@ -149,7 +140,7 @@ fn push_long_runs(out: &mut Vec<u8>, streams: &[NamedStream], first: u32) -> Res
     Ok(())
 }
 
-/// Appends the mini FAT entries of the short streams.
+// Appends the mini FAT entries of the short streams.
 fn push_mini_runs(out: &mut Vec<u8>, streams: &[NamedStream]) -> Result<(), AllocError>
     requires { sum_of (counts 64 (filter is_short (stream_views streams.now))) < 2 ^ 32 }
     ensures { OnOk result (out.new.items ≡ out.old.items ++ number_bytes (runs 0 (counts 64 (filter is_short (stream_views streams.now))))) }
@@ -165,7 +156,7 @@ fn push_mini_runs(out: &mut Vec<u8>, streams: &[NamedStream]) -> Result<(), Allo
     Ok(())
 }
 
-/// Appends the long streams' bytes, each filled up to whole sectors.
+// Appends the long streams' bytes, each filled up to whole sectors.
 fn push_long_streams(out: &mut Vec<u8>, streams: &[NamedStream]) -> Result<(), AllocError>
     ensures { OnOk result (out.new.items ≡ out.old.items ++ flat_map (λ s. filled 0 4096 s.bytes) (filter (λ s. not (is_short s)) (stream_views streams.now))) }
 {
@@ -177,7 +168,7 @@ fn push_long_streams(out: &mut Vec<u8>, streams: &[NamedStream]) -> Result<(), A
     Ok(())
 }
 
-/// Appends the short streams' bytes, each filled up to whole mini sectors.
+// Appends the short streams' bytes, each filled up to whole mini sectors.
 fn push_short_streams(out: &mut Vec<u8>, streams: &[NamedStream]) -> Result<(), AllocError>
     ensures { OnOk result (out.new.items ≡ out.old.items ++ flat_map (λ s. filled 0 64 s.bytes) (filter is_short (stream_views streams.now))) }
 {
@@ -189,13 +180,13 @@ fn push_short_streams(out: &mut Vec<u8>, streams: &[NamedStream]) -> Result<(), 
     Ok(())
 }
 
-/// Appends the header and what its sector has behind it.
+// Appends the header and what its sector has behind it.
 fn push_header(out: &mut Vec<u8>, plan: &Plan) -> Result<(), AllocError>
     ensures { (p : MeantPlan) → IsPlan plan.now p → OnOk result (out.new.items ≡ out.old.items ++ (header_bytes (header_of p) ++ replicate 3584 0)) }
 {
-    out.extend_from_slice(&SIGNATURE)?;
+    out.extend_from_slice(&MAGIC_NUMBER)?;
     push_bytes(out, 0, 16)?;
-    push_units(out, &[MINOR_VERSION, 4, BYTE_ORDER, 12, 6, 0, 0, 0])?;
+    push_units(out, &[MINOR_VERSION, 4, BYTE_ORDER_MARK, 12, 6, 0, 0, 0])?;
     let first_mini_fat = run_start(plan.fat + plan.directory, plan.mini_fat);
     push_words(
         out,
@@ -212,11 +203,11 @@ fn push_header(out: &mut Vec<u8>, plan: &Plan) -> Result<(), AllocError>
         ],
     )?;
     push_range(out, plan.fat)?;
-    push_numbers(out, FREE, (HEADER_ENTRIES - plan.fat) as usize)?;
+    push_numbers(out, FREE_SECTOR, (HEADER_ENTRIES - plan.fat) as usize)?;
     push_bytes(out, 0, 3584)
 }
 
-/// Appends the FAT: its own sectors' marks, the runs of all parts, and free entries.
+// Appends the FAT: its own sectors' marks, the runs of all parts, and free entries.
 fn push_fat(out: &mut Vec<u8>, streams: &[NamedStream], plan: &Plan) -> Result<(), AllocError>
     requires { IsPlan plan.now (plan_of (stream_views streams.now)) }
     ensures { OnOk result (out.new.items ≡ out.old.items ++ number_bytes (filled free 1024 (fat_of (plan_of (stream_views streams.now))))) }
@@ -231,12 +222,12 @@ fn push_fat(out: &mut Vec<u8>, streams: &[NamedStream], plan: &Plan) -> Result<(
     push_long_runs(out, streams, longs)?;
     push_numbers(
         out,
-        FREE,
+        FREE_SECTOR,
         (TABLE_ENTRIES * plan.fat - longs - plan.longs) as usize,
     )
 }
 
-/// Appends the mini FAT: the runs of the short streams, and free entries.
+// Appends the mini FAT: the runs of the short streams, and free entries.
 fn push_mini_fat(out: &mut Vec<u8>, streams: &[NamedStream], plan: &Plan) -> Result<(), AllocError>
     requires { IsPlan plan.now (plan_of (stream_views streams.now)) }
     ensures { OnOk result (out.new.items ≡ out.old.items ++ number_bytes (filled free 1024 (plan_of (stream_views streams.now)).mini_fat)) }
@@ -244,12 +235,12 @@ fn push_mini_fat(out: &mut Vec<u8>, streams: &[NamedStream], plan: &Plan) -> Res
     push_mini_runs(out, streams)?;
     push_numbers(
         out,
-        FREE,
+        FREE_SECTOR,
         (TABLE_ENTRIES * plan.mini_fat - plan.minis) as usize,
     )
 }
 
-/// Appends the mini stream, filled up to whole sectors.
+// Appends the mini stream, filled up to whole sectors.
 fn push_mini_stream(
     out: &mut Vec<u8>,
     streams: &[NamedStream],
@@ -262,7 +253,7 @@ fn push_mini_stream(
     push_bytes(out, 0, 64 * (64 * plan.mini_stream - plan.minis) as usize)
 }
 
-/// Where the next short and the next long stream start.
+// Where the next short and the next long stream start.
 #[derive(Drop)]
 struct Places {
     mini: u32,
@@ -270,7 +261,7 @@ struct Places {
 }
 
 impl Places {
-    /// Takes the place of a stream, and gives its start.
+    // Takes the place of a stream, and gives its start.
     fn take(&mut self, s: &NamedStream) -> u32
         requires { (if is_short (stream_view s.now) then self.old.mini + parts 64 (length s.now.bytes.items) else self.old.sector + parts 4096 (length s.now.bytes.items)) < 2 ^ 32 }
         ensures start { result ≡ start_of self.old.mini self.old.sector (stream_view s.now) }
@@ -291,15 +282,15 @@ impl Places {
     }
 }
 
-/// The number of the entry after this one, where one of so many is left.
+// The number of the entry after this one, where one of so many is left.
 fn right_of(id: u32, left: usize) -> u32
     requires { id < 2 ^ 32 - 1 }
     ensures { result ≡ link_after id left }
 {
-    if left == 0 { NO_ENTRY } else { id + 1 }
+    if left == 0 { NO_STREAM } else { id + 1 }
 }
 
-/// Appends a stream's entry.
+// Appends a stream's entry.
 fn push_stream_entry(
     out: &mut Vec<u8>,
     alloc: Global,
@@ -315,12 +306,12 @@ fn push_stream_entry(
         right,
         start,
         size,
-        ..named_entry(alloc, &s.name, KIND_STREAM)?
+        ..named_entry(alloc, &s.name, OBJ_TYPE_STREAM)?
     };
     push_entry(out, &entry)
 }
 
-/// Appends the root's entry.
+// Appends the root's entry.
 fn push_root_entry(
     out: &mut Vec<u8>,
     alloc: Global,
@@ -339,12 +330,12 @@ fn push_root_entry(
         facts: *root,
         start,
         size,
-        ..named_entry(alloc, "Root Entry", KIND_ROOT)?
+        ..named_entry(alloc, "Root Entry", OBJ_TYPE_ROOT)?
     };
     push_entry(out, &entry)
 }
 
-/// Appends the entries of streams, of which the first long one starts in this sector.
+// Appends the entries of streams, of which the first long one starts in this sector.
 fn push_stream_entries(
     out: &mut Vec<u8>,
     alloc: Global,
@@ -371,7 +362,7 @@ fn push_stream_entries(
     Ok(())
 }
 
-/// Appends the directory: the root's entry, those of the streams, and unused ones.
+// Appends the directory: the root's entry, those of the streams, and unused ones.
 fn push_directory(
     out: &mut Vec<u8>,
     alloc: Global,
@@ -390,7 +381,7 @@ fn push_directory(
     push_unused(out, plan.directory as usize * 32 - 1 - streams.len())
 }
 
-/// The same facts, of which each fits into an entry.
+// The same facts, of which each fits into an entry.
 fn copied(facts: &Facts) -> Facts
     ensures same { result ≡ facts.now }
     ensures fits { FitFacts (facts_view result) }

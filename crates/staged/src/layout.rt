@@ -1,4 +1,4 @@
-// How a log lies: its gate, its head, and its records.
+//! How a log lies: its gate, its head, and its records.
 
 /// The number of bytes of a page.
 pub const PAGE: u64 = 512;

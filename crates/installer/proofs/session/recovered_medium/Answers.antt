@@ -1,7 +1,8 @@
 use Rattle.std.proofs.Common.{sym, ap, ◌∙◌, Some, arith, inr}
 use Rattle.std.specs.Prelude.{IsTrue}
 use Rattle.staged.specs.Files.{Files}
-use Rattle.staged.specs.Log.{logged}
+use Rattle.staged.proofs.Settling.{settled_still}
+use Rattle.installer.proofs.Stopping.{alike_then}
 use Rattle.installer.proofs.Recovering.{recovers_home, faults}
 use Rattle.installer.proofs.session.recovered_medium.Goals as goal
 
@@ -19,8 +20,8 @@ returns-in-Ok-new-clause-home g c = λ honest.
 pub returns-in-Ok-new-clause-settled : goal.returns-in-Ok-new-clause-settled
 returns-in-Ok-new-clause-settled g c = λ honest.
     let after : IsTrue (g.D.Device.honest c.recover.new.device) = rw c.recover.ensures.honest honest in
-    let keeps = g.met.D.Device.rests_keeps _ _ (c.in-Ok-new.ensures.ok _ (g.met.D.Device.rests_refl _)) in
-    record { closed = ap logged (keeps.same after) ∙ (c.in-Ok.ensures.settled honest).closed }
+    let rests = c.in-Ok-new.ensures.ok _ (g.met.D.Device.rests_refl _) in
+    settled_still g.D.Device g.met.D.Device.counts_now _ _ (g.met.D.Device.rests_leaves _ _ rests) ((g.met.D.Device.rests_keeps _ _ rests).same after) (c.in-Ok.ensures.settled honest)
 
 pub returns-in-Ok-new-clause-honest : goal.returns-in-Ok-new-clause-honest
 returns-in-Ok-new-clause-honest g c =
@@ -50,3 +51,11 @@ pub returns-in-Err-new-clause-err_failures : goal.returns-in-Err-new-clause-err_
 returns-in-Err-new-clause-err_failures g c =
     let keeps = g.met.D.Device.rests_keeps _ _ (c.in-Err-new.ensures.err _ (g.met.D.Device.rests_refl _)) in
     omega (arith, c.recover.ensures.failures, keeps.counted)
+
+pub returns-in-Ok-new-clause-stops : goal.returns-in-Ok-new-clause-stops
+returns-in-Ok-new-clause-stops g c = λ honest.
+    alike_then g.D.Device g.met.D.Device.counts_now _ _ _ (c.recover.ensures.left honest) (g.met.D.Device.rests_leaves _ _ (c.in-Ok-new.ensures.ok _ (g.met.D.Device.rests_refl _)))
+
+pub returns-in-Err-new-clause-stops : goal.returns-in-Err-new-clause-stops
+returns-in-Err-new-clause-stops g c = λ honest.
+    alike_then g.D.Device g.met.D.Device.counts_now _ _ _ (c.recover.ensures.left honest) (g.met.D.Device.rests_leaves _ _ (c.in-Err-new.ensures.err _ (g.met.D.Device.rests_refl _)))

@@ -1,6 +1,6 @@
 use Rattle.std.proofs.Common.{◌≡◌, false, drop}
 use Rattle.msi_texts.specs.Results.{◌>>=◌}
-use Rattle.msi_pool.specs.Datum.{data_of}
+use Rattle.msi_values.specs.Datum.{data_of}
 use Rattle.msi_changes.specs.Changes.{counted, in_turn, row_counted}
 use Rattle.msi_changes.proofs.Turns.{behind}
 use Rattle.msi_changes.proofs.counting.count_row.Given as goal

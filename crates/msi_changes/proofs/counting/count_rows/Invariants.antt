@@ -1,6 +1,6 @@
 use Rattle.std.proofs.Common.{◌≡◌, false, drop, map}
 use Rattle.msi_texts.specs.Results.{◌>>=◌}
-use Rattle.msi_pool.specs.Datum.{data_of}
+use Rattle.msi_values.specs.Datum.{data_of}
 use Rattle.msi_tables.specs.Held.{rows_held}
 use Rattle.msi_changes.specs.Changes.{in_turn, row_counted, rows_counted}
 use Rattle.msi_changes.proofs.Turns.{behind}

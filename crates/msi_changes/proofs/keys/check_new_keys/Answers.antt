@@ -1,20 +1,19 @@
-use Rattle.std.proofs.Common.{◌∙◌, sym, refl, take}
-use Rattle.msi_changes.proofs.NewKeys.{is_among, turn_at}
+use Rattle.std.proofs.Common.{◌∙◌, sym, inr, true, false}
+use Rattle.std.specs.Vec.Iter.{into_iter_items}
+use Rattle.msi_changes.proofs.NewKeys.{add_told, came_already, judge_on, stands_already}
 use Rattle.msi_changes.proofs.keys.check_new_keys.Goals as goal
 
-pub returns-then-has_key : goal.returns-then-has_key
-returns-then-has_key c =
-    sym c.loop-at.invariant
-    ∙ turn_at c.args.stored.now c.args.new.now c.loop-at.at c.index-new-at.result c.as_slice-key.result.now _ (is_among (take c.loop-at.at c.args.new.now) c.as_slice-key.result.now) c.loop-at-test.true c.index-new-at.is
-    c.as_slice-key.ensures.value (sym c.if-has_key.true ∙ c.has_key.ensures) refl
+pub returns-then-contains-clause-err : goal.returns-then-contains-clause-err
+returns-then-contains-clause-err c =
+    inr (sym c.loop-key.invariant ∙ stands_already c.args.stored.now.keys c.loop-key.earlier.keys (into_iter_items c.loop-key.key-iterator) c.in-Some.key (into_iter_items c.next.new.self) c.in-Some.ensures.steps.0
+    (sym c.if-contains.true ∙ c.contains.ensures))
 
-pub returns-then-has_key-2 : goal.returns-then-has_key-2
-returns-then-has_key-2 c =
-    sym c.loop-at.invariant
-    ∙ turn_at c.args.stored.now c.args.new.now c.loop-at.at c.index-new-at.result c.as_slice-key.result.now _ _ c.loop-at-test.true c.index-new-at.is c.as_slice-key.ensures.value
-    (sym c.if-has_key.false ∙ c.has_key.ensures) (sym c.if-has_key-2.true ∙ c.has_key-in-loop-at.ensures)
+pub returns-then-not-branch-clause-err : goal.returns-then-not-branch-clause-err
+returns-then-not-branch-clause-err c =
+    inr (sym c.loop-key.invariant ∙ came_already c.args.stored.now.keys c.loop-key.earlier.keys (into_iter_items c.loop-key.key-iterator) c.in-Some.key (into_iter_items c.next.new.self) c.in-Some.ensures.steps.0
+    (sym c.if-contains.false ∙ c.contains.ensures) (add_told _ _ true c.in_ok-insert.ensures.added c.if-not-branch.true))
 
-pub loop-at-preserved : goal.loop-at-preserved
-loop-at-preserved c =
-    sym (turn_at c.args.stored.now c.args.new.now c.loop-at.at c.index-new-at.result c.as_slice-key.result.now _ _ c.loop-at-test.true c.index-new-at.is c.as_slice-key.ensures.value
-    (sym c.if-has_key.false ∙ c.has_key.ensures) (sym c.if-has_key-2.false ∙ c.has_key-in-loop-at.ensures)) ∙ c.loop-at.invariant
+pub loop-key-preserved : goal.loop-key-preserved
+loop-key-preserved c =
+    sym (judge_on c.args.stored.now.keys c.loop-key.earlier.keys (into_iter_items c.loop-key.key-iterator) c.in-Some.key (into_iter_items c.next.new.self) c.in-Some.ensures.steps.0 c.insert.new.self.keys
+    (sym c.if-contains.false ∙ c.contains.ensures) (add_told _ _ false c.in_ok-insert.ensures.added c.if-not-branch.false) c.in_ok-insert.ensures.keys) ∙ c.loop-key.invariant

@@ -7,7 +7,6 @@ use Rattle.msi_changes.specs.Applied.{with_rows}
 use Rattle.msi_changes.specs.Changes.{keys_after}
 use Rattle.msi_expr.specs.Conditions.{condition_of}
 use Rattle.msi_changes.specs.Said.{sets_of}
-use Rattle.msi_changes.proofs.NewKeys.{keys_said}
 use Rattle.msi_changes.proofs.Updating.{unset, repeated, sets_valid, condition_known, key_set}
 use Rattle.msi_changes.proofs.update.judge.Goals as goal
 
@@ -23,17 +22,20 @@ returns-then-not-sets_key-clause-accepted c = record {
   distinct = ap (λ b. not b || are_distinct (keys_after c.args.pool.now.pool (with_rows (heading_of (rc_value c.args.table.now)) (rows_held c.args.rows.now)) (sets_of c.args.sets.now) (condition_of c.args.condition.now))) (key_set _ c.args.table.now.value c.args.sets.now _ c.deref-3.ensures (sym c.if-not-sets_key.true ∙ c.sets_key.ensures));
 }
 
-pub returns-then-not-are_distinct-clause-refused : goal.returns-then-not-are_distinct-clause-refused
-returns-then-not-are_distinct-clause-refused c =
+pub returns-in-None-clause-refused : goal.returns-in-None-clause-refused
+returns-in-None-clause-refused c =
+    let twice = (rw c.in-None.is at c.in_ok-key_set.ensures.ok) in
     inr (repeated c.args.pool.now.pool (with_rows (heading_of (rc_value c.args.table.now)) (rows_held c.args.rows.now)) (sets_of c.args.sets.now) (condition_of c.args.condition.now)
     (sets_valid _ c.args.table.now.value c.args.sets.now _ c.deref.ensures (sym c.if-not-are_sets.false ∙ c.are_sets.ensures))
     (condition_known _ c.args.table.now.value (condition_of c.args.condition.now) _ c.deref-2.ensures (sym c.if-not-branch.false ∙ c.in_ok-knows_condition.ensures.ok))
     (key_set _ c.args.table.now.value c.args.sets.now _ c.deref-3.ensures (sym c.if-not-sets_key.false ∙ c.sets_key.ensures))
-    (ap are_distinct (sym c.in_ok-keys.ensures.ok) ∙ ap (λ ks. are_distinct (keys_said ks)) (sym c.deref-4.ensures.value) ∙ sym (sym c.if-not-are_distinct.true ∙ c.are_distinct.ensures)))
+    (ap are_distinct (sym c.in_ok-keys.ensures.ok) ∙ twice))
 
 pub returns-clause-accepted : goal.returns-clause-accepted
-returns-clause-accepted c = record {
-  valid = sets_valid _ c.args.table.now.value c.args.sets.now _ c.deref.ensures (sym c.if-not-are_sets.false ∙ c.are_sets.ensures);
-  known = condition_known _ c.args.table.now.value (condition_of c.args.condition.now) _ c.deref-2.ensures (sym c.if-not-branch.false ∙ c.in_ok-knows_condition.ensures.ok);
-  distinct = ap (λ b. not b || are_distinct (keys_after c.args.pool.now.pool (with_rows (heading_of (rc_value c.args.table.now)) (rows_held c.args.rows.now)) (sets_of c.args.sets.now) (condition_of c.args.condition.now))) (key_set _ c.args.table.now.value c.args.sets.now _ c.deref-3.ensures (sym c.if-not-sets_key.false ∙ c.sets_key.ensures)) ∙ ap are_distinct (sym c.in_ok-keys.ensures.ok) ∙ ap (λ ks. are_distinct (keys_said ks)) (sym c.deref-4.ensures.value) ∙ sym (sym c.if-not-are_distinct.false ∙ c.are_distinct.ensures);
-}
+returns-clause-accepted c =
+    let once = (rw c.in-Some.is at c.in_ok-key_set.ensures.ok) in
+    record {
+      valid = sets_valid _ c.args.table.now.value c.args.sets.now _ c.deref.ensures (sym c.if-not-are_sets.false ∙ c.are_sets.ensures);
+      known = condition_known _ c.args.table.now.value (condition_of c.args.condition.now) _ c.deref-2.ensures (sym c.if-not-branch.false ∙ c.in_ok-knows_condition.ensures.ok);
+      distinct = ap (λ b. not b || are_distinct (keys_after c.args.pool.now.pool (with_rows (heading_of (rc_value c.args.table.now)) (rows_held c.args.rows.now)) (sets_of c.args.sets.now) (condition_of c.args.condition.now))) (key_set _ c.args.table.now.value c.args.sets.now _ c.deref-3.ensures (sym c.if-not-sets_key.false ∙ c.sets_key.ensures)) ∙ ap are_distinct (sym c.in_ok-keys.ensures.ok) ∙ once.0;
+    }

@@ -1,4 +1,4 @@
-use Rattle.std.proofs.Common.{◌≡◌, ◌++◌, drop, length, ◌+◌}
+use Rattle.std.proofs.Common.{◌≡◌, ◌++◌, drop, length}
 use Rattle.msi_pool.specs.Pool.{places_of}
 use Rattle.msi_pool.proofs.stringpool.copied_strings.Given as goal
 

@@ -1,5 +1,5 @@
 use Rattle.std.proofs.Common.{◌≡◌, ◌++◌, drop}
-use Rattle.msi_pool.specs.Datum.{data_of}
+use Rattle.msi_values.specs.Datum.{data_of}
 use Rattle.msi_tables.proofs.row.copied_values.Given as goal
 
 abbrev pub invariant-loop-value : goal.invariant-loop-value

@@ -1,7 +1,7 @@
 use Rattle.std.proofs.Common.{arith, inr}
 use Rattle.one_table.specs.Contents.{only_of}
 use Rattle.one_table.specs.Rules.{rows_said}
-use Rattle.msi_pool.specs.Datum.{data_of}
+use Rattle.msi_values.specs.Datum.{data_of}
 use Rattle.std.proofs.lemmas.List.{length-map}
 use Rattle.one_table.proofs.Inserted.{added_refused, added_too_many, adds}
 use Rattle.one_table.proofs.contents.added.Goals as goal

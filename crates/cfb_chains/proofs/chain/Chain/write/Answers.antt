@@ -1,8 +1,8 @@
-use Rattle.std.proofs.Common.{◌≡◌, inr, [], ◌∙◌, sym, subst, refl, arith, Result, Ok, Err, IfOk, OnOk, ⊎_elim}
+use Rattle.std.proofs.Common.{◌≡◌, inl, inr, [], ◌∙◌, sym, subst, refl, arith, Result, Ok, Err, IfOk, OnOk, ⊎_elim}
 use Rattle.std.proofs.lemmas.List.{append-nil}
 use Rattle.cfb_chains.specs.ChainViews.{holder_of, position_of, sectors_of, version_of}
 use Rattle.cfb_chains.specs.Grown.{AreWritable, IsLinked}
-use Rattle.cfb_chains.proofs.ChainGrowing.{either_there, writable_still}
+use Rattle.cfb_chains.proofs.ChainGrowing.{either_there, ends_here, writable_still}
 use Rattle.cfb_chains.proofs.chain.Chain.write.Goals as goal
 
 on_ok : {T E : Type 0} (r : Result T E) (P : Type 0) → P → OnOk r P
@@ -24,8 +24,8 @@ returns-then-self-len-clause-grows g c =
       same ∙ sym (append-nil (sectors_of it)),
       g.met.H.GrowsChains.grows_rest [] (holder_of it) (holder_of it) (g.met.H.HasSectors.rests_refl (holder_of it)),
       (λ linked n none k below same. absurd (omega (arith, below))),
-      either_there (λ p b. g.H.ChangesSectors.writes p b (holder_of it) (holder_of new)) _ (version_of it) (version_of it) (sectors_of new) (sectors_of it) _ (position_of it) (position_of it)
-          refl (sym same) refl c.write_inside.ensures.either,
+      ends_here (either_there (λ p b. g.H.ChangesSectors.writes p b (holder_of it) (holder_of new)) _ (version_of it) (version_of it) (sectors_of new) (sectors_of it) _ (position_of it) (position_of it)
+          refl (sym same) refl c.write_inside.ensures.either),
     )
 
 pub returns-then-self-len-clause-linked : goal.returns-then-self-len-clause-linked
@@ -47,10 +47,10 @@ pub returns-then-is_failed-clause-grows : goal.returns-then-is_failed-clause-gro
 returns-then-is_failed-clause-grows g c =
     let it = c.args.self.now in
     let rests = g.met.H.HasSectors.rests_refl (holder_of it) in
-    ([], [], holder_of it, sym (append-nil (sectors_of it)), g.met.H.GrowsChains.grows_rest [] (holder_of it) (holder_of it) rests, (λ linked n none k below same. absurd (omega (arith, below))), inr rests)
+    ([], [], holder_of it, sym (append-nil (sectors_of it)), g.met.H.GrowsChains.grows_rest [] (holder_of it) (holder_of it) rests, (λ linked n none k below same. absurd (omega (arith, below))), inr (inl rests))
 
 pub returns-clause-grows : goal.returns-clause-grows
 returns-clause-grows g c =
     let it = c.args.self.now in
     let rests = g.met.H.HasSectors.rests_refl (holder_of it) in
-    ([], [], holder_of it, sym (append-nil (sectors_of it)), g.met.H.GrowsChains.grows_rest [] (holder_of it) (holder_of it) rests, (λ linked n none k below same. absurd (omega (arith, below))), inr rests)
+    ([], [], holder_of it, sym (append-nil (sectors_of it)), g.met.H.GrowsChains.grows_rest [] (holder_of it) (holder_of it) rests, (λ linked n none k below same. absurd (omega (arith, below))), inr (inl rests))

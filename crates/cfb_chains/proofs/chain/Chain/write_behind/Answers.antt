@@ -1,8 +1,8 @@
-use Rattle.std.proofs.Common.{◌≡◌, length, ◌∙◌, sym, subst, ⊎_elim, IsTrue}
+use Rattle.std.proofs.Common.{◌≡◌, inr, length, ◌∙◌, sym, subst, ⊎_elim, IsTrue}
 use Rattle.cfb_chains.specs.ChainViews.{holder_of, position_of, sectors_of, version_of}
 use Rattle.cfb_chains.specs.Changes.{AreAmong}
 use Rattle.cfb_chains.specs.Grown.{AreWritable, IsLinked}
-use Rattle.cfb_chains.proofs.ChainGrowing.{chain_once, either_there, room_behind, writable_still, written_there}
+use Rattle.cfb_chains.proofs.ChainGrowing.{chain_once, either_there, ends_here, room_behind, writable_still, written_there}
 use Rattle.cfb_chains.proofs.chain.Chain.write_behind.Goals as goal
 
 pub returns-in-Ok-clause-grows : goal.returns-in-Ok-clause-grows
@@ -18,8 +18,8 @@ returns-in-Ok-clause-grows g c =
       same ∙ grown.2,
       grown.3,
       λ linked. subst (λ s. AreAmong s grown.1) (sym same) (grown.4 linked),
-      either_there (λ p b. g.H.ChangesSectors.writes p b (holder_of mid) (holder_of new)) _ (version_of old) (version_of mid) (sectors_of new) (sectors_of mid) _ (position_of old) (position_of mid)
-          c.append_sector.ensures.same.version (sym same) c.append_sector.ensures.position c.write_inside.ensures.either,
+      ends_here (either_there (λ p b. g.H.ChangesSectors.writes p b (holder_of mid) (holder_of new)) _ (version_of old) (version_of mid) (sectors_of new) (sectors_of mid) _ (position_of old) (position_of mid)
+          c.append_sector.ensures.same.version (sym same) c.append_sector.ensures.position c.write_inside.ensures.either),
     )
 
 pub returns-in-Err-write_inside-clause-grows : goal.returns-in-Err-write_inside-clause-grows
@@ -35,8 +35,12 @@ returns-in-Err-write_inside-clause-grows g c =
       same ∙ grown.2,
       grown.3,
       λ linked. subst (λ s. AreAmong s grown.1) (sym same) (grown.4 linked),
-      either_there (λ p b. g.H.ChangesSectors.writes p b (holder_of mid) (holder_of new)) _ (version_of old) (version_of mid) (sectors_of new) (sectors_of mid) _ (position_of old) (position_of mid)
-          c.append_sector.ensures.same.version (sym same) c.append_sector.ensures.position c.write_inside.ensures.either,
+      inr (inr (
+        holder_of new,
+        either_there (λ p b. g.H.ChangesSectors.writes p b (holder_of mid) (holder_of new)) _ (version_of old) (version_of mid) (sectors_of new) (sectors_of mid) _ (position_of old) (position_of mid)
+            c.append_sector.ensures.same.version (sym same) c.append_sector.ensures.position c.write_inside.ensures.either,
+        c.fail.ensures,
+      )),
     )
 
 pub returns-in-Ok-clause-linked : goal.returns-in-Ok-clause-linked
@@ -73,3 +77,8 @@ returns-in-Err-write_inside-clause-refused g c = λ is version.
     let there = room_behind may (version_of old) (version_of mid) (sectors_of mid) (length (sectors_of old)) (position_of old) (position_of mid) _ (g.met.H.ChangesSectors.may_part (holder_of mid))
     c.append_sector.ensures.same.version c.append_sector.ensures.position c.requires (c.in_default.ensures.room version) in
     absurd ((c.in-Err-write_inside.ensures.refused.0 is).1 there)
+
+pub returns-in-Err-write_inside-clause-cause : goal.returns-in-Err-write_inside-clause-cause
+returns-in-Err-write_inside-clause-cause g c =
+    let grown = c.append_sector.ensures.grows in
+    g.met.H.GrowsChains.grows_cause grown.0 grown.1 _ _ _ _ grown.3 c.in_default.ensures.live.2 (g.met.H.ChangesSectors.fails_cause _ _ _ _ c.in-Err-write_inside.ensures.cause c.fail.ensures)

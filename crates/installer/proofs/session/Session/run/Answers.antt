@@ -1,13 +1,15 @@
 use Rattle.std.proofs.Common.{◌≡◌, ◌++◌, ◌∷◌, [], map, take, ap, ◌∙◌, arith}
 use Rattle.std.proofs.lemmas.List.{map-append, take_all}
 use Rattle.installer.specs.Said.{said, told_by}
+use Rattle.installer.specs.Sessions.{device_below}
+use Rattle.installer.proofs.Stopping.{survives_stay}
 use Rattle.installer.proofs.Running.{reaches_itself, reaches_more, taken_more}
 use Rattle.installer.proofs.session.Session.run.Goals as goal
 
 pub loop-command-init : goal.loop-command-init
 loop-command-init g c = record {
   room = omega (arith, c.in_ok-answers.ensures.len, c.in_ok-answers.ensures.capacity);
-  ran = λ start at. rw c.in_ok-answers.ensures.items (reaches_itself c.args.self.now start at);
+  ran = λ start at. rw c.in_ok-answers.ensures.items (reaches_itself c.args.self.now start (survives_stay g.D.Device g.met.D.Device.counts_now g.met.D.Device.only_now (device_below c.args.self.now)) at);
 }
 
 pub loop-command-preserved : goal.loop-command-preserved
@@ -19,7 +21,7 @@ loop-command-preserved g c = record {
       ap (map told_by) c.push_reserved.ensures.items ∙ map-append told_by c.loop-command.answers.items (c.answer.result ∷ []) in
       rw (asked, told) (
       reaches_more c.args.self.now c.loop-command.self c.answer.new.self start _ _ (said c.command-item.result) (told_by c.answer.result)
-      (c.loop-command.invariant.ran start at) c.answer.ensures.goes c.answer.ensures.survives
+      (c.loop-command.invariant.ran start at) c.answer.ensures.goes c.answer.ensures.survives c.answer.ensures.found
       );
 }
 

@@ -1,6 +1,6 @@
 use Rattle.std.proofs.Common.{◌≡◌, ◌∙◌, subst, sym, ap, None}
 use Rattle.std.specs.Prelude.{option_map, slice_get}
-use Rattle.msi_pool.specs.Datum.{datum_of}
+use Rattle.msi_values.specs.Datum.{datum_of}
 use Rattle.msi_tables.specs.Row.{ValueRow, cell_named, cells_of}
 use Rattle.msi_tables.specs.HeldRow.{row_of}
 use Rattle.msi_tables.proofs.Searches.{nothing_named, value_named}

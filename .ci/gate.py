@@ -1,0 +1,56 @@
+"""The merge gate: proves every crate and its tests from nothing, looks at the layout, runs programs and tests, and
+tries the wrong bodies of each crate whose line in must-fail.tried is missing or differs. It works on a copy."""
+import os
+import re
+import shutil
+import subprocess
+import sys
+import tempfile
+import time
+
+sys.dont_write_bytecode = True
+import tried  # noqa: E402
+
+
+def copy_to(room, standing):
+    """Copies the checkout, without what was made in it and without the wrong bodies that stand as tried."""
+    left_out = {tried.ROOT / ".git", *(tried.ROOT / "crates" / it / "must-fail" for it in standing)}
+
+    def passed_over(folder, names):
+        return [it for it in names if it in ("out", "__pycache__") or tried.ROOT / os.path.relpath(folder, tried.ROOT) / it in left_out]
+
+    shutil.copytree(tried.ROOT, room, ignore=passed_over, symlinks=True)
+
+
+def run(room):
+    """Runs rt ci in the copy, and gives its last line and its status. Each line of a proved crate gets the minutes."""
+    begin, last = time.monotonic(), "0 passed, 1 failed"
+    words = {"cwd": room, "stdin": subprocess.DEVNULL, "stdout": subprocess.PIPE, "stderr": subprocess.STDOUT}
+    unbuffered = {**os.environ, "PYTHONUNBUFFERED": "1"}
+    with subprocess.Popen(["rt", "ci"], text=True, errors="replace", env=unbuffered, **words) as ran:
+        for line in ran.stdout:
+            line = line.rstrip("\n")
+            if re.fullmatch(r"\d+ passed, \d+ failed", line):
+                last = line
+                continue
+            if re.fullmatch(r"rt: .* proved", line):
+                line += f" ({(time.monotonic() - begin) / 60:.1f} min)"
+            print(line, flush=True)
+    return last, ran.returncode
+
+
+def main():
+    sums, old = tried.sums(), tried.lines()
+    standing = [it for it in sums if old.get(it) == sums[it]]
+    count = {it: len(tried.edits_of(it)) for it in sums}
+    with tempfile.TemporaryDirectory(prefix="gate-") as room:
+        copy_to(f"{room}/checkout", standing)
+        last, status = run(f"{room}/checkout")
+    print(f"wrong bodies tried: {sum(count[it] for it in sums if it not in standing)}")
+    print(f"wrong bodies that stand as tried: {sum(count[it] for it in standing)}")
+    print(last)
+    return status
+
+
+if __name__ == "__main__":
+    sys.exit(main())

@@ -1,0 +1,43 @@
+//! Rows inserted into a table in memory.
+use crate::print_time;
+use anyhow::Result;
+use msi_changes::Insert;
+use msi_columns::Column;
+use msi_pool::{StringPool, ValueRef};
+use msi_tables::Table;
+use msi_texts::CodePage;
+use msi_values::Value;
+use std::alloc::Global;
+use std::time::Instant;
+
+// An insert of rows with even keys.
+fn even_rows(alloc: Global, count: i32) -> Result<Insert> {
+    let mut insert = Insert::into(alloc, "Numbers")?;
+    for key in 0..count {
+        insert = insert.row(vec![in alloc; Value::Int(key.wrapping_mul(2))]?)?;
+    }
+    Ok(insert)
+}
+
+// Rows with odd keys.
+fn odd_rows(alloc: Global, count: i32) -> Result<Vec<Vec<ValueRef>>> {
+    let mut rows = Vec::new(alloc);
+    for key in 0..count {
+        rows.push(vec![in alloc; ValueRef::Int(key.wrapping_mul(2) | 1)]?)?;
+    }
+    Ok(rows)
+}
+
+/// Inserts rows into a table that has as many: the even numbers behind the odd ones.
+pub fn insert(rt: &HostRuntime, count: usize) -> Result<()> {
+    let alloc = rt.alloc();
+    let count = count.min(32768) as i32;
+    let key = Column::build(alloc, "Id")?.primary_key().int32();
+    let table = Table::new(alloc, "Numbers", vec![in alloc; key]?, false)?;
+    let mut pool = StringPool::new(alloc, CodePage::Utf8);
+    let rows = odd_rows(alloc, count)?;
+    let insert = even_rows(alloc, count)?;
+    let begin = Instant::now(rt)?;
+    let rows = insert.apply(alloc, &table, rows, &mut pool)?;
+    print_time(rt, "rows left by an insert", rows.len(), begin.elapsed(rt)?)
+}

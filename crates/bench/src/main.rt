@@ -1,0 +1,46 @@
+//! Benchmarks: runs the one that the words name at the size that they give, and prints what it took. Without words it lists them.
+#![tactic(auto)]
+
+mod chains;
+mod inserts;
+mod joins;
+
+use anyhow::{Result, bail};
+use std::env;
+use std::time::Duration;
+
+// A line for each benchmark: its word, what its size counts, and what it does.
+const LIST: &str = "\
+chain SECTORS   appends sectors to one chain, a call each, and frees the chain
+insert ROWS     inserts so many rows into a table of as many, by one insert
+join ROWS       joins two tables of so many rows by equal numbers
+";
+
+fn main(rt: HostRuntime) -> Result<()> {
+    let mut words = Vec::new(rt.alloc());
+    for word in env::args(&rt)?.skip(1) {
+        words.push(word)?;
+    }
+    match words.as_slice() {
+        [] => print!(rt; "{LIST}")?,
+        [name, size] => run(&rt, name.as_str(), size.as_str().parse::<usize>()?)?,
+        _ => bail!("a benchmark and its size are wanted"),
+    }
+    Ok(())
+}
+
+// Runs one benchmark.
+fn run(rt: &HostRuntime, name: &str, size: usize) -> Result<()> {
+    match name {
+        "chain" => chains::append_and_free(rt, size),
+        "insert" => inserts::insert(rt, size),
+        "join" => joins::join(rt, size),
+        _ => bail!("there is no benchmark of this name"),
+    }
+}
+
+// Prints what a part of a benchmark took.
+fn print_time(rt: &HostRuntime, part: &str, size: usize, time: Duration) -> Result<()> {
+    println!(rt; "{part} {size}: {} microseconds", time.as_micros())?;
+    Ok(())
+}

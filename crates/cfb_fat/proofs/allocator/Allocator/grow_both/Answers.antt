@@ -1,0 +1,193 @@
+use Rattle.std.proofs.Common.{◌≡◌, ℕ, ◌+◌, ◌-◌, ◌*◌, ◌/◌, ◌<◌, ◌≤◌, List, [], ◌∷◌, ◌++◌, length, take, replicate, refl, ap, sym, subst, ◌∙◌, arith, append_assoc, length-append, ⊎_elim, IsTrue}
+use Rattle.std.specs.Prelude.{slice_index}
+use mathlib.Core.Logic.{∥∥₁_map}
+use Rattle.cfb_medium.specs.Versions.{sector_len}
+use Rattle.cfb_sectors.specs.Held.{bytes_of, count_of, version_of}
+use Rattle.cfb_sectors.specs.Sectors.{fat_in, free, sector_start}
+use Rattle.cfb_fat.specs.Growing.{Appends, IsBesideDifat}
+use Rattle.cfb_fat.specs.Listed.{Lists}
+use Rattle.cfb_chains.specs.Changes.{AreOnce, IsBeside, IsNoneOf}
+use Rattle.cfb_fat.specs.Orderly.{AreBelow, IsOrderly}
+use Rattle.cfb_fat.proofs.FatEntries.{per}
+use Rattle.cfb_fat.proofs.Grown.{order_grown, same_grown, there_grown, whole_grown, Lengthens}
+use Rattle.cfb_chains.proofs.Beside.{beside_both, beside_first, beside_second, none_first, start_later}
+use Rattle.cfb_fat.proofs.Growth.{below_both, below_more, below_one_more, beside_more, fat_same, fat_sectors_stay, once_few, once_front, once_middle, room_more, stays_in_front}
+use Rattle.cfb_fat.proofs.Packed.{behind_two, not_none, packed_more}
+use Rattle.cfb_fat.proofs.EntryChanges.{cause_since}
+use Rattle.cfb_sectors.proofs.Causes.{passed_on}
+use Rattle.cfb_sectors.specs.Held.{HasItsCause}
+use Rattle.cfb_fat.proofs.allocator.Allocator.grow_both.Given.{Over}
+use Rattle.cfb_fat.proofs.allocator.Allocator.grow_both.Goals as goal
+
+pub add_fat_sector-requires-clause-fewer : goal.add_fat_sector-requires-clause-fewer
+add_fat_sector-requires-clause-fewer g c =
+    let it = c.args.self.now in
+    let order = it.orderly c.requires.orderly in
+    let did = c.in_ok-difat_sector.ensures in
+    let ds = it.difat_sectors.items in
+    let few = once_few (count_of it.sectors) ds (once_front ds it.fat_sectors.items order.once) order.there in
+    let size = ap length (c.deref-2.ensures.value ∙ c.push_reserved.ensures.items ∙ ap (λ l. l ++ c.in_ok-difat_sector.difat_sector ∷ []) c.in_ok-reserve.ensures.items) ∙ length-append ds (c.in_ok-difat_sector.difat_sector ∷ []) in
+    let more = did.appends.count did.live in
+    omega (arith, few, size, more)
+
+pub add_fat_sector-requires-clause-there : goal.add_fat_sector-requires-clause-there
+add_fat_sector-requires-clause-there g c =
+    let it = c.args.self.now in
+    let order = it.orderly c.requires.orderly in
+    let did = c.in_ok-difat_sector.ensures in
+    let more = did.appends.count did.live in
+    subst (AreBelow (count_of c.add_difat_sector.new.sectors))
+    (sym (c.deref-2.ensures.value ∙ c.push_reserved.ensures.items ∙ ap (λ l. l ++ c.in_ok-difat_sector.difat_sector ∷ []) c.in_ok-reserve.ensures.items ∙ ap (λ n. it.difat_sectors.items ++ n ∷ []) did.number))
+    (below_one_more (count_of it.sectors) (count_of c.add_difat_sector.new.sectors) it.difat_sectors.items (omega (arith, more)) order.there)
+
+pub returns-in_err-fat_sector-clause-cause : goal.returns-in_err-fat_sector-clause-cause
+returns-in_err-fat_sector-clause-cause g c =
+    let it = c.args.self.now in
+    let did = c.in_ok-difat_sector.ensures in
+    passed_on c.from_residual-in_err-fat_sector.result c.in_err-fat_sector.field-0.0 (HasItsCause it.sectors c.add_fat_sector.new.sectors) c.from_residual-in_err-fat_sector.ensures.1
+    (cause_since it.sectors c.add_difat_sector.new.sectors c.add_fat_sector.new.sectors c.in_err-fat_sector.field-0.0 did.appends.continues (did.live ∙ sym c.requires.live) c.in_err-fat_sector.ensures.cause)
+
+-- what was appended
+pub record Both (g : Over) (c : goal.After-push_reserved-4 g) : Type 0 where
+  pub is_ds : c.args.self.now.difat_sectors.items ++ count_of c.args.self.now.sectors ∷ [] ≡ c.push_reserved.new.self.items
+  pub is_fs : c.args.self.now.fat_sectors.items ++ count_of c.add_difat_sector.new.sectors ∷ [] ≡ c.push_reserved-2.new.self.items
+  pub is_fat : c.args.self.now.fat.items ++ replicate 2 free ≡ c.push_reserved-4.new.self.items
+  pub first : Appends (IsBesideDifat {g = g.F.ReadMedium} c.args.self.now.sectors c.args.self.now.difat_sectors.items) c.args.self.now.sectors c.add_difat_sector.new.sectors
+  pub second : Lengthens {g = g.F.ReadMedium} c.add_difat_sector.new.sectors c.add_fat_sector.new.sectors c.args.self.now.fat.items c.args.self.now.fat_sectors.items (c.args.self.now.difat_sectors.items ++ count_of c.args.self.now.sectors ∷ []) 2
+
+both : (g : Over) (c : goal.After-push_reserved-4 g) → Both g c
+both g c =
+    let it = c.args.self.now in
+    let a = it.sectors in
+    let m = c.add_difat_sector.new.sectors in
+    let b = c.add_fat_sector.new.sectors in
+    let v = version_of a in
+    let ds = it.difat_sectors.items in
+    let fs = it.fat_sectors.items in
+    let did = c.in_ok-difat_sector.ensures in
+    let then = c.in_ok-fat_sector.ensures in
+    let order = it.orderly c.requires.orderly in
+    let is_ds : ds ++ count_of a ∷ [] ≡ c.push_reserved.new.self.items = sym (c.push_reserved.ensures.items ∙ ap (λ l. l ++ c.in_ok-difat_sector.difat_sector ∷ []) c.in_ok-reserve.ensures.items ∙ ap (λ n. ds ++ n ∷ []) did.number) in
+    let first = subst (λ l. Appends (IsBesideDifat a l) a m) (c.deref.ensures.value ∙ c.in_ok-reserve.ensures.items) did.appends in
+    let more = first.count did.live in
+    let below_fs = it.there c.requires.live in
+    record {
+      is_ds = is_ds;
+      is_fs = sym (c.push_reserved-2.ensures.items ∙ ap (λ l. l ++ c.in_ok-fat_sector.fat_sector ∷ []) c.in_ok-reserve-2.ensures.items ∙ ap (λ n. fs ++ n ∷ []) then.number);
+      is_fat = sym (c.push_reserved-4.ensures.items ∙ ap (λ l. l ++ free ∷ []) (c.push_reserved-3.ensures.items ∙ ap (λ l. l ++ free ∷ []) c.in_ok-reserve-3.ensures.items) ∙ append_assoc it.fat.items (free ∷ []) (free ∷ []));
+      first = first;
+      second = record {
+        appends = subst (λ l. Appends (IsBesideDifat m l) m b) (c.deref-2.ensures.value ∙ sym is_ds) then.appends;
+        content = then.content;
+        once = once_middle ds fs (count_of a) order.once (below_both (count_of a) ds fs order.there below_fs);
+        below_ds = below_one_more (count_of a) (count_of m) ds (omega (arith, more)) order.there;
+        below_fs = below_more (count_of a) (count_of m) fs (omega (arith, more)) below_fs;
+        full = subst (λ u. length it.fat.items ≡ length fs * per u) (sym first.version) c.requires.full;
+        before = λ honest.
+            let was = subst IsTrue first.honest honest in
+            let kept = fat_sectors_stay v (bytes_of a) (bytes_of m) ds fs (count_of a) order.once below_fs (λ p n fits aside. first.before did.live was p n fits aside) in
+            (count_of a, it.same c.requires.live was ∙ ap (take (count_of a)) (sym (fat_same v (bytes_of a) (bytes_of m) fs kept)) ∙ ap (λ u. take (count_of a) (fat_in u (bytes_of m) fs)) (sym first.version), order.covered);
+        sum = omega (arith, more, order.covered);
+        few = omega arith;
+        room = room_more (version_of m) (length fs) (length ds) (length (ds ++ count_of a ∷ [])) (length-append ds (count_of a ∷ [])) (subst (λ u. length fs ≤ 109 + length ds * (per u - 1)) (sym first.version) order.named);
+        some = omega arith;
+      };
+    }
+
+pub invariant_of-self-2 : goal.invariant_of-self-2
+invariant_of-self-2 g c =
+    let it = c.args.self.now in
+    let a = it.sectors in
+    let m = c.add_difat_sector.new.sectors in
+    let b = c.add_fat_sector.new.sectors in
+    let did = c.in_ok-difat_sector.ensures in
+    let then = c.in_ok-fat_sector.ensures in
+    let all = both g c in
+    let h = all.second in
+    let fat = it.fat.items ++ replicate 2 free in
+    let ds = it.difat_sectors.items ++ count_of a ∷ [] in
+    let fs = it.fat_sectors.items ++ count_of m ∷ [] in
+    let new_ds = c.push_reserved.new.self.items in
+    let new_fs = c.push_reserved-2.new.self.items in
+    let order : IsOrderly (version_of b) (count_of b) c.push_reserved-4.new.self.items new_fs new_ds =
+    subst (λ l. IsOrderly (version_of b) (count_of b) c.push_reserved-4.new.self.items new_fs l) all.is_ds (subst (λ l. IsOrderly (version_of b) (count_of b) l new_fs ds) all.is_fat
+    (subst (λ l. IsOrderly (version_of b) (count_of b) fat l ds) all.is_fs (order_grown m b it.fat.items it.fat_sectors.items ds 2 h then.live))) in
+    record {
+      same = λ live honest. sym all.is_fat ∙ same_grown m b it.fat.items it.fat_sectors.items ds 2 h live (subst IsTrue h.appends.honest honest)
+          ∙ ap (λ l. take (count_of b) (fat_in (version_of b) (bytes_of b) l)) all.is_fs;
+      there = λ live. subst (λ l. (k : ℕ) → k < length l → slice_index l k < count_of b) all.is_fs (there_grown m b it.fat.items it.fat_sectors.items ds 2 h live);
+      inside = λ live. omega (arith, order.covered);
+      whole = subst (λ l. length l ≤ length new_fs * (sector_len (version_of b) / 4)) all.is_fat
+          (subst (λ l. length fat ≤ length l * (sector_len (version_of b) / 4)) all.is_fs (whole_grown m b it.fat.items it.fat_sectors.items ds 2 h then.live));
+      packed = packed_more it.fat.items (free ∷ free ∷ []) c.push_reserved-4.new.self.items it.difat_sectors.items it.fat_sectors.items new_ds new_fs it.first_free (sym all.is_fat) it.packed
+          (λ n none. none_first it.difat_sectors.items (count_of a ∷ []) n (subst (λ l. IsNoneOf l n) (sym all.is_ds) none))
+          (λ n none. none_first it.fat_sectors.items (count_of m ∷ []) n (subst (λ l. IsNoneOf l n) (sym all.is_fs) none))
+          (λ k past is no_ds no_fs.
+          let covered = (it.orderly c.requires.orderly).covered in
+          let more = all.first.count did.live in
+          ⊎_elim
+          (λ here. not_none it.difat_sectors.items (count_of a) (subst (IsNoneOf ds) (here ∙ covered) (subst (λ l. IsNoneOf l k) (sym all.is_ds) no_ds)))
+          (λ there. let at : k ≡ count_of m = omega (arith, there, covered, more) in not_none it.fat_sectors.items (count_of m) (subst (IsNoneOf fs) at (subst (λ l. IsNoneOf l k) (sym all.is_fs) no_fs)))
+          (behind_two it.fat.items c.push_reserved-4.new.self.items free free k (sym all.is_fat) past is));
+      orderly = λ now. order;
+      listed = λ live honest.
+          let mid = subst IsTrue h.appends.honest honest in
+          let was = subst IsTrue all.first.honest mid in
+          let old = it.orderly c.requires.orderly in
+          let had = (it.listed c.requires.live was).0 c.requires.orderly in
+          let linked = subst (λ l. AreOnce l → (xs : List ℕ) → Lists (version_of a) (bytes_of a) l xs → Lists (version_of a) (bytes_of m) (l ++ count_of a ∷ []) xs) (c.deref.ensures.value ∙ c.in_ok-reserve.ensures.items) (did.listed did.live was) in
+          let named = subst (λ l. AreOnce l → (xs : List ℕ) → length xs ≡ c.len.result → Lists (version_of m) (bytes_of m) l xs → Lists (version_of m) (bytes_of b) l (xs ++ count_of m ∷ [])) (c.deref-2.ensures.value ∙ sym all.is_ds) (then.listed live mid) in (
+            λ now. (
+              order,
+              ∥∥₁_map had.1 (λ listed.
+                  subst (λ l. Lists (version_of b) (bytes_of b) l new_fs) all.is_ds (subst (λ l. Lists (version_of b) (bytes_of b) ds l) all.is_fs (subst (λ v. Lists v (bytes_of b) ds fs) (sym h.appends.version)
+                  (named (once_front ds it.fat_sectors.items h.once) it.fat_sectors.items (omega (arith, c.len.ensures, c.in_ok-reserve-2.ensures.len, it.fat_sectors.ok.0))
+                  (subst (λ v. Lists v (bytes_of m) ds it.fat_sectors.items) (sym all.first.version) (linked (once_front it.difat_sectors.items it.fat_sectors.items old.once) it.fat_sectors.items listed)))))),
+            ),
+            λ has. refl,
+          );
+    }
+
+pub returns-clause-grows : goal.returns-clause-grows
+returns-clause-grows g c =
+    let it = c.args.self.now in
+    let a = it.sectors in
+    let m = c.add_difat_sector.new.sectors in
+    let v = version_of a in
+    let did = c.in_ok-difat_sector.ensures in
+    let then = c.in_ok-fat_sector.ensures in
+    let ds = it.difat_sectors.items in
+    let fs = it.fat_sectors.items in
+    let is_ds : ds ++ count_of a ∷ [] ≡ c.push_reserved.new.self.items = sym (c.push_reserved.ensures.items ∙ ap (λ l. l ++ c.in_ok-difat_sector.difat_sector ∷ []) c.in_ok-reserve.ensures.items ∙ ap (λ n. ds ++ n ∷ []) did.number) in
+    let is_fs : fs ++ count_of m ∷ [] ≡ c.push_reserved-2.new.self.items = sym (c.push_reserved-2.ensures.items ∙ ap (λ l. l ++ c.in_ok-fat_sector.fat_sector ∷ []) c.in_ok-reserve-2.ensures.items ∙ ap (λ n. fs ++ n ∷ []) then.number) in
+    let is_fat : c.push_reserved-4.new.self.items ≡ it.fat.items ++ free ∷ free ∷ [] = c.push_reserved-4.ensures.items ∙ ap (λ l. l ++ free ∷ []) (c.push_reserved-3.ensures.items ∙ ap (λ l. l ++ free ∷ []) c.in_ok-reserve-3.ensures.items) ∙ append_assoc it.fat.items (free ∷ []) (free ∷ []) in
+    let first = subst (λ l. Appends (IsBesideDifat a l) a m) (c.deref.ensures.value ∙ c.in_ok-reserve.ensures.items) did.appends in
+    let second = subst (λ l. Appends (IsBesideDifat m l) m c.add_fat_sector.new.sectors) (c.deref-2.ensures.value ∙ sym is_ds) then.appends in
+    let more = first.count did.live in
+    let later : (p : ℕ) → p ≤ sector_start v (count_of a) → p ≤ sector_start v (count_of m) = λ p fits. start_later v (count_of a) (count_of m) p (omega (arith, more)) fits in
+    record {
+      honest = second.honest ∙ first.honest;
+      continues = λ start from. second.continues start (first.continues start from);
+      version = second.version ∙ first.version;
+      live = λ live. c.requires.live;
+      count = λ live. let most = second.count live in omega (arith, more, most);
+      orderly = λ live. sym c.requires.orderly;
+      fat = λ live. stays_in_front [] it.fat.items (free ∷ free ∷ []) c.push_reserved-4.new.self.items is_fat;
+      tables = λ live p n fits apart.
+          subst (λ l. IsBeside v (l ++ c.push_reserved-2.new.self.items) p n) is_ds (subst (λ l. IsBeside v ((ds ++ count_of a ∷ []) ++ l) p n) is_fs
+          (beside_both v (ds ++ count_of a ∷ []) (fs ++ count_of m ∷ []) p n
+          (beside_more v ds p n (count_of a) (count_of a) (beside_first v ds fs p n apart) fits (omega arith))
+          (beside_more v fs p n (count_of m) (count_of a) (beside_second v ds fs p n apart) fits (omega (arith, more)))));
+      still = λ live n. ((λ none. none_first ds (count_of a ∷ []) n (subst (λ l. IsNoneOf l n) (sym is_ds) none)), (λ none. none_first fs (count_of m ∷ []) n (subst (λ l. IsNoneOf l n) (sym is_fs) none)));
+      longer = λ live honest. let one = first.longer did.live honest in let two = second.longer live (subst IsTrue (sym first.honest) honest) in omega (arith, one, two);
+      told = λ live honest any.
+          let size = ap length is_fs in
+          let long = length-append fs (count_of m ∷ []) in
+          let same : c.len.result + 1 ≡ length c.push_reserved-2.new.self.items = omega (arith, size, long, c.len.ensures, c.in_ok-reserve-2.ensures.len, it.fat_sectors.ok.0) in
+          let told = then.told live (subst IsTrue (sym first.honest) honest) in
+          record { difat_count = told.1 ∙ ap length c.deref-2.ensures.value; fat_count = told.0 ∙ same };
+      beside = λ live honest p n fits apart words taken.
+          let beside_ds = beside_more v ds p n (count_of a) (count_of a) (beside_first v ds fs p n apart) fits (omega arith) in
+          second.before live (subst IsTrue (sym first.honest) honest) p n (subst (λ u. p + n ≤ sector_start u (count_of m)) (sym first.version) (later (p + n) fits)) (subst (λ u. IsBeside u (ds ++ count_of a ∷ []) p n) (sym first.version) beside_ds, words)
+          ∙ first.before did.live honest p n fits (beside_first v ds fs p n apart, words);
+    }

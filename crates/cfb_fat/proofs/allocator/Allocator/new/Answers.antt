@@ -1,0 +1,39 @@
+use Rattle.std.proofs.Common.{arith, ◌*◌, ◌/◌, ◌<◌, ◌≤◌, ◌↔◌, ℕ, length, take, ap, sym, subst, ◌∙◌, IsTrue}
+use Rattle.std.specs.Prelude.{slice_index}
+use Rattle.cfb_medium.specs.Versions.{sector_len}
+use Rattle.cfb_sectors.specs.Held.{bytes_of, count_of, version_of}
+use Rattle.cfb_sectors.specs.Sectors.{fat_in}
+use Rattle.cfb_fat.specs.Listed.{Lists}
+use Rattle.cfb_fat.specs.Orderly.{IsOrderly}
+use Rattle.cfb_fat.proofs.Listing.{listed_still_read, order_after}
+use Rattle.cfb_fat.proofs.allocator.Allocator.new.Goals as goal
+
+pub invariant_of-result : goal.invariant_of-result
+invariant_of-result g c =
+    let it = c.args.sectors in
+    let now = c.read_parts.new.sectors in
+    let did = c.in-Ok.ensures in
+    let rests = did.rests in
+    let fat = c.in-Ok.fat.items in
+    let is = c.in-Ok.is_orderly in
+    let has_fs = c.deref-2.ensures.value in
+    let has_ds = c.deref.ensures.value in
+    let fs = c.deref-2.result.now in
+    let ds = c.deref.result.now in
+    record {
+      same = λ live honest.
+          let was = subst IsTrue rests.honest honest in
+          did.read was ∙ ap (λ l. take (count_of it) (fat_in (version_of it) (bytes_of it) l)) has_fs ∙ ap (λ n. take n (fat_in (version_of it) (bytes_of it) c.args.fat_sectors.items)) (sym rests.count)
+          ∙ ap (λ v. take (count_of now) (fat_in v (bytes_of it) c.args.fat_sectors.items)) (sym rests.version) ∙ ap (λ b. take (count_of now) (fat_in (version_of now) b c.args.fat_sectors.items)) (sym (rests.bytes was));
+      there = λ live. subst (λ l. (k : ℕ) → k < length l → slice_index l k < count_of now) has_fs (λ k inside. subst (λ n. slice_index fs k < n) (sym rests.count) (did.below k inside));
+      inside = λ live. subst (λ n. length fat ≤ n) (sym rests.count) did.inside;
+      whole = subst (λ l. length fat ≤ length l * (sector_len (version_of now) / 4)) has_fs (subst (λ v. length fat ≤ length fs * (sector_len v / 4)) (sym rests.version) did.whole);
+      packed = λ k below. absurd (omega (arith, below));
+      orderly = λ holds. subst (λ l. IsOrderly (version_of now) (count_of now) fat l c.args.difat_sectors.items) has_fs
+          (subst (λ l. IsOrderly (version_of now) (count_of now) fat fs l) has_ds (order_after it now fat fs ds rests (did.orderly holds)));
+      listed = λ live honest.
+          let was = subst IsTrue rests.honest honest in
+          subst (λ l. IsTrue is ↔ (IsOrderly (version_of now) (count_of now) fat l c.args.difat_sectors.items × ∥ Lists (version_of now) (bytes_of now) c.args.difat_sectors.items l ∥₁)) has_fs
+          (subst (λ l. IsTrue is ↔ (IsOrderly (version_of now) (count_of now) fat fs l × ∥ Lists (version_of now) (bytes_of now) l fs ∥₁)) has_ds
+          (listed_still_read it now is fat fs ds rests was (did.listed (sym rests.failed ∙ live) was)));
+    }

@@ -1,0 +1,66 @@
+use Rattle.std.proofs.Common.{◌≡◌, ◌*◌, ◌/◌, ◌<◌, ◌≤◌, length, refl, ap, sym, arith, subst, IsTrue}
+use Rattle.std.specs.Prelude.{slice_index}
+use Rattle.std.proofs.Math.ListN.{set}
+use Rattle.std.proofs.lemmas.List.{get_or_read, length-set}
+use mathlib.Core.Logic.{∥∥₁_map}
+use Rattle.std.specs.Int.{w32, to_le_bytes}
+use Rattle.cfb_sectors.specs.Held.{bytes_of}
+use Rattle.cfb_fat.proofs.ListedStays.{entry_aside, listed_still, longer_over, told_in}
+use Rattle.cfb_fat.proofs.Listing.{header_whole}
+use Rattle.cfb_fat.proofs.Entering.{differ_at, entered, index_in, order_stays, others_stay}
+use Rattle.cfb_fat.proofs.FatEntries.{per}
+use Rattle.cfb_fat.proofs.Packed.{packed_set}
+use Rattle.cfb_fat.proofs.allocator.Allocator.set_entry.Goals as goal
+
+pub invariant_of-self-2 : goal.invariant_of-self-2
+invariant_of-self-2 g c =
+    let it = c.args.self.now in
+    let fs = it.fat_sectors.items in
+    let did = c.in_ok-write_number.ensures in
+    let each : c.sector_len-each.result / 4 ≡ per it.sectors.version = ap (λ n. n / 4) c.sector_len-each.ensures in
+    let below = index_in it.sectors.version it.fat.items fs c.args.sector_id _ each c.requires.there it.whole in
+    let size = length-set it.fat.items c.args.sector_id c.args.entry in
+    record {
+      same = λ live honest. entered it.sectors.version c.write_number.new.sectors.version _ _ fs it.difat_sectors.items it.fat.items _ _ c.args.sector_id c.args.entry _ _
+          did.changes.version did.count each (get_or_read fs _ _ below c.index-holder.ensures 0) (did.changes.bytes live (subst IsTrue did.changes.honest honest)) (it.orderly c.requires.orderly).once
+          c.requires.there (it.inside (did.changes.live live)) it.whole c.ranges.entry.fits (it.same (did.changes.live live) (subst IsTrue did.changes.honest honest));
+      there = λ live k inside. subst (λ n. slice_index fs k < n) (sym did.count) (it.there (did.changes.live live) k inside);
+      inside = λ live. let most = it.inside (did.changes.live live) in omega (arith, size, did.count, most);
+      whole = subst (λ v. length (set it.fat.items c.args.sector_id c.args.entry) ≤ length fs * per v) (sym did.changes.version) (omega (arith, size, it.whole));
+      packed = packed_set it.fat.items it.difat_sectors.items fs it.first_free _ c.args.sector_id c.args.entry it.packed c.first_free_after-self.ensures.before c.first_free_after-self.ensures.freed c.requires.there;
+      orderly = λ now. order_stays _ _ _ _ it.fat.items _ fs it.difat_sectors.items did.changes.version did.count size (it.orderly now);
+      listed = λ live honest.
+          let was = subst IsTrue did.changes.honest honest in
+          let order = it.orderly c.requires.orderly in
+          let had = (it.listed (did.changes.live live) was).0 c.requires.orderly in
+          let aside = entry_aside it.sectors.version it.difat_sectors.items fs (to_le_bytes w32 c.args.entry) c.args.sector_id _ _ refl each below (get_or_read fs _ _ below c.index-holder.ensures 0) order.once in
+          let both = listed_still it.sectors.version c.write_number.new.sectors.version (bytes_of it.sectors) (bytes_of c.write_number.new.sectors) (to_le_bytes w32 c.args.entry) it.difat_sectors.items fs _ it.sectors.num_sectors c.write_number.new.sectors.num_sectors
+          did.changes.version did.count (did.changes.bytes live was) (it.sectors.counted (did.changes.live live) was) (c.write_number.new.sectors.counted live honest) order.some aside.0 aside.1 in (
+            λ now. (order_stays _ _ _ _ it.fat.items _ fs it.difat_sectors.items did.changes.version did.count size order, ∥∥₁_map had.1 both.0),
+            λ has. c.requires.orderly,
+          );
+    }
+
+pub returns-clause-changes : goal.returns-clause-changes
+returns-clause-changes g c =
+    let it = c.args.self.now in
+    let fs = it.fat_sectors.items in
+    let did = c.in_ok-write_number.ensures in
+    let each : c.sector_len-each.result / 4 ≡ per it.sectors.version = ap (λ n. n / 4) c.sector_len-each.ensures in
+    let below = index_in it.sectors.version it.fat.items fs c.args.sector_id _ each c.requires.there it.whole in
+    record {
+      honest = did.changes.honest;
+      continues = did.changes.continues;
+      version = did.changes.version;
+      count = did.count;
+      fat_sectors = refl;
+      difat_sectors = refl;
+      orderly = refl;
+      live = did.changes.live;
+      fat = λ live. differ_at it.fat.items c.args.sector_id c.args.entry;
+      longer = λ live honest. longer_over (bytes_of it.sectors) (bytes_of c.write_number.new.sectors) (to_le_bytes w32 c.args.entry) _ (did.changes.bytes live honest);
+      told = λ live honest. let order = it.orderly c.requires.orderly in
+          told_in it.sectors.version (bytes_of it.sectors) (bytes_of c.write_number.new.sectors) (to_le_bytes w32 c.args.entry) it.difat_sectors.items fs _ _ (did.changes.bytes live honest)
+          (header_whole it.sectors.version (bytes_of it.sectors) it.sectors.num_sectors (it.sectors.counted (did.changes.live live) honest) order.some);
+      beside = λ live honest. others_stay it.sectors.version _ _ fs c.args.sector_id c.args.entry _ _ each (get_or_read fs _ _ below c.index-holder.ensures 0) below (did.changes.bytes live honest);
+    }

@@ -1,0 +1,43 @@
+-- What a change of the FAT leaves, and what a write beside it.
+use Rattle.std.specs.Prelude.{◌≡◌, ℕ, ◌≤◌, false, List, length, IsTrue}
+use Rattle.cfb_medium.specs.Calls.{Extends}
+use Rattle.cfb_medium.specs.declared.medium.ReadMedium.{Ghosts}
+use Rattle.cfb_sectors.specs.Held.{count_of, EndsIn, Writes}
+use Rattle.cfb_sectors.specs.Sectors.{filled_part}
+use Rattle.cfb_fat.specs.declared.allocator.Allocator.{Allocator}
+use Rattle.cfb_chains.specs.Changes.{DifferAt, IsBeside}
+use Rattle.cfb_fat.specs.Orderly.{IsBesideWords}
+use Rattle.cfb_fat.specs.Tables.{bytes_of, difat_sectors_of, fat_of, fat_sectors_of, has_failed_here, is_honest, medium_of, orderly_of, sectors_of, version_of, IsTold}
+
+module _ {F : Type 0} {g : Ghosts F} where
+  -- where it has not failed at most these entries of the FAT are changed, and all that lies beside the FAT's sectors is as
+  -- it was; nothing was published
+  pub record ChangesFat (entries : List ℕ) (old new : Allocator F g) : Type 0 where
+    pub honest : g.honest (medium_of new) ≡ g.honest (medium_of old)
+    pub continues : Extends g.continues (medium_of old) (medium_of new)
+    pub version : version_of new ≡ version_of old
+    pub count : count_of (sectors_of new) ≡ count_of (sectors_of old)
+    pub fat_sectors : fat_sectors_of new ≡ fat_sectors_of old
+    pub difat_sectors : difat_sectors_of new ≡ difat_sectors_of old
+    pub orderly : orderly_of new ≡ orderly_of old
+    pub live : has_failed_here new ≡ false → has_failed_here old ≡ false
+    pub fat : has_failed_here new ≡ false → DifferAt entries (fat_of old) (fat_of new)
+    pub longer : has_failed_here new ≡ false → IsTrue (is_honest old) → length (bytes_of old) ≤ length (bytes_of new)
+    pub told : has_failed_here new ≡ false → IsTrue (is_honest old) → IsTold old → IsTold new
+    pub beside : has_failed_here new ≡ false → IsTrue (is_honest old) → (place count : ℕ) → IsBeside (version_of old) (fat_sectors_of old) place count
+        → filled_part (bytes_of new) place count ≡ filled_part (bytes_of old) place count
+
+  -- so many bytes from this place of the file on may be written: they end in its sectors, and none is one of the tables
+  pub record MayWrite (it : Allocator F g) (place count : ℕ) : Type 0 where
+    pub ends : EndsIn (sectors_of it) place count
+    pub fat : IsBeside (version_of it) (fat_sectors_of it) place count
+    pub difat : IsBeside (version_of it) (difat_sectors_of it) place count
+    pub words : IsBesideWords place count
+
+  -- these bytes were written at this place, and the tables stay
+  pub record WritesBeside (place : ℕ) (bytes : List ℕ) (old new : Allocator F g) : Type 0 where
+    pub sectors : Writes place bytes (sectors_of old) (sectors_of new)
+    pub fat : fat_of new ≡ fat_of old
+    pub fat_sectors : fat_sectors_of new ≡ fat_sectors_of old
+    pub difat_sectors : difat_sectors_of new ≡ difat_sectors_of old
+    pub orderly : orderly_of new ≡ orderly_of old

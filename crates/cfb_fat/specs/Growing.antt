@@ -1,0 +1,72 @@
+-- What growing calls do: a sector is appended, or taken from the free ones, and tables become longer.
+use Rattle.std.specs.Prelude.{◌≡◌, ℕ, ◌+◌, ◌<◌, ◌≤◌, ◌⊎◌, false, List, length, nat_eq, IsTrue}
+use Rattle.std.specs.List.{count_by, AllByRecursion}
+use Rattle.cfb_medium.specs.Calls.{Extends}
+use Rattle.cfb_medium.specs.declared.medium.ReadMedium.{Ghosts}
+use Rattle.cfb_sectors.specs.Held as held
+use Rattle.cfb_sectors.specs.Sectors.{filled_part, free, greatest_regular, sector_start}
+use Rattle.cfb_sectors.specs.declared.sectors.Sectors.{Sectors}
+use Rattle.cfb_fat.specs.declared.allocator.Allocator.{Allocator}
+use Rattle.cfb_chains.specs.Behind.{AreWhole, IsMarkedBehind}
+use Rattle.cfb_chains.specs.Changes.{IsBeside, IsFreeIn, IsNoneOf, StayBut}
+use Rattle.cfb_fat.specs.Orderly.{IsBesideWords}
+use Rattle.cfb_fat.specs.Tables.{bytes_of, difat_sectors_of, fat_of, fat_sectors_of, has_failed_here, is_honest, medium_of, orderly_of, sectors_of, tables_of, version_of, IsTold}
+
+module _ {F : Type 0} {g : Ghosts F} where
+  -- where it has not failed one sector was appended, and what lies before it stays but where this says so; nothing was published
+  pub record Appends (stays : ℕ → ℕ → Type 0) (old new : Sectors F g) : Type 0 where
+    pub honest : g.honest (held.medium_of new) ≡ g.honest (held.medium_of old)
+    pub continues : Extends g.continues (held.medium_of old) (held.medium_of new)
+    pub version : held.version_of new ≡ held.version_of old
+    pub live : held.has_failed_here new ≡ false → held.has_failed_here old ≡ false
+    pub count : held.has_failed_here new ≡ false → held.count_of new ≡ held.count_of old + 1
+    pub longer : held.has_failed_here new ≡ false → held.IsHonest old → length (held.bytes_of old) ≤ length (held.bytes_of new)
+    pub before : held.has_failed_here new ≡ false → held.IsHonest old → (place count : ℕ) → place + count ≤ sector_start (held.version_of old) (held.count_of old) → stays place count
+        → filled_part (held.bytes_of new) place count ≡ filled_part (held.bytes_of old) place count
+
+  -- the part has no byte of the DIFAT's sectors, and none of what the header says of the tables
+  abbrev pub IsBesideDifat : Sectors F g → List ℕ → ℕ → ℕ → Type 0
+  IsBesideDifat it difat_sectors place count = IsBeside (held.version_of it) difat_sectors place count × IsBesideWords place count
+
+  -- where it has not failed at most these entries of the old FAT are changed, and of the old sectors' bytes at most those of
+  -- tables and of these sectors that were taken; tables and file may have become longer, behind the old sectors, and then the
+  -- header's numbers of the tables' sectors are right; nothing was published
+  pub record GrowsFat (taken entries : List ℕ) (old new : Allocator F g) : Type 0 where
+    pub honest : g.honest (medium_of new) ≡ g.honest (medium_of old)
+    pub continues : Extends g.continues (medium_of old) (medium_of new)
+    pub version : version_of new ≡ version_of old
+    pub live : has_failed_here new ≡ false → has_failed_here old ≡ false
+    pub count : has_failed_here new ≡ false → held.count_of (sectors_of old) ≤ held.count_of (sectors_of new)
+    pub orderly : has_failed_here new ≡ false → orderly_of new ≡ orderly_of old
+    pub fat : has_failed_here new ≡ false → StayBut entries (fat_of old) (fat_of new)
+    pub tables : has_failed_here new ≡ false → (place count : ℕ) → place + count ≤ sector_start (version_of old) (held.count_of (sectors_of old)) → IsBeside (version_of old) (tables_of old) place count → IsBeside (version_of old) (tables_of new) place count
+    pub still : has_failed_here new ≡ false → (n : ℕ) → (IsNoneOf (difat_sectors_of new) n → IsNoneOf (difat_sectors_of old) n) × (IsNoneOf (fat_sectors_of new) n → IsNoneOf (fat_sectors_of old) n)
+    pub longer : has_failed_here new ≡ false → IsTrue (is_honest old) → length (bytes_of old) ≤ length (bytes_of new)
+    pub told : has_failed_here new ≡ false → IsTrue (is_honest old) → IsTold old ⊎ (length (tables_of old) < length (tables_of new)) → IsTold new
+    pub beside : has_failed_here new ≡ false → IsTrue (is_honest old) → (place count : ℕ) → place + count ≤ sector_start (version_of old) (held.count_of (sectors_of old))
+        → IsBeside (version_of old) (tables_of old) place count → IsBesideWords place count → IsBeside (version_of old) taken place count
+        → filled_part (bytes_of new) place count ≡ filled_part (bytes_of old) place count
+
+  -- behind the old FAT's end stand these sectors, entries that were set, and the tables' own sectors with their marks
+  abbrev pub MarksBehind : List ℕ → List ℕ → Allocator F g → Allocator F g → Type 0
+  MarksBehind taken entries old new = IsMarkedBehind (difat_sectors_of new) (fat_sectors_of new) taken entries (fat_of old) (fat_of new)
+
+  -- the file has these sectors with all their bytes
+  abbrev pub HasWhole : List ℕ → Allocator F g → Type 0
+  HasWhole taken it = AreWhole (version_of it) (bytes_of it) taken
+
+  -- so it is, and these sectors, which were in no use, were taken into use; none came out of use
+  pub record TakesIn (taken entries : List ℕ) (old new : Allocator F g) : Type 0 where
+    pub grows : GrowsFat taken entries old new
+    pub free : has_failed_here new ≡ false → AllByRecursion (IsFreeIn (fat_of old)) taken
+    pub used : has_failed_here new ≡ false → (n : ℕ) → IsFreeIn (fat_of new) n → IsFreeIn (fat_of old) n
+    pub behind : has_failed_here new ≡ false → MarksBehind taken entries old new
+    pub whole : has_failed_here new ≡ false → IsTrue (is_honest old) → HasWhole taken new
+
+  -- fewer numbers of sectors are left than this: those of "free" entries, and those behind the FAT
+  abbrev pub LacksNumbers : Allocator F g → ℕ → Type 0
+  LacksNumbers it count = greatest_regular + 1 + count_by (λ entry. nat_eq entry free) (fat_of it) < length (fat_of it) + count
+
+  -- no number of a sector is left
+  abbrev pub IsFull : Allocator F g → Type 0
+  IsFull it = greatest_regular < length (fat_of it)

@@ -1,0 +1,9 @@
+pub mod Changing
+pub mod Growing
+pub mod HeaderWords
+pub mod Keeping
+pub mod Listed
+pub mod Orderly
+pub mod Resting
+pub mod Seeing
+pub mod Tables

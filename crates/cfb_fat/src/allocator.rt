@@ -1,0 +1,232 @@
+//! The FAT in memory, over the sectors that hold it.
+ghost use Rattle.cfb_medium.specs.Calls.{Extends, IsFaultUnless};
+ghost use Rattle.cfb_medium.specs.Versions.{sector_len};
+ghost use Rattle.cfb_medium.specs.declared.error.Error.TheVariants.{Failed, InvalidData, Memory};
+ghost use Rattle.cfb_chains.specs.Changes.{IsNoneOf};
+ghost use Rattle.cfb_fat.specs.Listed.{Lists};
+ghost use Rattle.cfb_fat.specs.Orderly.{AreBelow, IsOrderly};
+ghost use Rattle.cfb_sectors.specs.Held.{bytes_of as sectors_bytes, count_of as sectors_count, has_failed_here as sectors_failed, medium_of as sectors_medium, version_of as sectors_version, AreCounted, IsHonest as AreHonest, IsRefused, Rests};
+ghost use Rattle.cfb_sectors.specs.Sectors.{fat_in, free, Chain as IsChain};
+ghost use Rattle.std.specs.Prelude.{false, length, slice_get, slice_index, take, true, IfErr, IfOk, IsErrOf, IsTrue, List, None, OnErr, OnOk, Some, ℕ, ◌*◌, ◌++◌, ◌/◌, ◌<◌, ◌≡◌, ◌≤◌, ◌↔◌, ◌⊎◌};
+
+use crate::fat::{both, read_parts};
+use cfb_chains::{Links, chain_in};
+use cfb_medium::{Error, Medium, ReadMedium, Version};
+use cfb_sectors::{HasSectors, Sectors};
+use std::alloc::Global;
+
+/// The FAT in memory, over the sectors that hold it. What it keeps is true where the medium is honest and no write failed.
+#[derive(Drop)]
+pub struct Allocator<F: ReadMedium> {
+    pub(crate) alloc: Global,
+    pub(crate) sectors: Sectors<F>,
+    pub(crate) difat_sectors: Vec<u32>,
+    pub(crate) fat_sectors: Vec<u32>,
+    pub(crate) fat: Vec<u32>,
+    pub(crate) is_orderly: bool,
+    // No sector below this number can be taken into use.
+    pub(crate) first_free: usize,
+    ghost same: { sectors_failed sectors ≡ false → AreHonest sectors → fat.items ≡ take (sectors_count sectors) (fat_in (sectors_version sectors) (sectors_bytes sectors) fat_sectors.items) },
+    ghost there: { sectors_failed sectors ≡ false → AreBelow (sectors_count sectors) fat_sectors.items },
+    ghost inside: { sectors_failed sectors ≡ false → length fat.items ≤ sectors_count sectors },
+    ghost whole: { length fat.items ≤ length fat_sectors.items * (sector_len (sectors_version sectors) / 4) },
+    ghost orderly: { IsTrue is_orderly → IsOrderly (sectors_version sectors) (sectors_count sectors) fat.items fat_sectors.items difat_sectors.items },
+    ghost packed: { (k : ℕ) → k < first_free → slice_index fat.items k ≡ free → IsNoneOf difat_sectors.items k → IsNoneOf fat_sectors.items k → ⊥ },
+    ghost listed: { sectors_failed sectors ≡ false → AreHonest sectors → IsTrue is_orderly
+        ↔ (IsOrderly (sectors_version sectors) (sectors_count sectors) fat.items fat_sectors.items difat_sectors.items × ∥ Lists (sectors_version sectors) (sectors_bytes sectors) difat_sectors.items fat_sectors.items ∥₁) },
+}
+
+impl<F: ReadMedium> Allocator<F> {
+    ghost use Rattle.cfb_fat.specs.Tables.{bytes_of, difat_sectors_of, fat_of, fat_sectors_of, has_failed_here, is_honest, medium_of, orderly_of, sectors_of, version_of, AllFails, AllRests, HasCauseBelow};
+    ghost use Rattle.cfb_chains.specs.LinkViews.{ids_of, links_version};
+
+    /// Reads the FAT from its sectors, which the DIFAT names; entries for sectors past the file's end are left out.
+    /// `InvalidData` where one of its sectors isn't there. A refusal gives the medium back.
+    pub fn new(
+        alloc: Global,
+        mut sectors: Sectors<F>,
+        difat_sectors: Vec<u32>,
+        fat_sectors: Vec<u32>,
+    ) -> Result<Allocator<F>, (F, Error)>
+        ensures sectors { IfOk result (λ it. Rests sectors (sectors_of it)) }
+        ensures tables { IfOk result (λ it. (difat_sectors_of it ≡ difat_sectors.items) × (fat_sectors_of it ≡ fat_sectors.items)) }
+        ensures fat { IfOk result (λ it. AreHonest sectors → fat_of it ≡ take (sectors_count sectors) (fat_in (sectors_version sectors) (sectors_bytes sectors) fat_sectors.items)) }
+        ensures there { IfOk result (λ _. AreCounted sectors fat_sectors.items) }
+        ensures missing { IfErr result (λ e. e.1 ≡ InvalidData → AreCounted sectors fat_sectors.items → ⊥) }
+        ensures fault { IfErr result (λ e. IsFaultUnless ⊥ e.1 ⊎ (e.1 ≡ InvalidData)) }
+        ensures honest { IfErr result (λ e. F.honest e.0 ≡ F.honest (sectors_medium sectors)) }
+        ensures continues { IfErr result (λ e. Extends F.continues (sectors_medium sectors) e.0) }
+        ensures bytes { IfErr result (λ e. AreHonest sectors → F.bytes e.0 ≡ sectors_bytes sectors) }
+    {
+        match read_parts(alloc, &mut sectors, &difat_sectors, &fat_sectors) {
+            Ok((fat, is_orderly)) => Ok(Allocator {
+                alloc,
+                sectors,
+                difat_sectors,
+                fat_sectors,
+                fat,
+                is_orderly,
+                first_free: 0,
+            }),
+            Err(error) => Err((sectors.into_inner(), error)),
+        }
+    }
+
+    /// The version.
+    pub fn version(&self) -> Version
+        ensures { result ≡ version_of self.now }
+    {
+        self.sectors.version()
+    }
+
+    /// A sector's bytes.
+    pub fn sector_len(&self) -> usize
+        ensures { result ≡ sector_len (version_of self.now) }
+    {
+        self.sectors.sector_len()
+    }
+
+    /// The medium.
+    pub fn inner(&self) -> &F
+        ensures { result.now ≡ medium_of self.now }
+    {
+        self.sectors.inner()
+    }
+
+    /// The medium, without the FAT.
+    pub fn into_inner(self) -> F
+        ensures { result ≡ medium_of self }
+    {
+        let Allocator {
+            alloc: _,
+            sectors,
+            difat_sectors: _,
+            fat_sectors: _,
+            fat: _,
+            is_orderly: _,
+            first_free: _,
+        } = self;
+        sectors.into_inner()
+    }
+
+    /// The sectors behind the header's. Their numbers begin at 0.
+    pub fn num_sectors(&self) -> u32
+        ensures { result ≡ sectors_count (sectors_of self.now) }
+    {
+        self.sectors.num_sectors()
+    }
+
+    /// The sectors of the DIFAT, in the order of its chain.
+    pub fn difat_sectors(&self) -> &[u32]
+        ensures { result.now ≡ difat_sectors_of self.now }
+    {
+        &self.difat_sectors
+    }
+
+    /// The sectors of the FAT, in the order of the DIFAT.
+    pub fn fat_sectors(&self) -> &[u32]
+        ensures { result.now ≡ fat_sectors_of self.now }
+    {
+        &self.fat_sectors
+    }
+
+    /// The sectors of the DIFAT and then those of the FAT.
+    pub fn table_sectors(&self) -> Result<Vec<u32>, Error>
+        ensures all { IfOk result (λ all. all.items ≡ difat_sectors_of self.now ++ fat_sectors_of self.now) }
+        ensures failed { has_failed_here self.now ≡ true → IsErrOf result Failed }
+        ensures error { IfErr result (λ e. ((e ≡ Failed) × (has_failed_here self.now ≡ true)) ⊎ (e ≡ Memory)) }
+    {
+        if self.sectors.is_failed() {
+            return Err(Error::Failed);
+        }
+        Ok(both(self.alloc, &self.difat_sectors, &self.fat_sectors)?)
+    }
+
+    /// Leaves it in a state in which every call is refused, as a fault in a write does: for a layer above, where what it
+    /// changes by several calls has come half way.
+    pub fn fail(&mut self)
+        ensures { AllFails self.old self.new }
+    {
+        self.sectors.fail();
+    }
+
+    /// Whether its tables can be changed: no sector holds two parts of them, the FAT has an entry for each sector, and the
+    /// DIFAT has these sectors, and no others. The header's numbers of the tables' sectors aren't asked.
+    pub fn is_orderly(&self) -> bool
+        ensures value { result ≡ orderly_of self.now }
+        ensures orderly { IsTrue result → IsOrderly (version_of self.now) (sectors_count (sectors_of self.now)) (fat_of self.now) (fat_sectors_of self.now) (difat_sectors_of self.now) }
+        ensures listed { has_failed_here self.now ≡ false → IsTrue (is_honest self.now) → IsTrue result
+            ↔ (IsOrderly (version_of self.now) (sectors_count (sectors_of self.now)) (fat_of self.now) (fat_sectors_of self.now) (difat_sectors_of self.now) × ∥ Lists (version_of self.now) (bytes_of self.now) (difat_sectors_of self.now) (fat_sectors_of self.now) ∥₁) }
+    {
+        self.is_orderly
+    }
+
+    /// The FAT's entry for a sector. `InvalidData` where it has none.
+    pub fn next(&self, sector_id: u32) -> Result<u32, Error>
+        ensures entry { IfOk result (λ n. (has_failed_here self.now ≡ false) × (slice_get (fat_of self.now) sector_id ≡ Some n)) }
+        ensures error { IfErr result (IsRefused (has_failed_here self.now) (sector_id < length (fat_of self.now))) }
+    {
+        if self.sectors.is_failed() {
+            return Err(Error::Failed);
+        }
+        match self.fat.get(sector_id as usize) {
+            Some(next) => Ok(*next),
+            None => Err(Error::InvalidData),
+        }
+    }
+
+    /// The sectors of the chain from a start in the FAT. `InvalidData` where there is none.
+    pub fn open_chain(&self, start: u32) -> Result<Links, Error>
+        ensures chain { IfOk result (λ links. IsChain (fat_of self.now) start (ids_of links)) }
+        ensures version { IfOk result (λ links. links_version links ≡ version_of self.now) }
+        ensures live { OnOk result (has_failed_here self.now ≡ false) }
+        ensures failed { has_failed_here self.now ≡ true → IsErrOf result Failed }
+        ensures none { IsErrOf result InvalidData → (sectors : List ℕ) → IsChain (fat_of self.now) start sectors → ⊥ }
+        ensures error { IfErr result (λ e. ((e ≡ Failed) × (has_failed_here self.now ≡ true)) ⊎ (e ≡ InvalidData) ⊎ (e ≡ Memory)) }
+    {
+        if self.sectors.is_failed() {
+            return Err(Error::Failed);
+        }
+        let sector_ids = chain_in(self.alloc, &self.fat, start)?;
+        Links::new(self.version(), sector_ids)
+    }
+}
+
+impl<F: Medium> Allocator<F> {
+    ghost use Rattle.cfb_fat.specs.Tables.{bytes_of, difat_sectors_of, fat_of, fat_sectors_of, has_failed, has_failed_here, medium_of, orderly_of, sectors_of, version_of, AllRests, HasCauseBelow};
+
+    /// Whether a fault in a write or a commit has left it, or the medium, in a state in which every call is refused.
+    pub fn has_failed(&self) -> bool
+        ensures { result ≡ has_failed self.now }
+    {
+        self.sectors.has_failed()
+    }
+
+    /// Passes on what the medium keeps back, and publishes nothing.
+    pub fn flush(&mut self) -> Result<(), Error>
+        ensures rests { AllRests self.old self.new }
+        ensures failed { has_failed_here self.old ≡ true → IsErrOf result Failed }
+        ensures cause { IfErr result (HasCauseBelow self.old self.new) }
+        ensures fault { IfErr result (IsFaultUnless ⊥) }
+    {
+        self.sectors.flush()
+    }
+
+    /// Publishes the bytes, by a commit of the medium. After a fault it has failed.
+    pub fn commit(&mut self) -> Result<(), Error>
+        ensures published { AreHonest (sectors_of self.old) → OnOk result (F.has_published (medium_of self.new) (bytes_of self.old)) }
+        ensures bytes { has_failed_here self.new ≡ false → AreHonest (sectors_of self.old) → bytes_of self.new ≡ bytes_of self.old }
+        ensures was_live { has_failed_here self.new ≡ false → has_failed_here self.old ≡ false }
+        ensures honest { F.honest (medium_of self.new) ≡ F.honest (medium_of self.old) }
+        ensures tables { (version_of self.new ≡ version_of self.old) × (fat_of self.new ≡ fat_of self.old) × (fat_sectors_of self.new ≡ fat_sectors_of self.old) × (difat_sectors_of self.new ≡ difat_sectors_of self.old) }
+        ensures stays { (sectors_count (sectors_of self.new) ≡ sectors_count (sectors_of self.old)) × (orderly_of self.new ≡ orderly_of self.old) }
+        ensures live { OnOk result (has_failed_here self.new ≡ false) }
+        ensures err { OnErr result (has_failed_here self.new ≡ true) }
+        ensures failed { has_failed_here self.old ≡ true → IsErrOf result Failed × AllRests self.old self.new }
+        ensures cause { IfErr result (HasCauseBelow self.old self.new) }
+        ensures failures { F.failures (medium_of self.old) ≤ F.failures (medium_of self.new) }
+        ensures fault { IfErr result (IsFaultUnless ⊥) }
+    {
+        self.sectors.commit()
+    }
+}

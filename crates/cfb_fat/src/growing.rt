@@ -1,0 +1,185 @@
+//! Tables that become longer, and the file with them.
+ghost use Rattle.cfb_chains.specs.Changes.{IsNoneOf};
+ghost use Rattle.cfb_fat.specs.Changing.{MayWrite};
+ghost use Rattle.cfb_fat.specs.Growing.{GrowsFat, HasWhole, IsFull, MarksBehind};
+ghost use Rattle.cfb_fat.specs.Orderly.{named_at_most};
+ghost use Rattle.cfb_medium.specs.Calls.{IsFaultUnless};
+ghost use Rattle.cfb_medium.specs.Versions.{sector_len};
+ghost use Rattle.cfb_medium.specs.declared.error.Error.TheVariants.{Full};
+ghost use Rattle.cfb_sectors.specs.Held.{count_of};
+ghost use Rattle.cfb_sectors.specs.Initial.{initial};
+ghost use Rattle.cfb_sectors.specs.Sectors.{end_of_chain, free, greatest_regular, sector, sector_start};
+ghost use Rattle.std.specs.Prelude.{false, length, slice_index, true, IfErr, IfOk, IsErrOf, IsTrue, OnErr, OnOk, [], ℕ, ◌*◌, ◌++◌, ◌+◌, ◌/◌, ◌<◌, ◌∷◌, ◌≡◌, ◌≤◌, ◌⊎◌};
+
+use crate::Allocator;
+use crate::difat::{add_difat_sector, add_fat_sector, append_sector, can_name};
+use crate::fat::{ENTRY_LEN, write_number};
+use cfb_medium::{Error, Medium};
+use cfb_sectors::{
+    DIFAT_SECTOR, END_OF_CHAIN, FAT_SECTOR, FREE_SECTOR, MAX_REGULAR_SECTOR, SectorInit,
+};
+
+impl<F: Medium> Allocator<F> {
+    ghost use Rattle.cfb_fat.specs.Tables.{bytes_of, capacity_of, difat_sectors_of, fat_of, fat_sectors_of, has_failed_here, is_honest, orderly_of, sectors_of, version_of, AllRests, HasCauseBelow};
+
+    // Makes the FAT longer by a sector that the DIFAT has a place for. Its own entry is "free" still. `Memory` with nothing
+    // changed; after a fault in a write it has failed.
+    fn grow_fat(&mut self) -> Result<(), Error>
+        requires live { has_failed_here self.old ≡ false }
+        requires orderly { IsTrue (orderly_of self.old) }
+        requires full { length (fat_of self.old) ≡ length (fat_sectors_of self.old) * (sector_len (version_of self.old) / 4) }
+        requires few { count_of (sectors_of self.old) ≤ greatest_regular }
+        requires room { length (fat_sectors_of self.old) < named_at_most (version_of self.old) (length (difat_sectors_of self.old)) }
+        ensures grows { GrowsFat [] [] self.old self.new }
+        ensures fat { OnOk result (fat_of self.new ≡ fat_of self.old ++ free ∷ []) }
+        ensures tables { OnOk result ((difat_sectors_of self.new ≡ difat_sectors_of self.old) × (fat_sectors_of self.new ≡ fat_sectors_of self.old ++ length (fat_of self.old) ∷ [])) }
+        ensures memory { capacity_of self.old ≤ capacity_of self.new }
+        ensures live { OnOk result (has_failed_here self.new ≡ false) }
+        ensures cause { IfErr result (HasCauseBelow self.old self.new) }
+        ensures fault { IfErr result (λ e. IsFaultUnless ⊥ e × ((has_failed_here self.new ≡ true) ⊎ AllRests self.old self.new)) }
+    {
+        self.fat_sectors.reserve(1)?;
+        self.fat.reserve(1)?;
+        self.is_orderly = false;
+        let sector_id = add_fat_sector(
+            &mut self.sectors,
+            &self.difat_sectors,
+            self.fat_sectors.len(),
+        )?;
+        self.fat_sectors.push_reserved(sector_id);
+        self.fat.push_reserved(FREE_SECTOR);
+        self.is_orderly = true;
+        Ok(())
+    }
+
+    // Makes the DIFAT longer by a sector, and the FAT by one that it names. Their own entries are "free" still. `Memory` with
+    // nothing changed; after a fault in a write it has failed.
+    fn grow_both(&mut self) -> Result<(), Error>
+        requires live { has_failed_here self.old ≡ false }
+        requires orderly { IsTrue (orderly_of self.old) }
+        requires full { length (fat_of self.old) ≡ length (fat_sectors_of self.old) * (sector_len (version_of self.old) / 4) }
+        requires few { count_of (sectors_of self.old) < greatest_regular }
+        requires crowded { named_at_most (version_of self.old) (length (difat_sectors_of self.old)) ≤ length (fat_sectors_of self.old) }
+        ensures grows { GrowsFat [] [] self.old self.new }
+        ensures fat { OnOk result (fat_of self.new ≡ fat_of self.old ++ free ∷ free ∷ []) }
+        ensures tables { OnOk result ((difat_sectors_of self.new ≡ difat_sectors_of self.old ++ length (fat_of self.old) ∷ []) × (fat_sectors_of self.new ≡ fat_sectors_of self.old ++ (length (fat_of self.old) + 1) ∷ [])) }
+        ensures memory { capacity_of self.old ≤ capacity_of self.new }
+        ensures live { OnOk result (has_failed_here self.new ≡ false) }
+        ensures cause { IfErr result (HasCauseBelow self.old self.new) }
+        ensures fault { IfErr result (λ e. IsFaultUnless ⊥ e × ((has_failed_here self.new ≡ true) ⊎ AllRests self.old self.new)) }
+    {
+        self.difat_sectors.reserve(1)?;
+        self.fat_sectors.reserve(1)?;
+        self.fat.reserve(2)?;
+        self.is_orderly = false;
+        let difat_sector = add_difat_sector(&mut self.sectors, &self.difat_sectors)?;
+        self.difat_sectors.push_reserved(difat_sector);
+        let fat_sector = add_fat_sector(
+            &mut self.sectors,
+            &self.difat_sectors,
+            self.fat_sectors.len(),
+        )?;
+        self.fat_sectors.push_reserved(fat_sector);
+        self.fat.push_reserved(FREE_SECTOR);
+        self.fat.push_reserved(FREE_SECTOR);
+        self.is_orderly = true;
+        Ok(())
+    }
+
+    // Makes the tables longer, so that the FAT has a place for a sector more, and marks their new sectors. `Memory` with nothing
+    // changed; after a fault in a write it has failed.
+    fn lengthen(&mut self) -> Result<(), Error>
+        requires live { has_failed_here self.old ≡ false }
+        requires orderly { IsTrue (orderly_of self.old) }
+        requires full { length (fat_of self.old) ≡ length (fat_sectors_of self.old) * (sector_len (version_of self.old) / 4) }
+        requires few { count_of (sectors_of self.old) < greatest_regular }
+        requires memory { length (fat_of self.old) + 3 ≤ capacity_of self.old }
+        ensures grows { GrowsFat [] [] self.old self.new }
+        ensures added { OnOk result (MarksBehind [] [] self.old self.new) }
+        ensures longer { OnOk result (length (fat_of self.new) ≤ length (fat_of self.old) + 2) }
+        ensures memory { capacity_of self.old ≤ capacity_of self.new }
+        ensures room { OnOk result (length (fat_of self.new) < length (fat_sectors_of self.new) * (sector_len (version_of self.new) / 4)) }
+        ensures live { OnOk result (has_failed_here self.new ≡ false) }
+        ensures cause { IfErr result (HasCauseBelow self.old self.new) }
+        ensures fault { IfErr result (λ e. IsFaultUnless ⊥ e × ((has_failed_here self.new ≡ true) ⊎ AllRests self.old self.new)) }
+    {
+        let count = self.num_sectors();
+        if can_name(
+            self.version(),
+            self.difat_sectors.len(),
+            self.fat_sectors.len() + 1,
+        ) {
+            self.grow_fat()?;
+            self.set_entry(count, FAT_SECTOR)?;
+            return Ok(());
+        }
+        self.grow_both()?;
+        self.set_entry(count, DIFAT_SECTOR)?;
+        self.set_entry(count + 1, FAT_SECTOR)?;
+        Ok(())
+    }
+
+    // Leaves the FAT with a place, and memory, for one sector more. `Full` where no number is left, and `Memory`, each with
+    // nothing changed; after a fault in a write it has failed. A FAT that is full ends long before the numbers do, so there
+    // are numbers for its sectors and the DIFAT's.
+    pub(crate) fn make_room(&mut self) -> Result<(), Error>
+        requires live { has_failed_here self.old ≡ false }
+        requires orderly { IsTrue (orderly_of self.old) }
+        ensures grows { GrowsFat [] [] self.old self.new }
+        ensures memory { OnOk result (length (fat_of self.new) < capacity_of self.new) }
+        ensures room { OnOk result (length (fat_of self.new) < length (fat_sectors_of self.new) * (sector_len (version_of self.new) / 4)) }
+        ensures few { OnOk result (length (fat_of self.new) ≤ greatest_regular) }
+        ensures added { OnOk result (MarksBehind [] [] self.old self.new) }
+        ensures live { OnOk result (has_failed_here self.new ≡ false) }
+        ensures full { IsErrOf result Full → IsFull self.old × AllRests self.old self.new }
+        ensures cause { IfErr result (HasCauseBelow self.old self.new) }
+        ensures fault { IfErr result (λ e. (IsFaultUnless ⊥ e × ((has_failed_here self.new ≡ true) ⊎ AllRests self.old self.new)) ⊎ (e ≡ Full)) }
+    {
+        let count = self.num_sectors();
+        if count > MAX_REGULAR_SECTOR {
+            return Err(Error::Full);
+        }
+        self.fat.reserve(3)?;
+        let each = self.sectors.sector_len() / ENTRY_LEN;
+        if self.fat.len() / each < self.fat_sectors.len() {
+            return Ok(());
+        }
+        self.lengthen()?;
+        Ok(())
+    }
+
+    // Appends a sector, for which the FAT has a place and memory, as a chain of its own, where none is free. After a fault in a write it has
+    // failed.
+    pub(crate) fn append(&mut self, init: SectorInit) -> Result<u32, Error>
+        requires live { has_failed_here self.old ≡ false }
+        requires orderly { IsTrue (orderly_of self.old) }
+        requires room { length (fat_of self.old) < length (fat_sectors_of self.old) * (sector_len (version_of self.old) / 4) }
+        requires few { count_of (sectors_of self.old) ≤ greatest_regular }
+        requires memory { length (fat_of self.old) < capacity_of self.old }
+        requires crowded { (k : ℕ) → k < length (fat_of self.old) → slice_index (fat_of self.old) k ≡ free → IsNoneOf (difat_sectors_of self.old) k → IsNoneOf (fat_sectors_of self.old) k → ⊥ }
+        ensures number { IfOk result (λ n. n ≡ length (fat_of self.old)) }
+        ensures grows { IfOk result (λ n. GrowsFat (n ∷ []) [] self.old self.new) }
+        ensures fat { OnOk result (fat_of self.new ≡ fat_of self.old ++ end_of_chain ∷ []) }
+        ensures tables { OnOk result ((difat_sectors_of self.new ≡ difat_sectors_of self.old) × (fat_sectors_of self.new ≡ fat_sectors_of self.old)) }
+        ensures filled { IfOk result (λ n. IsTrue (is_honest self.old) → sector (version_of self.old) (bytes_of self.new) n ≡ initial init (sector_len (version_of self.old))) }
+        ensures whole { IfOk result (λ n. IsTrue (is_honest self.old) → HasWhole (n ∷ []) self.new) }
+        ensures writable { IfOk result (λ n. MayWrite self.new (sector_start (version_of self.old) n) (sector_len (version_of self.old))) }
+        ensures live { OnOk result (has_failed_here self.new ≡ false) }
+        ensures none { OnErr result (GrowsFat [] [] self.old self.new) }
+        ensures err { OnErr result (has_failed_here self.new ≡ true) }
+        ensures cause { IfErr result (HasCauseBelow self.old self.new) }
+        ensures fault { IfErr result (IsFaultUnless ⊥) }
+    {
+        self.fat.reserve(1)?;
+        let index = self.fat.len();
+        let each = self.sectors.sector_len() / ENTRY_LEN;
+        let holder = self.fat_sectors[index / each];
+        self.is_orderly = false;
+        let sector_id = append_sector(&mut self.sectors, init)?;
+        write_number(&mut self.sectors, holder, index % each, END_OF_CHAIN)?;
+        self.fat.push_reserved(END_OF_CHAIN);
+        self.first_free = index;
+        self.is_orderly = true;
+        Ok(sector_id)
+    }
+}

@@ -1,0 +1,316 @@
+//! Sectors that are taken into use, for chains that begin or become longer ([MS-CFB] 2.3).
+ghost use Rattle.cfb_chains.specs.Changes.{AreAmong, IsFreeIn, IsNoneOf};
+ghost use Rattle.cfb_chains.specs.Grown.{AreWritable, IsLinked};
+ghost use Rattle.cfb_chains.specs.LinkViews.{ids_of, links_version};
+ghost use Rattle.cfb_chains.specs.Owned.{Leaves};
+ghost use Rattle.cfb_chains.specs.Positions.{sectors_for};
+ghost use Rattle.cfb_fat.specs.Changing.{MayWrite, WritesBeside};
+ghost use Rattle.cfb_fat.specs.Growing.{GrowsFat, HasWhole, IsFull, LacksNumbers, MarksBehind, TakesIn};
+ghost use Rattle.cfb_fat.specs.Keeping.{takes_cause, takes_fails, takes_keep, takes_rest, takes_then};
+ghost use Rattle.cfb_fat.specs.Seeing.{seen_of};
+ghost use Rattle.cfb_medium.specs.Calls.{IsFaultUnless};
+ghost use Rattle.cfb_medium.specs.Versions.{sector_len};
+ghost use Rattle.cfb_medium.specs.declared.error.Error.TheVariants.{Failed, Full, InvalidData, Memory};
+ghost use Rattle.cfb_sectors.specs.Copies.{copies};
+ghost use Rattle.cfb_sectors.specs.Held.{count_of};
+ghost use Rattle.cfb_sectors.specs.Initial.{initial};
+ghost use Rattle.cfb_sectors.specs.Sectors.{end_of_chain, free, greatest_regular, joined, sector, sector_start, Chain as IsChain};
+ghost use Rattle.std.specs.List.{count_by};
+ghost use Rattle.std.specs.Prelude.{false, length, nat_eq, slice_get, slice_index, slice_set, true, IfErr, IfOk, IsErrOf, IsTrue, List, MatchOption, OnErr, OnOk, Some, [], ℕ, ◌++◌, ◌+◌, ◌-◌, ◌<◌, ◌↔◌, ◌∷◌, ◌≡◌, ◌≤◌, ◌⊎◌};
+
+use crate::Allocator;
+use crate::fat::is_none_of;
+use cfb_chains::{Chain, GrowsChains, Links};
+use cfb_medium::{Error, Medium};
+use cfb_sectors::{END_OF_CHAIN, FREE_SECTOR, MAX_REGULAR_SECTOR, SectorInit};
+
+// How many entries of a table are "free".
+fn count_free(table: &[u32]) -> usize
+    ensures { result ≡ count_by (λ entry. nat_eq entry free) table.now }
+{
+    let mut count = 0;
+    for entry in table {
+        if *entry == FREE_SECTOR {
+            count += 1;
+        }
+    }
+    count
+}
+
+impl<F: Medium> Allocator<F> {
+    ghost use Rattle.cfb_fat.specs.Tables.{bytes_of, difat_sectors_of, fat_of, fat_sectors_of, has_failed_here, is_honest, orderly_of, sectors_of, tables_of, version_of, AllRests, HasCauseBelow};
+
+    /// Sees whether the chain from a start can take in so many sectors: `InvalidData` where the FAT has no such chain or the
+    /// tables can't be changed, and then `Full` where fewer numbers are left.
+    pub fn check_growth(&self, start: u32, count: usize) -> Result<(), Error>
+        ensures ready { OnOk result (IsTrue (orderly_of self.now)) }
+        ensures refused { IsErrOf result InvalidData → IsTrue (orderly_of self.now) → (ids : List ℕ) → IsChain (fat_of self.now) start ids → ⊥ }
+        ensures full { IsErrOf result Full → IsTrue (orderly_of self.now) × LacksNumbers self.now count }
+        ensures failed { has_failed_here self.now ≡ true → IsErrOf result Failed }
+        ensures error { IfErr result (λ e. ((e ≡ Failed) × (has_failed_here self.now ≡ true)) ⊎ (e ≡ InvalidData) ⊎ (e ≡ Memory) ⊎ (e ≡ Full)) }
+    {
+        let _links = self.open_chain(start)?;
+        if !self.is_orderly {
+            return Err(Error::InvalidData);
+        }
+        let behind = MAX_REGULAR_SECTOR as usize + 1 - self.fat.len();
+        if count > behind && count - behind > count_free(&self.fat) {
+            return Err(Error::Full);
+        }
+        Ok(())
+    }
+
+    // Whether a sector is in no use: its entry is "free", and it holds no part of the tables.
+    fn is_spare(&self, sector_id: u32) -> bool
+        requires { sector_id < length (fat_of self.now) }
+        ensures { IsTrue result ↔ ((slice_index (fat_of self.now) sector_id ≡ free) × IsNoneOf (difat_sectors_of self.now) sector_id × IsNoneOf (fat_sectors_of self.now) sector_id) }
+    {
+        if self.fat[sector_id as usize] != FREE_SECTOR {
+            return false;
+        }
+        if !is_none_of(&self.difat_sectors, sector_id) {
+            return false;
+        }
+        is_none_of(&self.fat_sectors, sector_id)
+    }
+
+    // The first sector that is in no use: its entry is "free", and it holds no part of the tables. Those that are known to be
+    // in use aren't looked at again.
+    fn find_free(&self) -> Option<u32>
+        requires { has_failed_here self.now ≡ false }
+        ensures { MatchOption result ((k : ℕ) → k < length (fat_of self.now) → slice_index (fat_of self.now) k ≡ free → IsNoneOf (difat_sectors_of self.now) k → IsNoneOf (fat_sectors_of self.now) k → ⊥)
+            (λ n. (slice_get (fat_of self.now) n ≡ Some free) × IsNoneOf (difat_sectors_of self.now) n × IsNoneOf (fat_sectors_of self.now) n
+            × ((k : ℕ) → k < n → slice_index (fat_of self.now) k ≡ free → IsNoneOf (difat_sectors_of self.now) k → IsNoneOf (fat_sectors_of self.now) k → ⊥)) }
+    {
+        for i in self.first_free..self.fat.len() {
+            let sector_id = i as u32;
+            if self.is_spare(sector_id) {
+                return Some(sector_id);
+            }
+        }
+        None
+    }
+
+    // Fills the first sector that is in no use. After a fault it has failed.
+    fn init_beside(&mut self, sector_id: u32, init: SectorInit) -> Result<(), Error>
+        requires live { has_failed_here self.old ≡ false }
+        requires there { sector_id < count_of (sectors_of self.old) }
+        requires no_difat { IsNoneOf (difat_sectors_of self.old) sector_id }
+        requires no_fat { IsNoneOf (fat_sectors_of self.old) sector_id }
+        requires lowest { (k : ℕ) → k < sector_id → slice_index (fat_of self.old) k ≡ free → IsNoneOf (difat_sectors_of self.old) k → IsNoneOf (fat_sectors_of self.old) k → ⊥ }
+        ensures writes { WritesBeside (sector_start (version_of self.old) sector_id) (initial init (sector_len (version_of self.old))) self.old self.new }
+        ensures live { OnOk result (has_failed_here self.new ≡ false) }
+        ensures err { OnErr result (has_failed_here self.new ≡ true) }
+        ensures cause { IfErr result (HasCauseBelow self.old self.new) }
+        ensures fault { IfErr result (IsFaultUnless ⊥) }
+    {
+        self.first_free = sector_id as usize;
+        self.sectors.init_sector(sector_id, init)
+    }
+
+    // Takes the first sector that is in no use into use, as a chain of its own. After a fault it has failed.
+    fn take_free(&mut self, sector_id: u32, init: SectorInit) -> Result<(), Error>
+        requires live { has_failed_here self.old ≡ false }
+        requires orderly { IsTrue (orderly_of self.old) }
+        requires there { sector_id < length (fat_of self.old) }
+        requires no_difat { IsNoneOf (difat_sectors_of self.old) sector_id }
+        requires no_fat { IsNoneOf (fat_sectors_of self.old) sector_id }
+        requires lowest { (k : ℕ) → k < sector_id → slice_index (fat_of self.old) k ≡ free → IsNoneOf (difat_sectors_of self.old) k → IsNoneOf (fat_sectors_of self.old) k → ⊥ }
+        ensures grows { OnOk result (GrowsFat (sector_id ∷ []) (sector_id ∷ []) self.old self.new) }
+        ensures fat { OnOk result (fat_of self.new ≡ slice_set (fat_of self.old) sector_id end_of_chain) }
+        ensures whole { OnOk result (IsTrue (is_honest self.old) → HasWhole (sector_id ∷ []) self.new) }
+        ensures filled { OnOk result (IsTrue (is_honest self.old) → sector (version_of self.old) (bytes_of self.new) sector_id ≡ initial init (sector_len (version_of self.old))) }
+        ensures writable { OnOk result (MayWrite self.new (sector_start (version_of self.old) sector_id) (sector_len (version_of self.old))) }
+        ensures live { OnOk result (has_failed_here self.new ≡ false) }
+        ensures none { OnErr result (GrowsFat [] [] self.old self.new) }
+        ensures err { OnErr result (has_failed_here self.new ≡ true) }
+        ensures cause { IfErr result (HasCauseBelow self.old self.new) }
+        ensures fault { IfErr result (IsFaultUnless ⊥) }
+    {
+        self.init_beside(sector_id, init)?;
+        self.set_entry(sector_id, END_OF_CHAIN)?;
+        Ok(())
+    }
+
+    // Takes a sector into use as a chain of its own: a free one, or where there is none but a table's, one behind all others.
+    // `Full` where no number is left, and `Memory`, each with nothing changed; after a fault in a write it has failed.
+    fn take(&mut self, init: SectorInit) -> Result<u32, Error>
+        requires live { has_failed_here self.old ≡ false }
+        requires orderly { IsTrue (orderly_of self.old) }
+        ensures free { IfOk result (IsFreeIn (fat_of self.old)) }
+        ensures chain { IfOk result (λ n. IsChain (fat_of self.new) n (n ∷ [])) }
+        ensures grows { IfOk result (λ n. GrowsFat (n ∷ []) (n ∷ []) self.old self.new) }
+        ensures filled { IfOk result (λ n. IsTrue (is_honest self.old) → sector (version_of self.old) (bytes_of self.new) n ≡ initial init (sector_len (version_of self.old))) }
+        ensures writable { IfOk result (λ n. MayWrite self.new (sector_start (version_of self.old) n) (sector_len (version_of self.old))) }
+        ensures appended { IfOk result (λ n. length (fat_of self.old) ≤ n → (k : ℕ) → slice_get (fat_of self.old) k ≡ Some free → IsNoneOf (tables_of self.old) k → ⊥) }
+        ensures whole { IfOk result (λ n. IsTrue (is_honest self.old) → HasWhole (n ∷ []) self.new) }
+        ensures behind { IfOk result (λ n. MarksBehind (n ∷ []) (n ∷ []) self.old self.new) }
+        ensures live { OnOk result (has_failed_here self.new ≡ false) }
+        ensures full { IsErrOf result Full → IsFull self.old × AllRests self.old self.new }
+        ensures none { OnErr result (GrowsFat [] [] self.old self.new) }
+        ensures cause { IfErr result (HasCauseBelow self.old self.new) }
+        ensures fault { IfErr result (λ e. (IsFaultUnless ⊥ e × ((has_failed_here self.new ≡ true) ⊎ AllRests self.old self.new)) ⊎ (e ≡ Full)) }
+    {
+        if let Some(sector_id) = self.find_free() {
+            self.take_free(sector_id, init)?;
+            return Ok(sector_id);
+        }
+        self.make_room()?;
+        self.append(init)
+    }
+
+    /// Takes a sector into use as a chain of its own: a free one, or where there is none but a table's, one behind all others.
+    /// `InvalidData` where the tables can't be changed, `Full` where no number is left, and `Memory`, each with nothing
+    /// changed. After a fault in a write it has failed.
+    pub fn begin_chain(&mut self, init: SectorInit) -> Result<u32, Error>
+        ensures chain { IfOk result (λ n. IsChain (fat_of self.new) n (n ∷ [])) }
+        ensures takes { IfOk result (λ n. TakesIn (n ∷ []) (n ∷ []) self.old self.new) }
+        ensures leaves { IfOk result (λ n. IsTrue (is_honest self.old) → Leaves (sector (version_of self.old)) [] (n ∷ n ∷ []) (seen_of self.old) (seen_of self.new)) }
+        ensures filled { IfOk result (λ n. IsTrue (is_honest self.old) → sector (version_of self.old) (bytes_of self.new) n ≡ initial init (sector_len (version_of self.old))) }
+        ensures writable { IfOk result (λ n. MayWrite self.new (sector_start (version_of self.old) n) (sector_len (version_of self.old))) }
+        ensures appended { IfOk result (λ n. length (fat_of self.old) ≤ n → (k : ℕ) → slice_get (fat_of self.old) k ≡ Some free → IsNoneOf (tables_of self.old) k → ⊥) }
+        ensures live { OnOk result ((has_failed_here self.old ≡ false) × IsTrue (orderly_of self.old) × (has_failed_here self.new ≡ false)) }
+        ensures refused { IsErrOf result InvalidData → (IsTrue (orderly_of self.old) → ⊥) × AllRests self.old self.new }
+        ensures full { IsErrOf result Full → IsFull self.old × AllRests self.old self.new }
+        ensures failed { has_failed_here self.old ≡ true → IsErrOf result Failed × AllRests self.old self.new }
+        ensures none { OnErr result (TakesIn [] [] self.old self.new) }
+        ensures cause { IfErr result (HasCauseBelow self.old self.new) }
+        ensures fault { IfErr result (λ e. (IsFaultUnless ⊥ e × ((has_failed_here self.new ≡ true) ⊎ AllRests self.old self.new)) ⊎ (e ≡ InvalidData) ⊎ (e ≡ Full)) }
+    {
+        if self.sectors.is_failed() {
+            return Err(Error::Failed);
+        }
+        if !self.is_orderly {
+            return Err(Error::InvalidData);
+        }
+        self.take(init)
+    }
+
+    /// Extends the chain from a start by one sector behind its last, and gives its number: a free one, or where there is none
+    /// but a table's, one behind all others. `InvalidData` where the FAT has no such chain, it has no sector, or the tables
+    /// can't be changed, `Full` where no number is left, and `Memory`, each with nothing changed. After a fault in a write it
+    /// has failed ([MS-CFB] 2.3).
+    pub fn extend_chain(&mut self, start: u32, init: SectorInit) -> Result<u32, Error>
+        ensures extends { IfOk result (λ n. (ids : List ℕ) × (last : ℕ) × IsChain (fat_of self.old) start (ids ++ last ∷ []) × IsChain (fat_of self.new) start (ids ++ last ∷ n ∷ [])
+            × TakesIn (n ∷ []) (last ∷ n ∷ []) self.old self.new) }
+        ensures leaves { IfOk result (λ n. (ids : List ℕ) × (last : ℕ) × IsChain (fat_of self.old) start (ids ++ last ∷ [])
+            × (IsTrue (is_honest self.old) → Leaves (sector (version_of self.old)) [] (n ∷ last ∷ n ∷ []) (seen_of self.old) (seen_of self.new))) }
+        ensures none { OnErr result (TakesIn [] [] self.old self.new) }
+        ensures filled { IfOk result (λ n. IsTrue (is_honest self.old) → sector (version_of self.old) (bytes_of self.new) n ≡ initial init (sector_len (version_of self.old))) }
+        ensures appended { IfOk result (λ n. length (fat_of self.old) ≤ n → (k : ℕ) → slice_get (fat_of self.old) k ≡ Some free → IsNoneOf (tables_of self.old) k → ⊥) }
+        ensures writable { IfOk result (λ n. MayWrite self.new (sector_start (version_of self.old) n) (sector_len (version_of self.old))) }
+        ensures live { OnOk result ((has_failed_here self.old ≡ false) × IsTrue (orderly_of self.old) × (has_failed_here self.new ≡ false)) }
+        ensures refused { IsErrOf result InvalidData → (IsTrue (orderly_of self.old) → (ids : List ℕ) (last : ℕ) → IsChain (fat_of self.old) start (ids ++ last ∷ []) → ⊥) × AllRests self.old self.new }
+        ensures full { IsErrOf result Full → IsFull self.old × AllRests self.old self.new }
+        ensures failed { has_failed_here self.old ≡ true → IsErrOf result Failed × AllRests self.old self.new }
+        ensures cause { IfErr result (HasCauseBelow self.old self.new) }
+        ensures fault { IfErr result (λ e. (IsFaultUnless ⊥ e × ((has_failed_here self.new ≡ true) ⊎ AllRests self.old self.new)) ⊎ (e ≡ InvalidData) ⊎ (e ≡ Full)) }
+    {
+        let links = self.open_chain(start)?;
+        let count = links.sector_ids().len();
+        if count == 0 {
+            return Err(Error::InvalidData);
+        }
+        if !self.is_orderly {
+            return Err(Error::InvalidData);
+        }
+        let last = links.sector_ids()[count - 1];
+        let sector_id = self.take(init)?;
+        self.set_entry(last, sector_id)?;
+        Ok(sector_id)
+    }
+
+    /// Extends the chain from a start by so many sectors behind its last, each as `extend_chain` does. `InvalidData` where the
+    /// FAT has no such chain, it has no sector, or the tables can't be changed, and then `Full` where fewer numbers are left.
+    /// After an error nothing is changed, or it has failed.
+    pub fn extend_chain_by(
+        &mut self,
+        start: u32,
+        count: usize,
+        init: SectorInit,
+    ) -> Result<(), Error>
+        ensures extends { OnOk result ((ids : List ℕ) × (more : List ℕ) × (changed : List ℕ) × IsChain (fat_of self.old) start ids × IsChain (fat_of self.new) start (ids ++ more) × (length more ≡ count)
+            × TakesIn more changed self.old self.new × AreAmong (ids ++ more) changed
+            × (IsTrue (is_honest self.old) → AreWritable (MayWrite self.old) (version_of self.old) ids
+            → joined (version_of self.old) (bytes_of self.new) (ids ++ more) ≡ joined (version_of self.old) (bytes_of self.old) ids ++ copies count (initial init (sector_len (version_of self.old))))) }
+        ensures some { OnErr result ((more : List ℕ) × (changed : List ℕ) × TakesIn more changed self.old self.new) }
+        ensures live { OnOk result ((has_failed_here self.old ≡ false) × (has_failed_here self.new ≡ false)) }
+        ensures refused { IsErrOf result InvalidData → IsTrue (orderly_of self.old) → (ids : List ℕ) (last : ℕ) → IsChain (fat_of self.old) start (ids ++ last ∷ []) → ⊥ }
+        ensures full { IsErrOf result Full → has_failed_here self.new ≡ false → LacksNumbers self.old count ⊎ ((ids : List ℕ) × IsChain (fat_of self.old) start ids × (greatest_regular < length ids + count)) }
+        ensures after { OnErr result ((has_failed_here self.new ≡ true) ⊎ AllRests self.old self.new) }
+        ensures failed { has_failed_here self.old ≡ true → IsErrOf result Failed × AllRests self.old self.new }
+        ensures cause { IfErr result (HasCauseBelow self.old self.new) }
+        ensures fault { IfErr result (λ e. IsFaultUnless ⊥ e ⊎ (e ≡ InvalidData) ⊎ (e ≡ Full)) }
+    {
+        let mut links = self.open_chain(start)?;
+        let old = links.sector_ids().len();
+        if old == 0 {
+            return Err(Error::InvalidData);
+        }
+        let Some(all) = old.checked_add(count) else {
+            return Err(Error::Full);
+        };
+        let Some(len) = (all as u64).checked_mul(self.sector_len() as u64) else {
+            return Err(Error::Full);
+        };
+        self.lengthen_chain(&mut links, len, init)
+    }
+
+    // Gives the chain of these links so many bytes.
+    fn lengthen_chain(&mut self, links: &mut Links, len: u64, init: SectorInit) -> Result<(), Error>
+        requires more { length (ids_of links.old) ≤ sectors_for (links_version links.old) len }
+        ensures count { OnOk result (length (ids_of links.new) ≡ sectors_for (links_version links.old) len) }
+        ensures longer { (more : List ℕ) × (changed : List ℕ) × (ids_of links.new ≡ ids_of links.old ++ more) × TakesIn more changed self.old self.new
+            × (IsLinked (fat_of self.old) (ids_of links.old) → AreAmong (ids_of links.new) changed) }
+        ensures linked { OnOk result (IsLinked (fat_of self.old) (ids_of links.old) → IsLinked (fat_of self.new) (ids_of links.new)) }
+        ensures filled { OnOk result (IsTrue (is_honest self.old) → version_of self.old ≡ links_version links.old → IsLinked (fat_of self.old) (ids_of links.old) → AreWritable (MayWrite self.old) (links_version links.old) (ids_of links.old)
+            → joined (links_version links.old) (bytes_of self.new) (ids_of links.new)
+            ≡ joined (links_version links.old) (bytes_of self.old) (ids_of links.old) ++ copies (length (ids_of links.new) - length (ids_of links.old)) (initial init (sector_len (links_version links.old)))) }
+        ensures live { OnOk result ((has_failed_here self.old ≡ false) × (has_failed_here self.new ≡ false)) }
+        ensures refused { IsErrOf result InvalidData → IsTrue (orderly_of self.old) → IsLinked (fat_of self.old) (ids_of links.old) → ⊥ }
+        ensures full { IsErrOf result Full → has_failed_here self.new ≡ false → LacksNumbers self.old (sectors_for (links_version links.old) len - length (ids_of links.old)) ⊎ (greatest_regular + 1 < sectors_for (links_version links.old) len) }
+        ensures after { OnErr result ((has_failed_here self.new ≡ true) ⊎ AllRests self.old self.new) }
+        ensures failed { has_failed_here self.old ≡ true → IsErrOf result Failed }
+        ensures cause { IfErr result (HasCauseBelow self.old self.new) }
+        ensures fault { IfErr result (λ e. IsFaultUnless ⊥ e ⊎ (e ≡ InvalidData) ⊎ (e ≡ Full)) }
+    {
+        let mut chain = Chain::new(self, links, init);
+        chain.set_len(len)
+    }
+}
+
+impl<F: Medium> GrowsChains for Allocator<F> {
+    ghost use Rattle.cfb_fat.specs.Tables.{tables_of, version_of};
+
+    ghost version = { version_of };
+
+    ghost tables = { tables_of };
+
+    ghost lacks = { LacksNumbers };
+
+    ghost is_full = { IsFull };
+
+    ghost grows = { TakesIn };
+
+    fn begin_chain(&mut self, init: SectorInit) -> Result<u32, Error> {
+        Allocator::begin_chain(self, init)
+    }
+
+    fn extend_chain(&mut self, start: u32, init: SectorInit) -> Result<u32, Error> {
+        Allocator::extend_chain(self, start, init)
+    }
+
+    fn check_growth(&self, start: u32, count: usize) -> Result<(), Error> {
+        Allocator::check_growth(self, start, count)
+    }
+
+    ghost grows_keep = { takes_keep };
+
+    ghost grows_rest = { takes_rest };
+
+    ghost grows_then = { takes_then };
+
+    ghost grows_fails = { takes_fails };
+
+    ghost grows_cause = { takes_cause };
+}

@@ -1,6 +1,0 @@
-use Rattle.std.proofs.Common.{◌≡◌, ℕ, ◌<◌}
-use Rattle.std.specs.Prelude.{slice_index}
-use Rattle.cfb_tables.proofs.once.are_once.Given as goal
-
-abbrev pub invariant-loop-i : goal.invariant-loop-i
-invariant-loop-i l = (k m : ℕ) → k < m → m < l.i → slice_index l.ids k ≡ slice_index l.ids m → ⊥

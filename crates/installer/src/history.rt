@@ -1,0 +1,19 @@
+//! The law over all that can happen to a device.
+ghost use Rattle.std.specs.Prelude.{List, IsTrue};
+ghost use Rattle.installer.specs.Course.{Mark};
+ghost use Rattle.installer.specs.Survival.{MayBeFound, AllGive, AnyList, gives, listed};
+ghost use Rattle.staged.specs.Settled.{IsSettled};
+ghost use Rattle.installer.specs.History.{Event, Happen};
+
+use staged::Device;
+
+/// Committed packages survive. A device on which a recovery gives a list of whatever a stop may leave goes through calls of sessions and
+/// recoveries, which return or are stopped at any moment, also in a recovery of a recovery. Whatever a stop may then leave, a recovery
+/// gives bytes that mean the package of the last commit that was answered `Ok`, or of one that was begun since; or, where none was answered
+/// `Ok`, a list that it might have given at first. After a recovery that succeeded the home file is such a list.
+pub fn committed_packages_survive<D: Device>()
+    ensures survive { (first : D) (events : List (Event D.Device)) (marks : List Mark) (last : D) → IsTrue (D.honest first) → AllGive AnyList (gives D.Device first)
+        → Happen D.Device first events marks last → AllGive (MayBeFound (listed D.Device first) marks) (gives D.Device last) }
+    ensures home { (first : D) (events : List (Event D.Device)) (marks : List Mark) (last : D) → IsTrue (D.honest first) → AllGive AnyList (gives D.Device first)
+        → Happen D.Device first events marks last → IsSettled D.Device last → MayBeFound (listed D.Device first) marks (D.content last).home }
+{}

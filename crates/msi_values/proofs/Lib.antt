@@ -1,0 +1,4 @@
+pub mod BorrowedOrder
+pub mod DataOrder
+pub mod Commas
+pub mod QuotedText
