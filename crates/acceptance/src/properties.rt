@@ -328,6 +328,18 @@ fn hostile_sets_are_refused(rt: HostRuntime) -> Result<(), Fail> {
     Ok(())
 }
 
+// A dictionary ([MS-OLEPS] 2.17) begins with how many names it has, where a value has its kind.
+#[test]
+fn a_dictionary_is_no_value(rt: HostRuntime) -> Result<(), Fail> {
+    let alloc = rt.alloc();
+    let mut bytes = set_at(alloc, 16)?;
+    assert_eq!(rt; bytes.len(), 76);
+    bytes[56] = 0;
+    bytes[64] = 4;
+    assert!(rt; matches!(PropertySet::read(alloc, &bytes), Err(Error::InvalidData)));
+    Ok(())
+}
+
 #[test]
 fn cut_sets_are_refused(rt: HostRuntime) -> Result<(), Fail> {
     let mut bytes = set_at(rt.alloc(), 16)?;

@@ -12,6 +12,15 @@ use std::alloc::Global;
 use std::process::Abort;
 use std::test::Fail;
 
+// The summary of a new package ([MS-OLEPS] 2.21): its page, UTF-8, and its title, "Installation Database".
+const NEW_SUMMARY: [u8; 112] = [
+    0xFE, 0xFF, 0, 0, 10, 0, 2, 0, 0, 0, 0, 0, 0, 0, 0, 0, 0, 0, 0, 0, 0, 0, 0, 0, 1, 0, 0, 0,
+    0xE0, 0x85, 0x9F, 0xF2, 0xF9, 0x4F, 0x68, 0x10, 0xAB, 0x91, 0x08, 0x00, 0x2B, 0x27, 0xB3, 0xD9,
+    48, 0, 0, 0, 64, 0, 0, 0, 2, 0, 0, 0, 1, 0, 0, 0, 24, 0, 0, 0, 2, 0, 0, 0, 32, 0, 0, 0, 2, 0,
+    0, 0, 0xE9, 0xFD, 0, 0, 30, 0, 0, 0, 22, 0, 0, 0, b'I', b'n', b's', b't', b'a', b'l', b'l',
+    b'a', b't', b'i', b'o', b'n', b' ', b'D', b'a', b't', b'a', b'b', b'a', b's', b'e', 0, 0, 0,
+];
+
 // More device calls than a run makes.
 const MANY: u64 = 1000;
 
@@ -118,19 +127,25 @@ fn a_committed_table_is_read_again_in_the_order_of_its_key(rt: HostRuntime) -> R
     }
 }
 
-// How many streams there are, and how many are of 112 bytes.
-fn counts(content: &Content) -> (u64, u64) {
+// How many streams there are, and how many have this name and these bytes.
+fn counts(content: &Content, wanted: &str, cells: &[u8]) -> (u64, u64) {
     let mut all = 0u64;
-    let mut long = 0u64;
+    let mut found = 0u64;
     let mut at = content;
-    while let Content::Stream { bytes, later, .. } = at {
+    while let Content::Stream {
+        name,
+        bytes,
+        later,
+        ..
+    } = at
+    {
         all = all.saturating_add(1);
-        if bytes.len() == 112 {
-            long = long.saturating_add(1);
+        if name.as_str() == wanted && bytes.as_slice() == cells {
+            found = found.saturating_add(1);
         }
         at = later;
     }
-    (all, long)
+    (all, found)
 }
 
 // Whether a table's stream of this name has these bytes.
@@ -161,13 +176,30 @@ fn a_commit_writes_the_six_streams_of_a_package(rt: HostRuntime) -> Result<(), F
         return Err(Fail::new(Error::InvalidData));
     };
     let root = &tree.content;
-    assert_eq!(rt; counts(root), (6, 1));
+    assert_eq!(rt;
+        counts(root, "\u{5}SummaryInformation", &NEW_SUMMARY),
+        (6, 1)
+    );
     let pool = [0xE9, 0xFD, 0, 0, 1, 0, 2, 0, 2, 0, 1, 0];
     assert!(rt; has_stream(alloc, root, "_StringPool", &pool)?);
     assert!(rt; has_stream(alloc, root, "_StringData", b"TId")?);
     assert!(rt; has_stream(alloc, root, "_Tables", &[1, 0])?);
     assert!(rt; has_stream(alloc, root, "_Columns", &[1, 0, 1, 0x80, 2, 0, 2, 0xA5])?);
     assert!(rt; has_stream(alloc, root, "T", &[1, 0x80, 2, 0x80])?);
+    Ok(())
+}
+
+#[test]
+fn a_first_commit_has_the_summary_of_a_new_package(rt: HostRuntime) -> Result<(), Fail> {
+    let alloc = rt.alloc();
+    let mut session = created(alloc)?;
+    session.commit()?;
+    let device = session.into_device();
+    let Some(tree) = read_tree(alloc, device.bytes(Which::Home), &[])? else {
+        return Err(Fail::new(Error::InvalidData));
+    };
+    let (_, found) = counts(&tree.content, "\u{5}SummaryInformation", &NEW_SUMMARY);
+    assert_eq!(rt; found, 1);
     Ok(())
 }
 

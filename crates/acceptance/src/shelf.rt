@@ -37,7 +37,8 @@ impl Shelf {
 
     /// Puts a table with these rows behind the others.
     pub fn add(&mut self, table: Table, rows: Vec<Vec<ValueRef>>) -> Result<(), Error>
-        ensures ok { OnOk result (tables_on self.new ≡ tables_on self.old ++ table_held table rows.items ∷ []) }
+        ensures ok { OnOk result (tables_on self.new
+            ≡ tables_on self.old ++ table_held table rows.items ∷ []) }
         ensures err { IfErr result (λ e. e ≡ Memory) }
     {
         self.tables.push(Shelved { table, rows })?;
@@ -46,7 +47,8 @@ impl Shelf {
 
     // The first table of a name.
     fn find(&self, name: &str) -> Option<&Shelved>
-        ensures { option_map (λ s. table_in s.now) result ≡ table_named (tables_on self.now) name.now }
+        ensures { option_map (λ s. table_in s.now) result
+            ≡ table_named (tables_on self.now) name.now }
     {
         found(&self.tables, name)
     }
@@ -54,7 +56,8 @@ impl Shelf {
 
 // The first table of a name.
 fn found<'a>(tables: &'a [Shelved], name: &str) -> Option<&'a Shelved>
-    ensures { option_map (λ s. s.now) result ≡ find (λ s. bytes_eq (table_in s).name name.now) tables.now }
+    ensures { option_map (λ s. s.now) result
+        ≡ find (λ s. bytes_eq (table_in s).name name.now) tables.now }
 {
     tables.iter().find(|shelved| shelved.table.name() == name)
 }

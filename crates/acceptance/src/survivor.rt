@@ -38,7 +38,8 @@ impl Survivor {
 
     // Adds the bytes to what a stop may leave.
     fn keep(&mut self) -> Result<(), Error>
-        ensures ok { OnOk result (lists_kept self.new ≡ lists_kept self.old ++ memory_bytes self.old.shown ∷ []) }
+        ensures ok { OnOk result (lists_kept self.new
+            ≡ lists_kept self.old ++ memory_bytes self.old.shown ∷ []) }
         ensures err { OnErr result (self.new.kept.items ≡ self.old.kept.items) }
         ensures error { IfErr result (λ e. e ≡ Memory) }
         ensures first { self.new.first ≡ self.old.first }

@@ -30,13 +30,23 @@ fn odd_rows(alloc: Global, count: i32) -> Result<Vec<Vec<ValueRef>>> {
 
 /// Inserts rows into a table that has as many: the even numbers behind the odd ones.
 pub fn insert(rt: &HostRuntime, count: usize) -> Result<()> {
-    let alloc = rt.alloc();
     let count = count.min(32768) as i32;
+    insert_into(rt, count, count)
+}
+
+/// Inserts one row into a table that has so many.
+pub fn insert_one(rt: &HostRuntime, count: usize) -> Result<()> {
+    insert_into(rt, 1, count.min(65535) as i32)
+}
+
+// Inserts so many rows into a table of so many.
+fn insert_into(rt: &HostRuntime, new: i32, held: i32) -> Result<()> {
+    let alloc = rt.alloc();
     let key = Column::build(alloc, "Id")?.primary_key().int32();
     let table = Table::new(alloc, "Numbers", vec![in alloc; key]?, false)?;
     let mut pool = StringPool::new(alloc, CodePage::Utf8);
-    let rows = odd_rows(alloc, count)?;
-    let insert = even_rows(alloc, count)?;
+    let rows = odd_rows(alloc, held)?;
+    let insert = even_rows(alloc, new)?;
     let begin = Instant::now(rt)?;
     let rows = insert.apply(alloc, &table, rows, &mut pool)?;
     print_time(rt, "rows left by an insert", rows.len(), begin.elapsed(rt)?)

@@ -11,9 +11,10 @@ use std::time::Duration;
 
 // A line for each benchmark: its word, what its size counts, and what it does.
 const LIST: &str = "\
-chain SECTORS   appends sectors to one chain, a call each, and frees the chain
-insert ROWS     inserts so many rows into a table of as many, by one insert
-join ROWS       joins two tables of so many rows by equal numbers
+chain SECTORS     appends sectors to one chain, a call each, and frees the chain
+insert ROWS       inserts so many rows into a table of as many, by one insert
+insert-one ROWS   inserts one row into a table of so many
+join ROWS         joins two tables of so many rows by equal numbers
 ";
 
 fn main(rt: HostRuntime) -> Result<()> {
@@ -34,6 +35,7 @@ fn run(rt: &HostRuntime, name: &str, size: usize) -> Result<()> {
     match name {
         "chain" => chains::append_and_free(rt, size),
         "insert" => inserts::insert(rt, size),
+        "insert-one" => inserts::insert_one(rt, size),
         "join" => joins::join(rt, size),
         _ => bail!("there is no benchmark of this name"),
     }

@@ -31,12 +31,6 @@ fault_kind AlreadyExists refused is not_refused sound = absurd is
 fault_kind UnexpectedEof refused is not_refused sound = absurd is
 fault_kind Full refused is not_refused sound = absurd is
 
--- a whole read shows all bytes
-pub served_whole : (bytes old new : List ℕ) (count : ℕ) → Serves bytes 0 old new count → length old ≡ length bytes → length new ≡ length old → new ≡ bytes
-served_whole bytes old new count serves same long =
-    let all : count ≡ length bytes = omega (arith, serves.smaller, same) in
-    sym (take_all count new (omega (arith, all, same, long))) ∙ serves.front ∙ take_all count bytes (omega (arith, all))
-
 abbrev tag : Error → Bool
 tag Failed = true
 tag _ = false

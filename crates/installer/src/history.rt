@@ -12,8 +12,12 @@ use staged::Device;
 /// gives bytes that mean the package of the last commit that was answered `Ok`, or of one that was begun since; or, where none was answered
 /// `Ok`, a list that it might have given at first. After a recovery that succeeded the home file is such a list.
 pub fn committed_packages_survive<D: Device>()
-    ensures survive { (first : D) (events : List (Event D.Device)) (marks : List Mark) (last : D) → IsTrue (D.honest first) → AllGive AnyList (gives D.Device first)
-        → Happen D.Device first events marks last → AllGive (MayBeFound (listed D.Device first) marks) (gives D.Device last) }
-    ensures home { (first : D) (events : List (Event D.Device)) (marks : List Mark) (last : D) → IsTrue (D.honest first) → AllGive AnyList (gives D.Device first)
-        → Happen D.Device first events marks last → IsSettled D.Device last → MayBeFound (listed D.Device first) marks (D.content last).home }
+    ensures survive { (first : D) (events : List (Event D.Device)) (marks : List Mark) (last : D)
+        → IsTrue (D.honest first) → AllGive AnyList (gives D.Device first)
+        → Happen D.Device first events marks last
+        → AllGive (MayBeFound (listed D.Device first) marks) (gives D.Device last) }
+    ensures home { (first : D) (events : List (Event D.Device)) (marks : List Mark) (last : D)
+        → IsTrue (D.honest first) → AllGive AnyList (gives D.Device first)
+        → Happen D.Device first events marks last → IsSettled D.Device last
+        → MayBeFound (listed D.Device first) marks (D.content last).home }
 {}

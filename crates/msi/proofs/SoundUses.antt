@@ -4,7 +4,7 @@ use Rattle.std.specs.Prelude.{◌==◌, nat_le, slice_get, slice_range}
 use Rattle.std.specs.List.{All, remove, sum_by}
 use Rattle.std.proofs.lemmas.Bool.Decides.{nat_tests}
 use Rattle.std.proofs.lemmas.List.{get_or_past, length-map}
-use Rattle.std.proofs.lemmas.List.Elements.{All-map, All-tail}
+use Rattle.std.proofs.lemmas.List.Elements.{All-map}
 use Rattle.std.proofs.lemmas.List.Sums.{sum_by-cons, sum_by-remove}
 use Rattle.std.proofs.lemmas.Option.{get_or_from_slice_get, slice_get_within}
 use Rattle.msi_pool.specs.Pool.{Pool, at_place, no_place}
@@ -21,6 +21,7 @@ use Rattle.cfb_tree.specs.Names.{Letters}
 use Rattle.cfb_tree.specs.Tree.{Tree}
 use Rattle.msi.specs.Package.{Package, Packs}
 use Rattle.msi.specs.Sound.{IsSoundPackage, IsUsed, uses_of}
+use Rattle.msi_changes.proofs.UsesKept.{none_in}
 
 -- whether a cell is a use of a place
 abbrev use_of : ℕ → ValueRef → ℕ
@@ -28,11 +29,6 @@ use_of n v = cond (names_place n v) 1 0
 
 abbrev row_uses : ℕ → Row → ℕ
 row_uses n row = sum_by (use_of n) row
-
--- a sum of nothing
-none_in : {X : Type 0} (f : X → ℕ) (xs : List X) → All (λ x. f x ≡ 0) xs → sum_by f xs ≡ 0
-none_in f [] h = refl
-none_in f (x ∷ xs) h = omega (arith, sum_by-cons f x xs, h 0 x (omega arith), none_in f xs (All-tail (λ y. f y ≡ 0) x xs h))
 
 -- ---- rows that are read
 

@@ -3,8 +3,6 @@ use Rattle.std.proofs.Common.{◌≡◌, ℕ, Bool, true, false, cond, List, [],
 use Rattle.std.specs.Prelude.{find, filter, not, option_and_then, is_none}
 use Rattle.std.specs.List.{list_all}
 use Rattle.std.specs.Ordering.{is_eq, is_lt}
-use Rattle.std.specs.declared.cmp.Ordering.{Ordering}
-use Rattle.std.specs.declared.cmp.Ordering.TheVariants.{Less, Equal, Greater}
 use Rattle.cfb_medium.specs.declared.error.Error.{Error}
 use Rattle.cfb_medium.specs.declared.error.Error.TheVariants.{NotFound, AlreadyExists}
 use Rattle.cfb_tree.specs.Names.{Letters, name_key, key_cmp, name_cmp}
@@ -16,6 +14,7 @@ use Rattle.msi.specs.Package.{Package, is_stream, object_bytes, at_name, stream_
 use Rattle.msi.specs.Calls.{bare_package}
 use Rattle.msi.specs.Streams.{plain_stream_name, may_name, stream_read, stream_removed, stream_written, stream_put, AreOneStream}
 use Rattle.msi.specs.declared.kind.PackageType.TheVariants.{Installer}
+use Rattle.msi_values.proofs.DataOrder.{is_equal}
 
 abbrev Key : Type 0
 Key = List ℕ
@@ -32,17 +31,12 @@ read_under letters name may P = ap (λ m. m >>= λ _. or_refused (stream_at lett
 abbrev only : List ℕ → Package
 only name = record (bare_package Installer) { streams = a_stream name 0 [] ∷ [] }
 
-eq_equal : (o : Ordering) → is_eq o ≡ true → o ≡ Equal
-eq_equal Less e = absurd (cc)
-eq_equal Equal e = refl
-eq_equal Greater e = absurd (cc)
-
 -- a name is the same as those of its key
 same_by_key : (letters : Letters) (a b : List ℕ) → name_key letters a ≡ name_key letters b → is_same_name letters a b ≡ true
 same_by_key letters a b e = ap is_eq ((name_cmp_equal letters a b).1 e)
 
 key_by_same : (letters : Letters) (a b : List ℕ) → is_same_name letters a b ≡ true → name_key letters a ≡ name_key letters b
-key_by_same letters a b e = (name_cmp_equal letters a b).0 (eq_equal _ e)
+key_by_same letters a b e = (name_cmp_equal letters a b).0 (is_equal _ e)
 
 -- the one stream is found, so the names are the same
 found_same : (b : Bool) (o : Object) → or_refused (option_and_then object_bytes (cond b (Some o) None)) NotFound ≡ Ok [] → b ≡ true

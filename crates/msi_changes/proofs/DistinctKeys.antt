@@ -1,22 +1,16 @@
 -- New keys behind distinct ones leave all distinct.
 use Rattle.std.proofs.lemmas.Bool.{and_parts}
 use Rattle.std.proofs.Common.{◌≡◌, ◌∙◌, Bool, true, false, not, List, [], ◌∷◌, ◌++◌, refl, ap, Ok, Err, if◌then◌else◌}
-use Rattle.std.specs.Prelude.{◌||◌, ◌&&◌}
+use Rattle.std.specs.Prelude.{◌||◌}
 use Rattle.std.specs.Cmp.Lexicographic.{lists_total}
 use Rattle.std.specs.List.{list_all}
-use Rattle.std.specs.Ordering.{is_eq, ordering_reverse}
-use Rattle.std.specs.declared.cmp.Ordering.{Ordering}
-use Rattle.std.specs.declared.cmp.Ordering.TheVariants.{Less, Equal, Greater}
+use Rattle.std.specs.Ordering.{is_eq}
 use Rattle.cfb_medium.specs.declared.error.Error.TheVariants.{AlreadyExists, InvalidInput}
 use Rattle.msi_values.specs.Datum.{Datum}
 use Rattle.msi_tables.specs.Table.{are_distinct, has_key, key_cmp}
 use Rattle.msi_tables.proofs.Keys.{datum_cmp_total}
 use Rattle.msi_changes.specs.Changes.{new_keys}
-
-turned_equal : (o : Ordering) → is_eq (ordering_reverse o) ≡ is_eq o
-turned_equal Less = refl
-turned_equal Equal = refl
-turned_equal Greater = refl
+use Rattle.msi_values.proofs.DataOrder.{turned_equal}
 
 -- two keys are one from either side
 pub one_key : (x y : List Datum) → is_eq (key_cmp x y) ≡ is_eq (key_cmp y x)

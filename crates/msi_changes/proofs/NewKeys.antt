@@ -29,15 +29,15 @@ Key = Vec BorrowedValue Global
 abbrev set_cmp : Key → Key → Ordering
 set_cmp x y = slice_cmp ghosts.cmp x.items y.items
 
-or_swap : (a b c : Bool) → (a || (b || c)) ≡ (b || (a || c))
+or_again : (a b : Bool) → (a || b) ≡ (a || (a || b))
+or_again true b = refl
+or_again false b = refl
+
+pub or_swap : (a b c : Bool) → (a || (b || c)) ≡ (b || (a || c))
 or_swap true true c = refl
 or_swap true false c = refl
 or_swap false true c = refl
 or_swap false false c = refl
-
-or_again : (a b : Bool) → (a || b) ≡ (a || (a || b))
-or_again true b = refl
-or_again false b = refl
 
 -- the set has the key
 is_there : (keys : List Key) (k : Key) → list_any (is_at (set_cmp k)) keys ≡ has_key (keys_said keys) (borrowed_data k.items)

@@ -17,7 +17,7 @@ use Rattle.msi_changes.proofs.RowUses.{IsWhole, row_uses}
 use Rattle.msi_changes.proofs.TurnUses.{All-head, uses_all}
 
 -- a sum of nothing
-none_in : {X : Type 0} (f : X → ℕ) (xs : List X) → All (λ x. f x ≡ 0) xs → sum_by f xs ≡ 0
+pub none_in : {X : Type 0} (f : X → ℕ) (xs : List X) → All (λ x. f x ≡ 0) xs → sum_by f xs ≡ 0
 none_in f [] h = refl
 none_in f (x ∷ xs) h = omega (arith, sum_by-cons f x xs, All-head (λ y. f y ≡ 0) x xs h, none_in f xs (All-tail (λ y. f y ≡ 0) x xs h))
 

@@ -17,7 +17,8 @@ pub(crate) fn count_value(
     pool: &mut StringPool,
     value: &Value,
 ) -> Result<ValueRef, Error>
-    ensures counts { Answers (λ cell. (cell, pool.new.pool)) result (counted pool.old.pool (datum_of value.now)) }
+    ensures counts { Answers (λ cell. (cell, pool.new.pool)) result
+        (counted pool.old.pool (datum_of value.now)) }
     ensures marked { pool.new.modified ≡ false → pool.new ≡ pool.old }
 {
     let value = value.clone(alloc)?;
@@ -31,7 +32,8 @@ pub(crate) fn count_row(
     pool: &mut StringPool,
     values: &[Value],
 ) -> Result<Vec<ValueRef>, Error>
-    ensures counts { Answers (λ cells. (cells.items, pool.new.pool)) result (row_counted pool.old.pool (data_of values.now)) }
+    ensures counts { Answers (λ cells. (cells.items, pool.new.pool)) result
+        (row_counted pool.old.pool (data_of values.now)) }
     ensures marked { pool.new.modified ≡ false → pool.new ≡ pool.old }
 {
     let mut cells = Vec::new(alloc);
@@ -48,7 +50,8 @@ pub(crate) fn count_rows(
     pool: &mut StringPool,
     rows: &[Vec<Value>],
 ) -> Result<Vec<Vec<ValueRef>>, Error>
-    ensures counts { Answers (λ cells. (rows_held cells.items, pool.new.pool)) result (rows_counted pool.old.pool (map (λ row. data_of row.items) rows.now)) }
+    ensures counts { Answers (λ cells. (rows_held cells.items, pool.new.pool)) result
+        (rows_counted pool.old.pool (map (λ row. data_of row.items) rows.now)) }
     ensures marked { pool.new.modified ≡ false → pool.new ≡ pool.old }
 {
     let mut cells = Vec::new(alloc);

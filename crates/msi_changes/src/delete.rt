@@ -41,7 +41,8 @@ impl Delete {
     /// The same of the rows alone for which this condition counts as true too. `Memory` spends it.
     pub fn with(self, alloc: Global, condition: Expr) -> Result<Delete, Error>
         ensures name { IfOk result (λ delete. delete_name delete ≡ delete_name self) }
-        ensures condition { Answers delete_condition result (Ok (narrowed (delete_condition self) (formula_of condition))) }
+        ensures condition { Answers delete_condition result
+            (Ok (narrowed (delete_condition self) (formula_of condition))) }
     {
         let condition = narrowed(alloc, self.condition, condition)?;
         Ok(Delete {
@@ -67,8 +68,13 @@ impl Delete {
         rows: Vec<Vec<ValueRef>>,
         pool: &mut StringPool,
     ) -> Result<Vec<Vec<ValueRef>>, Error>
-        ensures deletes { Answers (λ left. (rows_held left.items, pool.new.pool)) result (deleted true pool.old.pool (with_rows (heading_of (rc_value table.now)) (rows_held rows.items)) (delete_condition self.now)) }
-        ensures shape { AreWritable pool.old.pool.long (heading_of (rc_value table.now)).columns (rows_held rows.items) → IfOk result (λ after. AreWritable pool.old.pool.long (heading_of (rc_value table.now)).columns (rows_held after.items)) }
+        ensures deletes { Answers (λ left. (rows_held left.items, pool.new.pool)) result
+            (deleted true pool.old.pool (with_rows (heading_of (rc_value table.now))
+            (rows_held rows.items)) (delete_condition self.now)) }
+        ensures shape { AreWritable pool.old.pool.long (heading_of (rc_value table.now)).columns
+            (rows_held rows.items)
+            → IfOk result (λ after. AreWritable pool.old.pool.long
+            (heading_of (rc_value table.now)).columns (rows_held after.items)) }
         ensures marked { pool.new.modified ≡ false → pool.new ≡ pool.old }
         ensures err { OnErr result (pool.new ≡ pool.old) }
     {
@@ -83,7 +89,9 @@ impl Delete {
         rows: Vec<Vec<ValueRef>>,
         pool: &mut StringPool,
     ) -> Result<Vec<Vec<ValueRef>>, Error>
-        ensures deletes { Answers (λ left. (rows_held left.items, pool.new.pool)) result (deleted true pool.old.pool (with_rows (heading_of (rc_value table.now)) (rows_held rows.items)) (delete_condition self.now)) }
+        ensures deletes { Answers (λ left. (rows_held left.items, pool.new.pool)) result
+            (deleted true pool.old.pool (with_rows (heading_of (rc_value table.now))
+            (rows_held rows.items)) (delete_condition self.now)) }
         ensures marked { pool.new.modified ≡ false → pool.new ≡ pool.old }
         ensures err { OnErr result (pool.new ≡ pool.old) }
     {
@@ -111,8 +119,11 @@ fn rows_left(
     rows: Vec<Vec<ValueRef>>,
     counted: &mut StringPool,
 ) -> Result<Vec<Vec<ValueRef>>, Error>
-    requires { IsTrue (knows_condition (heading_of (rc_value table.now)).columns (condition_of condition.now)) }
-    ensures left { Answers (λ left. (rows_held left.items, counted.new.pool)) result (left_of (matches pool.now.pool (heading_of (rc_value table.now)).columns (condition_of condition.now)) counted.old.pool (rows_held rows.items)) }
+    requires { IsTrue (knows_condition (heading_of (rc_value table.now)).columns
+        (condition_of condition.now)) }
+    ensures left { Answers (λ left. (rows_held left.items, counted.new.pool)) result
+        (left_of (matches pool.now.pool (heading_of (rc_value table.now)).columns
+        (condition_of condition.now)) counted.old.pool (rows_held rows.items)) }
     ensures marked { counted.new.modified ≡ false → counted.new ≡ counted.old }
 {
     let mut left = Vec::new(alloc);

@@ -45,7 +45,8 @@ impl Insert {
     /// The same with one more row behind the others. `Memory` spends it.
     pub fn row(self, values: Vec<Value>) -> Result<Insert, Error>
         ensures name { IfOk result (λ insert. insert_name insert ≡ insert_name self) }
-        ensures rows { Answers insert_rows result (Ok (insert_rows self ++ data_of values.items ∷ [])) }
+        ensures rows { Answers insert_rows result
+            (Ok (insert_rows self ++ data_of values.items ∷ [])) }
     {
         let Insert {
             table_name,
@@ -61,7 +62,8 @@ impl Insert {
     /// The same with these rows behind the others. `Memory` spends it.
     pub fn rows(self, rows: Vec<Vec<Value>>) -> Result<Insert, Error>
         ensures name { IfOk result (λ insert. insert_name insert ≡ insert_name self) }
-        ensures rows { Answers insert_rows result (Ok (insert_rows self ++ map (λ row. data_of row.items) rows.items)) }
+        ensures rows { Answers insert_rows result
+            (Ok (insert_rows self ++ map (λ row. data_of row.items) rows.items)) }
     {
         let Insert {
             table_name,
@@ -93,8 +95,13 @@ impl Insert {
         rows: Vec<Vec<ValueRef>>,
         pool: &mut StringPool,
     ) -> Result<Vec<Vec<ValueRef>>, Error>
-        ensures inserts { Answers (λ all. (rows_held all.items, pool.new.pool)) result (inserted true pool.old.pool (with_rows (heading_of table.now) (rows_held rows.items)) (insert_rows self.now)) }
-        ensures shape { AreWritable pool.old.pool.long (heading_of table.now).columns (rows_held rows.items) → IfOk result (λ after. AreWritable pool.old.pool.long (heading_of table.now).columns (rows_held after.items)) }
+        ensures inserts { Answers (λ all. (rows_held all.items, pool.new.pool)) result
+            (inserted true pool.old.pool (with_rows (heading_of table.now) (rows_held rows.items))
+            (insert_rows self.now)) }
+        ensures shape { AreWritable pool.old.pool.long (heading_of table.now).columns
+            (rows_held rows.items)
+            → IfOk result (λ after. AreWritable pool.old.pool.long (heading_of table.now).columns
+            (rows_held after.items)) }
         ensures marked { pool.new.modified ≡ false → pool.new ≡ pool.old }
         ensures err { OnErr result (pool.new ≡ pool.old) }
     {
@@ -109,7 +116,9 @@ impl Insert {
         rows: Vec<Vec<ValueRef>>,
         pool: &mut StringPool,
     ) -> Result<Vec<Vec<ValueRef>>, Error>
-        ensures inserts { Answers (λ all. (rows_held all.items, pool.new.pool)) result (inserted true pool.old.pool (with_rows (heading_of table.now) (rows_held rows.items)) (insert_rows self.now)) }
+        ensures inserts { Answers (λ all. (rows_held all.items, pool.new.pool)) result
+            (inserted true pool.old.pool (with_rows (heading_of table.now) (rows_held rows.items))
+            (insert_rows self.now)) }
         ensures marked { pool.new.modified ≡ false → pool.new ≡ pool.old }
         ensures err { OnErr result (pool.new ≡ pool.old) }
     {
@@ -137,8 +146,12 @@ fn judge(
     pool: &StringPool,
     new_rows: &[Vec<Value>],
 ) -> Result<(), Error>
-    ensures accepted { OnOk result (IsAccepted pool.now.pool (with_rows (heading_of table.now) (rows_held rows.now)) (map (λ row. data_of row.items) new_rows.now)) }
-    ensures refused { IfErr result (λ e. (e ≡ Memory) ⊎ (inserted true pool.now.pool (with_rows (heading_of table.now) (rows_held rows.now)) (map (λ row. data_of row.items) new_rows.now) ≡ Err e)) }
+    ensures accepted { OnOk result (IsAccepted pool.now.pool
+        (with_rows (heading_of table.now) (rows_held rows.now))
+        (map (λ row. data_of row.items) new_rows.now)) }
+    ensures refused { IfErr result (λ e. (e ≡ Memory)
+        ⊎ (inserted true pool.now.pool (with_rows (heading_of table.now) (rows_held rows.now))
+        (map (λ row. data_of row.items) new_rows.now) ≡ Err e)) }
 {
     let columns = table.columns();
     if !are_rows(columns, new_rows) {

@@ -22,7 +22,8 @@ pub(crate) fn key_of<'a>(
     columns: &[Column],
     values: &[BorrowedValue<'a>],
 ) -> Result<Vec<BorrowedValue<'a>>, Error>
-    ensures ok { IfOk result (λ key. borrowed_data key.items ≡ key_values (columns_of columns.now) (borrowed_data values.now)) }
+    ensures ok { IfOk result (λ key. borrowed_data key.items
+        ≡ key_values (columns_of columns.now) (borrowed_data values.now)) }
     ensures err { IfErr result (λ e. e ≡ Memory) }
 {
     let mut key = Vec::new(alloc);
@@ -36,7 +37,9 @@ fn add_key_of<'a>(
     values: &[BorrowedValue<'a>],
     key: &mut Vec<BorrowedValue<'a>>,
 ) -> Result<(), Error>
-    ensures ok { OnOk result (borrowed_data key.new.items ≡ borrowed_data key.old.items ++ key_values (columns_of columns.now) (borrowed_data values.now)) }
+    ensures ok { OnOk result (borrowed_data key.new.items
+        ≡ borrowed_data key.old.items ++ key_values (columns_of columns.now)
+        (borrowed_data values.now)) }
     ensures err { IfErr result (λ e. e ≡ Memory) }
 {
     match columns {
@@ -59,7 +62,8 @@ pub(crate) fn values_of<'a>(
     pool: &'a StringPool,
     row: &[ValueRef],
 ) -> Result<Vec<BorrowedValue<'a>>, Error>
-    ensures ok { IfOk result (λ values. borrowed_data values.items ≡ row_data pool.now.pool row.now) }
+    ensures ok { IfOk result (λ values. borrowed_data values.items
+        ≡ row_data pool.now.pool row.now) }
     ensures err { IfErr result (λ e. e ≡ Memory) }
 {
     let mut values = Vec::new(alloc);
@@ -88,7 +92,9 @@ pub(crate) fn keys_of<'a>(
     columns: &[Column],
     rows: &[Vec<ValueRef>],
 ) -> Result<Vec<Vec<BorrowedValue<'a>>>, Error>
-    ensures ok { IfOk result (λ keys. keys_said keys.items ≡ map (λ row. key_values (columns_of columns.now) (row_data pool.now.pool row)) (rows_held rows.now)) }
+    ensures ok { IfOk result (λ keys. keys_said keys.items
+        ≡ map (λ row. key_values (columns_of columns.now) (row_data pool.now.pool row))
+        (rows_held rows.now)) }
     ensures err { IfErr result (λ e. e ≡ Memory) }
 {
     let mut keys = Vec::new(alloc);
@@ -105,7 +111,8 @@ pub(crate) fn keys_of_values<'a>(
     columns: &[Column],
     rows: &'a [Vec<Value>],
 ) -> Result<Vec<Vec<BorrowedValue<'a>>>, Error>
-    ensures ok { IfOk result (λ keys. keys_said keys.items ≡ map (key_values (columns_of columns.now)) (map (λ row. data_of row.items) rows.now)) }
+    ensures ok { IfOk result (λ keys. keys_said keys.items
+        ≡ map (key_values (columns_of columns.now)) (map (λ row. data_of row.items) rows.now)) }
     ensures err { IfErr result (λ e. e ≡ Memory) }
 {
     let mut keys = Vec::new(alloc);
@@ -121,8 +128,10 @@ pub(crate) fn key_set<'a>(
     alloc: Global,
     keys: Vec<Vec<BorrowedValue<'a>>>,
 ) -> Result<Option<BTreeSet<Vec<BorrowedValue<'a>>>>, Error>
-    ensures ok { IfOk result (λ found. MatchOption found (are_distinct (keys_said keys.entry.items) ≡ false)
-        (λ set. (are_distinct (keys_said keys.entry.items) ≡ true) × HaveSameKeys (keys_said keys.entry.items) (keys_said set.keys))) }
+    ensures ok { IfOk result (λ found. MatchOption found
+        (are_distinct (keys_said keys.entry.items) ≡ false)
+        (λ set. (are_distinct (keys_said keys.entry.items) ≡ true)
+        × HaveSameKeys (keys_said keys.entry.items) (keys_said set.keys))) }
     ensures err { IfErr result (λ e. e ≡ Memory) }
 {
     let mut set = BTreeSet::new(alloc);
@@ -140,8 +149,10 @@ pub(crate) fn check_new_keys<'a>(
     stored: &BTreeSet<Vec<BorrowedValue<'a>>>,
     new: Vec<Vec<BorrowedValue<'a>>>,
 ) -> Result<(), Error>
-    ensures ok { OnOk result (new_keys (keys_said stored.now.keys) [] (keys_said new.entry.items) ≡ Ok tt) }
-    ensures err { IfErr result (λ e. (e ≡ Memory) ⊎ (new_keys (keys_said stored.now.keys) [] (keys_said new.entry.items) ≡ Err e)) }
+    ensures ok { OnOk result (new_keys (keys_said stored.now.keys) [] (keys_said new.entry.items)
+        ≡ Ok tt) }
+    ensures err { IfErr result (λ e. (e ≡ Memory)
+        ⊎ (new_keys (keys_said stored.now.keys) [] (keys_said new.entry.items) ≡ Err e)) }
 {
     let mut earlier = BTreeSet::new(alloc);
     for key in new {

@@ -18,7 +18,8 @@ fn fmt_value<W: fmt::Write>(f: &mut fmt::Formatter<W>, value: &Value) -> fmt::Re
 
 // Writes the values.
 fn fmt_values<W: fmt::Write>(f: &mut fmt::Formatter<W>, values: &[Value]) -> fmt::Result
-    ensures { DisplaysOnOk W.write_str_gives f.old result (separated (codes ", ") (map datum_text (data_of values.now))) f.new }
+    ensures { DisplaysOnOk W.write_str_gives f.old result
+        (separated (codes ", ") (map datum_text (data_of values.now))) f.new }
 {
     match values {
         [] => Ok(()),
@@ -42,7 +43,8 @@ fn fmt_row<W: fmt::Write>(f: &mut fmt::Formatter<W>, values: &[Value]) -> fmt::R
 
 // Writes the rows.
 pub(crate) fn fmt_rows<W: fmt::Write>(f: &mut fmt::Formatter<W>, rows: &[Vec<Value>]) -> fmt::Result
-    ensures { DisplaysOnOk W.write_str_gives f.old result (separated (codes ", ") (map values_text (map (λ row. data_of row.items) rows.now))) f.new }
+    ensures { DisplaysOnOk W.write_str_gives f.old result
+        (separated (codes ", ") (map values_text (map (λ row. data_of row.items) rows.now))) f.new }
 {
     match rows {
         [] => Ok(()),
@@ -60,7 +62,8 @@ pub(crate) fn fmt_sets<W: fmt::Write>(
     f: &mut fmt::Formatter<W>,
     sets: &[(String, Value)],
 ) -> fmt::Result
-    ensures { DisplaysOnOk W.write_str_gives f.old result (separated (codes ", ") (map set_text (sets_of sets.now))) f.new }
+    ensures { DisplaysOnOk W.write_str_gives f.old result
+        (separated (codes ", ") (map set_text (sets_of sets.now))) f.new }
 {
     match sets {
         [] => Ok(()),
@@ -75,7 +78,8 @@ pub(crate) fn fmt_sets<W: fmt::Write>(
 
 // Writes one of them.
 fn fmt_set<W: fmt::Write>(f: &mut fmt::Formatter<W>, name: &str, value: &Value) -> fmt::Result
-    ensures { DisplaysOnOk W.write_str_gives f.old result (set_text (name.now, datum_of value.now)) f.new }
+    ensures { DisplaysOnOk W.write_str_gives f.old result (set_text (name.now, datum_of value.now))
+        f.new }
 {
     f.write_str(name)?;
     f.write_str(" = ")?;

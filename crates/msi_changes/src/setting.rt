@@ -28,7 +28,8 @@ fn is_set(table: &Table, set: &(String, Value)) -> bool
 
 // Whether the table has all these columns, and each takes its value.
 pub(crate) fn are_sets(table: &Table, sets: &[(String, Value)]) -> bool
-    ensures { result ≡ list_all (λ set. is_valid_set (heading_of table.now).columns (set_of set)) sets.now }
+    ensures { result
+        ≡ list_all (λ set. is_valid_set (heading_of table.now).columns (set_of set)) sets.now }
 {
     sets.iter().all(|set| is_set(table, set))
 }
@@ -36,7 +37,10 @@ pub(crate) fn are_sets(table: &Table, sets: &[(String, Value)]) -> bool
 // Whether the column belongs to the key.
 #[tactic(auto, using(crate::proofs::Updating::key_found, crate::proofs::Updating::key_missed))]
 fn is_of_key(table: &Table, set: &(String, Value)) -> bool
-    ensures { result ≡ list_any (λ column. column.key) (option_first (column_place (heading_of table.now).columns (string_bytes set.now.0)) (heading_of table.now).columns) }
+    ensures { result
+        ≡ list_any (λ column. column.key) (option_first
+        (column_place (heading_of table.now).columns (string_bytes set.now.0))
+        (heading_of table.now).columns) }
 {
     match table.get_column(&set.0) {
         Some(column) => column.is_primary_key(),
@@ -46,7 +50,10 @@ fn is_of_key(table: &Table, set: &(String, Value)) -> bool
 
 // Whether a column of the key is among those that are set.
 pub(crate) fn sets_key(table: &Table, sets: &[(String, Value)]) -> bool
-    ensures { result ≡ list_any (λ set. list_any (λ column. column.key) (option_first (column_place (heading_of table.now).columns (string_bytes set.0)) (heading_of table.now).columns)) sets.now }
+    ensures { result
+        ≡ list_any (λ set. list_any (λ column. column.key)
+        (option_first (column_place (heading_of table.now).columns (string_bytes set.0))
+        (heading_of table.now).columns)) sets.now }
 {
     sets.iter().any(|set| is_of_key(table, set))
 }
@@ -68,7 +75,9 @@ pub(crate) fn set_values<'a>(
     values: &mut Vec<BorrowedValue<'a>>,
     sets: &'a [(String, Value)],
 )
-    ensures { borrowed_data values.new.items ≡ values_set (heading_of table.now).columns (borrowed_data values.old.items) (sets_of sets.now) }
+    ensures { borrowed_data values.new.items
+        ≡ values_set (heading_of table.now).columns (borrowed_data values.old.items)
+        (sets_of sets.now) }
 {
     for (name, value) in sets {
         let place = table.index_for_column_name(name).unwrap_or(0);
@@ -85,7 +94,8 @@ fn set_cell(
     row: &mut Vec<ValueRef>,
     set: &(String, Value),
 ) -> Result<(), Error>
-    ensures sets { Answers (λ _. (row.new.items, pool.new.pool)) result (cell_set (heading_of table.now).columns pool.old.pool row.old.items (set_of set.now)) }
+    ensures sets { Answers (λ _. (row.new.items, pool.new.pool)) result
+        (cell_set (heading_of table.now).columns pool.old.pool row.old.items (set_of set.now)) }
     ensures marked { pool.new.modified ≡ false → pool.new ≡ pool.old }
 {
     let place = table.index_for_column_name(&set.0).unwrap_or(0);
@@ -110,7 +120,8 @@ pub(crate) fn set_cells(
     row: &mut Vec<ValueRef>,
     sets: &[(String, Value)],
 ) -> Result<(), Error>
-    ensures sets { Answers (λ _. (row.new.items, pool.new.pool)) result (cells_set (heading_of table.now).columns pool.old.pool row.old.items (sets_of sets.now)) }
+    ensures sets { Answers (λ _. (row.new.items, pool.new.pool)) result
+        (cells_set (heading_of table.now).columns pool.old.pool row.old.items (sets_of sets.now)) }
     ensures marked { pool.new.modified ≡ false → pool.new ≡ pool.old }
 {
     for set in sets {

@@ -51,8 +51,10 @@ impl Update {
     /// The same with a new value for this column too, behind the others. `Memory` spends it.
     pub fn set(self, alloc: Global, column_name: &str, value: Value) -> Result<Update, Error>
         ensures name { IfOk result (λ update. update_name update ≡ update_name self) }
-        ensures sets { Answers update_sets result (Ok (update_sets self ++ (column_name.now, datum_of value) ∷ [])) }
-        ensures condition { IfOk result (λ update. update_condition update ≡ update_condition self) }
+        ensures sets { Answers update_sets result
+            (Ok (update_sets self ++ (column_name.now, datum_of value) ∷ [])) }
+        ensures condition { IfOk result (λ update. update_condition update
+            ≡ update_condition self) }
     {
         let Update {
             table_name,
@@ -71,7 +73,8 @@ impl Update {
     pub fn with(self, alloc: Global, condition: Expr) -> Result<Update, Error>
         ensures name { IfOk result (λ update. update_name update ≡ update_name self) }
         ensures sets { IfOk result (λ update. update_sets update ≡ update_sets self) }
-        ensures condition { Answers update_condition result (Ok (narrowed (update_condition self) (formula_of condition))) }
+        ensures condition { Answers update_condition result
+            (Ok (narrowed (update_condition self) (formula_of condition))) }
     {
         let condition = narrowed(alloc, self.condition, condition)?;
         Ok(Update {
@@ -100,8 +103,13 @@ impl Update {
         rows: Vec<Vec<ValueRef>>,
         pool: &mut StringPool,
     ) -> Result<Vec<Vec<ValueRef>>, Error>
-        ensures updates { Answers (λ after. (rows_held after.items, pool.new.pool)) result (updated true pool.old.pool (with_rows (heading_of (rc_value table.now)) (rows_held rows.items)) (update_sets self.now) (update_condition self.now)) }
-        ensures shape { AreWritable pool.old.pool.long (heading_of (rc_value table.now)).columns (rows_held rows.items) → IfOk result (λ after. AreWritable pool.old.pool.long (heading_of (rc_value table.now)).columns (rows_held after.items)) }
+        ensures updates { Answers (λ after. (rows_held after.items, pool.new.pool)) result
+            (updated true pool.old.pool (with_rows (heading_of (rc_value table.now))
+            (rows_held rows.items)) (update_sets self.now) (update_condition self.now)) }
+        ensures shape { AreWritable pool.old.pool.long (heading_of (rc_value table.now)).columns
+            (rows_held rows.items)
+            → IfOk result (λ after. AreWritable pool.old.pool.long
+            (heading_of (rc_value table.now)).columns (rows_held after.items)) }
         ensures marked { pool.new.modified ≡ false → pool.new ≡ pool.old }
         ensures err { OnErr result (pool.new ≡ pool.old) }
     {
@@ -116,7 +124,9 @@ impl Update {
         rows: Vec<Vec<ValueRef>>,
         pool: &mut StringPool,
     ) -> Result<Vec<Vec<ValueRef>>, Error>
-        ensures updates { Answers (λ after. (rows_held after.items, pool.new.pool)) result (updated true pool.old.pool (with_rows (heading_of (rc_value table.now)) (rows_held rows.items)) (update_sets self.now) (update_condition self.now)) }
+        ensures updates { Answers (λ after. (rows_held after.items, pool.new.pool)) result
+            (updated true pool.old.pool (with_rows (heading_of (rc_value table.now))
+            (rows_held rows.items)) (update_sets self.now) (update_condition self.now)) }
         ensures marked { pool.new.modified ≡ false → pool.new ≡ pool.old }
         ensures err { OnErr result (pool.new ≡ pool.old) }
     {
@@ -145,8 +155,12 @@ fn judge(
     sets: &[(String, Value)],
     condition: &Option<Expr>,
 ) -> Result<(), Error>
-    ensures accepted { OnOk result (MaySet pool.now.pool (with_rows (heading_of (rc_value table.now)) (rows_held rows.now)) (sets_of sets.now) (condition_of condition.now)) }
-    ensures refused { IfErr result (λ e. (e ≡ Memory) ⊎ (updated true pool.now.pool (with_rows (heading_of (rc_value table.now)) (rows_held rows.now)) (sets_of sets.now) (condition_of condition.now) ≡ Err e)) }
+    ensures accepted { OnOk result (MaySet pool.now.pool
+        (with_rows (heading_of (rc_value table.now)) (rows_held rows.now)) (sets_of sets.now)
+        (condition_of condition.now)) }
+    ensures refused { IfErr result (λ e. (e ≡ Memory)
+        ⊎ (updated true pool.now.pool (with_rows (heading_of (rc_value table.now))
+        (rows_held rows.now)) (sets_of sets.now) (condition_of condition.now) ≡ Err e)) }
 {
     if !are_sets(table, sets) {
         return Err(Error::InvalidInput);
@@ -174,8 +188,11 @@ fn keys_after<'a>(
     sets: &'a [(String, Value)],
     condition: &Option<Expr>,
 ) -> Result<Vec<Vec<BorrowedValue<'a>>>, Error>
-    requires { IsTrue (knows_condition (heading_of (rc_value table.now)).columns (condition_of condition.now)) }
-    ensures ok { IfOk result (λ keys. keys_said keys.items ≡ keys_after pool.now.pool (with_rows (heading_of (rc_value table.now)) (rows_held rows.now)) (sets_of sets.now) (condition_of condition.now)) }
+    requires { IsTrue (knows_condition (heading_of (rc_value table.now)).columns
+        (condition_of condition.now)) }
+    ensures ok { IfOk result (λ keys. keys_said keys.items
+        ≡ keys_after pool.now.pool (with_rows (heading_of (rc_value table.now))
+        (rows_held rows.now)) (sets_of sets.now) (condition_of condition.now)) }
     ensures err { IfErr result (λ e. e ≡ Memory) }
 {
     let mut keys = Vec::new(alloc);
@@ -194,8 +211,11 @@ fn key_after<'a>(
     sets: &'a [(String, Value)],
     condition: &Option<Expr>,
 ) -> Result<Vec<BorrowedValue<'a>>, Error>
-    requires { IsTrue (knows_condition (heading_of (rc_value table.now)).columns (condition_of condition.now)) }
-    ensures ok { IfOk result (λ key. borrowed_data key.items ≡ key_after pool.now.pool (heading_of (rc_value table.now)).columns (sets_of sets.now) (condition_of condition.now) row.now) }
+    requires { IsTrue (knows_condition (heading_of (rc_value table.now)).columns
+        (condition_of condition.now)) }
+    ensures ok { IfOk result (λ key. borrowed_data key.items
+        ≡ key_after pool.now.pool (heading_of (rc_value table.now)).columns (sets_of sets.now)
+        (condition_of condition.now) row.now) }
     ensures err { IfErr result (λ e. e ≡ Memory) }
 {
     let mut values = values_of(alloc, pool, row)?;
@@ -215,8 +235,12 @@ fn set_rows(
     sets: &[(String, Value)],
     condition: &Option<Expr>,
 ) -> Result<Vec<Vec<ValueRef>>, Error>
-    requires { IsTrue (knows_condition (heading_of (rc_value table.now)).columns (condition_of condition.now)) }
-    ensures sets { Answers (λ after. (rows_held after.items, counted.new.pool)) result (rows_set (heading_of (rc_value table.now)).columns counted.old.pool (sets_of sets.now) (judged (matches pool.now.pool (heading_of (rc_value table.now)).columns (condition_of condition.now)) (rows_held rows.items))) }
+    requires { IsTrue (knows_condition (heading_of (rc_value table.now)).columns
+        (condition_of condition.now)) }
+    ensures sets { Answers (λ after. (rows_held after.items, counted.new.pool)) result
+        (rows_set (heading_of (rc_value table.now)).columns counted.old.pool (sets_of sets.now)
+        (judged (matches pool.now.pool (heading_of (rc_value table.now)).columns
+        (condition_of condition.now)) (rows_held rows.items))) }
     ensures marked { counted.new.modified ≡ false → counted.new ≡ counted.old }
 {
     let mut after = Vec::new(alloc);

@@ -23,7 +23,8 @@ fn is_row(columns: &[Column], values: &[Value]) -> bool
 
 // Whether all these rows are such.
 pub(crate) fn are_rows(columns: &[Column], rows: &[Vec<Value>]) -> bool
-    ensures { result ≡ list_all (λ row. are_valid (columns_of columns.now) (data_of row.items)) rows.now }
+    ensures { result
+        ≡ list_all (λ row. are_valid (columns_of columns.now) (data_of row.items)) rows.now }
 {
     rows.iter().all(|row| is_row(columns, row))
 }

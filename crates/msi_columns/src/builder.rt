@@ -75,7 +75,8 @@ impl ColumnBuilder {
         table_name: &str,
         column_index: i32,
     ) -> Result<ColumnBuilder, Error>
-        ensures ok { IfOk result (λ builder. Builds builder (refers_to table_name.now column_index) self) }
+        ensures ok { IfOk result (λ builder. Builds builder (refers_to table_name.now column_index)
+            self) }
         ensures err { IfErr result (λ e. e ≡ Memory) }
     {
         let table_name = String::from_str(alloc, table_name)?;
@@ -100,7 +101,8 @@ impl ColumnBuilder {
 
     /// The same column, which takes these texts alone; with no text it takes all.
     pub fn enum_values(self, alloc: Global, values: &[&str]) -> Result<ColumnBuilder, Error>
-        ensures ok { IfOk result (λ builder. Builds builder (one_of (map (λ value. value.now) values.now)) self) }
+        ensures ok { IfOk result (λ builder. Builds builder
+            (one_of (map (λ value. value.now) values.now)) self) }
         ensures err { IfErr result (λ e. e ≡ Memory) }
     {
         let mut enum_values = Vec::new(alloc);
@@ -137,7 +139,8 @@ impl ColumnBuilder {
 
     /// A column of identifiers of at most so many characters.
     pub fn id_string(self, max_len: usize) -> Column
-        ensures { column_of result ≡ of_category category.Identifier (built self (kind.Str max_len)) }
+        ensures { column_of result
+            ≡ of_category category.Identifier (built self (kind.Str max_len)) }
     {
         self.category(Category::Identifier).string(max_len)
     }
@@ -151,7 +154,8 @@ impl ColumnBuilder {
 
     /// A column of the category Formatted, of texts of at most so many characters.
     pub fn formatted_string(self, max_len: usize) -> Column
-        ensures { column_of result ≡ of_category category.Formatted (built self (kind.Str max_len)) }
+        ensures { column_of result
+            ≡ of_category category.Formatted (built self (kind.Str max_len)) }
     {
         self.category(Category::Formatted).string(max_len)
     }
@@ -166,7 +170,10 @@ impl ColumnBuilder {
     /// The column whose type has these bits, localizable and of the key where they say so, and nullable also where it
     /// was. InvalidData where they are no type's.
     pub fn with_bitfield(self, type_bits: i32) -> Result<Column, Error>
-        ensures { (kind : ColumnType) → MatchResult result (λ column. with_bits (cast_unsigned w32 type_bits) (built self kind) ≡ Some (column_of column)) (λ e. (e ≡ InvalidData) × (with_bits (cast_unsigned w32 type_bits) (built self kind) ≡ None)) }
+        ensures { (kind : ColumnType)
+            → MatchResult result (λ column. with_bits (cast_unsigned w32 type_bits)
+            (built self kind) ≡ Some (column_of column)) (λ e. (e ≡ InvalidData)
+            × (with_bits (cast_unsigned w32 type_bits) (built self kind) ≡ None)) }
     {
         let bits = type_bits.cast_unsigned();
         let coltype = ColumnType::from_bitfield(bits).ok_or(Error::InvalidData)?;

@@ -26,8 +26,11 @@ impl ColumnType {
     /// its place in the pool. UnexpectedEof where bytes are missing; then none is taken off.
     pub fn read_value(&self, bytes: &mut &[u8], long_string_refs: bool) -> Result<ValueRef, Error>
         ensures ok { IsOk result ↔ (width_of long_string_refs self.now ≤ length bytes.old.now) }
-        ensures value { IfOk result (λ v. v ≡ cell_value self.now (le_number (take (width_of long_string_refs self.now) bytes.old.now))) }
-        ensures rest { OnOk result (bytes.new.now ≡ drop (width_of long_string_refs self.now) bytes.old.now) }
+        ensures value { IfOk result (λ v. v
+            ≡ cell_value self.now (le_number (take (width_of long_string_refs self.now)
+            bytes.old.now))) }
+        ensures rest { OnOk result (bytes.new.now
+            ≡ drop (width_of long_string_refs self.now) bytes.old.now) }
         ensures err { IfErr result (λ e. e ≡ UnexpectedEof) }
         ensures unchanged { OnErr result (bytes.new.now ≡ bytes.old.now) }
     {
@@ -107,8 +110,10 @@ impl ColumnType {
         value: ValueRef,
         long_string_refs: bool,
     ) -> Result<(), Error>
-        ensures ok { OnOk result (AppendsCell out.old.items out.new.items long_string_refs self.now value) }
-        ensures refused { IsErrOf result InvalidInput ↔ (cell_number long_string_refs self.now value ≡ None) }
+        ensures ok { OnOk result (AppendsCell out.old.items out.new.items long_string_refs self.now
+            value) }
+        ensures refused { IsErrOf result InvalidInput
+            ↔ (cell_number long_string_refs self.now value ≡ None) }
         ensures kinds { IfErr result IsInvalidInputOrMemory }
         ensures err { OnErr result (out.new.items ≡ out.old.items) }
     {

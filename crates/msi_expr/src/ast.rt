@@ -61,7 +61,8 @@ impl Ast {
 
     // Writes the expression where a strength is asked for.
     pub(crate) fn fmt_at<W: fmt::Write>(&self, f: &mut fmt::Formatter<W>, asked: u32) -> fmt::Result
-        ensures { DisplaysOnOk W.write_str_gives f.old result (shown asked (ast_formula self.now)) f.new }
+        ensures { DisplaysOnOk W.write_str_gives f.old result (shown asked (ast_formula self.now))
+            f.new }
     {
         match self {
             Ast::Literal(value) => fmt::Display::fmt(value, f),
@@ -107,7 +108,8 @@ impl Ast {
 
     // The names of two columns, where it asks whether they are equal, and nothing else.
     pub(crate) fn equated(&self) -> Option<(&str, &str)>
-        ensures { option_map (λ names. (names.0.now, names.1.now)) result ≡ equated_in (ast_formula self.now) }
+        ensures { option_map (λ names. (names.0.now, names.1.now)) result
+            ≡ equated_in (ast_formula self.now) }
     {
         match self {
             Ast::BinOp(op, arg1, arg2) => {
@@ -122,7 +124,8 @@ impl Ast {
 
     // Adds the names of its columns that aren't among these yet.
     pub(crate) fn add_names<'a>(&'a self, names: &mut Vec<&'a str>) -> Result<(), AllocError>
-        ensures { OnOk result (map (λ n. n.now) names.new.items ≡ names_after (map (λ n. n.now) names.old.items) (ast_formula self.now)) }
+        ensures { OnOk result (map (λ n. n.now) names.new.items
+            ≡ names_after (map (λ n. n.now) names.old.items) (ast_formula self.now)) }
     {
         match self {
             Ast::Literal(_) => Ok(()),
@@ -143,7 +146,8 @@ fn bracket<W: fmt::Write>(
     own: u32,
     sign: &str,
 ) -> fmt::Result
-    ensures { DisplaysOnOk W.write_str_gives f.old result (Some (bracket asked own sign.now)) f.new }
+    ensures { DisplaysOnOk W.write_str_gives f.old result (Some (bracket asked own sign.now))
+        f.new }
 {
     f.write_str(if own < asked { sign } else { "" })
 }
@@ -151,7 +155,8 @@ fn bracket<W: fmt::Write>(
 // Adds a name that isn't among these.
 #[tactic(auto, using(crate::proofs::Names::list_any_map))]
 fn note<'a>(names: &mut Vec<&'a str>, name: &'a str) -> Result<(), AllocError>
-    ensures { OnOk result (map (λ n. n.now) names.new.items ≡ noted (map (λ n. n.now) names.old.items) name.now) }
+    ensures { OnOk result (map (λ n. n.now) names.new.items
+        ≡ noted (map (λ n. n.now) names.old.items) name.now) }
 {
     if is_known(names, name) {
         return Ok(());

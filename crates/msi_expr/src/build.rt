@@ -62,105 +62,120 @@ impl Expr {
 
     /// 1 where both are equal, else 0.
     pub fn eq(self, alloc: Global, rhs: Expr) -> Result<Expr, Error>
-        ensures { Answers formula_of result (Ok (built_of_two BinOp.Eq (formula_of self) (formula_of rhs))) }
+        ensures { Answers formula_of result (Ok
+            (built_of_two BinOp.Eq (formula_of self) (formula_of rhs))) }
     {
         self.beside(alloc, BinOp::Eq, rhs)
     }
 
     /// 1 where they differ, else 0.
     pub fn ne(self, alloc: Global, rhs: Expr) -> Result<Expr, Error>
-        ensures { Answers formula_of result (Ok (built_of_two BinOp.Ne (formula_of self) (formula_of rhs))) }
+        ensures { Answers formula_of result (Ok
+            (built_of_two BinOp.Ne (formula_of self) (formula_of rhs))) }
     {
         self.beside(alloc, BinOp::Ne, rhs)
     }
 
     /// 1 where this is less, else 0.
     pub fn lt(self, alloc: Global, rhs: Expr) -> Result<Expr, Error>
-        ensures { Answers formula_of result (Ok (built_of_two BinOp.Lt (formula_of self) (formula_of rhs))) }
+        ensures { Answers formula_of result (Ok
+            (built_of_two BinOp.Lt (formula_of self) (formula_of rhs))) }
     {
         self.beside(alloc, BinOp::Lt, rhs)
     }
 
     /// 1 where this is less or equal, else 0.
     pub fn le(self, alloc: Global, rhs: Expr) -> Result<Expr, Error>
-        ensures { Answers formula_of result (Ok (built_of_two BinOp.Le (formula_of self) (formula_of rhs))) }
+        ensures { Answers formula_of result (Ok
+            (built_of_two BinOp.Le (formula_of self) (formula_of rhs))) }
     {
         self.beside(alloc, BinOp::Le, rhs)
     }
 
     /// 1 where this is greater, else 0.
     pub fn gt(self, alloc: Global, rhs: Expr) -> Result<Expr, Error>
-        ensures { Answers formula_of result (Ok (built_of_two BinOp.Gt (formula_of self) (formula_of rhs))) }
+        ensures { Answers formula_of result (Ok
+            (built_of_two BinOp.Gt (formula_of self) (formula_of rhs))) }
     {
         self.beside(alloc, BinOp::Gt, rhs)
     }
 
     /// 1 where this is greater or equal, else 0.
     pub fn ge(self, alloc: Global, rhs: Expr) -> Result<Expr, Error>
-        ensures { Answers formula_of result (Ok (built_of_two BinOp.Ge (formula_of self) (formula_of rhs))) }
+        ensures { Answers formula_of result (Ok
+            (built_of_two BinOp.Ge (formula_of self) (formula_of rhs))) }
     {
         self.beside(alloc, BinOp::Ge, rhs)
     }
 
     /// The sum of two numbers, or two texts joined; null past 32 bits or for other values.
     pub fn add(self, alloc: Global, rhs: Expr) -> Result<Expr, Error>
-        ensures { Answers formula_of result (Ok (built_of_two BinOp.Add (formula_of self) (formula_of rhs))) }
+        ensures { Answers formula_of result (Ok
+            (built_of_two BinOp.Add (formula_of self) (formula_of rhs))) }
     {
         self.beside(alloc, BinOp::Add, rhs)
     }
 
     /// The difference of two numbers; null past 32 bits or for other values.
     pub fn sub(self, alloc: Global, rhs: Expr) -> Result<Expr, Error>
-        ensures { Answers formula_of result (Ok (built_of_two BinOp.Sub (formula_of self) (formula_of rhs))) }
+        ensures { Answers formula_of result (Ok
+            (built_of_two BinOp.Sub (formula_of self) (formula_of rhs))) }
     {
         self.beside(alloc, BinOp::Sub, rhs)
     }
 
     /// The product of two numbers; null past 32 bits or for other values.
     pub fn mul(self, alloc: Global, rhs: Expr) -> Result<Expr, Error>
-        ensures { Answers formula_of result (Ok (built_of_two BinOp.Mul (formula_of self) (formula_of rhs))) }
+        ensures { Answers formula_of result (Ok
+            (built_of_two BinOp.Mul (formula_of self) (formula_of rhs))) }
     {
         self.beside(alloc, BinOp::Mul, rhs)
     }
 
     /// The quotient of two numbers, cut towards zero; null by zero, past 32 bits or for other values.
     pub fn div(self, alloc: Global, rhs: Expr) -> Result<Expr, Error>
-        ensures { Answers formula_of result (Ok (built_of_two BinOp.Div (formula_of self) (formula_of rhs))) }
+        ensures { Answers formula_of result (Ok
+            (built_of_two BinOp.Div (formula_of self) (formula_of rhs))) }
     {
         self.beside(alloc, BinOp::Div, rhs)
     }
 
     /// The bits that both numbers have; null for other values.
     pub fn bitand(self, alloc: Global, rhs: Expr) -> Result<Expr, Error>
-        ensures { Answers formula_of result (Ok (built_of_two BinOp.BitAnd (formula_of self) (formula_of rhs))) }
+        ensures { Answers formula_of result (Ok
+            (built_of_two BinOp.BitAnd (formula_of self) (formula_of rhs))) }
     {
         self.beside(alloc, BinOp::BitAnd, rhs)
     }
 
     /// The bits that one of two numbers has; null for other values.
     pub fn bitor(self, alloc: Global, rhs: Expr) -> Result<Expr, Error>
-        ensures { Answers formula_of result (Ok (built_of_two BinOp.BitOr (formula_of self) (formula_of rhs))) }
+        ensures { Answers formula_of result (Ok
+            (built_of_two BinOp.BitOr (formula_of self) (formula_of rhs))) }
     {
         self.beside(alloc, BinOp::BitOr, rhs)
     }
 
     /// The bits that just one of two numbers has; null for other values.
     pub fn bitxor(self, alloc: Global, rhs: Expr) -> Result<Expr, Error>
-        ensures { Answers formula_of result (Ok (built_of_two BinOp.BitXor (formula_of self) (formula_of rhs))) }
+        ensures { Answers formula_of result (Ok
+            (built_of_two BinOp.BitXor (formula_of self) (formula_of rhs))) }
     {
         self.beside(alloc, BinOp::BitXor, rhs)
     }
 
     /// The number shifted to the left, its low 32 bits; null for a count outside 0 to 31 or for other values.
     pub fn shl(self, alloc: Global, rhs: Expr) -> Result<Expr, Error>
-        ensures { Answers formula_of result (Ok (built_of_two BinOp.Shl (formula_of self) (formula_of rhs))) }
+        ensures { Answers formula_of result (Ok
+            (built_of_two BinOp.Shl (formula_of self) (formula_of rhs))) }
     {
         self.beside(alloc, BinOp::Shl, rhs)
     }
 
     /// The number shifted to the right with its sign kept; null for a count outside 0 to 31 or for other values.
     pub fn shr(self, alloc: Global, rhs: Expr) -> Result<Expr, Error>
-        ensures { Answers formula_of result (Ok (built_of_two BinOp.Shr (formula_of self) (formula_of rhs))) }
+        ensures { Answers formula_of result (Ok
+            (built_of_two BinOp.Shr (formula_of self) (formula_of rhs))) }
     {
         self.beside(alloc, BinOp::Shr, rhs)
     }
@@ -222,7 +237,8 @@ impl Expr {
     }
 
     fn beside(self, alloc: Global, op: BinOp, rhs: Expr) -> Result<Expr, Error>
-        ensures { Answers formula_of result (Ok (built_of_two op (formula_of self) (formula_of rhs))) }
+        ensures { Answers formula_of result (Ok
+            (built_of_two op (formula_of self) (formula_of rhs))) }
     {
         match (self.ast, rhs.ast) {
             (Ast::Literal(value1), Ast::Literal(value2)) => Ok(Expr {

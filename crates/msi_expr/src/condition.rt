@@ -14,7 +14,8 @@ use std::fmt;
 /// The condition, which must hold together with one more; that alone, where there was none. The one error is `Memory`, which
 /// spends both.
 pub fn narrowed(alloc: Global, condition: Option<Expr>, more: Expr) -> Result<Option<Expr>, Error>
-    ensures { Answers condition_of result (Ok (narrowed (condition_of condition) (formula_of more))) }
+    ensures { Answers condition_of result
+        (Ok (narrowed (condition_of condition) (formula_of more))) }
 {
     match condition {
         None => Ok(Some(more)),
@@ -27,7 +28,8 @@ pub fn fmt_condition<W: fmt::Write>(
     condition: &Option<Expr>,
     f: &mut fmt::Formatter<W>,
 ) -> fmt::Result
-    ensures { DisplaysOnOk W.write_str_gives f.old result (condition_text (condition_of condition.now)) f.new }
+    ensures { DisplaysOnOk W.write_str_gives f.old result
+        (condition_text (condition_of condition.now)) f.new }
 {
     match condition {
         None => Ok(()),

@@ -29,7 +29,8 @@ impl Expr {
 
     /// The names of its columns, each once, in the order in which they first stand. `Memory` where there is no memory for the list.
     pub fn column_names<'a>(&'a self, alloc: Global) -> Result<Vec<&'a str>, Error>
-        ensures { Answers (λ names. map (λ n. n.now) names.items) result (Ok (names_after [] (formula_of self.now))) }
+        ensures { Answers (λ names. map (λ n. n.now) names.items) result
+            (Ok (names_after [] (formula_of self.now))) }
     {
         let mut names = Vec::new(alloc);
         self.ast.add_names(&mut names)?;
@@ -38,7 +39,8 @@ impl Expr {
 
     /// The names of two columns, where it asks whether they are equal, and nothing else.
     pub fn equated(&self) -> Option<(&str, &str)>
-        ensures { option_map (λ names. (names.0.now, names.1.now)) result ≡ equated_in (formula_of self.now) }
+        ensures { option_map (λ names. (names.0.now, names.1.now)) result
+            ≡ equated_in (formula_of self.now) }
     {
         self.ast.equated()
     }

@@ -7,6 +7,8 @@ ghost use Rattle.msi_expr.specs.declared.operators.BinOp.{BinOp};
 
 /// Applying an operator on literals at once doesn't change what an expression is worth on any row.
 pub fn folding_keeps_the_worth()
-    ensures one { (row : Cells) (op : UnOp) (a : Formula) → worth row (built op a) ≡ one_applied op (worth row a) }
-    ensures two { (row : Cells) (op : BinOp) (a b : Formula) → worth row (built_of_two op a b) ≡ two_applied op (worth row a) (worth row b) }
+    ensures one { (row : Cells) (op : UnOp) (a : Formula)
+        → worth row (built op a) ≡ one_applied op (worth row a) }
+    ensures two { (row : Cells) (op : BinOp) (a b : Formula)
+        → worth row (built_of_two op a b) ≡ two_applied op (worth row a) (worth row b) }
 {}

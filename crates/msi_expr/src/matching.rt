@@ -22,7 +22,8 @@ pub fn knows_condition(
     table: &Table,
     condition: &Option<Expr>,
 ) -> Result<bool, Error>
-    ensures ok { IfOk result (λ known. known ≡ knows_condition (heading_of table.now).columns (condition_of condition.now)) }
+    ensures ok { IfOk result (λ known. known
+        ≡ knows_condition (heading_of table.now).columns (condition_of condition.now)) }
     ensures err { IfErr result (λ e. e ≡ Memory) }
 {
     match condition {
@@ -33,7 +34,8 @@ pub fn knows_condition(
 
 /// Whether the table has each column that the expression names. The one error is `Memory`.
 pub fn knows(alloc: Global, table: &Table, expr: &Expr) -> Result<bool, Error>
-    ensures ok { IfOk result (λ known. known ≡ knows (heading_of table.now).columns (formula_of expr.now)) }
+    ensures ok { IfOk result (λ known. known
+        ≡ knows (heading_of table.now).columns (formula_of expr.now)) }
     ensures err { IfErr result (λ e. e ≡ Memory) }
 {
     let names = expr.column_names(alloc)?;
@@ -55,8 +57,11 @@ pub fn matches(
     condition: &Option<Expr>,
     row: &[ValueRef],
 ) -> Result<bool, Error>
-    requires { IsTrue (knows_condition (heading_of (rc_value table.now)).columns (condition_of condition.now)) }
-    ensures ok { IfOk result (λ holds. holds ≡ matches pool.now.pool (heading_of (rc_value table.now)).columns (condition_of condition.now) row.now) }
+    requires { IsTrue (knows_condition (heading_of (rc_value table.now)).columns
+        (condition_of condition.now)) }
+    ensures ok { IfOk result (λ holds. holds
+        ≡ matches pool.now.pool (heading_of (rc_value table.now)).columns
+        (condition_of condition.now) row.now) }
     ensures err { IfErr result (λ e. e ≡ Memory) }
 {
     match condition {
@@ -74,7 +79,9 @@ pub fn holds(
     row: &[ValueRef],
 ) -> Result<bool, Error>
     requires { IsTrue (knows (heading_of (rc_value table.now)).columns (formula_of expr.now)) }
-    ensures ok { IfOk result (λ holds. holds ≡ matches pool.now.pool (heading_of (rc_value table.now)).columns (Some (formula_of expr.now)) row.now) }
+    ensures ok { IfOk result (λ holds. holds
+        ≡ matches pool.now.pool (heading_of (rc_value table.now)).columns
+        (Some (formula_of expr.now)) row.now) }
     ensures err { IfErr result (λ e. e ≡ Memory) }
 {
     stored_holds(alloc, pool, table, expr, row)
@@ -90,7 +97,9 @@ fn stored_holds(
     cells: &[ValueRef],
 ) -> Result<bool, Error>
     requires { IsTrue (knows (heading_of table.now).columns (formula_of expr.now)) }
-    ensures ok { IfOk result (λ holds. holds ≡ matches pool.now.pool (heading_of table.now).columns (Some (formula_of expr.now)) cells.now) }
+    ensures ok { IfOk result (λ holds. holds
+        ≡ matches pool.now.pool (heading_of table.now).columns (Some (formula_of expr.now))
+        cells.now) }
     ensures err { IfErr result (λ e. e ≡ Memory) }
 {
     let row = StoredRow { pool, table, cells };

@@ -89,7 +89,8 @@ impl BinOp {
         arg1: BorrowedValue<'_>,
         arg2: BorrowedValue<'_>,
     ) -> Result<Value, AllocError>
-        ensures { IfOk result (λ v. datum_of v ≡ two_applied self (borrowed_datum arg1.entry) (borrowed_datum arg2.entry)) }
+        ensures { IfOk result (λ v. datum_of v
+            ≡ two_applied self (borrowed_datum arg1.entry) (borrowed_datum arg2.entry)) }
     {
         match self {
             BinOp::Eq => Ok(Value::from_bool(arg1.compare(arg2).is_eq())),
@@ -119,7 +120,8 @@ impl BinOp {
     }
 
     fn apply_numbers(self, number1: i32, number2: i32) -> Value
-        ensures { IsArithmetic self → datum_of result ≡ two_applied self (number number1) (number number2) }
+        ensures { IsArithmetic self
+            → datum_of result ≡ two_applied self (number number1) (number number2) }
     {
         match self {
             BinOp::Sub => or_null(number1.checked_sub(number2)),

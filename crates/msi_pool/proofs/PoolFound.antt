@@ -15,7 +15,8 @@ use Rattle.msi_texts.specs.declared.codepage.CodePage.TheVariants as page
 use Rattle.msi_texts.specs.Page.{page_id, id_of, all_pages}
 use Rattle.msi_pool.specs.Pool.{Pool, Place, Stored, IsHead, AreHeads, Pooled, width_bit}
 use Rattle.msi_pool.specs.PoolReading.{Heads, Begun, length_at, head_at, heads_at, page_number, begun, texts_at, place_read, pool_of}
-use Rattle.msi_pool.proofs.PoolReads.{head_in_numbers, pair_ok, begun_with, width_of}
+use Rattle.msi_pool.proofs.PoolReads.{head_in_numbers, one_more, pair_ok, begun_with, width_of}
+use Rattle.msi_texts.proofs.NumberBytes.{le_back}
 
 -- what stands in front is taken
 taken : (xs rest : List ℕ) → bytes_at (length xs) (xs ++ rest) ≡ pair_ok xs rest
@@ -28,17 +29,11 @@ taken xs rest = go (nat_lt (length (xs ++ rest)) (length xs)) refl
 number_taken : (xs rest : List ℕ) → number_at (length xs) (xs ++ rest) ≡ pair_ok (le_number xs) rest
 number_taken xs rest = ap (λ r. r >>= λ b. pair_ok (le_number b.0) b.1) (taken xs rest)
 
-two_back : (n : ℕ) → n < 2 ^ 16 → le_number (le_bytes 2 n) ≡ n
-two_back n h = omega arith
-
-four_back : (n : ℕ) → n < 2 ^ 32 → le_number (le_bytes 4 n) ≡ n
-four_back n h = omega arith
-
 two_taken : (n : ℕ) (rest : List ℕ) → n < 2 ^ 16 → number_at 2 (le_bytes 2 n ++ rest) ≡ pair_ok n rest
-two_taken n rest h = number_taken (le_bytes 2 n) rest ∙ ap (λ m. pair_ok m rest) (two_back n h)
+two_taken n rest h = number_taken (le_bytes 2 n) rest ∙ ap (λ m. pair_ok m rest) (le_back 2 n h)
 
 four_taken : (n : ℕ) (rest : List ℕ) → n < 2 ^ 32 → number_at 4 (le_bytes 4 n ++ rest) ≡ pair_ok n rest
-four_taken n rest h = number_taken (le_bytes 4 n) rest ∙ ap (λ m. pair_ok m rest) (four_back n h)
+four_taken n rest h = number_taken (le_bytes 4 n) rest ∙ ap (λ m. pair_ok m rest) (le_back 4 n h)
 
 abbrev head_ok : ℕ → ℕ → List ℕ → Result ((ℕ × ℕ) × List ℕ) Error
 head_ok len count rest = Ok ((len, count), rest)
@@ -99,9 +94,6 @@ heads_found (suc most) (s ∷ ss) bytes h few =
   where
     heads_ok : Heads → Result Heads Error
     heads_ok hs = Ok hs
-
-abbrev one_more : List ℕ → ℕ → List Stored → Result (List Stored) Error
-one_more text count ss = Ok ((text, count) ∷ ss)
 
 texts_found : (ss : List Stored) (unread : List ℕ) → texts_at (map head_in_numbers ss) (flat_map (λ s. s.0) ss ++ unread) ≡ Ok ss
 texts_found [] unread = refl

@@ -206,7 +206,7 @@ cut_bytes n bytes x e = go (nat_lt (length bytes) n) refl e
         let long : n ≤ length bytes = grind (arith, nat_tests, f) in
         (ap length (sym (ap front_of g)) ∙ length-take-le n bytes long, sym (take-append-drop n bytes) ∙ ap₂ (λ y z. y ++ z) (ap front_of g) (ap rest_of g))
 
-abbrev one_more : List ℕ → ℕ → List Stored → Result (List Stored) Error
+abbrev pub one_more : List ℕ → ℕ → List Stored → Result (List Stored) Error
 one_more text count ss = Ok ((text, count) ∷ ss)
 
 took_texts : (hs : Heads) (bytes : List ℕ) (ss : List Stored) → texts_at hs bytes ≡ Ok ss → TookTexts hs bytes ss

@@ -17,18 +17,28 @@ pub fn written_pools_are_read()
 /// The builder finds in two streams just the pool that they hold: one that they hold is read, with its
 /// answer whether the texts give their bytes back, and what is read is what they hold.
 pub fn pools_are_read_as_they_are_held()
-    ensures found { (pool_bytes data_bytes : List ℕ) (pool : Pool) (pooled : Pooled pool_bytes data_bytes pool) → (builder : Begun) × (begun pool_bytes ≡ Ok builder) × (pool_of builder data_bytes ≡ Ok pool)
-        × (texts_give_back builder data_bytes ≡ Ok (list_all (λ s. gives_back pool.page s.0) pooled.stored)) }
-    ensures held { (pool_bytes data_bytes : List ℕ) (builder : Begun) (pool : Pool) → ((i : ℕ) → slice_index pool_bytes i < 256) → begun pool_bytes ≡ Ok builder → pool_of builder data_bytes ≡ Ok pool → Pooled pool_bytes data_bytes pool }
+    ensures found { (pool_bytes data_bytes : List ℕ) (pool : Pool)
+        (pooled : Pooled pool_bytes data_bytes pool)
+        → (builder : Begun) × (begun pool_bytes ≡ Ok builder)
+        × (pool_of builder data_bytes ≡ Ok pool)
+        × (texts_give_back builder data_bytes
+        ≡ Ok (list_all (λ s. gives_back pool.page s.0) pooled.stored)) }
+    ensures held { (pool_bytes data_bytes : List ℕ) (builder : Begun) (pool : Pool)
+        → ((i : ℕ) → slice_index pool_bytes i < 256) → begun pool_bytes ≡ Ok builder
+        → pool_of builder data_bytes ≡ Ok pool → Pooled pool_bytes data_bytes pool }
 {}
 
 /// Uses that are counted and taken back leave free places empty, and a pool whose places are kept stays such
 /// a pool, where the texts can be kept.
 pub fn uses_leave_places_kept()
-    ensures used_empty { (text : List ℕ) (places : List Place) → AreFreeEmpty places → AreFreeEmpty (with_use text places) }
-    ensures taken_empty { (n : ℕ) (places : List Place) → AreFreeEmpty places → AreFreeEmpty (without_use n places) }
-    ensures used_kept { (page : CodePage) (text : List ℕ) (places : List Place) → CanBeKept page text → AreKept page places → AreKept page (with_use text places) }
-    ensures taken_kept { (page : CodePage) (n : ℕ) (places : List Place) → AreKept page places → AreKept page (without_use n places) }
+    ensures used_empty { (text : List ℕ) (places : List Place) → AreFreeEmpty places
+        → AreFreeEmpty (with_use text places) }
+    ensures taken_empty { (n : ℕ) (places : List Place) → AreFreeEmpty places
+        → AreFreeEmpty (without_use n places) }
+    ensures used_kept { (page : CodePage) (text : List ℕ) (places : List Place)
+        → CanBeKept page text → AreKept page places → AreKept page (with_use text places) }
+    ensures taken_kept { (page : CodePage) (n : ℕ) (places : List Place) → AreKept page places
+        → AreKept page (without_use n places) }
 {}
 
 /// Whether two cells are equal by their order: that is where they are one, as `==` tells.

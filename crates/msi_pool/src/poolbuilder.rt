@@ -146,9 +146,11 @@ fn read_text(
     len: usize,
 ) -> Result<String, Error>
     ensures whole { OnOk result (len ≤ length reader.old.now) }
-    ensures text { IfOk result (λ text. string_bytes text ≡ decoded codepage (take len reader.old.now)) }
+    ensures text { IfOk result (λ text. string_bytes text
+        ≡ decoded codepage (take len reader.old.now)) }
     ensures rest { OnOk result (reader.new.now ≡ drop len reader.old.now) }
-    ensures error { IfErr result (λ e. (e ≡ Memory) ⊎ ((e ≡ UnexpectedEof) × (length reader.old.now < len))) }
+    ensures error { IfErr result (λ e. (e ≡ Memory)
+        ⊎ ((e ≡ UnexpectedEof) × (length reader.old.now < len))) }
 {
     let bytes = *reader;
     if bytes.len() < len {
@@ -165,7 +167,8 @@ fn read_texts(
     heads: &[(u32, u16)],
     reader: &mut &[u8],
 ) -> Result<Vec<(String, u16)>, Error>
-    ensures places { Answers (λ strings. places_of strings.items) result (places_at codepage heads.now reader.old.now) }
+    ensures places { Answers (λ strings. places_of strings.items) result
+        (places_at codepage heads.now reader.old.now) }
     ensures rest { OnOk result (reader.new.now ≡ drop (text_len heads.now) reader.old.now) }
     ensures len { IfOk result (λ strings. length strings.items ≡ length heads.now) }
 {

@@ -77,10 +77,12 @@ fn copied_strings(alloc: Global, strings: &[(String, u16)]) -> Result<Vec<(Strin
 fn count_at(strings: &mut Vec<(String, u16)>, index: usize, text: String) -> Result<(), Error>
     requires place { index + 1 ≡ place_among (string_bytes text) (places_of strings.old.items) }
     requires inside { index ≤ length strings.old.items }
-    ensures ok { OnOk result (places_of strings.new.items ≡ with_use (string_bytes text) (places_of strings.old.items)) }
+    ensures ok { OnOk result (places_of strings.new.items
+        ≡ with_use (string_bytes text) (places_of strings.old.items)) }
     ensures err { OnErr result (strings.new.items ≡ strings.old.items) }
     ensures kinds { IfErr result (λ e. e ≡ Memory) }
-    ensures bound { (length strings.new.items ≡ length strings.old.items) ⊎ (length strings.new.items ≡ index + 1) }
+    ensures bound { (length strings.new.items ≡ length strings.old.items)
+        ⊎ (length strings.new.items ≡ index + 1) }
 {
     if index < strings.len() {
         let entry = &mut strings[index];
@@ -112,7 +114,16 @@ impl StringPool {
         strings: Vec<(String, u16)>,
     ) -> StringPool
         requires { length strings.items < 2 ^ 32 }
-        ensures { result ≡ record { pool = record { page = codepage; long = long_string_refs; places = places_of strings.items }; modified = false } }
+        ensures { result
+            ≡ record {
+              pool = record {
+                page = codepage;
+                long = long_string_refs;
+                places = places_of
+                    strings.items;
+              };
+              modified = false;
+            } }
     {
         StringPool {
             codepage,
@@ -210,8 +221,10 @@ impl StringPool {
     /// then, and after Memory, nothing changed.
     pub fn incref(&mut self, text: String) -> Result<StringRef, Error>
         ensures place { IfOk result (λ n. place self.old.pool (string_bytes text) ≡ Some n) }
-        ensures counted { OnOk result (self.new ≡ changed_to (used self.old.pool (string_bytes text))) }
-        ensures full { IsErrOf result InvalidInput ↔ (place self.old.pool (string_bytes text) ≡ None) }
+        ensures counted { OnOk result (self.new
+            ≡ changed_to (used self.old.pool (string_bytes text))) }
+        ensures full { IsErrOf result InvalidInput
+            ↔ (place self.old.pool (string_bytes text) ≡ None) }
         ensures kinds { IfErr result (λ e. (e ≡ Memory) ⊎ (e ≡ InvalidInput)) }
         ensures err { OnErr result (self.new ≡ self.old) }
     {
@@ -227,8 +240,13 @@ impl StringPool {
     /// Takes back a use at a place. The last takes the text with it. InvalidData where the place has no
     /// use; then nothing changed.
     pub fn decref(&mut self, string_ref: StringRef) -> Result<(), Error>
-        ensures ok { OnOk result (self.new ≡ changed_to (record self.old.pool { places = without_use string_ref self.old.pool.places })) }
-        ensures unused { IsErrOf result InvalidData ↔ ((at_place self.old.pool.places string_ref).count ≡ 0) }
+        ensures ok { OnOk result (self.new
+            ≡ changed_to (record self.old.pool {
+              places = without_use string_ref
+                  self.old.pool.places;
+            })) }
+        ensures unused { IsErrOf result InvalidData
+            ↔ ((at_place self.old.pool.places string_ref).count ≡ 0) }
         ensures kinds { IfErr result (λ e. e ≡ InvalidData) }
         ensures err { OnErr result (self.new ≡ self.old) }
     {
@@ -241,9 +259,11 @@ impl StringPool {
     /// place. InvalidInput where the stream or a text would reach 4294967295 bytes; then, and after
     /// Memory, nothing is appended.
     pub fn write_pool(&self, writer: &mut Vec<u8>) -> Result<(), Error>
-        ensures ok { OnOk result (writer.new.items ≡ writer.old.items ++ pool_stream self.now.pool) }
+        ensures ok { OnOk result (writer.new.items
+            ≡ writer.old.items ++ pool_stream self.now.pool) }
         ensures in_size { OnOk result (IsTrue (is_in_size self.now.pool)) }
-        ensures kinds { IfErr result (λ e. (e ≡ Memory) ⊎ ((e ≡ InvalidInput) × (is_in_size self.now.pool ≡ false))) }
+        ensures kinds { IfErr result (λ e. (e ≡ Memory)
+            ⊎ ((e ≡ InvalidInput) × (is_in_size self.now.pool ≡ false))) }
         ensures err { OnErr result (writer.new.items ≡ writer.old.items) }
     {
         let width_bit = if self.long_string_refs {
@@ -263,7 +283,8 @@ impl StringPool {
 
     /// Appends the bytes of the texts, one after the other. After Memory nothing is appended.
     pub fn write_data(&self, writer: &mut Vec<u8>) -> Result<(), Error>
-        ensures ok { OnOk result (writer.new.items ≡ writer.old.items ++ data_stream self.now.pool) }
+        ensures ok { OnOk result (writer.new.items
+            ≡ writer.old.items ++ data_stream self.now.pool) }
         ensures kinds { IfErr result (λ e. e ≡ Memory) }
         ensures err { OnErr result (writer.new.items ≡ writer.old.items) }
     {
@@ -300,9 +321,16 @@ fn write_heads(
     codepage: CodePage,
     strings: &[(String, u16)],
 ) -> Result<(), Error>
-    ensures ok { OnOk result (bytes.new.items ≡ bytes.old.items ++ flat_map head_of (map (stored_place codepage) (places_of strings.now))) }
-    ensures in_size { OnOk result (IsTrue (list_all (λ s. nat_lt (length s.0) length_limit) (map (stored_place codepage) (places_of strings.now)))) }
-    ensures kinds { IfErr result (λ e. (e ≡ Memory) ⊎ ((e ≡ InvalidInput) × (list_all (λ s. nat_lt (length s.0) length_limit) (map (stored_place codepage) (places_of strings.now)) ≡ false))) }
+    ensures ok { OnOk result (bytes.new.items
+        ≡ bytes.old.items ++ flat_map head_of
+        (map (stored_place codepage) (places_of strings.now))) }
+    ensures in_size { OnOk result (IsTrue
+        (list_all (λ s. nat_lt (length s.0) length_limit)
+        (map (stored_place codepage) (places_of strings.now)))) }
+    ensures kinds { IfErr result (λ e. (e ≡ Memory)
+        ⊎ ((e ≡ InvalidInput)
+        × (list_all (λ s. nat_lt (length s.0) length_limit)
+        (map (stored_place codepage) (places_of strings.now)) ≡ false))) }
 {
     for (text, count) in strings {
         let len = codepage.encoded_len(text.as_str());
@@ -320,7 +348,8 @@ fn text_bytes(
     codepage: CodePage,
     strings: &[(String, u16)],
 ) -> Result<Vec<u8>, Error>
-    ensures bytes { IfOk result (λ bytes. bytes.items ≡ flat_map (λ s. s.0) (map (stored_place codepage) (places_of strings.now))) }
+    ensures bytes { IfOk result (λ bytes. bytes.items
+        ≡ flat_map (λ s. s.0) (map (stored_place codepage) (places_of strings.now))) }
     ensures kinds { IfErr result (λ e. e ≡ Memory) }
 {
     let mut bytes = Vec::new(alloc);
@@ -340,8 +369,10 @@ fn last_place(long: bool) -> usize
 
 // Takes back a use at a place.
 fn uncount_at(strings: &mut Vec<(String, u16)>, string_ref: StringRef) -> Result<(), Error>
-    ensures ok { OnOk result (places_of strings.new.items ≡ without_use string_ref (places_of strings.old.items)) }
-    ensures unused { IsErrOf result InvalidData ↔ ((at_place (places_of strings.old.items) string_ref).count ≡ 0) }
+    ensures ok { OnOk result (places_of strings.new.items
+        ≡ without_use string_ref (places_of strings.old.items)) }
+    ensures unused { IsErrOf result InvalidData
+        ↔ ((at_place (places_of strings.old.items) string_ref).count ≡ 0) }
     ensures kinds { IfErr result (λ e. e ≡ InvalidData) }
     ensures err { OnErr result (strings.new.items ≡ strings.old.items) }
     ensures length { length strings.new.items ≡ length strings.old.items }

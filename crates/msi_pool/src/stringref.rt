@@ -62,7 +62,8 @@ impl StringRef {
     /// Takes a reference of three bytes, or of two; 0 is none. UnexpectedEof where bytes are missing;
     /// then the reader is where it was.
     pub fn read(reader: &mut &[u8], long_string_refs: bool) -> Result<Option<StringRef>, Error>
-        ensures ok { IfOk result (λ r. ref_at long_string_refs reader.old.now ≡ Ok (r, reader.new.now)) }
+        ensures ok { IfOk result (λ r. ref_at long_string_refs reader.old.now
+            ≡ Ok (r, reader.new.now)) }
         ensures error { IfErr result (λ e. ref_at long_string_refs reader.old.now ≡ Err e) }
         ensures err { OnErr result (reader.new.now ≡ reader.old.now) }
     {
@@ -81,8 +82,10 @@ impl StringRef {
         string_ref: Option<StringRef>,
         long_string_refs: bool,
     ) -> Result<(), Error>
-        ensures ok { OnOk result (writer.new.items ≡ writer.old.items ++ le_bytes (ref_width long_string_refs) (number_of string_ref)) }
-        ensures long { IsErrOf result InvalidInput ↔ (fits_width long_string_refs string_ref ≡ false) }
+        ensures ok { OnOk result (writer.new.items
+            ≡ writer.old.items ++ le_bytes (ref_width long_string_refs) (number_of string_ref)) }
+        ensures long { IsErrOf result InvalidInput
+            ↔ (fits_width long_string_refs string_ref ≡ false) }
         ensures kinds { IfErr result (λ e. (e ≡ Memory) ⊎ (e ≡ InvalidInput)) }
         ensures err { OnErr result (writer.new.items ≡ writer.old.items) }
     {
@@ -129,9 +132,12 @@ impl ValueRef {
     /// The cell of a value, whose text is counted in the pool. InvalidInput where the pool is full; then,
     /// and after Memory, the pool is unchanged.
     pub fn create(value: Value, string_pool: &mut StringPool) -> Result<ValueRef, Error>
-        ensures cell { IfOk result (λ cell. cell_of string_pool.old.pool (datum_of value) ≡ Some cell) }
-        ensures counted { OnOk result (string_pool.new ≡ with_value string_pool.old (datum_of value)) }
-        ensures full { IsErrOf result InvalidInput ↔ (cell_of string_pool.old.pool (datum_of value) ≡ None) }
+        ensures cell { IfOk result (λ cell. cell_of string_pool.old.pool (datum_of value)
+            ≡ Some cell) }
+        ensures counted { OnOk result (string_pool.new
+            ≡ with_value string_pool.old (datum_of value)) }
+        ensures full { IsErrOf result InvalidInput
+            ↔ (cell_of string_pool.old.pool (datum_of value) ≡ None) }
         ensures kinds { IfErr result (λ e. (e ≡ Memory) ⊎ (e ≡ InvalidInput)) }
         ensures err { OnErr result (string_pool.new ≡ string_pool.old) }
     {
@@ -147,7 +153,8 @@ impl ValueRef {
     /// unchanged.
     pub fn remove(self, string_pool: &mut StringPool) -> Result<(), Error>
         ensures ok { OnOk result (string_pool.new ≡ without_value string_pool.old self) }
-        ensures unused { IsErrOf result InvalidData ↔ (is_counted string_pool.old.pool self ≡ false) }
+        ensures unused { IsErrOf result InvalidData
+            ↔ (is_counted string_pool.old.pool self ≡ false) }
         ensures kinds { IfErr result (λ e. e ≡ InvalidData) }
         ensures err { OnErr result (string_pool.new ≡ string_pool.old) }
     {

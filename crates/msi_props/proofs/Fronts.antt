@@ -1,27 +1,19 @@
 -- What stands at the front of bytes is read.
-use Rattle.std.proofs.Common.{◌≡◌, ℕ, zero, suc, ◌+◌, ◌-◌, ◌*◌, ◌/◌, ◌<◌, ◌^◌, false, List, [], ◌∷◌, ◌++◌, length, Ok, sym, subst, arith, append_assoc, length-append}
+use Rattle.std.proofs.Common.{◌≡◌, ℕ, ◌+◌, ◌-◌, ◌<◌, ◌^◌, false, List, [], ◌∷◌, ◌++◌, length, Ok, sym, subst, arith, append_assoc, length-append}
 use Rattle.std.specs.Prelude.{nat_lt, replicate, ◌%◌}
 use Rattle.std.specs.Int.{w8, w16, w32, cast_signed, cast_unsigned}
 use Rattle.std.specs.Int.RustNames.{FitsSigned}
-use Rattle.std.proofs.Math.Nat.{pow-suc, div-lt_iff_lt-mul}
 use Rattle.std.proofs.Math.Seq.{take-append_seam, drop-append_seam}
 use Rattle.std.proofs.lemmas.Bool.Decides.{nat_tests}
 use Rattle.std.proofs.lemmas.Int.{ints}
-use Rattle.msi_texts.specs.Numbers.{le_bytes, le_number}
+use Rattle.msi_texts.specs.Numbers.{le_bytes}
 use Rattle.msi_texts.specs.Page.{encoded}
 use Rattle.msi_texts.specs.Reading.{bytes_at, number_at}
 use Rattle.msi_texts.specs.declared.codepage.CodePage.{CodePage}
 use Rattle.msi_props.specs.Kept.{IsKept}
 use Rattle.msi_props.specs.Props.{Property, property_at, property_bytes, padded4}
 use Rattle.msi_props.specs.Props as property
-use Rattle.msi_props.proofs.SetWriting.{length-le_bytes}
-
-le_back : (k n : ℕ) → n < 256 ^ k → le_number (le_bytes k n) ≡ n
-le_back zero n below = omega (arith, below)
-le_back (suc k) n below =
-    let whole : n < 256 ^ k * 256 = rw (pow-suc 256 k) at below in
-    let high : n / 256 < 256 ^ k = (div-lt_iff_lt-mul {k = 256} {x = n} {y = 256 ^ k} (omega arith)).1 whole in
-    rw (le_back k (n / 256) high) (omega arith)
+use Rattle.msi_texts.proofs.NumberBytes.{le_back, length-le_bytes}
 
 front : (xs rest : List ℕ) → bytes_at (length xs) (xs ++ rest) ≡ Ok (xs, rest)
 front xs rest =

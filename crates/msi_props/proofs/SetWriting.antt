@@ -1,19 +1,16 @@
 -- How long a written set is.
-use Rattle.std.proofs.Common.{◌≡◌, ℕ, zero, suc, ◌+◌, ◌*◌, ◌/◌, ◌<◌, ◌≤◌, List, [], ◌∷◌, length, false, refl, ap, arith, length-append}
+use Rattle.std.proofs.Common.{◌≡◌, ℕ, ◌+◌, ◌*◌, ◌<◌, ◌≤◌, List, [], ◌∷◌, length, false, refl, arith, length-append}
 use Rattle.std.specs.Int.{w64, to_le_bytes}
 use Rattle.std.proofs.Math.Nat.{div-div-eq-div-mul}
 use Rattle.std.proofs.lemmas.Bool.Decides.{nat_tests}
 use Rattle.msi_texts.specs.Numbers.{le_bytes}
 use Rattle.msi_texts.specs.declared.codepage.CodePage.{CodePage}
 use Rattle.msi_props.specs.Props.{Props, Property, is_in_size, offsets_from, property_bytes, props_bytes}
+use Rattle.msi_texts.proofs.NumberBytes.{length-le_bytes}
 
 -- a number of 64 bits in its eight bytes
 pub eight_bytes : (n : ℕ) → to_le_bytes w64 n ≡ le_bytes 8 n
 eight_bytes n = simp div-div-eq-div-mul
-
-pub length-le_bytes : (k n : ℕ) → length (le_bytes k n) ≡ k
-length-le_bytes zero n = refl
-length-le_bytes (suc k) n = ap suc (length-le_bytes k (n / 256))
 
 -- a number and an offset take eight bytes
 pub length-offsets : (p : CodePage) (at : ℕ) (vs : List (ℕ × Property)) → length (offsets_from p at vs) ≡ 8 * length vs

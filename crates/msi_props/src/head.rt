@@ -37,7 +37,8 @@ fn take_identifier(reader: &mut &[u8]) -> Result<[u8; 16], Error>
 
 // Reads the head that the bytes begin with.
 pub(crate) fn read_head(bytes: &[u8]) -> Result<Head, Error>
-    ensures { MatchResult result (λ head. head_at bytes.now ≡ Ok (head_in head)) (λ e. head_at bytes.now ≡ Err e) }
+    ensures { MatchResult result (λ head. head_at bytes.now ≡ Ok (head_in head))
+        (λ e. head_at bytes.now ≡ Err e) }
 {
     let mut rest = bytes;
     if read_u16(&mut rest)? != BYTE_ORDER_MARK {

@@ -60,7 +60,8 @@ fn page_offset(pairs: &[(u32, u32)]) -> Option<u32>
 
 // The page that stands at the front of the bytes, as the value of property 1. InvalidData where none does.
 fn read_page(bytes: &[u8]) -> Result<CodePage, Error>
-    ensures { MatchResult result (λ p. page_stored bytes.now ≡ Ok p) (λ e. page_stored bytes.now ≡ Err e) }
+    ensures { MatchResult result (λ p. page_stored bytes.now ≡ Ok p)
+        (λ e. page_stored bytes.now ≡ Err e) }
 {
     match read_stored(bytes)? {
         StoredValue::I2(number) => {
@@ -73,7 +74,8 @@ fn read_page(bytes: &[u8]) -> Result<CodePage, Error>
 
 // The page of a section; UTF-8 where it has no property 1.
 fn page_of(section: &[u8], pairs: &[(u32, u32)]) -> Result<CodePage, Error>
-    ensures { MatchResult result (λ p. page_at section.now pairs.now ≡ Ok p) (λ e. page_at section.now pairs.now ≡ Err e) }
+    ensures { MatchResult result (λ p. page_at section.now pairs.now ≡ Ok p)
+        (λ e. page_at section.now pairs.now ≡ Err e) }
 {
     match page_offset(pairs) {
         None => Ok(CodePage::Utf8),
@@ -107,7 +109,8 @@ fn values_under(
     codepage: CodePage,
     stored: &[(u32, StoredValue<'_>)],
 ) -> Result<Vec<(u32, PropertyValue)>, Error>
-    ensures ok { IfOk result (λ values. map pair_in values.items ≡ map (λ v. (v.0, under codepage v.1)) (map pair_stored stored.now)) }
+    ensures ok { IfOk result (λ values. map pair_in values.items
+        ≡ map (λ v. (v.0, under codepage v.1)) (map pair_stored stored.now)) }
     ensures err { IfErr result (λ e. e ≡ Memory) }
 {
     let mut values = Vec::new(alloc);
@@ -138,7 +141,8 @@ fn all_give_back(
     codepage: CodePage,
     stored: &[(u32, StoredValue<'_>)],
 ) -> Result<bool, Error>
-    ensures ok { IfOk result (λ b. b ≡ list_all (λ v. gives_back codepage v.1) (map pair_stored stored.now)) }
+    ensures ok { IfOk result (λ b. b
+        ≡ list_all (λ v. gives_back codepage v.1) (map pair_stored stored.now)) }
     ensures err { IfErr result (λ e. e ≡ Memory) }
 {
     for (_, value) in stored {
@@ -201,8 +205,10 @@ impl PropertySet {
     /// Appends the set, as one section, with its values by rising number. InvalidInput where it would take 2^32 - 1 bytes or more.
     /// After an error, which may also be Memory, nothing is appended.
     pub fn write(&self, writer: &mut Vec<u8>) -> Result<(), Error>
-        ensures ok { OnOk result (IsTrue (is_in_size self.now.props) × (writer.new.items ≡ writer.old.items ++ props_bytes self.now.props)) }
-        ensures err { IfErr result (λ e. (writer.new.items ≡ writer.old.items) × ((e ≡ Memory) ⊎ ((e ≡ InvalidInput) × (is_in_size self.now.props ≡ false)))) }
+        ensures ok { OnOk result (IsTrue (is_in_size self.now.props)
+            × (writer.new.items ≡ writer.old.items ++ props_bytes self.now.props)) }
+        ensures err { IfErr result (λ e. (writer.new.items ≡ writer.old.items)
+            × ((e ≡ Memory) ⊎ ((e ≡ InvalidInput) × (is_in_size self.now.props ≡ false)))) }
     {
         let bytes = set_bytes(self.alloc, self)?;
         if u64::from(u32::MAX) <= bytes.len() as u64 {
@@ -270,7 +276,8 @@ impl PropertySet {
 
     /// The value of a number.
     pub fn get(&self, number: u32) -> Option<&PropertyValue>
-        ensures { option_map (λ v. property_in v.now) result ≡ property_named number self.now.props }
+        ensures { option_map (λ v. property_in v.now) result
+            ≡ property_named number self.now.props }
     {
         find_value(&self.values, number)
     }
@@ -288,9 +295,12 @@ impl PropertySet {
     /// Sets the value of a number. Property 1 is the page, which changes with it: InvalidInput unless the value is a number of two
     /// bytes that is a known page's. After an error, which may also be Memory, nothing changed.
     pub fn set(&mut self, number: u32, value: PropertyValue) -> Result<(), Error>
-        ensures ok { OnOk result (Some self.new.props ≡ with_property number (property_in value) self.old.props) }
+        ensures ok { OnOk result (Some self.new.props
+            ≡ with_property number (property_in value) self.old.props) }
         ensures whole { self.new.whole ≡ self.old.whole }
-        ensures err { IfErr result (λ e. self.new ≡ self.old × ((e ≡ Memory) ⊎ ((e ≡ InvalidInput) × (with_property number (property_in value) self.old.props ≡ None)))) }
+        ensures err { IfErr result (λ e. self.new ≡ self.old
+            × ((e ≡ Memory) ⊎ ((e ≡ InvalidInput)
+            × (with_property number (property_in value) self.old.props ≡ None)))) }
     {
         if number != PROPERTY_CODEPAGE {
             return put_value(&mut self.values, number, value);
@@ -303,7 +313,8 @@ impl PropertySet {
 
     /// Sets the page, and property 1 with it. Texts stay as they are. After Memory nothing changed.
     pub fn set_codepage(&mut self, codepage: CodePage) -> Result<(), Error>
-        ensures ok { OnOk result (self.new ≡ record self.old { props = with_page codepage self.old.props }) }
+        ensures ok { OnOk result (self.new
+            ≡ record self.old { props = with_page codepage self.old.props }) }
         ensures err { IfErr result (λ e. (e ≡ Memory) × (self.new ≡ self.old)) }
     {
         let number = codepage.id() as u16;

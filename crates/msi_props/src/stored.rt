@@ -24,7 +24,8 @@ pub(crate) enum StoredValue<'a> {
 
 // Takes the next bytes, so many. Fewer are left as they are.
 pub(crate) fn take_bytes<'a>(reader: &mut &'a [u8], count: usize) -> Result<&'a [u8], Error>
-    ensures ok { IfOk result (λ bytes. bytes_at count reader.old.now ≡ Ok (bytes.now, reader.new.now)) }
+    ensures ok { IfOk result (λ bytes. bytes_at count reader.old.now
+        ≡ Ok (bytes.now, reader.new.now)) }
     ensures error { IfErr result (λ e. bytes_at count reader.old.now ≡ Err e) }
 {
     let bytes = *reader;
@@ -37,7 +38,8 @@ pub(crate) fn take_bytes<'a>(reader: &mut &'a [u8], count: usize) -> Result<&'a 
 
 // The text at the front of the bytes: its length, which counts a null, its bytes and the null.
 fn read_text(bytes: &[u8]) -> Result<StoredValue<'_>, Error>
-    ensures { MatchResult result (λ v. text_at bytes.now ≡ Ok (stored_in v)) (λ e. text_at bytes.now ≡ Err e) }
+    ensures { MatchResult result (λ v. text_at bytes.now ≡ Ok (stored_in v))
+        (λ e. text_at bytes.now ≡ Err e) }
 {
     let mut rest = bytes;
     let len = read_u32(&mut rest)? as usize;
@@ -51,7 +53,8 @@ fn read_text(bytes: &[u8]) -> Result<StoredValue<'_>, Error>
 
 // The value at the front of the bytes: its kind, and what that asks for.
 pub(crate) fn read_stored(bytes: &[u8]) -> Result<StoredValue<'_>, Error>
-    ensures { MatchResult result (λ v. property_at bytes.now ≡ Ok (stored_in v)) (λ e. property_at bytes.now ≡ Err e) }
+    ensures { MatchResult result (λ v. property_at bytes.now ≡ Ok (stored_in v))
+        (λ e. property_at bytes.now ≡ Err e) }
 {
     let mut rest = bytes;
     match read_u32(&mut rest)? {
@@ -119,7 +122,8 @@ pub(crate) fn read_values<'a>(
     section: &'a [u8],
     pairs: &[(u32, u32)],
 ) -> Result<Vec<(u32, StoredValue<'a>)>, Error>
-    ensures { Answers (λ values. map pair_stored values.items) result (properties_at version section.now pairs.now) }
+    ensures { Answers (λ values. map pair_stored values.items) result
+        (properties_at version section.now pairs.now) }
 {
     let mut values = Vec::new(alloc);
     for (number, offset) in pairs {

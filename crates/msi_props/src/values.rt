@@ -10,7 +10,8 @@ use cfb_medium::Error;
 
 // The value of a number.
 pub(crate) fn find_value(values: &[(u32, PropertyValue)], number: u32) -> Option<&PropertyValue>
-    ensures { option_map (λ v. property_in v.now) result ≡ value_of number (map pair_in values.now) }
+    ensures { option_map (λ v. property_in v.now) result
+        ≡ value_of number (map pair_in values.now) }
 {
     for value in values {
         if value.0 == number {
@@ -23,7 +24,10 @@ pub(crate) fn find_value(values: &[(u32, PropertyValue)], number: u32) -> Option
 // The place of the first value whose number isn't below this one.
 fn place_of(values: &[(u32, PropertyValue)], number: u32) -> usize
     ensures within { result ≤ length values.now }
-    ensures split { (v : Property) → property_put number v (map pair_in values.now) ≡ take result (map pair_in values.now) ++ property_put number v (drop result (map pair_in values.now)) }
+    ensures split { (v : Property)
+        → property_put number v (map pair_in values.now)
+        ≡ take result (map pair_in values.now)
+        ++ property_put number v (drop result (map pair_in values.now)) }
     ensures found { (e : ℕ × PropertyValue) → slice_get values.now result ≡ Some e → number ≤ e.0 }
 {
     for (place, value) in values.iter().enumerate() {
@@ -36,8 +40,10 @@ fn place_of(values: &[(u32, PropertyValue)], number: u32) -> usize
 
 // Whether the value at a place has this number.
 fn stands_at(values: &[(u32, PropertyValue)], number: u32, place: usize) -> bool
-    ensures there { result ≡ true → (e : ℕ × PropertyValue) × (slice_get values.now place ≡ Some e) × (e.0 ≡ number) }
-    ensures other { result ≡ false → (e : ℕ × PropertyValue) → slice_get values.now place ≡ Some e → e.0 ≡ number → ⊥ }
+    ensures there { result ≡ true
+        → (e : ℕ × PropertyValue) × (slice_get values.now place ≡ Some e) × (e.0 ≡ number) }
+    ensures other { result ≡ false → (e : ℕ × PropertyValue) → slice_get values.now place ≡ Some e
+        → e.0 ≡ number → ⊥ }
 {
     match values.get(place) {
         Some(value) => value.0 == number,
@@ -51,7 +57,8 @@ pub(crate) fn put_value(
     number: u32,
     value: PropertyValue,
 ) -> Result<(), Error>
-    ensures ok { OnOk result (map pair_in values.new.items ≡ property_put number (property_in value) (map pair_in values.old.items)) }
+    ensures ok { OnOk result (map pair_in values.new.items
+        ≡ property_put number (property_in value) (map pair_in values.old.items)) }
     ensures err { IfErr result (λ e. (e ≡ Memory) × (values.new.items ≡ values.old.items)) }
 {
     let place = place_of(values, number);
@@ -65,7 +72,8 @@ pub(crate) fn put_value(
 
 // Removes the value of a number.
 pub(crate) fn remove_value(values: &mut Vec<(u32, PropertyValue)>, number: u32)
-    ensures { map pair_in values.new.items ≡ property_removed number (map pair_in values.old.items) }
+    ensures { map pair_in values.new.items
+        ≡ property_removed number (map pair_in values.old.items) }
 {
     values.retain(|value| value.0 != number);
 }

@@ -52,7 +52,8 @@ fn text_bytes(alloc: Global, codepage: CodePage, words: &str) -> Result<Vec<u8>,
 
 // A value as it is written under a page.
 fn value_bytes(alloc: Global, codepage: CodePage, value: &PropertyValue) -> Result<Vec<u8>, Error>
-    ensures ok { IfOk result (λ bytes. bytes.items ≡ property_bytes codepage (property_in value.now)) }
+    ensures ok { IfOk result (λ bytes. bytes.items
+        ≡ property_bytes codepage (property_in value.now)) }
     ensures err { IfErr result (λ e. e ≡ Memory) }
 {
     let mut bytes = Vec::new(alloc);
@@ -106,8 +107,10 @@ fn written_values(
     values: &[(u32, PropertyValue)],
 ) -> Result<Written, Error>
     requires { start < 2 ^ 40 }
-    ensures offsets { IfOk result (λ w. w.offsets.items ≡ offsets_from codepage start (map pair_in values.now)) }
-    ensures bodies { IfOk result (λ w. w.bodies.items ≡ flat_map (λ v. property_bytes codepage v.1) (map pair_in values.now)) }
+    ensures offsets { IfOk result (λ w. w.offsets.items
+        ≡ offsets_from codepage start (map pair_in values.now)) }
+    ensures bodies { IfOk result (λ w. w.bodies.items
+        ≡ flat_map (λ v. property_bytes codepage v.1) (map pair_in values.now)) }
     ensures err { IfErr result (λ e. e ≡ Memory) }
 {
     let mut offsets = Vec::new(alloc);
@@ -152,7 +155,8 @@ fn write_head(bytes: &mut Vec<u8>, set: &PropertySet) -> Result<(), Error>
 // The bytes of a set, as they are written.
 pub(crate) fn set_bytes(alloc: Global, set: &PropertySet) -> Result<Vec<u8>, Error>
     ensures ok { IfOk result (λ bytes. bytes.items ≡ props_bytes set.now.props) }
-    ensures err { IfErr result (λ e. (e ≡ Memory) ⊎ ((e ≡ InvalidInput) × (is_in_size set.now.props ≡ false))) }
+    ensures err { IfErr result (λ e. (e ≡ Memory)
+        ⊎ ((e ≡ InvalidInput) × (is_in_size set.now.props ≡ false))) }
 {
     let values = set.properties();
     if MOST_VALUES < values.len() {

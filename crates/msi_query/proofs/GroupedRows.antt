@@ -28,13 +28,9 @@ use Rattle.msi_expr.specs.declared.operators.BinOp.{BinOp}
 use Rattle.msi_expr.specs.declared.operators.BinOp.TheVariants as binary_op
 use Rattle.msi_query.specs.Grouped.{AreGrouped, Groups, IsEquation, IsIndexed, group_rows, has_value, rows_lent, rows_with, value_in}
 use Rattle.msi_query.specs.Query.{pairs_with}
+use Rattle.msi_values.proofs.DataOrder.{is_equal, turned_equal}
 
 -- ---- equations
-
-turned_equal : (o : Ordering) → is_eq (ordering_reverse o) ≡ is_eq o
-turned_equal Less = refl
-turned_equal Equal = refl
-turned_equal Greater = refl
 
 -- two values are equal from either side
 either_side : (x y : Datum) → is_eq (datum_cmp x y) ≡ is_eq (datum_cmp y x)
@@ -179,11 +175,6 @@ AddsUp pool place rest rows groups = (value : BorrowedValue) → rows_with group
 
 at_equal : (x y : BorrowedValue) → is_at (order.cmp x) y ≡ is_eq (datum_cmp (borrowed_datum x) (borrowed_datum y))
 at_equal x y = ap is_eq (derived_order x y)
-
-is_equal : (o : Ordering) → is_eq o ≡ true → o ≡ Equal
-is_equal Less h = absurd (cc h)
-is_equal Equal h = refl
-is_equal Greater h = absurd (cc h)
 
 module _ (pool : Pool) (place : ℕ) (rows : List (Vec ValueRef Global)) (i : ℕ) (row : Vec ValueRef Global) (within : i < length rows) (is : row ≡ get_or rows i row)
     (key : BorrowedValue) (said : borrowed_datum key ≡ value_in pool row.items place) where

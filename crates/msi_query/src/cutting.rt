@@ -28,7 +28,8 @@ pub(crate) fn cut(
     condition: &Option<Expr>,
     found: (Table, Vec<Vec<ValueRef>>),
 ) -> Result<(Table, Vec<Vec<ValueRef>>), Error>
-    ensures { Answers answered result (cut pool.now.pool (map string_bytes names.now) (condition_of condition.now) (answered found)) }
+    ensures { Answers answered result (cut pool.now.pool (map string_bytes names.now)
+        (condition_of condition.now) (answered found)) }
 {
     let (table, rows) = found;
     if !has_each(&table, names) {
@@ -43,7 +44,9 @@ pub(crate) fn cut(
 
 // Whether the table has a column of each of these names.
 fn has_each(table: &Table, names: &[String]) -> bool
-    ensures { result ≡ list_all (λ name. has_column (heading_of table.now).columns (string_bytes name)) names.now }
+    ensures { result
+        ≡ list_all (λ name. has_column (heading_of table.now).columns (string_bytes name))
+        names.now }
 {
     names.iter().all(|name| table.has_column(name))
 }
@@ -56,8 +59,11 @@ fn filtered(
     condition: &Option<Expr>,
     rows: Vec<Vec<ValueRef>>,
 ) -> Result<Vec<Vec<ValueRef>>, Error>
-    requires { IsTrue (knows_condition (heading_of table.now).columns (condition_of condition.now)) }
-    ensures ok { IfOk result (λ kept. rows_held kept.items ≡ filter (matches pool.now.pool (heading_of table.now).columns (condition_of condition.now)) (rows_held rows.items)) }
+    requires { IsTrue (knows_condition (heading_of table.now).columns
+        (condition_of condition.now)) }
+    ensures ok { IfOk result (λ kept. rows_held kept.items
+        ≡ filter (matches pool.now.pool (heading_of table.now).columns (condition_of condition.now))
+        (rows_held rows.items)) }
     ensures err { IfErr result (λ e. e ≡ Memory) }
 {
     let shared = Rc::new(alloc, table.clone(alloc)?)?;
@@ -72,8 +78,11 @@ fn kept(
     condition: &Option<Expr>,
     rows: &[Vec<ValueRef>],
 ) -> Result<Vec<Vec<ValueRef>>, Error>
-    requires { IsTrue (knows_condition (heading_of (rc_value table.now)).columns (condition_of condition.now)) }
-    ensures ok { IfOk result (λ kept. rows_held kept.items ≡ filter (matches pool.now.pool (heading_of (rc_value table.now)).columns (condition_of condition.now)) (rows_held rows.now)) }
+    requires { IsTrue (knows_condition (heading_of (rc_value table.now)).columns
+        (condition_of condition.now)) }
+    ensures ok { IfOk result (λ kept. rows_held kept.items
+        ≡ filter (matches pool.now.pool (heading_of (rc_value table.now)).columns
+        (condition_of condition.now)) (rows_held rows.now)) }
     ensures err { IfErr result (λ e. e ≡ Memory) }
 {
     let mut kept = Vec::new(alloc);
@@ -92,7 +101,8 @@ fn projected(
     table: Table,
     rows: Vec<Vec<ValueRef>>,
 ) -> Result<(Table, Vec<Vec<ValueRef>>), Error>
-    ensures { Answers answered result (Ok (projected (map string_bytes names.now) (table_held table rows.items))) }
+    ensures { Answers answered result (Ok
+        (projected (map string_bytes names.now) (table_held table rows.items))) }
 {
     if names.is_empty() {
         return Ok((table, rows));
@@ -106,7 +116,8 @@ fn projected(
 
 // The places of the columns of these names, of those that are there.
 fn places_of(alloc: Global, table: &Table, names: &[String]) -> Result<Vec<usize>, Error>
-    ensures ok { IfOk result (λ places. places.items ≡ filter_map (column_place (heading_of table.now).columns) (map string_bytes names.now)) }
+    ensures ok { IfOk result (λ places. places.items
+        ≡ filter_map (column_place (heading_of table.now).columns) (map string_bytes names.now)) }
     ensures err { IfErr result (λ e. e ≡ Memory) }
 {
     let mut places = Vec::new(alloc);
@@ -120,7 +131,8 @@ fn places_of(alloc: Global, table: &Table, names: &[String]) -> Result<Vec<usize
 
 // Copies of the columns at these places.
 fn columns_at(alloc: Global, places: &[usize], columns: &[Column]) -> Result<Vec<Column>, Error>
-    ensures ok { IfOk result (λ cut. columns_of cut.items ≡ parts_at places.now (columns_of columns.now)) }
+    ensures ok { IfOk result (λ cut. columns_of cut.items
+        ≡ parts_at places.now (columns_of columns.now)) }
     ensures err { IfErr result (λ e. e ≡ Memory) }
 {
     let mut cut = Vec::new(alloc);
@@ -138,7 +150,8 @@ fn rows_at(
     places: &[usize],
     rows: &[Vec<ValueRef>],
 ) -> Result<Vec<Vec<ValueRef>>, Error>
-    ensures ok { IfOk result (λ cut. rows_held cut.items ≡ map (parts_at places.now) (rows_held rows.now)) }
+    ensures ok { IfOk result (λ cut. rows_held cut.items
+        ≡ map (parts_at places.now) (rows_held rows.now)) }
     ensures err { IfErr result (λ e. e ≡ Memory) }
 {
     let mut cut = Vec::new(alloc);

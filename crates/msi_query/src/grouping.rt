@@ -19,7 +19,8 @@ use std::collections::BTreeMap;
 // Where the two columns stand that a condition compares: in left rows of so many cells, and in right rows. None where it asks
 // for more, or for two columns of one side.
 fn equation(table: &Table, on: &Expr, width: usize) -> Option<(usize, usize)>
-    ensures { IfSome result (λ places. IsEquation (heading_of table.now).columns (formula_of on.now) width places.0 places.1) }
+    ensures { IfSome result (λ places. IsEquation (heading_of table.now).columns (formula_of on.now)
+        width places.0 places.1) }
 {
     let (one, other) = on.equated()?;
     let one = table.index_for_column_name(one)?;
@@ -101,7 +102,8 @@ impl<'a> RightSide<'a> {
         rows: &'a [Vec<ValueRef>],
     ) -> Result<RightSide<'a>, Error>
         ensures rows { IfOk result (λ side. side.rows.now ≡ rows.now) }
-        ensures side { IfOk result (IsRightSide pool.now.pool (heading_of table.now).columns (formula_of on.now)) }
+        ensures side { IfOk result (IsRightSide pool.now.pool (heading_of table.now).columns
+            (formula_of on.now)) }
         ensures err { IfErr result (λ e. e ≡ Memory) }
     {
         let all = lent(alloc, rows)?;
@@ -116,8 +118,10 @@ impl<'a> RightSide<'a> {
 
     // Of the rows those among which the pairs of a left row are.
     pub(crate) fn partners(&self, pool: &'a StringPool, left: &[ValueRef]) -> &[&'a [ValueRef]]
-        ensures { (columns : List Column) (on : Formula) → IsRightSide pool.now.pool columns on self.now
-            → pairs_with pool.now.pool columns on (rows_lent result.now) left.now ≡ pairs_with pool.now.pool columns on (rows_held self.now.rows.now) left.now }
+        ensures { (columns : List Column) (on : Formula)
+            → IsRightSide pool.now.pool columns on self.now
+            → pairs_with pool.now.pool columns on (rows_lent result.now) left.now
+            ≡ pairs_with pool.now.pool columns on (rows_held self.now.rows.now) left.now }
     {
         partners(pool, self.own, left, &self.index, &self.all)
     }
@@ -133,7 +137,8 @@ fn index_of<'a>(
     width: usize,
     rows: &'a [Vec<ValueRef>],
 ) -> Result<Option<(usize, BTreeMap<BorrowedValue<'a>, Vec<&'a [ValueRef]>>)>, Error>
-    ensures ok { IfOk result (IsIndexed pool.now.pool (heading_of table.now).columns (formula_of on.now) width (rows_held rows.now)) }
+    ensures ok { IfOk result (IsIndexed pool.now.pool (heading_of table.now).columns
+        (formula_of on.now) width (rows_held rows.now)) }
     ensures err { IfErr result (λ e. e ≡ Memory) }
 {
     match equation(table, on, width) {
@@ -153,8 +158,10 @@ fn partners<'m, 'a>(
     index: &'m Option<(usize, BTreeMap<BorrowedValue<'a>, Vec<&'a [ValueRef]>>)>,
     all: &'m [&'a [ValueRef]],
 ) -> &'m [&'a [ValueRef]]
-    ensures { (columns : List Column) (on : Formula) → IsIndexed pool.now.pool columns on width (rows_lent all.now) index.now
-        → pairs_with pool.now.pool columns on (rows_lent result.now) left.now ≡ pairs_with pool.now.pool columns on (rows_lent all.now) left.now }
+    ensures { (columns : List Column) (on : Formula)
+        → IsIndexed pool.now.pool columns on width (rows_lent all.now) index.now
+        → pairs_with pool.now.pool columns on (rows_lent result.now) left.now
+        ≡ pairs_with pool.now.pool columns on (rows_lent all.now) left.now }
 {
     match index {
         Some((place, groups)) => {

@@ -32,7 +32,8 @@ pub(crate) fn inner_joined(
     left: (Table, Vec<Vec<ValueRef>>),
     right: (Table, Vec<Vec<ValueRef>>),
 ) -> Result<(Table, Vec<Vec<ValueRef>>), Error>
-    ensures { Answers answered result (inner_joined pool.now.pool (formula_of on.now) (answered left) (answered right)) }
+    ensures { Answers answered result (inner_joined pool.now.pool (formula_of on.now)
+        (answered left) (answered right)) }
 {
     let mut columns = prefixed(alloc, left.0.name(), left.0.columns())?;
     let mut others = prefixed(alloc, right.0.name(), right.0.columns())?;
@@ -55,7 +56,8 @@ pub(crate) fn left_joined(
     left: (Table, Vec<Vec<ValueRef>>),
     right: (Table, Vec<Vec<ValueRef>>),
 ) -> Result<(Table, Vec<Vec<ValueRef>>), Error>
-    ensures { Answers answered result (left_joined pool.now.pool (formula_of on.now) (answered left) (answered right)) }
+    ensures { Answers answered result (left_joined pool.now.pool (formula_of on.now) (answered left)
+        (answered right)) }
 {
     let width = right.0.columns().len();
     let mut columns = prefixed(alloc, left.0.name(), left.0.columns())?;
@@ -73,7 +75,8 @@ pub(crate) fn left_joined(
 
 // Copies of columns under a prefix.
 fn prefixed(alloc: Global, prefix: &str, columns: &[Column]) -> Result<Vec<Column>, Error>
-    ensures ok { IfOk result (λ copies. columns_of copies.items ≡ map (side_column prefix.now) (columns_of columns.now)) }
+    ensures ok { IfOk result (λ copies. columns_of copies.items
+        ≡ map (side_column prefix.now) (columns_of columns.now)) }
     ensures err { IfErr result (λ e. e ≡ Memory) }
 {
     let mut copies = Vec::new(alloc);
@@ -85,7 +88,8 @@ fn prefixed(alloc: Global, prefix: &str, columns: &[Column]) -> Result<Vec<Colum
 
 // Copies of columns under a prefix, each of which takes null.
 fn prefixed_nullable(alloc: Global, prefix: &str, columns: &[Column]) -> Result<Vec<Column>, Error>
-    ensures ok { IfOk result (λ copies. columns_of copies.items ≡ map but_null (map (side_column prefix.now) (columns_of columns.now))) }
+    ensures ok { IfOk result (λ copies. columns_of copies.items
+        ≡ map but_null (map (side_column prefix.now) (columns_of columns.now))) }
     ensures err { IfErr result (λ e. e ≡ Memory) }
 {
     let mut copies = Vec::new(alloc);
@@ -107,7 +111,9 @@ fn inner_rows(
     own: usize,
 ) -> Result<Vec<Vec<ValueRef>>, Error>
     requires { IsTrue (knows (heading_of (rc_value table.now)).columns (formula_of on.now)) }
-    ensures ok { IfOk result (λ rows. rows_held rows.items ≡ flat_map (pairs_with pool.now.pool (heading_of (rc_value table.now)).columns (formula_of on.now) (rows_held right.now)) (rows_held left.now)) }
+    ensures ok { IfOk result (λ rows. rows_held rows.items
+        ≡ flat_map (pairs_with pool.now.pool (heading_of (rc_value table.now)).columns
+        (formula_of on.now) (rows_held right.now)) (rows_held left.now)) }
     ensures err { IfErr result (λ e. e ≡ Memory) }
 {
     let side = RightSide::new(alloc, pool, table, on, own, right)?;
@@ -126,7 +132,10 @@ fn left_rows(
     width: usize,
 ) -> Result<Vec<Vec<ValueRef>>, Error>
     requires { IsTrue (knows (heading_of (rc_value table.now)).columns (formula_of on.now)) }
-    ensures ok { IfOk result (λ rows. rows_held rows.items ≡ flat_map (λ row. or_once (row ++ replicate width cell.Null) (pairs_with pool.now.pool (heading_of (rc_value table.now)).columns (formula_of on.now) (rows_held right.now) row)) (rows_held left.now)) }
+    ensures ok { IfOk result (λ rows. rows_held rows.items
+        ≡ flat_map (λ row. or_once (row ++ replicate width cell.Null)
+        (pairs_with pool.now.pool (heading_of (rc_value table.now)).columns (formula_of on.now)
+        (rows_held right.now) row)) (rows_held left.now)) }
     ensures err { IfErr result (λ e. e ≡ Memory) }
 {
     let side = RightSide::new(alloc, pool, table, on, own, right)?;
@@ -143,8 +152,11 @@ fn inner_pairs<'a>(
     side: &RightSide<'a>,
 ) -> Result<Vec<Vec<ValueRef>>, Error>
     requires knows { IsTrue (knows (heading_of (rc_value table.now)).columns (formula_of on.now)) }
-    requires side { IsRightSide pool.now.pool (heading_of (rc_value table.now)).columns (formula_of on.now) side.now }
-    ensures ok { IfOk result (λ rows. rows_held rows.items ≡ flat_map (pairs_with pool.now.pool (heading_of (rc_value table.now)).columns (formula_of on.now) (rows_held side.now.rows.now)) (rows_held left.now)) }
+    requires side { IsRightSide pool.now.pool (heading_of (rc_value table.now)).columns
+        (formula_of on.now) side.now }
+    ensures ok { IfOk result (λ rows. rows_held rows.items
+        ≡ flat_map (pairs_with pool.now.pool (heading_of (rc_value table.now)).columns
+        (formula_of on.now) (rows_held side.now.rows.now)) (rows_held left.now)) }
     ensures err { IfErr result (λ e. e ≡ Memory) }
 {
     let mut rows = Vec::new(alloc);
@@ -166,8 +178,12 @@ fn left_pairs<'a>(
     width: usize,
 ) -> Result<Vec<Vec<ValueRef>>, Error>
     requires knows { IsTrue (knows (heading_of (rc_value table.now)).columns (formula_of on.now)) }
-    requires side { IsRightSide pool.now.pool (heading_of (rc_value table.now)).columns (formula_of on.now) side.now }
-    ensures ok { IfOk result (λ rows. rows_held rows.items ≡ flat_map (λ row. or_once (row ++ replicate width cell.Null) (pairs_with pool.now.pool (heading_of (rc_value table.now)).columns (formula_of on.now) (rows_held side.now.rows.now) row)) (rows_held left.now)) }
+    requires side { IsRightSide pool.now.pool (heading_of (rc_value table.now)).columns
+        (formula_of on.now) side.now }
+    ensures ok { IfOk result (λ rows. rows_held rows.items
+        ≡ flat_map (λ row. or_once (row ++ replicate width cell.Null)
+        (pairs_with pool.now.pool (heading_of (rc_value table.now)).columns (formula_of on.now)
+        (rows_held side.now.rows.now) row)) (rows_held left.now)) }
     ensures err { IfErr result (λ e. e ≡ Memory) }
 {
     let mut rows = Vec::new(alloc);
@@ -191,7 +207,10 @@ fn add_or_once(
     rows: &mut Vec<Vec<ValueRef>>,
 ) -> Result<(), Error>
     requires { IsTrue (knows (heading_of (rc_value table.now)).columns (formula_of on.now)) }
-    ensures ok { OnOk result (rows_held rows.new.items ≡ rows_held rows.old.items ++ or_once (left.now ++ replicate width cell.Null) (pairs_with pool.now.pool (heading_of (rc_value table.now)).columns (formula_of on.now) (rows_lent right.now) left.now)) }
+    ensures ok { OnOk result (rows_held rows.new.items
+        ≡ rows_held rows.old.items ++ or_once (left.now ++ replicate width cell.Null)
+        (pairs_with pool.now.pool (heading_of (rc_value table.now)).columns (formula_of on.now)
+        (rows_lent right.now) left.now)) }
     ensures err { IfErr result (λ e. e ≡ Memory) }
 {
     let before = rows.len();
@@ -214,7 +233,10 @@ fn add_pairs(
     rows: &mut Vec<Vec<ValueRef>>,
 ) -> Result<(), Error>
     requires { IsTrue (knows (heading_of (rc_value table.now)).columns (formula_of on.now)) }
-    ensures ok { OnOk result (rows_held rows.new.items ≡ rows_held rows.old.items ++ pairs_with pool.now.pool (heading_of (rc_value table.now)).columns (formula_of on.now) (rows_lent right.now) left.now) }
+    ensures ok { OnOk result (rows_held rows.new.items
+        ≡ rows_held rows.old.items ++ pairs_with pool.now.pool
+        (heading_of (rc_value table.now)).columns (formula_of on.now) (rows_lent right.now)
+        left.now) }
     ensures err { IfErr result (λ e. e ≡ Memory) }
 {
     for other in right {

@@ -8,7 +8,8 @@ use std::fmt;
 
 // Writes names.
 fn fmt_listed<W: fmt::Write>(f: &mut fmt::Formatter<W>, names: &[String]) -> fmt::Result
-    ensures { DisplaysOnOk W.write_str_gives f.old result (separated (codes ", ") (map Some (map string_bytes names.now))) f.new }
+    ensures { DisplaysOnOk W.write_str_gives f.old result
+        (separated (codes ", ") (map Some (map string_bytes names.now))) f.new }
 {
     match names {
         [] => Ok(()),
@@ -23,7 +24,8 @@ fn fmt_listed<W: fmt::Write>(f: &mut fmt::Formatter<W>, names: &[String]) -> fmt
 
 // Writes the names of the columns that are asked for, or a star.
 pub(crate) fn fmt_names<W: fmt::Write>(f: &mut fmt::Formatter<W>, names: &[String]) -> fmt::Result
-    ensures { DisplaysOnOk W.write_str_gives f.old result (names_text (map string_bytes names.now)) f.new }
+    ensures { DisplaysOnOk W.write_str_gives f.old result (names_text (map string_bytes names.now))
+        f.new }
 {
     if names.is_empty() {
         return f.write_str("*");

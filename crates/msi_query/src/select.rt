@@ -54,7 +54,8 @@ impl Select {
 
     /// A select of all columns of both, and of the pairs of rows for which the condition counts as true. `Memory` spends both.
     pub fn inner_join(self, alloc: Global, rhs: Select, on: Expr) -> Result<Select, Error>
-        ensures { Answers query_of result (Ok (query (inner_join (query_of self) (query_of rhs) (formula_of on)) [] None)) }
+        ensures { Answers query_of result (Ok
+            (query (inner_join (query_of self) (query_of rhs) (formula_of on)) [] None)) }
     {
         let left = Box::new(alloc, self)?;
         let right = Box::new(alloc, rhs)?;
@@ -67,7 +68,8 @@ impl Select {
 
     /// The same, and of each row of this side without a partner that row once, with nulls. `Memory` spends both.
     pub fn left_join(self, alloc: Global, rhs: Select, on: Expr) -> Result<Select, Error>
-        ensures { Answers query_of result (Ok (query (left_join (query_of self) (query_of rhs) (formula_of on)) [] None)) }
+        ensures { Answers query_of result (Ok
+            (query (left_join (query_of self) (query_of rhs) (formula_of on)) [] None)) }
     {
         let left = Box::new(alloc, self)?;
         let right = Box::new(alloc, rhs)?;
@@ -80,7 +82,9 @@ impl Select {
 
     /// The same, and of its columns those of these names, in this order; none stands for all. `Memory` spends it.
     pub fn columns(self, alloc: Global, column_names: &[&str]) -> Result<Select, Error>
-        ensures { Answers query_of result (Ok (query (source_in (query_of self)) (map (λ name. name.now) column_names.now) (condition_in (query_of self)))) }
+        ensures { Answers query_of result (Ok
+            (query (source_in (query_of self)) (map (λ name. name.now) column_names.now)
+            (condition_in (query_of self)))) }
     {
         let mut names = Vec::new(alloc);
         for name in column_names {
@@ -95,7 +99,9 @@ impl Select {
 
     /// The same, and of its rows those alone for which this condition counts as true too. `Memory` spends it.
     pub fn with(self, alloc: Global, condition: Expr) -> Result<Select, Error>
-        ensures { Answers query_of result (Ok (query (source_in (query_of self)) (names_in (query_of self)) (narrowed (condition_in (query_of self)) (formula_of condition)))) }
+        ensures { Answers query_of result (Ok
+            (query (source_in (query_of self)) (names_in (query_of self))
+            (narrowed (condition_in (query_of self)) (formula_of condition)))) }
     {
         let condition = narrowed(alloc, self.condition, condition)?;
         Ok(Select {
@@ -116,7 +122,8 @@ impl Select {
         source: &mut S,
         pool: &StringPool,
     ) -> Result<(Table, Vec<Vec<ValueRef>>), Error>
-        ensures answer { AnswersOf (S.has_tables source.old) (S.has_cause source.old source.new) answered result (λ tables. selected tables pool.now.pool (query_of self.now)) }
+        ensures answer { AnswersOf (S.has_tables source.old) (S.has_cause source.old source.new)
+            answered result (λ tables. selected tables pool.now.pool (query_of self.now)) }
         ensures rests { S.rests source.old source.new }
     {
         let found = self.from.found(alloc, source, pool)?;
@@ -125,7 +132,9 @@ impl Select {
 
     // Whether it is a table and nothing else.
     fn is_bare(&self) -> bool
-        ensures { result ≡ is_bare (source_in (query_of self.now)) (names_in (query_of self.now)) (condition_in (query_of self.now)) }
+        ensures { result
+            ≡ is_bare (source_in (query_of self.now)) (names_in (query_of self.now))
+            (condition_in (query_of self.now)) }
     {
         match self.from {
             Join::Table(_) => self.column_names.is_empty() && self.condition.is_none(),
@@ -137,7 +146,8 @@ impl Select {
     #[cycle(printed)]
     #[tactic(auto, unfolding(crate::specs::Printed::select_of))]
     fn fmt_select<W: fmt::Write>(&self, f: &mut fmt::Formatter<W>) -> fmt::Result
-        ensures { DisplaysOnOk W.write_str_gives f.old result (select_text (query_of self.now)) f.new }
+        ensures { DisplaysOnOk W.write_str_gives f.old result (select_text (query_of self.now))
+            f.new }
     {
         f.write_str("SELECT ")?;
         fmt_names(f, &self.column_names)?;
@@ -149,7 +159,8 @@ impl Select {
     // Writes it as a side of a join.
     #[cycle(printed)]
     fn fmt_side<W: fmt::Write>(&self, f: &mut fmt::Formatter<W>) -> fmt::Result
-        ensures { DisplaysOnOk W.write_str_gives f.old result (side_text (query_of self.now)) f.new }
+        ensures { DisplaysOnOk W.write_str_gives f.old result (side_text (query_of self.now))
+            f.new }
     {
         if self.is_bare() {
             self.from.fmt_source(f)
@@ -161,7 +172,8 @@ impl Select {
     // Writes the select in parentheses.
     #[cycle(printed)]
     fn fmt_in_parentheses<W: fmt::Write>(&self, f: &mut fmt::Formatter<W>) -> fmt::Result
-        ensures { DisplaysOnOk W.write_str_gives f.old result (Some (codes "(") ++? select_text (query_of self.now) ++? Some (codes ")")) f.new }
+        ensures { DisplaysOnOk W.write_str_gives f.old result
+            (Some (codes "(") ++? select_text (query_of self.now) ++? Some (codes ")")) f.new }
     {
         f.write_str("(")?;
         self.fmt_select(f)?;
@@ -178,7 +190,8 @@ impl Join {
         source: &mut S,
         pool: &StringPool,
     ) -> Result<(Table, Vec<Vec<ValueRef>>), Error>
-        ensures answer { AnswersOf (S.has_tables source.old) (S.has_cause source.old source.new) answered result (λ tables. source_rows tables pool.now.pool (source_of self.now)) }
+        ensures answer { AnswersOf (S.has_tables source.old) (S.has_cause source.old source.new)
+            answered result (λ tables. source_rows tables pool.now.pool (source_of self.now)) }
         ensures rests { S.rests source.old source.new }
     {
         match self {
@@ -199,7 +212,8 @@ impl Join {
     // Writes where the rows are taken from.
     #[cycle(printed)]
     fn fmt_source<W: fmt::Write>(&self, f: &mut fmt::Formatter<W>) -> fmt::Result
-        ensures { DisplaysOnOk W.write_str_gives f.old result (source_text (source_of self.now)) f.new }
+        ensures { DisplaysOnOk W.write_str_gives f.old result (source_text (source_of self.now))
+            f.new }
     {
         let (left, word, right, on) = match self {
             Join::Table(name) => return f.write_str(name),

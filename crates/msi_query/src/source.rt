@@ -23,12 +23,17 @@ pub trait TableSource {
 
     /// The table of a name, without its rows.
     fn table(&self, name: &str) -> Option<&Table>
-        ensures names { (tables : Tables) → has_tables self.now tables → option_map (λ t. (heading_of t.now).name) result ≡ option_map (λ t. t.name) (tables name.now) }
-        ensures columns { (tables : Tables) → has_tables self.now tables → option_map (λ t. (heading_of t.now).columns) result ≡ option_map (λ t. t.columns) (tables name.now) };
+        ensures names { (tables : Tables) → has_tables self.now tables
+            → option_map (λ t. (heading_of t.now).name) result
+            ≡ option_map (λ t. t.name) (tables name.now) }
+        ensures columns { (tables : Tables) → has_tables self.now tables
+            → option_map (λ t. (heading_of t.now).columns) result
+            ≡ option_map (λ t. t.columns) (tables name.now) };
 
     /// The rows of the table of a name.
     fn rows(&mut self, alloc: Global, name: &str) -> Result<Vec<Vec<ValueRef>>, Error>
-        ensures rows { IfOk result (λ rows. (tables : Tables) → has_tables self.old tables → IfSome (tables name.now) (λ t. t.rows ≡ rows_held rows.items)) }
+        ensures rows { IfOk result (λ rows. (tables : Tables) → has_tables self.old tables
+            → IfSome (tables name.now) (λ t. t.rows ≡ rows_held rows.items)) }
         ensures rests { rests self.old self.new }
         ensures cause { IfErr result (has_cause self.old self.new) };
 
@@ -36,7 +41,9 @@ pub trait TableSource {
 
     ghost rests_then: { (a b c : Self) → rests a b → rests b c → rests a c };
 
-    ghost rests_keeps: { (a b : Self) (tables : Tables) → rests a b → has_tables a tables → has_tables b tables };
+    ghost rests_keeps: { (a b : Self) (tables : Tables) → rests a b → has_tables a tables
+        → has_tables b tables };
 
-    ghost rests_cause: { (a b c : Self) (e : Error) → rests a b → has_cause b c e → has_cause a c e };
+    ghost rests_cause: { (a b c : Self) (e : Error) → rests a b → has_cause b c e
+        → has_cause a c e };
 }

@@ -16,7 +16,8 @@ pub(crate) fn stored<S: TableSource>(
     source: &mut S,
     name: &str,
 ) -> Result<(Table, Vec<Vec<ValueRef>>), Error>
-    ensures answer { AnswersOf (S.has_tables source.old) (S.has_cause source.old source.new) answered result (λ tables. or_refused (tables name.now) NotFound) }
+    ensures answer { AnswersOf (S.has_tables source.old) (S.has_cause source.old source.new)
+        answered result (λ tables. or_refused (tables name.now) NotFound) }
     ensures rests { S.rests source.old source.new }
 {
     let table = match source.table(name) {

@@ -43,14 +43,16 @@ fn language_in(text: &str) -> Option<LanguageId>
 // The parts of a text between separators.
 fn cut_at(alloc: Global, text: &str, separator: char) -> Result<Vec<&str>, AllocError>
     requires { separator < 128 }
-    ensures { IfOk result (λ parts. map (λ p. p.now) parts.items ≡ slice_split (λ b. b == separator) text.now) }
+    ensures { IfOk result (λ parts. map (λ p. p.now) parts.items
+        ≡ slice_split (λ b. b == separator) text.now) }
 {
     text.split(separator).collect(alloc)
 }
 
 // The languages among the numbers that commas part.
 pub(crate) fn languages_in(alloc: Global, text: &str) -> Result<Vec<LanguageId>, Error>
-    ensures ok { IfOk result (λ languages. languages.items ≡ filter_map id_read (slice_split (λ b. b == 44) text.now)) }
+    ensures ok { IfOk result (λ languages. languages.items
+        ≡ filter_map id_read (slice_split (λ b. b == 44) text.now)) }
     ensures err { IfErr result (λ e. e ≡ Memory) }
 {
     let parts = cut_at(alloc, text, ',')?;
@@ -59,7 +61,8 @@ pub(crate) fn languages_in(alloc: Global, text: &str) -> Result<Vec<LanguageId>,
 
 // The languages among texts.
 fn languages_among(alloc: Global, parts: &[&str]) -> Result<Vec<LanguageId>, Error>
-    ensures ok { IfOk result (λ languages. languages.items ≡ filter_map id_read (map (λ p. p.now) parts.now)) }
+    ensures ok { IfOk result (λ languages. languages.items
+        ≡ filter_map id_read (map (λ p. p.now) parts.now)) }
     ensures err { IfErr result (λ e. e ≡ Memory) }
 {
     let mut languages = Vec::new(alloc);
@@ -73,7 +76,8 @@ fn languages_among(alloc: Global, parts: &[&str]) -> Result<Vec<LanguageId>, Err
 
 // Appends each language's number behind a comma.
 fn push_others(words: &mut String, languages: &[LanguageId]) -> Result<(), AllocError>
-    ensures { OnOk result (string_bytes words.new ≡ string_bytes words.old ++ flat_map (λ t. codes "," ++ t) (map decimal languages.now)) }
+    ensures { OnOk result (string_bytes words.new
+        ≡ string_bytes words.old ++ flat_map (λ t. codes "," ++ t) (map decimal languages.now)) }
 {
     for language in languages {
         write!(words, ",{}", language.id())?;
@@ -83,7 +87,8 @@ fn push_others(words: &mut String, languages: &[LanguageId]) -> Result<(), Alloc
 
 // Appends the languages' numbers with a comma between each two.
 pub(crate) fn push_languages(words: &mut String, languages: &[LanguageId]) -> Result<(), AllocError>
-    ensures { OnOk result (string_bytes words.new ≡ string_bytes words.old ++ join_texts (codes ",") (map decimal languages.now)) }
+    ensures { OnOk result (string_bytes words.new
+        ≡ string_bytes words.old ++ join_texts (codes ",") (map decimal languages.now)) }
 {
     if let [first, rest @ ..] = languages {
         write!(words, "{}", first.id())?;
@@ -106,7 +111,8 @@ pub(crate) fn parts_in(alloc: Global, text: &str) -> Result<Vec<String>, Error>
 
 // Texts without the white space at their ends.
 fn trimmed(alloc: Global, texts: &[&str]) -> Result<Vec<String>, Error>
-    ensures ok { IfOk result (λ parts. map string_bytes parts.items ≡ map trim (map (λ t. t.now) texts.now)) }
+    ensures ok { IfOk result (λ parts. map string_bytes parts.items
+        ≡ map trim (map (λ t. t.now) texts.now)) }
     ensures err { IfErr result (λ e. e ≡ Memory) }
 {
     let mut parts = Vec::new(alloc);
@@ -118,7 +124,8 @@ fn trimmed(alloc: Global, texts: &[&str]) -> Result<Vec<String>, Error>
 
 // Appends each text behind a semicolon and a space.
 fn push_parts(words: &mut String, parts: &[String]) -> Result<(), AllocError>
-    ensures { OnOk result (string_bytes words.new ≡ string_bytes words.old ++ flat_map (λ t. codes "; " ++ t) (map string_bytes parts.now)) }
+    ensures { OnOk result (string_bytes words.new
+        ≡ string_bytes words.old ++ flat_map (λ t. codes "; " ++ t) (map string_bytes parts.now)) }
 {
     for part in parts {
         words.push_str("; ")?;
@@ -129,7 +136,8 @@ fn push_parts(words: &mut String, parts: &[String]) -> Result<(), AllocError>
 
 // The texts with a semicolon and a space between each two.
 pub(crate) fn joined_parts(alloc: Global, parts: &[String]) -> Result<String, Error>
-    ensures ok { IfOk result (λ words. string_bytes words ≡ join_texts (codes "; ") (map string_bytes parts.now)) }
+    ensures ok { IfOk result (λ words. string_bytes words
+        ≡ join_texts (codes "; ") (map string_bytes parts.now)) }
     ensures err { IfErr result (λ e. e ≡ Memory) }
 {
     let mut words = String::new(alloc);

@@ -110,7 +110,11 @@ impl SummaryInfo {
     // Sets the value of a property that isn't the page.
     fn put(&mut self, number: u32, value: PropertyValue) -> Result<(), Error>
         requires { (number ≡ 1) → ⊥ }
-        ensures ok { OnOk result (self.new ≡ record self.old { props = set_or_cleared number (Some (property_in value)) self.old.props }) }
+        ensures ok { OnOk result (self.new
+            ≡ record self.old {
+              props = set_or_cleared number (Some (property_in value))
+                  self.old.props;
+            }) }
         ensures err { IfErr result (λ e. (e ≡ Memory) × (self.new ≡ self.old)) }
     {
         self.properties.set(number, value)
@@ -129,7 +133,8 @@ impl SummaryInfo {
 impl SummaryInfo {
     /// A summary that has its page alone, UTF-8.
     pub fn new(alloc: Global) -> Result<SummaryInfo, Error>
-        ensures ok { IfOk result (λ summary. summary ≡ record { props = new_summary; whole = true }) }
+        ensures ok { IfOk result (λ summary. summary
+            ≡ record { props = new_summary; whole = true }) }
         ensures err { IfErr result (λ e. e ≡ Memory) }
     {
         let mut properties = PropertySet::new(alloc, OperatingSystem::Win32, 10, FORMAT);
@@ -152,8 +157,10 @@ impl SummaryInfo {
     /// Appends the summary. InvalidInput where it would take 2^32 - 1 bytes or more. After an error, which may also be Memory,
     /// nothing is appended.
     pub fn write(&self, writer: &mut Vec<u8>) -> Result<(), Error>
-        ensures ok { OnOk result (IsTrue (is_in_size self.now.props) × (writer.new.items ≡ writer.old.items ++ props_bytes self.now.props)) }
-        ensures err { IfErr result (λ e. (writer.new.items ≡ writer.old.items) × ((e ≡ Memory) ⊎ ((e ≡ InvalidInput) × (is_in_size self.now.props ≡ false)))) }
+        ensures ok { OnOk result (IsTrue (is_in_size self.now.props)
+            × (writer.new.items ≡ writer.old.items ++ props_bytes self.now.props)) }
+        ensures err { IfErr result (λ e. (writer.new.items ≡ writer.old.items)
+            × ((e ≡ Memory) ⊎ ((e ≡ InvalidInput) × (is_in_size self.now.props ≡ false)))) }
     {
         self.properties.write(writer)
     }
@@ -524,7 +531,8 @@ impl SummaryInfo {
 
     /// The keywords: what semicolons part, without white space at the ends; none of no text. The one error is Memory.
     pub fn keywords(&self) -> Result<Vec<String>, Error>
-        ensures ok { IfOk result (λ keywords. map string_bytes keywords.items ≡ keywords_of self.now.props) }
+        ensures ok { IfOk result (λ keywords. map string_bytes keywords.items
+            ≡ keywords_of self.now.props) }
         ensures err { IfErr result (λ e. e ≡ Memory) }
     {
         parts_in(self.alloc, self.text(KEYWORDS).unwrap_or(""))
@@ -532,7 +540,8 @@ impl SummaryInfo {
 
     /// Sets the keywords, with a semicolon and a space between each two. After Memory nothing changed.
     pub fn set_keywords(&mut self, keywords: &[String]) -> Result<(), Error>
-        ensures { Edits (set_keywords (Some (map string_bytes keywords.now))) self.old self.new result }
+        ensures { Edits (set_keywords (Some (map string_bytes keywords.now))) self.old self.new
+            result }
     {
         let keywords = joined_parts(self.alloc, keywords)?;
         self.put(KEYWORDS, PropertyValue::LpStr(keywords))

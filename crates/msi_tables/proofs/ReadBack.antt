@@ -3,7 +3,7 @@ use Rattle.std.proofs.Common.{◌≡◌, ◌<◌, ◌≤◌, ◌+◌, ◌*◌, �
 use Rattle.std.specs.Prelude.{IsTrue, option_map, slice_range, ◌-ℤ◌, ◌&&◌}
 use Rattle.std.specs.List.{All, list_all}
 use Rattle.std.specs.Fmt.{◌++?◌}
-use Rattle.std.proofs.Math.Nat.{pow-suc, suc-mul, mul-le-mul_right, mul-div_cancel, div-lt_iff_lt-mul}
+use Rattle.std.proofs.Math.Nat.{suc-mul, mul-le-mul_right, mul-div_cancel}
 use borrow.Author.Tests.{ltb-true}
 use Rattle.std.proofs.Math.Seq.{take-append_seam, drop-append-add}
 use Rattle.std.proofs.lemmas.List.{length-map, take-append-le, drop-append-le}
@@ -17,19 +17,8 @@ use Rattle.msi_columns.specs.Cell.{width_of, cell_number, cell_value, above, rai
 use Rattle.msi_tables.specs.Rows.{Row, row_width, row_count, row_at, numbers_from, max_rows, rows_of, first_cells, column_bytes, rows_bytes, HaveCells, has_place, ReadBack}
 use Rattle.msi_columns.specs.declared.column.ColumnType.{ColumnType}
 use Rattle.msi_columns.specs.declared.column.ColumnType.TheVariants as kind
-
--- ---- numbers
-
-length_le : (w m : ℕ) → length (le_bytes w m) ≡ w
-length_le zero m = refl
-length_le (suc w) m = ap (λ n. suc n) (length_le w (m / 256))
-
-le_back : (w m : ℕ) → m < 256 ^ w → le_number (le_bytes w m) ≡ m
-le_back zero m below = omega (arith, below)
-le_back (suc w) m below =
-    let whole : m < 256 ^ w * 256 = rw (pow-suc 256 w) at below in
-    let high : m / 256 < 256 ^ w = (div-lt_iff_lt-mul {k = 256} {x = m} {y = 256 ^ w} (omega arith)).1 whole in
-    rw (le_back w (m / 256) high) (omega arith)
+use Rattle.std.proofs.lemmas.Bool.{and_parts}
+use Rattle.msi_texts.proofs.NumberBytes.{le_back, length-le_bytes}
 
 -- ---- a cell
 
@@ -65,14 +54,6 @@ raised_back half (negsuc n) m is = go (nat_lt (suc n) half) refl is
         rw (← same) (above_some half (half - suc n) (omega arith) ∙ ap cell.Int (back_down n half less), omega arith)
     go false below is = absurd (cc is)
 
-both_first : (a b : Bool) → (a && b) ≡ true → a ≡ true
-both_first true b h = refl
-both_first false b h = absurd (cc h)
-
-both_second : (a b : Bool) → (a && b) ≡ true → b ≡ true
-both_second true b h = h
-both_second false b h = absurd (cc h)
-
 null_back : (w half m : ℕ) → Some 0 ≡ Some m → le_number (le_bytes w 0) ≡ 0 → above half (le_number (le_bytes w m)) ≡ cell.Null
 null_back w half m is none = let same : 0 ≡ m = cc is in rw (← same) (ap (above half) none)
 
@@ -94,15 +75,15 @@ cell_back false (kind.Str k) cell.Null m is place = no_place 2 m is refl
 cell_back long (kind.Str k) (cell.Int z) m is place = absurd (cc is)
 cell_back true (kind.Str k) (cell.Str n) m is place =
     let same : n ≡ m = cc is in
-    let low : 0 < n = ltb-true 0 n (both_first _ _ place) in
-    let high : n < 2 ^ 24 = ltb-true n (2 ^ 24) (both_second _ _ place) in
+    let low : 0 < n = ltb-true 0 n (and_parts _ _ place).0 in
+    let high : n < 2 ^ 24 = ltb-true n (2 ^ 24) (and_parts _ _ place).1 in
     rw (← same) (ap place_or_null (le_back 3 n high) ∙ place_some n low)
 cell_back false (kind.Str k) (cell.Str n) m is place = go (nat_lt n (2 ^ 16)) refl is
   where
     go : (b : Bool) → nat_lt n (2 ^ 16) ≡ b → cond b (Some n) None ≡ Some m → place_or_null (le_number (le_bytes 2 m)) ≡ cell.Str n
     go true below is =
         let same : n ≡ m = cc is in
-        let low : 0 < n = ltb-true 0 n (both_first _ _ place) in
+        let low : 0 < n = ltb-true 0 n (and_parts _ _ place).0 in
         rw (← same) (ap place_or_null (le_back 2 n (ltb-true n (2 ^ 16) below)) ∙ place_some n low)
     go false below is = absurd (cc is)
 cell_back long (kind.Str k) cell.Binary m is place = absurd (cc is)
@@ -129,7 +110,7 @@ column_length long k [] b is = let same : [] ≡ b = cc is in rw (← same) (ome
 column_length long k (v ∷ vs) b is =
     let parts = split (option_map (le_bytes (width_of long k)) (cell_number long k v)) (column_bytes long k vs) b is in
     let own = some_bytes (width_of long k) (cell_number long k v) parts.0 parts.2 in
-    let front : length parts.0 ≡ width_of long k = ap length own.2 ∙ length_le (width_of long k) own.0 in
+    let front : length parts.0 ≡ width_of long k = ap length own.2 ∙ length-le_bytes (width_of long k) own.0 in
     let rest : length parts.1 ≡ length vs * width_of long k = column_length long k vs parts.1 parts.3 in
     let all : length b ≡ length parts.0 + length parts.1 = ap length parts.4 ∙ length-append parts.0 parts.1 in
     let product : suc (length vs) * width_of long k ≡ length vs * width_of long k + width_of long k = suc-mul (length vs) (width_of long k) in
@@ -143,19 +124,19 @@ cell_at long k (v ∷ vs) b zero is below places =
     let w = width_of long k in
     let parts = split (option_map (le_bytes w) (cell_number long k v)) (column_bytes long k vs) b is in
     let own = some_bytes w (cell_number long k v) parts.0 parts.2 in
-    let front : length parts.0 ≡ w = ap length own.2 ∙ length_le w own.0 in
+    let front : length parts.0 ≡ w = ap length own.2 ∙ length-le_bytes w own.0 in
     let none : 0 * w ≡ 0 = omega arith in
     let cut : take w (drop (0 * w) b) ≡ le_bytes w own.0 =
     ap₂ (λ n bs. take w (drop n bs)) none parts.4 ∙ ap (λ n. take n (parts.0 ++ parts.1)) (sym front) ∙ take-append_seam parts.0 parts.1 ∙ own.2 in
-    rw cut (cell_back long k v own.0 own.1 (both_first _ _ places))
+    rw cut (cell_back long k v own.0 own.1 (and_parts _ _ places).0)
 cell_at long k (v ∷ vs) b (suc r) is below places =
     let w = width_of long k in
     let parts = split (option_map (le_bytes w) (cell_number long k v)) (column_bytes long k vs) b is in
     let own = some_bytes w (cell_number long k v) parts.0 parts.2 in
-    let front : length parts.0 ≡ w = ap length own.2 ∙ length_le w own.0 in
+    let front : length parts.0 ≡ w = ap length own.2 ∙ length-le_bytes w own.0 in
     let place : suc r * w ≡ length parts.0 + r * w = omega (arith, suc-mul r w, front) in
     let cut : drop (suc r * w) b ≡ drop (r * w) parts.1 = ap₂ (λ n bs. drop n bs) place parts.4 ∙ drop-append-add parts.0 parts.1 (r * w) in
-    rw cut (cell_at long k vs parts.1 r parts.3 (omega (arith, below)) (both_second _ _ places))
+    rw cut (cell_at long k vs parts.1 r parts.3 (omega (arith, below)) (and_parts _ _ places).1)
 
 -- ---- rows
 
@@ -185,7 +166,7 @@ first_placed [] all = refl
 first_placed ([] ∷ rows) all = first_placed rows (All-tail (λ row. IsTrue (list_all has_place row)) [] rows all)
 first_placed ((v ∷ vs) ∷ rows) all =
     both (has_place v) (list_all has_place (first_cells rows))
-    (both_first (has_place v) (list_all has_place vs) (All-head (λ row. IsTrue (list_all has_place row)) (v ∷ vs) rows all))
+    (and_parts (has_place v) (list_all has_place vs) (All-head (λ row. IsTrue (list_all has_place row)) (v ∷ vs) rows all)).0
     (first_placed rows (All-tail (λ row. IsTrue (list_all has_place row)) (v ∷ vs) rows all))
 
 later_placed : (rows : List Row) → AllPlaced rows → AllPlaced (map (drop 1) rows)
@@ -194,7 +175,7 @@ later_placed ([] ∷ rows) all =
     All-cons (λ row. IsTrue (list_all has_place row)) [] (map (drop 1) rows) refl (later_placed rows (All-tail (λ row. IsTrue (list_all has_place row)) [] rows all))
 later_placed ((v ∷ vs) ∷ rows) all =
     All-cons (λ row. IsTrue (list_all has_place row)) vs (map (drop 1) rows)
-    (both_second (has_place v) (list_all has_place vs) (All-head (λ row. IsTrue (list_all has_place row)) (v ∷ vs) rows all))
+    (and_parts (has_place v) (list_all has_place vs) (All-head (λ row. IsTrue (list_all has_place row)) (v ∷ vs) rows all)).1
     (later_placed rows (All-tail (λ row. IsTrue (list_all has_place row)) (v ∷ vs) rows all))
 
 -- a row is its first cell and the others

@@ -27,14 +27,7 @@ use Rattle.msi_tables.specs.Table.{IsStoredByKeys, row_key_cmp}
 use Rattle.msi_tables.proofs.Arranged.{moved}
 use Rattle.msi_tables.proofs.Keys.{key_order}
 use Rattle.msi_tables.proofs.Stored.{stored_order}
-
-both_first : (a b : Bool) → (a && b) ≡ true → a ≡ true
-both_first true b h = refl
-both_first false b h = absurd (cc h)
-
-both_second : (a b : Bool) → (a && b) ≡ true → b ≡ true
-both_second true b h = h
-both_second false b h = absurd (cc h)
+use Rattle.std.proofs.lemmas.Bool.{and_parts}
 
 -- ---- rows that can be written have bytes
 
@@ -49,8 +42,8 @@ joined None b h k = absurd (cc h.1)
 column_has : (long : Bool) (k : ColumnType) (vs : Row) → list_all (λ v. is_some (cell_number long k v)) vs ≡ true → HasBytes (column_bytes long k vs)
 column_has long k [] h = ([], refl)
 column_has long k (v ∷ vs) h =
-    on (cell_number long k v) (both_first (is_some (cell_number long k v)) (list_all (λ v. is_some (cell_number long k v)) vs) h)
-    (column_has long k vs (both_second (is_some (cell_number long k v)) (list_all (λ v. is_some (cell_number long k v)) vs) h))
+    on (cell_number long k v) (and_parts (is_some (cell_number long k v)) (list_all (λ v. is_some (cell_number long k v)) vs) h).0
+    (column_has long k vs (and_parts (is_some (cell_number long k v)) (list_all (λ v. is_some (cell_number long k v)) vs) h).1)
   where
     on : (o : Option ℕ) → is_some o ≡ true → HasBytes (column_bytes long k vs) → HasBytes (option_map (le_bytes (width_of long k)) o ++? column_bytes long k vs)
     on (Some n) is rest = joined (Some (le_bytes (width_of long k) n)) (column_bytes long k vs) (_, refl) rest
@@ -63,7 +56,7 @@ first_can : (long : Bool) (k : ColumnType) (ks : List ColumnType) (rows : List R
 first_can long k ks [] h = refl
 first_can long k ks ([] ∷ rows) h = absurd (cc (All-head (λ row. IsTrue (can_write long (k ∷ ks) row)) [] rows h))
 first_can long k ks ((v ∷ vs) ∷ rows) h =
-    ap₂ (λ x y. x && y) (both_first (is_some (cell_number long k v)) (can_write long ks vs) (All-head (λ row. IsTrue (can_write long (k ∷ ks) row)) (v ∷ vs) rows h))
+    ap₂ (λ x y. x && y) (and_parts (is_some (cell_number long k v)) (can_write long ks vs) (All-head (λ row. IsTrue (can_write long (k ∷ ks) row)) (v ∷ vs) rows h)).0
     (first_can long k ks rows (All-tail (λ row. IsTrue (can_write long (k ∷ ks) row)) (v ∷ vs) rows h))
 
 later_can : (long : Bool) (k : ColumnType) (ks : List ColumnType) (rows : List Row) → AllCan long (k ∷ ks) rows → AllCan long ks (map (drop 1) rows)
@@ -71,7 +64,7 @@ later_can long k ks [] h = λ i d below. absurd (omega (arith, below))
 later_can long k ks ([] ∷ rows) h = absurd (cc (All-head (λ row. IsTrue (can_write long (k ∷ ks) row)) [] rows h))
 later_can long k ks ((v ∷ vs) ∷ rows) h =
     All-cons (λ row. IsTrue (can_write long ks row)) vs (map (drop 1) rows)
-    (both_second (is_some (cell_number long k v)) (can_write long ks vs) (All-head (λ row. IsTrue (can_write long (k ∷ ks) row)) (v ∷ vs) rows h))
+    (and_parts (is_some (cell_number long k v)) (can_write long ks vs) (All-head (λ row. IsTrue (can_write long (k ∷ ks) row)) (v ∷ vs) rows h)).1
     (later_can long k ks rows (All-tail (λ row. IsTrue (can_write long (k ∷ ks) row)) (v ∷ vs) rows h))
 
 rows_have : (long : Bool) (ks : List ColumnType) (rows : List Row) → AllCan long ks rows → HasBytes (rows_bytes long ks rows)

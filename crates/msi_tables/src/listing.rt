@@ -22,7 +22,9 @@ impl Table {
         string_pool: &StringPool,
         rows: Vec<Vec<ValueRef>>,
     ) -> Result<Vec<Vec<ValueRef>>, Error>
-        ensures ok { IfOk result (λ listed. IsArranged (row_key_cmp string_pool.now.pool (heading_of self.now).columns) (rows_held rows.items) (rows_held listed.items)) }
+        ensures ok { IfOk result (λ listed. IsArranged
+            (row_key_cmp string_pool.now.pool (heading_of self.now).columns) (rows_held rows.items)
+            (rows_held listed.items)) }
         ensures err { IfErr result (λ e. e ≡ Memory) }
     {
         let mut rows = rows;
@@ -37,8 +39,10 @@ fn sort_by_keys(
     columns: &[Column],
     string_pool: &StringPool,
 ) -> Result<(), AllocError>
-    ensures sorted { OnOk result (IsSortedBy (key_less string_pool.now.pool (columns_of columns.now)) rows.new.items) }
-    ensures stable { IsStableBy (key_less string_pool.now.pool (columns_of columns.now)) rows.old.items rows.new.items }
+    ensures sorted { OnOk result (IsSortedBy
+        (key_less string_pool.now.pool (columns_of columns.now)) rows.new.items) }
+    ensures stable { IsStableBy (key_less string_pool.now.pool (columns_of columns.now))
+        rows.old.items rows.new.items }
 {
     rows.sort_by(|a, b| compare_keys(columns, string_pool, a.as_slice(), b.as_slice()))
 }

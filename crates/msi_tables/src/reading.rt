@@ -54,7 +54,8 @@ fn row_width(kinds: &[ColumnType], long: bool) -> Option<usize>
 
 // How many whole rows so many bytes hold.
 fn row_count(kinds: &[ColumnType], long: bool, len: usize) -> usize
-    ensures count { (bytes : List ℕ) → length bytes ≡ len → result ≡ row_count long kinds.now bytes }
+    ensures count { (bytes : List ℕ) → length bytes ≡ len
+        → result ≡ row_count long kinds.now bytes }
     ensures fits { result * row_width long kinds.now ≤ len }
 {
     match row_width(kinds, long) {
@@ -74,7 +75,8 @@ fn read_counted(
 ) -> Result<Vec<Vec<ValueRef>>, AllocError>
     requires bytes { count * row_width long kinds.now ≤ length bytes.now }
     requires bound { count ≤ 65536 }
-    ensures { IfOk result (λ rows. rows_held rows.items ≡ map (row_at long count bytes.now 0 kinds.now) (numbers_from 0 count)) }
+    ensures { IfOk result (λ rows. rows_held rows.items
+        ≡ map (row_at long count bytes.now 0 kinds.now) (numbers_from 0 count)) }
 {
     let mut rows = Vec::new(alloc);
     for r in 0..count {

@@ -25,7 +25,8 @@ pub struct Rows {
 impl Rows {
     /// Rows of a table, each with a value for each column.
     pub fn new(table: Rc<Table>, rows: Vec<Row>) -> Rows
-        requires { All (λ row. length row.values ≡ length (heading_of (rc_value table)).columns) rows.items }
+        requires { All (λ row. length row.values ≡ length (heading_of (rc_value table)).columns)
+            rows.items }
         ensures columns { rows_columns result ≡ (heading_of (rc_value table)).columns }
         ensures left { rows_left result ≡ rows.items }
     {

@@ -21,7 +21,8 @@ pub(crate) fn write_rows(
     rows: Vec<Vec<ValueRef>>,
 ) -> Result<(), Error>
     requires { HaveCells (length columns.now) (rows_held rows.items) }
-    ensures { IsWritten long (columns_of columns.now) (rows_held rows.items) out.old.items out.new.items result }
+    ensures { IsWritten long (columns_of columns.now) (rows_held rows.items) out.old.items
+        out.new.items result }
 {
     let mut rows = rows;
     sort_rows(&mut rows, columns)?;
@@ -37,8 +38,10 @@ pub(crate) fn write_rows(
 
 // Brings rows into the stored order.
 fn sort_rows(rows: &mut Vec<Vec<ValueRef>>, columns: &[Column]) -> Result<(), AllocError>
-    ensures sorted { OnOk result (IsSortedBy (row_less (skips_of (columns_of columns.now))) rows.new.items) }
-    ensures stable { IsStableBy (row_less (skips_of (columns_of columns.now))) rows.old.items rows.new.items }
+    ensures sorted { OnOk result (IsSortedBy (row_less (skips_of (columns_of columns.now)))
+        rows.new.items) }
+    ensures stable { IsStableBy (row_less (skips_of (columns_of columns.now))) rows.old.items
+        rows.new.items }
     ensures permutation { IsPermutation rows.old.items rows.new.items }
 {
     rows.sort_by(|a, b| compare_rows(columns, a.as_slice(), b.as_slice()))
@@ -83,7 +86,8 @@ fn append_rows(
     rows: &[Vec<ValueRef>],
 ) -> Result<(), Error>
     requires { HaveCells (length columns.now) (rows_held rows.now) }
-    ensures bytes { Appends (rows_bytes long (kinds_of (columns_of columns.now)) (rows_held rows.now)) out.old.items out.new.items result }
+    ensures bytes { Appends (rows_bytes long (kinds_of (columns_of columns.now))
+        (rows_held rows.now)) out.old.items out.new.items result }
     ensures kept { (more : List ℕ) × (out.new.items ≡ out.old.items ++ more) }
 {
     for index in 0..columns.len() {
@@ -103,7 +107,8 @@ fn append_column(
     index: usize,
 ) -> Result<(), Error>
     requires { AllLonger index (rows_held rows.now) }
-    ensures bytes { Appends (column_bytes long coltype (first_cells (map (drop index) (rows_held rows.now)))) out.old.items out.new.items result }
+    ensures bytes { Appends (column_bytes long coltype
+        (first_cells (map (drop index) (rows_held rows.now)))) out.old.items out.new.items result }
     ensures kept { (more : List ℕ) × (out.new.items ≡ out.old.items ++ more) }
 {
     for row in rows {

@@ -39,7 +39,3 @@ groups_end (suc (suc (suc zero))) l = refl
 groups_end (suc (suc (suc (suc zero)))) l = refl
 groups_end (suc (suc (suc (suc (suc zero))))) l = refl
 groups_end (suc (suc (suc (suc (suc (suc n)))))) l = absurd (omega arith)
-
--- past the fifth place there is none
-pub no_group : (g : List ℕ) (n : ℕ) → 5 ≤ n → is_group_at g n ≡ false
-no_group g n l = ap (is_first_group g) (at_drop_all (λ z. z) group_lens n l)

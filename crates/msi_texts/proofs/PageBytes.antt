@@ -12,6 +12,7 @@ use Rattle.std.proofs.lemmas.Str.{utf8_lossy-IsUtf8, IsUtf8-from_is_utf8, chars-
 use Rattle.msi_texts.specs.declared.codepage.CodePage.{CodePage}
 use Rattle.msi_texts.specs.declared.codepage.CodePage.TheVariants as page
 use Rattle.msi_texts.specs.Page.{is_utf8_page, high_half, char_of, byte_of, number_in, encoded, decoded, fits, has_characters}
+use Rattle.std.proofs.lemmas.Bool.{and_parts}
 
 -- none stands twice
 abbrev is_distinct : List ℕ → Bool
@@ -27,14 +28,6 @@ tables page.Windows1252 = refl
 tables page.Iso88591 = refl
 tables page.MacintoshRoman = refl
 tables _ = refl
-
-both_left : (a b : Bool) → a && b ≡ true → a ≡ true
-both_left true b h = refl
-both_left false b h = h
-
-both_right : (a b : Bool) → a && b ≡ true → b ≡ true
-both_right true b h = h
-both_right false b h = cc
 
 not_first : (x : ℕ) (xs : List ℕ) (i d : ℕ) → not (list_any (λ y. y == x) xs) ≡ true → i < length xs → (x == get_or xs i d) ≡ false
 not_first x xs i d h l = go (x == get_or xs i d) refl
@@ -53,17 +46,17 @@ own_number (x ∷ xs) n zero d h l =
     let same : (x == x) ≡ true = grind (arith, nat_tests) in
     ap (λ b. cond b (Some n) (number_in x (n + 1) xs)) same ∙ ap Some (omega arith)
 own_number (x ∷ xs) n (suc i) d h l =
-    let apart = both_left (not (list_any (λ y. y == x) xs)) (is_distinct xs) h in
+    let apart = (and_parts (not (list_any (λ y. y == x) xs)) (is_distinct xs) h).0 in
     let inside : i < length xs = omega arith in
     let other : (x == get_or xs i d) ≡ false = not_first x xs i d apart inside in
     ap (λ b. cond b (Some n) (number_in (get_or xs i d) (n + 1) xs)) other
-    ∙ own_number xs (n + 1) i d (both_right (not (list_any (λ y. y == x) xs)) (is_distinct xs) h) inside
+    ∙ own_number xs (n + 1) i d (and_parts (not (list_any (λ y. y == x) xs)) (is_distinct xs) h).1 inside
     ∙ ap Some (omega arith)
 
 at_least : (ds : List ℕ) (i d : ℕ) → list_all (λ d. nat_le 128 d) ds ≡ true → i < length ds → 128 ≤ get_or ds i d
 at_least [] i d h l = absurd (omega arith)
-at_least (x ∷ xs) zero d h l = let low = both_left (nat_le 128 x) (list_all (λ d. nat_le 128 d) xs) h in grind (arith, nat_tests, low)
-at_least (x ∷ xs) (suc i) d h l = at_least xs i d (both_right (nat_le 128 x) (list_all (λ d. nat_le 128 d) xs) h) (omega arith)
+at_least (x ∷ xs) zero d h l = let low = (and_parts (nat_le 128 x) (list_all (λ d. nat_le 128 d) xs) h).0 in grind (arith, nat_tests, low)
+at_least (x ∷ xs) (suc i) d h l = at_least xs i d (and_parts (nat_le 128 x) (list_all (λ d. nat_le 128 d) xs) h).1 (omega arith)
 
 high_test : (c : ℕ) → 128 ≤ c → nat_lt c 128 ≡ false
 high_test c h = grind (arith, nat_tests)
@@ -79,8 +72,8 @@ byte_back p b h = go (nat_lt b 128) refl h
         within true f =
             let ds = high_half p in
             let inside : b - 128 < length ds = grind (arith, nat_tests, f) in
-            let all = both_left (list_all (λ d. nat_le 128 d) ds) (is_distinct ds) (tables p) in
-            let apart = both_right (list_all (λ d. nat_le 128 d) ds) (is_distinct ds) (tables p) in
+            let all = (and_parts (list_all (λ d. nat_le 128 d) ds) (is_distinct ds) (tables p)).0 in
+            let apart = (and_parts (list_all (λ d. nat_le 128 d) ds) (is_distinct ds) (tables p)).1 in
             let high : nat_lt (get_or ds (b - 128) 0xFFFD) 128 ≡ false = high_test _ (at_least ds (b - 128) 0xFFFD all inside) in
             let above : 128 ≤ b = grind (arith, nat_tests, e) in
             ap (λ z. cond z (Some (get_or ds (b - 128) 0xFFFD)) (number_in (get_or ds (b - 128) 0xFFFD) 128 ds)) high
@@ -90,8 +83,8 @@ byte_back p b h = go (nat_lt b 128) refl h
 bytes_back : (p : CodePage) (bs : List ℕ) → list_all (λ b. not (char_of p b == 0xFFFD)) bs ≡ true → map (λ c. unwrap_or (byte_of p c) 63) (map (char_of p) bs) ≡ bs
 bytes_back p [] h = refl
 bytes_back p (b ∷ bs) h =
-    let first = both_left (not (char_of p b == 0xFFFD)) (list_all (λ b. not (char_of p b == 0xFFFD)) bs) h in
-    let rest = both_right (not (char_of p b == 0xFFFD)) (list_all (λ b. not (char_of p b == 0xFFFD)) bs) h in
+    let first = (and_parts (not (char_of p b == 0xFFFD)) (list_all (λ b. not (char_of p b == 0xFFFD)) bs) h).0 in
+    let rest = (and_parts (not (char_of p b == 0xFFFD)) (list_all (λ b. not (char_of p b == 0xFFFD)) bs) h).1 in
     ap₂ (λ x xs. x ∷ xs) (ap (λ o. unwrap_or o 63) (byte_back p b (is_other (char_of p b) first))) (bytes_back p bs rest)
   where
     is_other : (c : ℕ) → not (c == 0xFFFD) ≡ true → c ≢ 0xFFFD
@@ -106,8 +99,8 @@ table_scalars _ = refl
 
 scalar_at : (ds : List ℕ) (i : ℕ) → list_all scalar ds ≡ true → scalar (get_or ds i 0xFFFD) ≡ true
 scalar_at [] i h = refl
-scalar_at (d ∷ ds) zero h = both_left (scalar d) (list_all scalar ds) h
-scalar_at (d ∷ ds) (suc i) h = scalar_at ds i (both_right (scalar d) (list_all scalar ds) h)
+scalar_at (d ∷ ds) zero h = (and_parts (scalar d) (list_all scalar ds) h).0
+scalar_at (d ∷ ds) (suc i) h = scalar_at ds i (and_parts (scalar d) (list_all scalar ds) h).1
 
 char_scalar : (p : CodePage) (b : ℕ) → scalar (char_of p b) ≡ true
 char_scalar p b = go (nat_lt b 128) refl

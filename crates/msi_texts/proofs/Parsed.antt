@@ -11,6 +11,7 @@ use Rattle.std.proofs.lemmas.Int.{ints}
 use mir.Val.{SFits}
 use Rattle.std.proofs.lemmas.Bool.Decides.{nat_tests, same_from_decides, Decides-and, Decides-ltb}
 use Rattle.msi_texts.specs.Category.{is_numeral, reads_unsigned, reads_signed}
+use Rattle.std.proofs.lemmas.Bool.{and_parts}
 
 -- a digit's value is below ten
 digit_below : (c : ℕ) → digit_value c < 10 → is_ascii_digit c ≡ true
@@ -22,25 +23,17 @@ digit_valued c h = grind (arith, nat_tests, h)
 and_both : (a b : Bool) → a ≡ true → b ≡ true → a && b ≡ true
 and_both a b e f = rw (e, f) refl
 
-and_first : (a b : Bool) → a && b ≡ true → a ≡ true
-and_first true b h = refl
-and_first false b h = h
-
-and_second : (a b : Bool) → a && b ≡ true → b ≡ true
-and_second true b h = h
-and_second false b h = cc
-
 digits_tested : (ds : List ℕ) → AllDigits 10 ds → list_all is_ascii_digit ds ≡ true
 digits_tested [] h = refl
 digits_tested (c ∷ cs) h = and_both _ _ (digit_below c h.0) (digits_tested cs h.1)
 
 digits_told : (ds : List ℕ) → list_all is_ascii_digit ds ≡ true → AllDigits 10 ds
 digits_told [] h = tt
-digits_told (c ∷ cs) h = (digit_valued c (and_first _ _ h), digits_told cs (and_second _ _ h))
+digits_told (c ∷ cs) h = (digit_valued c (and_parts _ _ h).0, digits_told cs (and_parts _ _ h).1)
 
 numeral_decides : (ds : List ℕ) → Decides (is_numeral ds) (IsNumeral 10 ds)
 numeral_decides [] = (λ h. cc, λ h. absurd (omega arith))
-numeral_decides (c ∷ cs) = (λ h. (omega arith, digits_told (c ∷ cs) (and_second _ _ h)), λ h. let some : not (length (c ∷ cs) == 0) ≡ true = grind (arith, nat_tests) in and_both _ _ some (digits_tested (c ∷ cs) h.1))
+numeral_decides (c ∷ cs) = (λ h. (omega arith, digits_told (c ∷ cs) (and_parts _ _ h).1), λ h. let some : not (length (c ∷ cs) == 0) ≡ true = grind (arith, nat_tests) in and_both _ _ some (digits_tested (c ∷ cs) h.1))
 
 ok_decides : {T E : Type 0} (r : Result T E) (P : Type 0) (v : T) → OkIff r P v → Decides (is_ok r) P
 ok_decides (Ok x) P v h = (λ _. h.0, λ _. refl)

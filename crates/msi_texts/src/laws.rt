@@ -7,13 +7,17 @@ ghost use Rattle.msi_texts.specs.StreamName.{spelled, spelled_name, is_marked, n
 /// A name without the characters that stand for letters is read back as it was written, as a table's or
 /// another; two such names are spelled alike only where they are one.
 pub fn names_are_read_back()
-    ensures name { (table : Bool) (name : List ℕ) → IsTrue (is_plain_name name) → (table ≡ false → is_marked name ≡ false) → name_of (spelled_name table name) ≡ name }
-    ensures table { (table : Bool) (name : List ℕ) → IsTrue (is_plain_name name) → (table ≡ false → is_marked name ≡ false) → is_marked (spelled_name table name) ≡ table }
-    ensures apart { (one other : List ℕ) → IsTrue (is_plain_name one) → IsTrue (is_plain_name other) → spelled one ≡ spelled other → one ≡ other }
+    ensures name { (table : Bool) (name : List ℕ) → IsTrue (is_plain_name name)
+        → (table ≡ false → is_marked name ≡ false) → name_of (spelled_name table name) ≡ name }
+    ensures table { (table : Bool) (name : List ℕ) → IsTrue (is_plain_name name)
+        → (table ≡ false → is_marked name ≡ false) → is_marked (spelled_name table name) ≡ table }
+    ensures apart { (one other : List ℕ) → IsTrue (is_plain_name one) → IsTrue (is_plain_name other)
+        → spelled one ≡ spelled other → one ≡ other }
 {}
 
 /// A text that gives back the bytes that it was read from fits its page.
 #[tactic(auto, using(crate::proofs::PageBytes::text_given_back_fits))]
 pub fn texts_that_give_back_fit()
-    ensures { (page : CodePage) (bytes : List ℕ) → encoded page (decoded page bytes) ≡ bytes → IsTrue (fits page (decoded page bytes)) }
+    ensures { (page : CodePage) (bytes : List ℕ) → encoded page (decoded page bytes) ≡ bytes
+        → IsTrue (fits page (decoded page bytes)) }
 {}

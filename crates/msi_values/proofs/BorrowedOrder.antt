@@ -1,6 +1,5 @@
 -- The derived order of values that stand elsewhere is the order of values.
 use Rattle.std.proofs.Common.{◌≡◌, List, [], ◌∷◌, refl, ap₂}
-use Rattle.std.specs.declared.cmp.Ordering.{Ordering}
 use Rattle.std.specs.Ordering.{ordering_then}
 use Rattle.std.specs.Cmp.Lexicographic.{slice_cmp}
 use Rattle.msi_values.specs.Datum.{datum_cmp}

@@ -1,9 +1,9 @@
--- Values are equal by their order where they are one.
+-- Values are equal by their order where they are one, and orders that say so.
 use Rattle.std.proofs.Common.{◌≡◌, refl, ap, sym, ◌∙◌}
 use Rattle.std.specs.declared.cmp.Ordering.TheVariants.{Less, Equal, Greater}
 use Rattle.std.specs.declared.cmp.Ordering.{Ordering}
 use Rattle.std.specs.Prelude.{◌==◌, true}
-use Rattle.std.specs.Ordering.{ordering_index}
+use Rattle.std.specs.Ordering.{is_eq, ordering_index, ordering_reverse}
 use Rattle.std.proofs.lemmas.Map.Lookups.{exact_bytes, exact_signed}
 use Rattle.std.proofs.lemmas.Cmp.{nat_list_cmp_total, int_cmp_total, tied_itself}
 use Rattle.msi_values.specs.Datum.{Datum, null, number, text, binary, datum_cmp}
@@ -43,3 +43,13 @@ tested_equal Greater h = cc
 
 pub tests_equal : (o : Ordering) → o ≡ Equal → (ordering_index o == 1) ≡ true
 tests_equal o e = ap (λ o. ordering_index o == 1) e
+
+pub turned_equal : (o : Ordering) → is_eq (ordering_reverse o) ≡ is_eq o
+turned_equal Less = refl
+turned_equal Equal = refl
+turned_equal Greater = refl
+
+pub is_equal : (o : Ordering) → is_eq o ≡ true → o ≡ Equal
+is_equal Less h = absurd (cc h)
+is_equal Equal h = refl
+is_equal Greater h = absurd (cc h)

@@ -48,7 +48,8 @@ impl<W: Write> Write for First<'_, W> {
 
 // Writes the text's first characters.
 fn write_first<W: Write>(text: &str, count: usize, f: &mut fmt::Formatter<W>) -> fmt::Result
-    ensures { IsTrue (list_all is_ascii text.now) → WritesStyledOnOk W.write_str_gives f.old result (first_of (Some count) text.now) f.new }
+    ensures { IsTrue (list_all is_ascii text.now)
+        → WritesStyledOnOk W.write_str_gives f.old result (first_of (Some count) text.now) f.new }
 {
     for ch in text.chars().take(count) {
         f.write_char(ch)?;
@@ -58,7 +59,8 @@ fn write_first<W: Write>(text: &str, count: usize, f: &mut fmt::Formatter<W>) ->
 
 // The number of characters of the quoted text.
 fn quoted_len(text: &str) -> Result<usize, fmt::Error>
-    ensures { IfSome (debug_str text.now) (λ bs. IfOk result (λ n. n ≡ min (length bs) (2 ^ 64 - 1))) }
+    ensures { IfSome (debug_str text.now)
+        (λ bs. IfOk result (λ n. n ≡ min (length bs) (2 ^ 64 - 1))) }
 {
     let mut count = Count { chars: 0 };
     write!(count, "{text:?}")?;
@@ -67,7 +69,8 @@ fn quoted_len(text: &str) -> Result<usize, fmt::Error>
 
 // Writes the first characters of the quoted text, or all.
 fn write_start<W: Write>(text: &str, most: Option<usize>, f: &mut fmt::Formatter<W>) -> fmt::Result
-    ensures { IfSome (debug_str text.now) (λ bs. WritesStyledOnOk W.write_str_gives f.old result (first_of most bs) f.new) }
+    ensures { IfSome (debug_str text.now)
+        (λ bs. WritesStyledOnOk W.write_str_gives f.old result (first_of most bs) f.new) }
 {
     let mut out = fmt::Formatter::new(First { to: f, left: most });
     let result = write!(out, "{text:?}");
@@ -96,7 +99,9 @@ fn write_filled<W: Write>(
     padding: usize,
     f: &mut fmt::Formatter<W>,
 ) -> fmt::Result
-    ensures { IfSome (debug_str text.now) (λ bs. IsAligned f.old → WritesStyledOnOk W.write_str_gives f.old result (filled f.old padding (first_of (Some most) bs)) f.new) }
+    ensures { IfSome (debug_str text.now) (λ bs. IsAligned f.old
+        → WritesStyledOnOk W.write_str_gives f.old result
+        (filled f.old padding (first_of (Some most) bs)) f.new) }
 {
     let before = before(f.align(), padding);
     let mut bytes = [0; 4];
@@ -116,7 +121,9 @@ fn is_laid_out<W: Write>(f: &fmt::Formatter<W>) -> bool
 // Writes the text as `{:?}` does, cut to the precision and filled up to the width.
 pub(crate) fn write_quoted<W: Write>(text: &str, f: &mut fmt::Formatter<W>) -> fmt::Result
     ensures plain { DisplaysOnOk W.write_str_gives f.old result (debug_str text.now) f.new }
-    ensures styled { IfSome (debug_str text.now) (λ bs. IsAligned f.old → WritesStyledOnOk W.write_str_gives f.old result (styled_text (formatter_spec f.old) bs) f.new) }
+    ensures styled { IfSome (debug_str text.now) (λ bs. IsAligned f.old
+        → WritesStyledOnOk W.write_str_gives f.old result (styled_text (formatter_spec f.old) bs)
+        f.new) }
 {
     if !is_laid_out(f) {
         return write_start(text, None, f);

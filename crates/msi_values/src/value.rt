@@ -134,7 +134,8 @@ impl Value {
     /// A text: the languages' identifiers in decimal digits, with a comma between each two. The one error
     /// is Memory.
     pub fn languages(alloc: Global, languages: &[LanguageId]) -> Result<Value, Error>
-        ensures value { IfOk result (λ v. datum_of v ≡ text (with_commas (map decimal languages.now))) }
+        ensures value { IfOk result (λ v. datum_of v
+            ≡ text (with_commas (map decimal languages.now))) }
         ensures kinds { IfErr result (λ e. e ≡ Memory) }
     {
         let Some((first, others)) = languages.split_first() else {
@@ -157,7 +158,8 @@ impl Value {
 
 // Appends each language's identifier behind a comma.
 fn push_others(words: &mut String, languages: &[LanguageId]) -> Result<(), AllocError>
-    ensures { OnOk result (string_bytes words.new ≡ string_bytes words.old ++ flat_map (λ l. 44 ∷ decimal l) languages.now) }
+    ensures { OnOk result (string_bytes words.new
+        ≡ string_bytes words.old ++ flat_map (λ l. 44 ∷ decimal l) languages.now) }
 {
     for language in languages {
         write!(words, ",{language}")?;

@@ -18,12 +18,7 @@ use Rattle.one_table.specs.Rules.{keys_held, keys_judged, keys_by, rows_said, ju
 use Rattle.msi_texts.specs.Results.{◌>>=◌, unless_not}
 use Rattle.cfb_medium.specs.declared.error.Error.{Error}
 use Rattle.cfb_medium.specs.declared.error.Error.TheVariants.{AlreadyExists, InvalidInput}
-
-or_swap : (a b c : Bool) → (a || (b || c)) ≡ (b || (a || c))
-or_swap true true c = refl
-or_swap true false c = refl
-or_swap false true c = refl
-or_swap false false c = refl
+use Rattle.msi_changes.proofs.NewKeys.{or_swap}
 
 -- a key behind others is found as one before them
 has_key_behind : (keys : List (List Datum)) (x k : List Datum) → has_key (keys ++ x ∷ []) k ≡ has_key (x ∷ keys) k

@@ -14,10 +14,7 @@ use Rattle.msi_columns.specs.declared.column.ColumnType.TheVariants as kind
 use Rattle.plain.proofs.ImageParts.{take_exact, drop_exact}
 use Rattle.one_table.specs.Contents.{Only, key_row, is_key, columns_rows, tables_rows}
 use Rattle.one_table.specs.Streams.{key_number, keys_bytes, columns_bytes, tables_bytes}
-
--- a number of two bytes is read as it was written
-two_bytes : (n : ℕ) → n < 2 ^ 16 → le_number (le_bytes 2 n) ≡ n
-two_bytes n small = omega arith
+use Rattle.msi_texts.proofs.NumberBytes.{le_back}
 
 above_some : (half k : ℕ) → 0 < k → above half k ≡ cell.Int (pos k -ℤ pos half)
 above_some half zero some = absurd (omega (arith, some))
@@ -51,7 +48,7 @@ rows_from all before (z ∷ zs) start count is here fit =
     let later = rows_from all (before ++ le_bytes 2 (key_number z)) zs (suc start) count joined longer both.1 in
     let first : slice_range all (count * 0 + start * 2) (count * 0 + start * 2 + 2) ≡ le_bytes 2 (key_number z) =
     rw is (between before (le_bytes 2 (key_number z)) (keys_bytes zs) (count * 0 + start * 2) (omega (arith, here)) refl) in
-    rw (first, two_bytes (key_number z) cell_of.0, cell_of.1, later) refl
+    rw (first, le_back 2 (key_number z) cell_of.0, cell_of.1, later) refl
 
 pub keys_length : (keys : List ℤ) → length (keys_bytes keys) ≡ 2 * length keys
 keys_length [] = refl

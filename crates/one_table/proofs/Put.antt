@@ -8,6 +8,7 @@ use Rattle.std.specs.Cmp.{IsTotalOrder}
 use Rattle.std.specs.declared.cmp.Ordering.{Ordering}
 use Rattle.std.specs.declared.cmp.Ordering.TheVariants.{Less, Equal, Greater}
 use Rattle.one_table.specs.Streams.{put_by}
+use Rattle.msi_changes.proofs.NewKeys.{or_swap}
 
 module _ {X K : Type 0} (cmp : K → K → Ordering) (key : X → K) where
   -- what holds of all, holds of all with the new one
@@ -26,12 +27,6 @@ module _ {X K : Type 0} (cmp : K → K → Ordering) (key : X → K) where
         | true ↦ refl
         | false ↦ ap (λ b. p y || b) (any_put p x ys) ∙ or_swap (p y) (p x) (list_any p ys)
       ]
-    where
-      or_swap : (a b c : Bool) → (a || (b || c)) ≡ (b || (a || c))
-      or_swap true true c = refl
-      or_swap true false c = refl
-      or_swap false true c = refl
-      or_swap false false c = refl
 
   find_cond : (p : X → Bool) (y : X) (ys : List X) (b : Bool) → p y ≡ b → find p (y ∷ ys) ≡ cond b (Some y) (find p ys)
   find_cond p y ys true e = rw e refl

@@ -29,7 +29,8 @@ pub struct ColumnBuilder {
 impl Column {
     /// Begins a column of this name, which takes no null and belongs to no key. `Memory` where there is no room for the name.
     pub fn build(alloc: Global, name: &str) -> Result<ColumnBuilder, Error>
-        ensures built { IfOk result (λ builder. builder_said builder kind.Int16 ≡ plain name.now kind.Int16) }
+        ensures built { IfOk result (λ builder. builder_said builder kind.Int16
+            ≡ plain name.now kind.Int16) }
         ensures err { IfErr result (λ e. e ≡ Memory) }
     {
         Ok(ColumnBuilder {

@@ -53,8 +53,10 @@ impl Contents {
 
     // The table of a name, where there is one.
     fn sheet(&self, name: &str) -> Result<Option<Sheet>, Error>
-        ensures sheet { IfOk result (λ found. MatchOption found (table_named (package_in self.now).tables name.now ≡ None)
-            (λ s. (t : Table) × (table_named (package_in self.now).tables name.now ≡ Some t) × IsSheet (package_in self.now).pool t s)) }
+        ensures sheet { IfOk result (λ found. MatchOption found
+            (table_named (package_in self.now).tables name.now ≡ None)
+            (λ s. (t : Table) × (table_named (package_in self.now).tables name.now ≡ Some t)
+            × IsSheet (package_in self.now).pool t s)) }
         ensures err { IfErr result (λ e. e ≡ Memory) }
     {
         if is_columns(name) {
@@ -98,7 +100,8 @@ impl Contents {
     /// name of a table of the database or of a stream of its pool, where there is another table, and for any but one column of
     /// 16 bits that is the key. After an error nothing has changed.
     pub fn create_table(&mut self, name: &str, columns: &[Column]) -> Result<(), Error>
-        ensures meets { Meets (CreatesBare ascii_letters (package_in self.old) name.now (columns_said columns.now)) (package_in self.old) (package_in self.new) result }
+        ensures meets { Meets (CreatesBare ascii_letters (package_in self.old) name.now
+            (columns_said columns.now)) (package_in self.old) (package_in self.new) result }
         ensures grows { length (image_in self.old) ≤ length (image_in self.new) }
     {
         match self.refusal(name, columns) {
@@ -113,8 +116,10 @@ impl Contents {
 
     // Why a table can't be made, if so.
     fn refusal(&self, name: &str, columns: &[Column]) -> Option<Error>
-        ensures { MatchOption result (IsFirst (only_seen self.now.only) name.now (columns_said columns.now))
-            (λ e. created_bare true (package_in self.now) name.now (columns_said columns.now) ≡ Err e) }
+        ensures { MatchOption result (IsFirst (only_seen self.now.only) name.now
+            (columns_said columns.now))
+            (λ e. created_bare true (package_in self.now) name.now (columns_said columns.now)
+            ≡ Err e) }
     {
         if !are_named(name, columns) {
             return Some(Error::InvalidInput);
@@ -157,7 +162,8 @@ impl Contents {
     /// no room.
     pub fn read(alloc: Global, bytes: &[u8]) -> Result<Contents, Error>
         ensures read { IfOk result (λ contents. image_in contents ≡ bytes.now) }
-        ensures meant { IfOk result (λ contents. MeansPackage ascii_letters bytes.now (package_in contents)) }
+        ensures meant { IfOk result (λ contents. MeansPackage ascii_letters bytes.now
+            (package_in contents)) }
         ensures err { IfErr result (λ e. (e ≡ Memory) ⊎ (e ≡ InvalidData)) }
     {
         let Some(tree) = read_tree(alloc, bytes, &ASCII_LETTERS)? else {
@@ -192,7 +198,8 @@ impl Contents {
     /// row by row `AlreadyExists` for a stored key and `InvalidInput` for that of an earlier new row; `InvalidInput` for a table of
     /// the database itself, and for more than 2047 rows. After an error nothing has changed.
     pub fn insert(&mut self, insert: &Insert) -> Result<(), Error>
-        ensures meets { Meets (InsertsFew (package_in self.old) (insert_table insert.now) (insert_rows insert.now)) (package_in self.old) (package_in self.new) result }
+        ensures meets { Meets (InsertsFew (package_in self.old) (insert_table insert.now)
+            (insert_rows insert.now)) (package_in self.old) (package_in self.new) result }
         ensures grows { length (image_in self.old) ≤ length (image_in self.new) }
     {
         if is_columns(insert.table_name()) || is_tables(insert.table_name()) {
@@ -214,7 +221,8 @@ impl Contents {
     /// The bytes of a whole compound file that means the package, less than 128 KiB. `Memory` where there is no room for it.
     pub fn image(&self) -> Result<Vec<u8>, Error>
         ensures image { IfOk result (λ bytes. bytes.items ≡ image_in self.now) }
-        ensures meant { IfOk result (λ bytes. MeansPackage ascii_letters bytes.items (package_in self.now)) }
+        ensures meant { IfOk result (λ bytes. MeansPackage ascii_letters bytes.items
+            (package_in self.now)) }
         ensures short { length (image_in self.now) < 2 ^ 17 }
         ensures err { IfErr result (λ e. e ≡ Memory) }
     {
@@ -227,8 +235,11 @@ impl Contents {
 
     // Why an insert into a table of the database itself is refused.
     fn own_refusal(&self, insert: &Insert) -> Error
-        requires { (bytes_eq (insert_table insert.now) columns_name || bytes_eq (insert_table insert.now) tables_name) ≡ true }
-        ensures { (result ≡ Memory) ⊎ (inserted_few (package_in self.now) (insert_table insert.now) (insert_rows insert.now) ≡ Err result) }
+        requires { (bytes_eq (insert_table insert.now) columns_name || bytes_eq
+            (insert_table insert.now) tables_name) ≡ true }
+        ensures { (result ≡ Memory)
+            ⊎ (inserted_few (package_in self.now) (insert_table insert.now) (insert_rows insert.now)
+            ≡ Err result) }
     {
         match self.sheet(insert.table_name()) {
             Ok(Some(sheet)) => match judge(&sheet.columns, &sheet.rows, insert.new_rows()) {
@@ -254,7 +265,9 @@ const ROOT: Facts = Facts {
 
 // The first table.
 fn new_table(alloc: Global, name: &str, columns: &[Column]) -> Result<OnlyTable, Error>
-    ensures made { IfOk result (λ t. (column : List ℕ) → columns_said columns.now ≡ key_column column ∷ [] → only_of t ≡ new_only name.now column) }
+    ensures made { IfOk result (λ t. (column : List ℕ)
+        → columns_said columns.now ≡ key_column column ∷ []
+        → only_of t ≡ new_only name.now column) }
     ensures err { IfErr result (λ e. e ≡ Memory) }
 {
     let column = match columns {
@@ -270,7 +283,8 @@ fn new_table(alloc: Global, name: &str, columns: &[Column]) -> Result<OnlyTable,
 
 // Whether the one column has a name of too many characters.
 fn has_long_name(columns: &[Column]) -> bool
-    ensures { (column : List ℕ) → columns_said columns.now ≡ key_column column ∷ [] → result ≡ nat_lt 32 (length column) }
+    ensures { (column : List ℕ) → columns_said columns.now ≡ key_column column ∷ []
+        → result ≡ nat_lt 32 (length column) }
 {
     match columns {
         [column, ..] => column.name().len() > MOST_CHARACTERS,
@@ -292,8 +306,11 @@ pub const MOST_CHARACTERS: usize = 32;
 // The keys of a table with those of new rows, in order.
 fn added(alloc: Global, only: &OnlyTable, new_rows: &[Vec<Value>]) -> Result<Vec<i32>, Error>
     requires { IsKept (only_of only.now) }
-    ensures added { IfOk result (λ keys. Adds (only_of only.now) (rows_said new_rows.now) keys.items) }
-    ensures refused { IfErr result (λ e. (e ≡ Memory) ⊎ (inserted_few (package_of (Some (only_of only.now))) (string_bytes only.now.name) (rows_said new_rows.now) ≡ Err e)) }
+    ensures added { IfOk result (λ keys. Adds (only_of only.now) (rows_said new_rows.now)
+        keys.items) }
+    ensures refused { IfErr result (λ e. (e ≡ Memory)
+        ⊎ (inserted_few (package_of (Some (only_of only.now))) (string_bytes only.now.name)
+        (rows_said new_rows.now) ≡ Err e)) }
 {
     let sheet = only_sheet(alloc, only)?;
     match judge(&sheet.columns, &sheet.rows, new_rows) {

@@ -31,7 +31,8 @@ impl Insert {
     /// The same with one more row behind the others. `Memory` spends it.
     pub fn row(self, values: Vec<Value>) -> Result<Insert, Error>
         ensures table { IfOk result (λ insert. insert_table insert ≡ insert_table self) }
-        ensures rows { IfOk result (λ insert. insert_rows insert ≡ insert_rows self ++ data_of values.items ∷ []) }
+        ensures rows { IfOk result (λ insert. insert_rows insert
+            ≡ insert_rows self ++ data_of values.items ∷ []) }
         ensures err { IfErr result (λ e. e ≡ Memory) }
     {
         let Insert {

@@ -20,7 +20,8 @@ pub fn is_identifier(name: &str) -> bool
 
 // Whether one of the columns has the name.
 fn is_among(columns: &[Column], name: &str) -> bool
-    ensures { result ≡ list_any (λ column. bytes_eq (column_said column).name name.now) columns.now }
+    ensures { result
+        ≡ list_any (λ column. bytes_eq (column_said column).name name.now) columns.now }
 {
     columns.iter().any(|column| column.name() == name)
 }

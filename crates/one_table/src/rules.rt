@@ -64,14 +64,17 @@ fn is_row(columns: &[KeyedType], row: &[Value]) -> bool
 
 // Whether all these rows are such.
 fn are_rows(columns: &[KeyedType], rows: &[Vec<Value>]) -> bool
-    ensures { result ≡ list_all (λ row. are_valid (unnamed_columns columns.now) (data_of row.items)) rows.now }
+    ensures { result
+        ≡ list_all (λ row. are_valid (unnamed_columns columns.now) (data_of row.items)) rows.now }
 {
     rows.iter().all(|row| is_row(columns, row))
 }
 
 // Whether two rows have one key.
 fn is_same_key(columns: &[KeyedType], row: &[Value], other: &[Value]) -> bool
-    ensures { result ≡ is_eq (key_cmp (key_values (unnamed_columns columns.now) (data_of row.now)) (key_values (unnamed_columns columns.now) (data_of other.now))) }
+    ensures { result
+        ≡ is_eq (key_cmp (key_values (unnamed_columns columns.now) (data_of row.now))
+        (key_values (unnamed_columns columns.now) (data_of other.now))) }
 {
     match columns {
         [] => true,
@@ -91,7 +94,10 @@ fn is_same_key(columns: &[KeyedType], row: &[Value], other: &[Value]) -> bool
 
 // Whether one of the rows has this row's key.
 fn has_key_of(columns: &[KeyedType], rows: &[Vec<Value>], row: &[Value]) -> bool
-    ensures { result ≡ list_any (λ other. is_eq (key_cmp (key_values (unnamed_columns columns.now) (data_of other.items)) (key_values (unnamed_columns columns.now) (data_of row.now)))) rows.now }
+    ensures { result
+        ≡ list_any (λ other. is_eq (key_cmp (key_values (unnamed_columns columns.now)
+        (data_of other.items)) (key_values (unnamed_columns columns.now) (data_of row.now))))
+        rows.now }
 {
     rows.iter().any(|other| is_same_key(columns, other, row))
 }
@@ -102,7 +108,8 @@ fn check_keys(
     stored: &[Vec<Value>],
     new_rows: &[Vec<Value>],
 ) -> Result<(), Error>
-    ensures { MatchResult result (λ _. keys_judged (unnamed_columns columns.now) stored.now [] new_rows.now ≡ Ok tt)
+    ensures { MatchResult result (λ _. keys_judged (unnamed_columns columns.now) stored.now []
+        new_rows.now ≡ Ok tt)
         (λ e. keys_judged (unnamed_columns columns.now) stored.now [] new_rows.now ≡ Err e) }
 {
     for (at, row) in new_rows.iter().enumerate() {
@@ -123,8 +130,10 @@ pub fn judge(
     stored: &[Vec<Value>],
     new_rows: &[Vec<Value>],
 ) -> Result<(), Error>
-    ensures { MatchResult result (λ _. judged (unnamed_columns columns.now) (rows_said stored.now) (rows_said new_rows.now) ≡ Ok tt)
-        (λ e. judged (unnamed_columns columns.now) (rows_said stored.now) (rows_said new_rows.now) ≡ Err e) }
+    ensures { MatchResult result (λ _. judged (unnamed_columns columns.now) (rows_said stored.now)
+        (rows_said new_rows.now) ≡ Ok tt)
+        (λ e. judged (unnamed_columns columns.now) (rows_said stored.now) (rows_said new_rows.now)
+        ≡ Err e) }
 {
     if !are_rows(columns, new_rows) {
         return Err(Error::InvalidInput);

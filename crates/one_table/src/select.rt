@@ -18,7 +18,8 @@ pub struct Select {
 impl Select {
     /// A select of all columns and rows of the table of this name. `Memory` where there is no room for the name.
     pub fn table(alloc: Global, table_name: &str) -> Result<Select, Error>
-        ensures selects { IfOk result (λ select. select_said select ≡ query (table table_name.now) [] None) }
+        ensures selects { IfOk result (λ select. select_said select
+            ≡ query (table table_name.now) [] None) }
         ensures err { IfErr result (λ e. e ≡ Memory) }
     {
         Ok(Select {
@@ -29,7 +30,8 @@ impl Select {
 
     /// The same table, and of its columns those of these names, in this order; none stands for all. `Memory` spends it.
     pub fn columns(self, alloc: Global, column_names: &[&str]) -> Result<Select, Error>
-        ensures selects { IfOk result (λ select. select_said select ≡ query (table (select_table self)) (map (λ name. name.now) column_names.now) None) }
+        ensures selects { IfOk result (λ select. select_said select
+            ≡ query (table (select_table self)) (map (λ name. name.now) column_names.now) None) }
         ensures err { IfErr result (λ e. e ≡ Memory) }
     {
         let mut names = Vec::new(alloc);

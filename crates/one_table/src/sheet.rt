@@ -42,7 +42,8 @@ fn named(name: &str, coltype: ColumnType, is_key: bool) -> Head<'_>
 
 // A table of these columns without rows.
 fn empty(alloc: Global, heads: &[Head<'_>]) -> Result<Sheet, Error>
-    ensures names { IfOk result (λ s. map string_bytes s.column_names.items ≡ map (λ h. h.name.now) heads.now) }
+    ensures names { IfOk result (λ s. map string_bytes s.column_names.items
+        ≡ map (λ h. h.name.now) heads.now) }
     ensures columns { IfOk result (λ s. s.columns.items ≡ map (λ h. h.column) heads.now) }
     ensures rows { IfOk result (λ s. s.rows.items ≡ []) }
     ensures err { IfErr result (λ e. e ≡ Memory) }
@@ -62,7 +63,8 @@ fn empty(alloc: Global, heads: &[Head<'_>]) -> Result<Sheet, Error>
 
 // The table of all columns: the one table has one.
 pub fn columns_sheet(alloc: Global, only: Option<&OnlyTable>) -> Result<Sheet, Error>
-    ensures sheet { IfOk result (λ s. IsSheet (pool_with (own_places (only_lent only.entry))) (columns_table (only_lent only.entry)) s) }
+    ensures sheet { IfOk result (λ s. IsSheet (pool_with (own_places (only_lent only.entry)))
+        (columns_table (only_lent only.entry)) s) }
     ensures err { IfErr result (λ e. e ≡ Memory) }
 {
     let heads = [
@@ -83,7 +85,8 @@ pub fn columns_sheet(alloc: Global, only: Option<&OnlyTable>) -> Result<Sheet, E
 
 // The table of all tables.
 pub fn tables_sheet(alloc: Global, only: Option<&OnlyTable>) -> Result<Sheet, Error>
-    ensures sheet { IfOk result (λ s. IsSheet (pool_with (own_places (only_lent only.entry))) (tables_table (only_lent only.entry)) s) }
+    ensures sheet { IfOk result (λ s. IsSheet (pool_with (own_places (only_lent only.entry)))
+        (tables_table (only_lent only.entry)) s) }
     ensures err { IfErr result (λ e. e ≡ Memory) }
 {
     let mut sheet = empty(alloc, &[named("Name", ColumnType::Str(64), true)])?;
@@ -96,7 +99,8 @@ pub fn tables_sheet(alloc: Global, only: Option<&OnlyTable>) -> Result<Sheet, Er
 
 // The one table.
 pub fn only_sheet(alloc: Global, only: &OnlyTable) -> Result<Sheet, Error>
-    ensures sheet { IfOk result (λ s. IsSheet (pool_with (places_of (only_of only.now))) (only_table (only_of only.now)) s) }
+    ensures sheet { IfOk result (λ s. IsSheet (pool_with (places_of (only_of only.now)))
+        (only_table (only_of only.now)) s) }
     ensures err { IfErr result (λ e. e ≡ Memory) }
 {
     let mut sheet = empty(alloc, &[named(&only.column, ColumnType::Int16, true)])?;

@@ -161,7 +161,8 @@ fn own_streams(alloc: Global, only: Option<&OnlyTable>) -> Result<Vec<NamedStrea
 
 // The stream of the summary.
 fn summary_stream(alloc: Global) -> Result<NamedStream, Error>
-    ensures stream { IfOk result (λ s. stream_view s ≡ named summary_name (props_bytes (package_of None).summary)) }
+    ensures stream { IfOk result (λ s. stream_view s
+        ≡ named summary_name (props_bytes (package_of None).summary)) }
     ensures err { IfErr result (λ e. e ≡ Memory) }
 {
     let name = String::from_str(alloc, SUMMARY_INFO_STREAM_NAME)?;
@@ -187,7 +188,9 @@ pub fn all_streams(alloc: Global, only: Option<&OnlyTable>) -> Result<Vec<NamedS
 
 // Puts a stream before the first that comes behind it.
 fn put(alloc: Global, streams: &mut Vec<NamedStream>, stream: NamedStream) -> Result<(), Error>
-    ensures put { OnOk result (stream_views streams.new.items ≡ put_by (name_cmp ascii_letters) (λ s. s.name) (stream_view stream) (stream_views streams.old.items)) }
+    ensures put { OnOk result (stream_views streams.new.items
+        ≡ put_by (name_cmp ascii_letters) (λ s. s.name) (stream_view stream)
+        (stream_views streams.old.items)) }
     ensures err { IfErr result (λ e. e ≡ Memory) }
 {
     let at = place(alloc, streams, &stream)?;
@@ -197,7 +200,8 @@ fn put(alloc: Global, streams: &mut Vec<NamedStream>, stream: NamedStream) -> Re
 
 // Where a stream belongs among others that rise by their names.
 fn place(alloc: Global, streams: &[NamedStream], stream: &NamedStream) -> Result<usize, Error>
-    ensures place { IfOk result (λ at. place_of (stream_view stream.now) (stream_views streams.now) ≡ at) }
+    ensures place { IfOk result (λ at. place_of (stream_view stream.now) (stream_views streams.now)
+        ≡ at) }
     ensures within { IfOk result (λ at. at ≤ length streams.now) }
     ensures err { IfErr result (λ e. e ≡ Memory) }
 {

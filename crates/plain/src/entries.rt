@@ -24,8 +24,10 @@ pub const NO_FACTS: Facts = Facts {
 
 // Appends what an entry has between its name and its facts.
 fn push_links(out: &mut Vec<u8>, e: &Entry) -> Result<(), AllocError>
-    ensures { OnOk result (out.new.items ≡ out.old.items ++ (to_le_bytes w16 e.now.name_len ++ e.now.kind ∷ e.now.color
-        ∷ to_le_bytes w32 e.now.left ++ to_le_bytes w32 e.now.right ++ to_le_bytes w32 e.now.child)) }
+    ensures { OnOk result (out.new.items
+        ≡ out.old.items ++ (to_le_bytes w16 e.now.name_len ++ e.now.kind ∷ e.now.color
+        ∷ to_le_bytes w32 e.now.left ++ to_le_bytes w32 e.now.right
+        ++ to_le_bytes w32 e.now.child)) }
 {
     push_u16(out, e.name_len)?;
     out.push(e.kind)?;
@@ -35,8 +37,11 @@ fn push_links(out: &mut Vec<u8>, e: &Entry) -> Result<(), AllocError>
 
 // Appends an entry's facts but its CLSID, and where its bytes are.
 fn push_place(out: &mut Vec<u8>, e: &Entry) -> Result<(), AllocError>
-    ensures { OnOk result (out.new.items ≡ out.old.items ++ (to_le_bytes w32 e.now.facts.state_bits ++ to_le_bytes w64 e.now.facts.created
-        ++ to_le_bytes w64 e.now.facts.modified ++ to_le_bytes w32 e.now.start ++ to_le_bytes w64 e.now.size)) }
+    ensures { OnOk result (out.new.items
+        ≡ out.old.items ++ (to_le_bytes w32 e.now.facts.state_bits
+        ++ to_le_bytes w64 e.now.facts.created
+        ++ to_le_bytes w64 e.now.facts.modified ++ to_le_bytes w32 e.now.start
+        ++ to_le_bytes w64 e.now.size)) }
 {
     push_u32(out, e.facts.state_bits)?;
     push_u64(out, e.facts.created)?;
@@ -58,7 +63,8 @@ pub fn push_entry(out: &mut Vec<u8>, e: &Entry) -> Result<(), AllocError>
 
 /// Appends so many entries that are not in use.
 pub fn push_unused(out: &mut Vec<u8>, count: usize) -> Result<(), AllocError>
-    ensures { OnOk result (out.new.items ≡ out.old.items ++ flat_map (λ n. unused_entry) (range_with_len 0 count)) }
+    ensures { OnOk result (out.new.items
+        ≡ out.old.items ++ flat_map (λ n. unused_entry) (range_with_len 0 count)) }
 {
     for _i in 0..count {
         push_bytes(out, 0, 68)?;
@@ -94,7 +100,8 @@ fn name_field(units: &[u16]) -> [u16; 32]
 /// An entry of this name and kind that is not linked to any other and has no bytes.
 pub fn named_entry(alloc: Global, name: &str, kind: u8) -> Result<Entry, AllocError>
     requires { length (name_units (chars name.now)) ≤ 31 }
-    ensures { IfOk result (λ e. entry_view e ≡ named_entry (chars name.now) kind no_entry no_entry no_facts end_of_chain 0) }
+    ensures { IfOk result (λ e. entry_view e
+        ≡ named_entry (chars name.now) kind no_entry no_entry no_facts end_of_chain 0) }
 {
     let units = units_of_name(alloc, name)?;
     Ok(Entry {

@@ -64,7 +64,8 @@ fn is_short(s: &NamedStream) -> bool
 
 // The mini sectors of all short streams, or the greatest number if they are more.
 fn mini_sectors(streams: &[NamedStream]) -> u64
-    ensures { result ≡ min (sum_of (counts 64 (filter is_short (stream_views streams.now)))) (2 ^ 64 - 1) }
+    ensures { result
+        ≡ min (sum_of (counts 64 (filter is_short (stream_views streams.now)))) (2 ^ 64 - 1) }
 {
     let mut count = 0u64;
     for s in streams {
@@ -77,7 +78,9 @@ fn mini_sectors(streams: &[NamedStream]) -> u64
 
 // The sectors of all long streams, or the greatest number if they are more.
 fn long_sectors(streams: &[NamedStream]) -> u64
-    ensures { result ≡ min (sum_of (counts 4096 (filter (λ s. not (is_short s)) (stream_views streams.now)))) (2 ^ 64 - 1) }
+    ensures { result
+        ≡ min (sum_of (counts 4096 (filter (λ s. not (is_short s)) (stream_views streams.now))))
+        (2 ^ 64 - 1) }
 {
     let mut count = 0u64;
     for s in streams {
@@ -126,8 +129,11 @@ fn run_start(at: u32, count: u32) -> u32
 
 // Appends the FAT entries of the long streams, the first in this sector.
 fn push_long_runs(out: &mut Vec<u8>, streams: &[NamedStream], first: u32) -> Result<(), AllocError>
-    requires { first + sum_of (counts 4096 (filter (λ s. not (is_short s)) (stream_views streams.now))) < 2 ^ 32 }
-    ensures { OnOk result (out.new.items ≡ out.old.items ++ number_bytes (runs first (counts 4096 (filter (λ s. not (is_short s)) (stream_views streams.now))))) }
+    requires { first + sum_of (counts 4096
+        (filter (λ s. not (is_short s)) (stream_views streams.now))) < 2 ^ 32 }
+    ensures { OnOk result (out.new.items
+        ≡ out.old.items ++ number_bytes (runs first
+        (counts 4096 (filter (λ s. not (is_short s)) (stream_views streams.now))))) }
 {
     let mut at = first;
     for s in streams {
@@ -143,7 +149,9 @@ fn push_long_runs(out: &mut Vec<u8>, streams: &[NamedStream], first: u32) -> Res
 // Appends the mini FAT entries of the short streams.
 fn push_mini_runs(out: &mut Vec<u8>, streams: &[NamedStream]) -> Result<(), AllocError>
     requires { sum_of (counts 64 (filter is_short (stream_views streams.now))) < 2 ^ 32 }
-    ensures { OnOk result (out.new.items ≡ out.old.items ++ number_bytes (runs 0 (counts 64 (filter is_short (stream_views streams.now))))) }
+    ensures { OnOk result (out.new.items
+        ≡ out.old.items ++ number_bytes (runs 0
+        (counts 64 (filter is_short (stream_views streams.now))))) }
 {
     let mut at = 0;
     for s in streams {
@@ -158,7 +166,9 @@ fn push_mini_runs(out: &mut Vec<u8>, streams: &[NamedStream]) -> Result<(), Allo
 
 // Appends the long streams' bytes, each filled up to whole sectors.
 fn push_long_streams(out: &mut Vec<u8>, streams: &[NamedStream]) -> Result<(), AllocError>
-    ensures { OnOk result (out.new.items ≡ out.old.items ++ flat_map (λ s. filled 0 4096 s.bytes) (filter (λ s. not (is_short s)) (stream_views streams.now))) }
+    ensures { OnOk result (out.new.items
+        ≡ out.old.items ++ flat_map (λ s. filled 0 4096 s.bytes)
+        (filter (λ s. not (is_short s)) (stream_views streams.now))) }
 {
     for s in streams {
         if !is_short(s) {
@@ -170,7 +180,9 @@ fn push_long_streams(out: &mut Vec<u8>, streams: &[NamedStream]) -> Result<(), A
 
 // Appends the short streams' bytes, each filled up to whole mini sectors.
 fn push_short_streams(out: &mut Vec<u8>, streams: &[NamedStream]) -> Result<(), AllocError>
-    ensures { OnOk result (out.new.items ≡ out.old.items ++ flat_map (λ s. filled 0 64 s.bytes) (filter is_short (stream_views streams.now))) }
+    ensures { OnOk result (out.new.items
+        ≡ out.old.items ++ flat_map (λ s. filled 0 64 s.bytes)
+        (filter is_short (stream_views streams.now))) }
 {
     for s in streams {
         if is_short(s) {
@@ -182,7 +194,9 @@ fn push_short_streams(out: &mut Vec<u8>, streams: &[NamedStream]) -> Result<(), 
 
 // Appends the header and what its sector has behind it.
 fn push_header(out: &mut Vec<u8>, plan: &Plan) -> Result<(), AllocError>
-    ensures { (p : MeantPlan) → IsPlan plan.now p → OnOk result (out.new.items ≡ out.old.items ++ (header_bytes (header_of p) ++ replicate 3584 0)) }
+    ensures { (p : MeantPlan) → IsPlan plan.now p
+        → OnOk result (out.new.items
+        ≡ out.old.items ++ (header_bytes (header_of p) ++ replicate 3584 0)) }
 {
     out.extend_from_slice(&MAGIC_NUMBER)?;
     push_bytes(out, 0, 16)?;
@@ -210,7 +224,9 @@ fn push_header(out: &mut Vec<u8>, plan: &Plan) -> Result<(), AllocError>
 // Appends the FAT: its own sectors' marks, the runs of all parts, and free entries.
 fn push_fat(out: &mut Vec<u8>, streams: &[NamedStream], plan: &Plan) -> Result<(), AllocError>
     requires { IsPlan plan.now (plan_of (stream_views streams.now)) }
-    ensures { OnOk result (out.new.items ≡ out.old.items ++ number_bytes (filled free 1024 (fat_of (plan_of (stream_views streams.now))))) }
+    ensures { OnOk result (out.new.items
+        ≡ out.old.items ++ number_bytes (filled free 1024
+        (fat_of (plan_of (stream_views streams.now))))) }
 {
     let mini_fat = plan.fat + plan.directory;
     let mini_stream = mini_fat + plan.mini_fat;
@@ -230,7 +246,9 @@ fn push_fat(out: &mut Vec<u8>, streams: &[NamedStream], plan: &Plan) -> Result<(
 // Appends the mini FAT: the runs of the short streams, and free entries.
 fn push_mini_fat(out: &mut Vec<u8>, streams: &[NamedStream], plan: &Plan) -> Result<(), AllocError>
     requires { IsPlan plan.now (plan_of (stream_views streams.now)) }
-    ensures { OnOk result (out.new.items ≡ out.old.items ++ number_bytes (filled free 1024 (plan_of (stream_views streams.now)).mini_fat)) }
+    ensures { OnOk result (out.new.items
+        ≡ out.old.items ++ number_bytes (filled free 1024
+        (plan_of (stream_views streams.now)).mini_fat)) }
 {
     push_mini_runs(out, streams)?;
     push_numbers(
@@ -247,7 +265,8 @@ fn push_mini_stream(
     plan: &Plan,
 ) -> Result<(), AllocError>
     requires { IsPlan plan.now (plan_of (stream_views streams.now)) }
-    ensures { OnOk result (out.new.items ≡ out.old.items ++ filled 0 4096 (plan_of (stream_views streams.now)).mini_stream) }
+    ensures { OnOk result (out.new.items
+        ≡ out.old.items ++ filled 0 4096 (plan_of (stream_views streams.now)).mini_stream) }
 {
     push_short_streams(out, streams)?;
     push_bytes(out, 0, 64 * (64 * plan.mini_stream - plan.minis) as usize)
@@ -263,7 +282,9 @@ struct Places {
 impl Places {
     // Takes the place of a stream, and gives its start.
     fn take(&mut self, s: &NamedStream) -> u32
-        requires { (if is_short (stream_view s.now) then self.old.mini + parts 64 (length s.now.bytes.items) else self.old.sector + parts 4096 (length s.now.bytes.items)) < 2 ^ 32 }
+        requires { (if is_short (stream_view s.now) then self.old.mini
+            + parts 64 (length s.now.bytes.items) else self.old.sector
+            + parts 4096 (length s.now.bytes.items)) < 2 ^ 32 }
         ensures start { result ≡ start_of self.old.mini self.old.sector (stream_view s.now) }
         ensures mini { self.new.mini ≡ mini_behind self.old.mini (stream_view s.now) }
         ensures sector { self.new.sector ≡ sector_behind self.old.sector (stream_view s.now) }
@@ -299,7 +320,9 @@ fn push_stream_entry(
     start: u32,
 ) -> Result<(), AllocError>
     requires { length (name_units (stream_view s.now).name) ≤ 31 }
-    ensures { OnOk result (out.new.items ≡ out.old.items ++ entry_bytes (named_entry (stream_view s.now).name kind_stream right no_entry no_facts start (length s.now.bytes.items))) }
+    ensures { OnOk result (out.new.items
+        ≡ out.old.items ++ entry_bytes (named_entry (stream_view s.now).name kind_stream right
+        no_entry no_facts start (length s.now.bytes.items))) }
 {
     let size = s.bytes.len() as u64;
     let entry = Entry {
@@ -319,8 +342,11 @@ fn push_root_entry(
     plan: &Plan,
     streams: usize,
 ) -> Result<(), AllocError>
-    ensures { OnOk result (out.new.items ≡ out.old.items ++ entry_bytes (named_entry (codes "Root Entry") kind_root no_entry (link_after 0 streams)
-        (facts_view root.now) (run_start (plan.now.fat + plan.now.directory + plan.now.mini_fat) plan.now.mini_stream) (64 * plan.now.minis))) }
+    ensures { OnOk result (out.new.items
+        ≡ out.old.items ++ entry_bytes (named_entry (codes "Root Entry") kind_root no_entry
+        (link_after 0 streams)
+        (facts_view root.now) (run_start (plan.now.fat + plan.now.directory + plan.now.mini_fat)
+        plan.now.mini_stream) (64 * plan.now.minis))) }
 {
     let child = right_of(0, streams);
     let start = run_start(plan.fat + plan.directory + plan.mini_fat, plan.mini_stream);
@@ -342,11 +368,15 @@ fn push_stream_entries(
     streams: &[NamedStream],
     first: u32,
 ) -> Result<(), AllocError>
-    requires names { AllByRecursion (λ s. length (name_units s.name) ≤ 31) (stream_views streams.now) }
+    requires names { AllByRecursion (λ s. length (name_units s.name) ≤ 31)
+        (stream_views streams.now) }
     requires few { length streams.now < 2 ^ 31 }
     requires minis { sum_of (counts 64 (filter is_short (stream_views streams.now))) < 2 ^ 32 }
-    requires longs { first + sum_of (counts 4096 (filter (λ s. not (is_short s)) (stream_views streams.now))) < 2 ^ 32 }
-    ensures { OnOk result (out.new.items ≡ out.old.items ++ flat_map entry_bytes (stream_entries 1 0 first (stream_views streams.now))) }
+    requires longs { first + sum_of (counts 4096
+        (filter (λ s. not (is_short s)) (stream_views streams.now))) < 2 ^ 32 }
+    ensures { OnOk result (out.new.items
+        ≡ out.old.items ++ flat_map entry_bytes
+        (stream_entries 1 0 first (stream_views streams.now))) }
 {
     let mut places = Places {
         mini: 0,
@@ -370,10 +400,15 @@ fn push_directory(
     streams: &[NamedStream],
     plan: &Plan,
 ) -> Result<(), AllocError>
-    requires names { AllByRecursion (λ s. length (name_units s.name) ≤ 31) (stream_views streams.now) }
+    requires names { AllByRecursion (λ s. length (name_units s.name) ≤ 31)
+        (stream_views streams.now) }
     requires planned { IsPlan plan.now (plan_of (stream_views streams.now)) }
-    ensures { OnOk result (out.new.items ≡ out.old.items ++ (flat_map entry_bytes (directory_of (facts_view root.now) (stream_views streams.now) (plan_of (stream_views streams.now)))
-        ++ flat_map (λ n. unused_entry) (range_with_len 0 ((plan_of (stream_views streams.now)).directory_count * 32 - 1 - length streams.now)))) }
+    ensures { OnOk result (out.new.items
+        ≡ out.old.items ++ (flat_map entry_bytes
+        (directory_of (facts_view root.now) (stream_views streams.now)
+        (plan_of (stream_views streams.now)))
+        ++ flat_map (λ n. unused_entry) (range_with_len 0
+        ((plan_of (stream_views streams.now)).directory_count * 32 - 1 - length streams.now)))) }
 {
     let first = plan.fat + plan.directory + plan.mini_fat + plan.mini_stream;
     push_root_entry(out, alloc, root, plan, streams.len())?;
@@ -403,13 +438,21 @@ fn copied(facts: &Facts) -> Facts
 /// `Error::Memory` where there is not memory enough.
 pub fn write_image(alloc: Global, root: &Facts, streams: &[NamedStream]) -> Result<Vec<u8>, Error>
     requires { AllByRecursion (λ s. length (name_units s.name) ≤ 31) (stream_views streams.now) }
-    ensures image { IfOk result (λ v. v.items ≡ image (facts_view root.now) (stream_views streams.now)) }
-    ensures meant { IfOk result (λ v. (letters : Letters) → IsStrictlySortedBy (name_cmp letters) (map (λ s. s.name) (stream_views streams.now))
-        → Means letters v.items (record { root = facts_view root.now; content = content_of_streams (stream_views streams.now) })) }
-    ensures strict { IfOk result (λ v. (letters : Letters) → IsStrictlySortedBy (name_cmp letters) (map (λ s. s.name) (stream_views streams.now))
+    ensures image { IfOk result (λ v. v.items
+        ≡ image (facts_view root.now) (stream_views streams.now)) }
+    ensures meant { IfOk result (λ v. (letters : Letters)
+        → IsStrictlySortedBy (name_cmp letters) (map (λ s. s.name) (stream_views streams.now))
+        → Means letters v.items (record {
+          root = facts_view root.now;
+          content = content_of_streams
+              (stream_views streams.now);
+        })) }
+    ensures strict { IfOk result (λ v. (letters : Letters)
+        → IsStrictlySortedBy (name_cmp letters) (map (λ s. s.name) (stream_views streams.now))
         → IsStrictlyOpenable letters v.items) }
     ensures room { OnOk result ((plan_of (stream_views streams.now)).fat_count ≤ 109) }
-    ensures errors { IfErr result (λ e. ((e ≡ Full) × (109 < (plan_of (stream_views streams.now)).fat_count))
+    ensures errors { IfErr result (λ e. ((e ≡ Full)
+        × (109 < (plan_of (stream_views streams.now)).fat_count))
         ⊎ ((e ≡ Memory) × ((plan_of (stream_views streams.now)).fat_count ≤ 109))) }
 {
     let Some(plan) = plan_of(streams) else {
