@@ -29,10 +29,16 @@ mod queries;
 #[cfg(test)]
 mod sectors;
 #[cfg(test)]
+mod session_stops;
+#[cfg(test)]
 mod sessions;
 pub mod shelf;
+#[cfg(test)]
+mod stops;
 pub mod survivor;
 #[cfg(test)]
 mod tables;
+#[cfg(test)]
+mod tears;
 #[cfg(test)]
 mod texts;

@@ -29,7 +29,7 @@ fn create_table(alloc: Global, name: &str) -> Result<Command, Fail> {
     Ok(Command::CreateTable(String::from_str(alloc, name)?, vec![in alloc; key]?))
 }
 
-fn insert(alloc: Global, name: &str, key: i32) -> Result<Command, Fail> {
+pub fn insert(alloc: Global, name: &str, key: i32) -> Result<Command, Fail> {
     let row = vec![in alloc; Value::Int(key)]?;
     Ok(Command::Insert(Insert::into(alloc, name)?.row(row)?))
 }
@@ -96,12 +96,24 @@ fn fill<D: Device>(rt: &impl Abort, alloc: Global, session: &mut Session<D>) -> 
 }
 
 // The device after a commit of the table T.
-fn committed(rt: &impl Abort, alloc: Global) -> Result<MemoryDevice, Fail> {
+pub fn committed(rt: &impl Abort, alloc: Global) -> Result<MemoryDevice, Fail> {
     let mut session = created(alloc)?;
     fill(rt, alloc, &mut session)?;
     session.commit()?;
     assert!(rt; !session.has_failed());
     Ok(session.into_device())
+}
+
+// The table T has these rows.
+pub fn has_rows<D: Device>(
+    rt: &impl Abort,
+    alloc: Global,
+    session: &mut Session<D>,
+    keys: &[i32],
+) -> Result<(), Fail> {
+    let answer = ask(alloc, session, select(alloc, "T")?)?;
+    assert!(rt; are_rows(&answer, keys));
+    Ok(())
 }
 
 // The table T has the rows 1 and 2.
@@ -110,9 +122,7 @@ fn has_both<D: Device>(
     alloc: Global,
     session: &mut Session<D>,
 ) -> Result<(), Fail> {
-    let answer = ask(alloc, session, select(alloc, "T")?)?;
-    assert!(rt; are_rows(&answer, &[1, 2]));
-    Ok(())
+    has_rows(rt, alloc, session, &[1, 2])
 }
 
 #[test]

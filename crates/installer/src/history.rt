@@ -1,8 +1,10 @@
 //! The law over all that can happen to a device.
-ghost use Rattle.std.specs.Prelude.{List, IsTrue};
+ghost use Rattle.std.specs.Prelude.{◌≡◌, ◌≤◌, List, [], IsTrue};
+ghost use Rattle.cfb_medium.specs.Stops.{LeavesOnly};
 ghost use Rattle.installer.specs.Course.{Mark};
-ghost use Rattle.installer.specs.Survival.{MayBeFound, AllGive, AnyList, gives, listed};
+ghost use Rattle.installer.specs.Survival.{MayBeFound, Survives, AllGive, AnyList, gives, listed};
 ghost use Rattle.staged.specs.Settled.{IsSettled};
+ghost use Rattle.staged.specs.Steps.{GivesAlike};
 ghost use Rattle.installer.specs.History.{Event, Happen};
 
 use staged::Device;
@@ -20,4 +22,10 @@ pub fn committed_packages_survive<D: Device>()
         → IsTrue (D.honest first) → AllGive AnyList (gives D.Device first)
         → Happen D.Device first events marks last → IsSettled D.Device last
         → MayBeFound (listed D.Device first) marks (D.content last).home }
+{}
+
+/// A recovery is an event of that law, whatever it answers: what its contract says of honesty, failures and stops is all that it takes.
+pub fn recoveries_survive<D: Device>()
+    ensures { (old new : D) → D.honest new ≡ D.honest old → D.failures old ≤ D.failures new
+        → (IsTrue (D.honest old) → LeavesOnly D.moment D.left_since old new (GivesAlike (D.may_leave old))) → Survives D.Device old new [] }
 {}

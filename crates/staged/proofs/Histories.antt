@@ -1,8 +1,8 @@
 -- What a stop may leave of a device in memory, call by call.
-use Rattle.std.proofs.Common.{inl, inr, ◌⊎◌, ◌≡◌, ℕ, ◌+◌, ◌<◌, ◌≤◌, max, List, [], ◌∷◌, ◌++◌, length, get_or, refl, sym, ◌∙◌, ap, subst, arith, length-append}
+use Rattle.std.proofs.Common.{Some, inl, inr, ◌⊎◌, ◌≡◌, ℕ, ◌+◌, ◌<◌, ◌≤◌, max, List, [], ◌∷◌, ◌++◌, length, get_or, refl, sym, ◌∙◌, ap, subst, arith, length-append}
 use Rattle.std.proofs.lemmas.Bool.{cases_lt}
 use Rattle.std.proofs.lemmas.List.{same_lists, take_all, take-append-le, get_or_default}
-use Rattle.std.proofs.lemmas.List.Elements.{All-nil, All-head, All-tail}
+use Rattle.std.proofs.lemmas.List.Elements.{All-nil, All-pop}
 use Rattle.cfb_medium.specs.Bytes.{overwritten}
 use Rattle.staged.specs.Files.{Files, file_of, with_file}
 use Rattle.staged.specs.Device.{Torn}
@@ -41,8 +41,8 @@ standing_written s old bytes at fits is =
         no_longer = omega (arith, ap length same);
         apart = λ i within outside.
             let here : i < length old = omega (arith, within, is.stands.no_shorter) in
-            apart_written old bytes at i fits here (All-head (λ r. (i < r.0) ⊎ (r.0 + r.1 ≤ i)) (at, length bytes) s.ranges outside)
-            ∙ is.stands.apart i within (All-tail (λ r. (i < r.0) ⊎ (r.0 + r.1 ≤ i)) (at, length bytes) s.ranges outside);
+            let both = All-pop (λ r. (i < r.0) ⊎ (r.0 + r.1 ≤ i)) (s.ranges ++ (at, length bytes) ∷ []) s.ranges (Some (at, length bytes)) refl outside in
+            apart_written old bytes at i fits here both.1 ∙ is.stands.apart i within both.0;
       };
     }
 
@@ -68,6 +68,11 @@ AreStanding first calls files = IsStanding (after_calls Home (standing first.hom
 pub after_more : (which : Which) (s : Standing) (calls : List Made) (c : Made) → after_calls which s (calls ++ c ∷ []) ≡ after_call which (after_calls which s calls) c
 after_more which s [] c = refl
 after_more which s (call ∷ calls) c = after_more which (after_call which s call) calls c
+
+-- a file after one more call
+pub more_calls : (which : Which) (first was : List ℕ) (calls before : List Made) (c : Made) (old now : Standing) → first ≡ was → calls ≡ before ++ c ∷ [] → after_calls which (standing was) before ≡ old → now ≡ after_call which old c → after_calls which (standing first) calls ≡ now
+more_calls which first was calls before c old now same pushed is stands =
+    ap (λ (b : List ℕ). after_calls which (standing b) calls) same ∙ ap (λ (cs : List Made). after_calls which (standing was) cs) pushed ∙ after_more which (standing was) before c ∙ ap (λ (s : Standing). after_call which s c) is ∙ sym stands
 
 pub are_written : (which : Which) (first : Files) (calls : List Made) (files : Files) (at : ℕ) (bytes : List ℕ) → at ≤ length (file_of files which) → AreStanding first calls files
     → AreStanding first (calls ++ wrote which at bytes ∷ []) (with_file files which (overwritten (file_of files which) at bytes))

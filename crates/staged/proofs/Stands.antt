@@ -1,10 +1,10 @@
 -- Each outcome after a write is one before it, with the write cut short.
-use Rattle.std.proofs.Common.{inl, inr, ◌⊎◌, ◌≡◌, ℕ, ◌+◌, ◌<◌, ◌≤◌, max, min, List, ◌∷◌, length, get_or, take, drop, map, refl, sym, ◌∙◌, arith, length-take, length-drop}
+use Rattle.std.proofs.Common.{inl, inr, ◌⊎◌, ◌≡◌, ℕ, ◌+◌, ◌<◌, ◌≤◌, max, min, List, [], ◌∷◌, ◌++◌, length, get_or, take, drop, map, refl, sym, ◌∙◌, arith, length-take, length-drop}
 use Rattle.std.specs.Prelude.{All}
 use Rattle.std.specs.List.{range_with_len}
 use Rattle.std.proofs.lemmas.Bool.{cases_lt}
 use Rattle.std.proofs.lemmas.List.{same_lists, get_or-take, get_or-drop, get_or_default}
-use Rattle.std.proofs.lemmas.List.Elements.{All-cons}
+use Rattle.std.proofs.lemmas.List.Elements.{All-push}
 use Rattle.std.proofs.lemmas.List.FromFn.{length-map-range_with_len, get_or-map-range_with_len}
 use Rattle.staged.specs.Device.{Torn}
 use Rattle.staged.specs.Standing.{Standing, MayStand}
@@ -59,7 +59,7 @@ module _ (s : Standing) (at n : ℕ) (bytes left : List ℕ) (fits : at ≤ leng
   place : (i d : ℕ) → i < min (length left) end → get_or earlier i d ≡ back synced left at n i
   place i d within = get_or-map-range_with_len (back synced left at n) 0 (min (length left) end) i i d within (omega arith)
 
-  pub torn_before : MayStand (record { shown = bytes; kept = s.kept; ranges = (at, n) ∷ s.ranges }) left → (before : List ℕ) × MayStand s before × Torn at n before left
+  pub torn_before : MayStand (record { shown = bytes; kept = s.kept; ranges = s.ranges ++ (at, n) ∷ [] }) left → (before : List ℕ) × MayStand s before × Torn at n before left
   torn_before stands = (
     earlier,
     record {
@@ -81,6 +81,6 @@ module _ (s : Standing) (at n : ℕ) (bytes left : List ℕ) (fits : at ≤ leng
   )
     where
       by : (i : ℕ) → i < length synced → All (λ r. (i < r.0) ⊎ (r.0 + r.1 ≤ i)) s.ranges → (i < at) ⊎ (at ≤ i) → (i < at + n) ⊎ (at + n ≤ i) → back synced left at n i ≡ get_or synced i 0
-      by i old outside (inl early) b = early_same synced left at n i early ∙ stands.apart i old (All-cons (λ r. (i < r.0) ⊎ (r.0 + r.1 ≤ i)) (at, n) s.ranges (inl early) outside)
+      by i old outside (inl early) b = early_same synced left at n i early ∙ stands.apart i old (All-push (λ r. (i < r.0) ⊎ (r.0 + r.1 ≤ i)) s.ranges (at, n) outside (inl early))
       by i old outside (inr from) (inl within) = inner_same synced left at n i from within old
-      by i old outside (inr from) (inr late) = late_same synced left at n i late ∙ stands.apart i old (All-cons (λ r. (i < r.0) ⊎ (r.0 + r.1 ≤ i)) (at, n) s.ranges (inr late) outside)
+      by i old outside (inr from) (inr late) = late_same synced left at n i late ∙ stands.apart i old (All-push (λ r. (i < r.0) ⊎ (r.0 + r.1 ≤ i)) s.ranges (at, n) outside (inr late))

@@ -1,5 +1,5 @@
 -- What a stop may leave after calls that were made: of each file what its last sync made last, but for the ranges written since.
-use Rattle.std.specs.Prelude.{All, ◌≡◌, ◌⊎◌, ℕ, ◌+◌, ◌<◌, ◌≤◌, List, [], ◌∷◌, length, take, slice_index}
+use Rattle.std.specs.Prelude.{All, ◌≡◌, ◌⊎◌, ℕ, ◌+◌, ◌<◌, ◌≤◌, List, [], ◌∷◌, ◌++◌, length, take, slice_index}
 use Rattle.cfb_medium.specs.Bytes.{overwritten}
 use Rattle.staged.specs.declared.device.Which.{Which}
 use Rattle.staged.specs.declared.device.Which.TheVariants.{Home, Log}
@@ -27,7 +27,7 @@ abbrev pub standing : List ℕ → Standing
 standing bytes = record { shown = bytes; kept = bytes; ranges = [] }
 
 abbrev pub after_write : Standing → ℕ → List ℕ → Standing
-after_write s at bytes = record { shown = overwritten s.shown at bytes; kept = s.kept; ranges = (at, length bytes) ∷ s.ranges }
+after_write s at bytes = record { shown = overwritten s.shown at bytes; kept = s.kept; ranges = s.ranges ++ (at, length bytes) ∷ [] }
 
 -- one of the files after a call
 abbrev pub after_call : Which → Standing → Made → Standing

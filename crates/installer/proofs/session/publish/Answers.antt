@@ -16,13 +16,13 @@ returns-in-Ok-commit-clause-covers g c = λ honest sound.
 pub returns-in-Ok-commit-clause-settled : goal.returns-in-Ok-commit-clause-settled
 returns-in-Ok-commit-clause-settled g c = λ honest sound was.
     let after : IsTrue (g.D.Device.honest (device_of c.write_at.new.self)) = rw c.write_at.ensures.honest honest in
-    c.in-Ok-commit.ensures.settled after
+    c.in-Ok-commit.ensures.committed.settled after
 
 pub returns-in-Err-commit-clause-covers : goal.returns-in-Err-commit-clause-covers
-returns-in-Err-commit-clause-covers g c = λ honest sound. absurd (both_ways _ sound c.in-Err-commit.ensures.failed)
+returns-in-Err-commit-clause-covers g c = λ honest sound. absurd (both_ways _ sound c.in-Err-commit.ensures.fault.failed)
 
 pub returns-in-Err-commit-clause-settled : goal.returns-in-Err-commit-clause-settled
-returns-in-Err-commit-clause-settled g c = λ honest sound was. absurd (both_ways _ sound c.in-Err-commit.ensures.failed)
+returns-in-Err-commit-clause-settled g c = λ honest sound was. absurd (both_ways _ sound c.in-Err-commit.ensures.fault.failed)
 
 pub returns-in-Err-clause-covers : goal.returns-in-Err-clause-covers
 returns-in-Err-clause-covers g c = λ honest sound. rw (c.in-Err.ensures.unwritten honest) (c.requires.covers honest)

@@ -15,10 +15,10 @@ returns-clause-steps g c =
     let counts = g.met.D.Device.counts_now in
     steps_then Log AtGate g.D.Device counts _ _ _
     (write_steps Log AtGate g.D.Device counts 0 1 _ _ (refl, refl) c.write_at.ensures.honest c.write_at.ensures.leaves)
-    (rest_steps Log AtGate g.D.Device counts _ _ c.sync.ensures.honest (g.met.D.Device.rests_leaves _ _ (c.sync.ensures.rests _ (g.met.D.Device.rests_refl _))))
+    (rest_steps Log AtGate g.D.Device counts _ _ c.sync.ensures.reads.honest (g.met.D.Device.rests_leaves _ _ (c.sync.ensures.reads.rests _ (g.met.D.Device.rests_refl _))))
 
 pub returns-clause-lasts : goal.returns-clause-lasts
 returns-clause-lasts g c = λ honest.
     let after = subst (λ (b : Bool). IsTrue b) (sym c.write_at.ensures.honest) honest in
     on_ok_weaker c.sync.result (λ kept lasts. lasts_after Log AtGate g.D.Device g.met.D.Device.counts_now _ _ (returns-clause-steps g c) honest lasts kept
-    (same_files (g.D.Device.content c.sync.new.device) _ _ (ap (λ (f : Files). f.home) (c.sync.ensures.same after ∙ c.in_ok-write_at.ensures.written honest)) refl)) (c.sync.ensures.kept after)
+    (same_files (g.D.Device.content c.sync.new.device) _ _ (ap (λ (f : Files). f.home) (c.sync.ensures.reads.same after ∙ c.in_ok-write_at.ensures.written honest)) refl)) (c.sync.ensures.kept after)

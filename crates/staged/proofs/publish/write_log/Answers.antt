@@ -54,11 +54,11 @@ loop-page-preserved g c =
 pub returns-clause-steps : goal.returns-clause-steps
 returns-clause-steps g c =
     steps_then Log BehindGate g.D.Device g.met.D.Device.counts_now _ _ _ c.loop-page.invariant.steps
-    (rest_steps Log BehindGate g.D.Device g.met.D.Device.counts_now _ _ c.sync.ensures.honest (g.met.D.Device.rests_leaves _ _ (c.sync.ensures.rests _ (g.met.D.Device.rests_refl _))))
+    (rest_steps Log BehindGate g.D.Device g.met.D.Device.counts_now _ _ c.sync.ensures.reads.honest (g.met.D.Device.rests_leaves _ _ (c.sync.ensures.reads.rests _ (g.met.D.Device.rests_refl _))))
 
 pub returns-clause-lasts : goal.returns-clause-lasts
 returns-clause-lasts g c = λ honest.
     let inv = c.loop-page.invariant in
     let after = subst (λ (b : Bool). IsTrue b) (sym inv.as_honest) honest in
     on_ok_weaker c.sync.result (λ kept lasts. lasts_after Log BehindGate g.D.Device g.met.D.Device.counts_now _ _ (returns-clause-steps g c) honest lasts kept
-    (same_files (g.D.Device.content c.sync.new.device) _ _ (ap (λ (f : Files). f.home) (c.sync.ensures.same after) ∙ inv.home honest) refl)) (c.sync.ensures.kept after)
+    (same_files (g.D.Device.content c.sync.new.device) _ _ (ap (λ (f : Files). f.home) (c.sync.ensures.reads.same after) ∙ inv.home honest) refl)) (c.sync.ensures.kept after)

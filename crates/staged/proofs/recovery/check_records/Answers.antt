@@ -57,10 +57,10 @@ loop-index-preserved g c =
     let pages = records n (drop 25 files.log) in
     let was = λ (honest : IsTrue (g.D.Device.honest c.args.device.now)). subst (λ (b : Bool). IsTrue b) (sym inv.as_honest) honest in
     record {
-      as_honest = done.honest ∙ inv.as_honest;
-      counted = let e = done.failures in let f = inv.counted in omega arith;
-      rests = λ start from. done.rests start (inv.rests start from);
-      same = λ honest. done.same (was honest) ∙ inv.same honest;
+      as_honest = done.reads.honest ∙ inv.as_honest;
+      counted = let e = done.reads.failures in let f = inv.counted in omega arith;
+      rests = λ start from. done.reads.rests start (inv.rests start from);
+      same = λ honest. done.reads.same (was honest) ∙ inv.same honest;
       so_far = λ honest.
           let log : (g.D.Device.content c.loop-index.device).log ≡ files.log = ap (λ (f : Files). f.log) (inv.same honest) in
           let enough : 25 + 520 * n ≤ length files.log = c.requires.enough honest in

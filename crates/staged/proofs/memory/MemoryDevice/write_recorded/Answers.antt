@@ -2,11 +2,12 @@ use Rattle.std.proofs.Common.{rules, ◌≡◌, List, [], ◌∷◌, ◌++◌, m
 use Rattle.std.proofs.lemmas.List.{map-append}
 use Rattle.cfb_medium.specs.Bytes.{overwritten}
 use Rattle.staged.specs.Files.{Files, file_of, with_file}
-use Rattle.staged.specs.declared.memory.MemoryFile.{MemoryFile}
-use Rattle.staged.specs.First.{first_of, contents_of}
-use Rattle.staged.specs.Standing.{made, wrote}
+use Rattle.staged.specs.declared.file.MemoryFile.{MemoryFile}
+use Rattle.staged.specs.First.{first_of, contents_of, standing_of}
+use Rattle.staged.specs.Standing.{made, wrote, after_call}
+use Rattle.staged.specs.declared.device.Which.TheVariants.{Home, Log}
 use Rattle.staged.specs.Memory.{memory_calls, memory_files, first_files}
-use Rattle.staged.proofs.Histories.{are_written, are_moved}
+use Rattle.staged.proofs.Histories.{are_written, are_moved, more_calls}
 use Rattle.staged.proofs.Steps.{same_files}
 use Rattle.staged.proofs.memory.MemoryDevice.write_recorded.Goals as goal
 
@@ -24,4 +25,10 @@ invariant_of-self-2 c =
     let wrote_over = λ (files : Files). with_file files c.args.which (overwritten (file_of files c.args.which) c.args.at c.args.bytes.now) in
     let both = are_moved (contents (first_of c.write_file.new.home) (first_of c.write_file.new.log)) (first_files old) (map made c.push.new.self.items) _ (contents_of c.write_file.new.home c.write_file.new.log) (wrote_over (memory_files old)) first calls (c.in_ok-write_file.ensures.ok ∙ ap wrote_over before)
     (are_written c.args.which (first_files old) (memory_calls old) (memory_files old) c.args.at c.args.bytes.now c.requires (old.home_stands, old.log_stands)) in
-    record { home_stands = both.0; log_stands = both.1 }
+    let call = wrote c.args.which c.args.at c.args.bytes.now in
+    record {
+      home_stands = both.0;
+      log_stands = both.1;
+      home_calls = more_calls Home _ _ _ _ _ _ _ home calls old.home_calls (c.in_ok-write_file.ensures.home ∙ ap (λ (f : MemoryFile). after_call Home (standing_of f) call) c.count.ensures.home);
+      log_calls = more_calls Log _ _ _ _ _ _ _ log calls old.log_calls (c.in_ok-write_file.ensures.log ∙ ap (λ (f : MemoryFile). after_call Log (standing_of f) call) c.count.ensures.log);
+    }

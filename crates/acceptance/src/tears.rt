@@ -1,0 +1,156 @@
+//! Files that a stop might leave, to be tried by `cut`.
+use staged::{MemoryDevice, Which};
+use std::alloc::Global;
+use std::test::Fail;
+
+/// What is tried of a file, by what it held before and what it shows.
+#[derive(Clone, Copy)]
+pub enum Tear {
+    /// As it was before.
+    Before,
+    /// As it shows.
+    Shown,
+    /// The front half as it shows, the rest as it was before.
+    Half,
+    /// Other bytes wherever it has changed.
+    Filled,
+    /// As it shows, but only half of what came behind the old end.
+    Short,
+    /// As it shows, with this first byte.
+    First(u8),
+}
+
+// What is tried of a home file.
+const HOMES: [Tear; 5] = [
+    Tear::Before,
+    Tear::Shown,
+    Tear::Half,
+    Tear::Filled,
+    Tear::Short,
+];
+
+// What is tried of a log.
+const LOGS: [Tear; 7] = [
+    Tear::Before,
+    Tear::Shown,
+    Tear::Half,
+    Tear::Filled,
+    Tear::Short,
+    Tear::First(0),
+    Tear::First(1),
+];
+
+impl Tear {
+    fn of(self, alloc: Global, before: &[u8], shown: &[u8]) -> Result<Vec<u8>, Fail> {
+        match self {
+            Tear::Before => Ok(Vec::from_slice(alloc, before)?),
+            Tear::Shown => Ok(Vec::from_slice(alloc, shown)?),
+            Tear::Half => half(alloc, before, shown),
+            Tear::Filled => filled(alloc, before, shown),
+            Tear::Short => {
+                let least = before.len().min(shown.len());
+                let middle = least + (shown.len() - least) / 2;
+                Ok(Vec::from_slice(alloc, &shown[..middle])?)
+            }
+            Tear::First(byte) => with_first(alloc, shown, byte),
+        }
+    }
+}
+
+fn half(alloc: Global, before: &[u8], shown: &[u8]) -> Result<Vec<u8>, Fail> {
+    let middle = shown.len() / 2;
+    let mut bytes = Vec::from_slice(alloc, &shown[..middle])?;
+    if middle < before.len() {
+        bytes.extend_from_slice(&before[middle..])?;
+    }
+    Ok(bytes)
+}
+
+fn filled(alloc: Global, before: &[u8], shown: &[u8]) -> Result<Vec<u8>, Fail> {
+    let mut bytes = Vec::new(alloc);
+    for (at, byte) in shown.iter().enumerate() {
+        let is_old = before.get(at) == Some(byte);
+        bytes.push(if is_old { *byte } else { 0xFF })?;
+    }
+    Ok(bytes)
+}
+
+fn with_first(alloc: Global, shown: &[u8], byte: u8) -> Result<Vec<u8>, Fail> {
+    let mut bytes = Vec::from_slice(alloc, shown)?;
+    if let Some(first) = bytes.first_mut() {
+        *first = byte;
+    }
+    Ok(bytes)
+}
+
+/// Two files.
+#[derive(Drop)]
+pub struct Pair {
+    pub home: Vec<u8>,
+    pub log: Vec<u8>,
+}
+
+impl Pair {
+    pub fn new(alloc: Global, home: &[u8], log: &[u8]) -> Result<Self, Fail> {
+        let home = Vec::from_slice(alloc, home)?;
+        let log = Vec::from_slice(alloc, log)?;
+        Ok(Pair { home, log })
+    }
+
+    /// A device of these files.
+    pub fn device(&self, alloc: Global) -> Result<MemoryDevice, Fail> {
+        let home = Vec::from_slice(alloc, &self.home)?;
+        let log = Vec::from_slice(alloc, &self.log)?;
+        Ok(MemoryDevice::new(home, log))
+    }
+}
+
+// Whether these files are among the pairs.
+fn holds(all: &[Pair], home: &[u8], log: &[u8]) -> bool {
+    for pair in all {
+        if pair.home.as_slice() == home && pair.log.as_slice() == log {
+            return true;
+        }
+    }
+    false
+}
+
+// Adds the pairs with this home file that a stop may leave.
+fn push_left(
+    alloc: Global,
+    device: &MemoryDevice,
+    home: &[u8],
+    before: &Pair,
+    all: &mut Vec<Pair>,
+) -> Result<(), Fail> {
+    for tear in LOGS {
+        let log = tear.of(alloc, &before.log, device.bytes(Which::Log))?;
+        if !holds(all, home, &log) && device.cut(home, &log)?.is_some() {
+            all.push(Pair::new(alloc, home, &log)?)?;
+        }
+    }
+    Ok(())
+}
+
+/// Pairs that a stop may leave of a device that had these files before, each once.
+pub fn left(alloc: Global, device: &MemoryDevice, before: &Pair) -> Result<Vec<Pair>, Fail> {
+    let mut all = Vec::new(alloc);
+    for tear in HOMES {
+        let home = tear.of(alloc, &before.home, device.bytes(Which::Home))?;
+        push_left(alloc, device, &home, before, &mut all)?;
+    }
+    Ok(all)
+}
+
+/// Some such pairs, with half of the home file as it shows, for longer files.
+pub fn torn(alloc: Global, device: &MemoryDevice, before: &Pair) -> Result<Vec<Pair>, Fail> {
+    let mut all = Vec::new(alloc);
+    let home = Tear::Half.of(alloc, &before.home, device.bytes(Which::Home))?;
+    for tear in [Tear::Shown, Tear::Filled, Tear::First(1)] {
+        let log = tear.of(alloc, &before.log, device.bytes(Which::Log))?;
+        if device.cut(&home, &log)?.is_some() {
+            all.push(Pair::new(alloc, &home, &log)?)?;
+        }
+    }
+    Ok(all)
+}

@@ -1,0 +1,5 @@
+use Rattle.installer.proofs.Stopping.{survives_alike}
+use Rattle.installer.proofs.history.recoveries_survive.Goals as goal
+
+pub returns : goal.returns
+returns g c = λ old new honest failures left. survives_alike g.D.Device g.met.D.Device.counts_now old new honest failures left

@@ -1,0 +1,45 @@
+-- A device of tests, some of whose calls fail.
+use Rattle.std.specs.Prelude.{◌≡◌, ℕ, ◌-◌, ◌<◌, ◌≤◌, ◌^◌, Bool, true}
+use Rattle.staged.specs.declared.device.Which.{Which}
+use Rattle.staged.specs.declared.device.Which.TheVariants.{Home, Log}
+use Rattle.staged.specs.declared.fuse.Fuse.{Fuse}
+use Rattle.staged.specs.declared.fuse.Counts.{Counts}
+use Rattle.staged.specs.declared.fuse.FuseDevice.{FuseDevice}
+
+-- the next call fails: none is left to pass on, and some are to fail
+abbrev pub IsBlown : Fuse → Type 0
+IsBlown fuse = (fuse.pass ≡ 0) × (0 < fuse.fail)
+
+-- after a call one fewer is passed on, or, where none was, one fewer fails
+pub record Burns (old new : Fuse) : Type 0 where
+  pub passed : 0 < old.pass → new ≡ record old { pass = old.pass - 1 }
+  pub failed : old.pass ≡ 0 → new ≡ record old { fail = old.fail - 1 }
+
+abbrev pub counted_writes : Counts → Which → ℕ
+counted_writes counts Home = counts.home_writes
+counted_writes counts Log = counts.log_writes
+
+abbrev pub inner_of : {D : Type 0} → FuseDevice D → D
+inner_of d = d.inner
+
+abbrev pub fuse_of : {D : Type 0} → FuseDevice D → Fuse
+fuse_of d = d.fuse
+
+abbrev pub fuse_failures : {D : Type 0} → FuseDevice D → ℕ
+fuse_failures d = d.counts.failures
+
+abbrev pub fuse_writes : {D : Type 0} → FuseDevice D → Which → ℕ
+fuse_writes d which = counted_writes d.counts which
+
+-- A call goes by the fuse: where that has blown it fails, and doesn't reach the other device; elsewhere it fails only where that
+-- device counts a failure.
+pub record GoesByFuse {D : Type 0} (failures : D → ℕ) (old new : FuseDevice D) (failed : Bool) : Type 0 where
+  pub burns : Burns old.fuse new.fuse
+  pub blown : IsBlown old.fuse → (failed ≡ true) × (new.inner ≡ old.inner)
+  pub passed : ¬ IsBlown old.fuse → failed ≡ true → failures old.inner < 2 ^ 64 - 1 → failures old.inner < failures new.inner
+
+-- by reads and syncs alone
+pub record FuseRests {D : Type 0} (rests : D → D → Type 0) (old new : FuseDevice D) : Type 0 where
+  pub inner : rests old.inner new.inner
+  pub writes : (which : Which) → fuse_writes new which ≡ fuse_writes old which
+  pub failures : fuse_failures old ≤ fuse_failures new

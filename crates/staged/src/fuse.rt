@@ -1,0 +1,225 @@
+//! A device of tests, some of whose calls fail.
+ghost use Rattle.std.specs.Prelude.{Err, ◌≡◌, ◌≢◌, ◌≤◌, ◌<◌, ◌+◌, ◌^◌, ◌↔◌, ℕ, Bool, true, IsTrue, is_err, length, IfOk, IfErr, OnOk, OnErr, refl};
+ghost use Rattle.std.proofs.Common.{arith, sym, ◌∙◌};
+ghost use Rattle.cfb_medium.specs.Bytes.{overwritten, Serves};
+ghost use Rattle.cfb_medium.specs.Calls.{Extends};
+ghost use Rattle.cfb_medium.specs.Stops.{LeavesOnly};
+ghost use Rattle.staged.specs.Files.{file_of, with_file};
+ghost use Rattle.staged.specs.Device.{Rests, IsDeviceFault, TornFile, counted_up};
+ghost use Rattle.staged.specs.Stops.{IsCutFrom, IsKept, Remembers};
+ghost use Rattle.staged.specs.declared.device.Which.{Which};
+
+use crate::{Device, Which};
+use cfb_medium::Error;
+
+// How many calls are passed on, and how many fail after these.
+#[derive(Clone, Copy)]
+pub struct Fuse {
+    pass: u64,
+    fail: u64,
+}
+
+impl Fuse {
+    ghost use Rattle.staged.specs.Fuse.{IsBlown, Burns};
+
+    // Whether the next call fails.
+    fn blows(&mut self) -> bool
+        ensures blown { IsTrue result ↔ IsBlown self.old }
+        ensures burns { Burns self.old self.new }
+    {
+        if self.pass > 0 {
+            self.pass -= 1;
+            return false;
+        }
+        if self.fail > 0 {
+            self.fail -= 1;
+            return true;
+        }
+        false
+    }
+}
+
+// How many calls have failed, and how often each file was written.
+#[derive(Clone, Copy)]
+pub struct Counts {
+    failures: u64,
+    home_writes: u64,
+    log_writes: u64,
+}
+
+impl Counts {
+    ghost use Rattle.staged.specs.Fuse.{counted_writes};
+
+    // Counts a failure.
+    fn fault(&mut self) -> Error
+        ensures error { result ≡ Error.Device }
+        ensures counted { self.new ≡ record self.old { failures = counted_up self.old.failures } }
+        ensures risen { self.old.failures ≤ self.new.failures }
+    {
+        self.failures = self.failures.saturating_add(1);
+        Error::Device
+    }
+
+    // Counts a write.
+    fn write(&mut self, which: Which)
+        ensures count { counted_writes self.new which ≡ counted_up (counted_writes self.old which) }
+        ensures others { (other : Which) → other ≢ which → counted_writes self.new other ≡ counted_writes self.old other }
+        ensures failures { self.new.failures ≡ self.old.failures }
+    {
+        match which {
+            Which::Home => self.home_writes = self.home_writes.saturating_add(1),
+            Which::Log => self.log_writes = self.log_writes.saturating_add(1),
+        }
+    }
+}
+
+/// A device that passes calls on to another, but for some that fail and don't reach it. It counts failures and writes itself; a
+/// write that fails is counted too.
+#[derive(Drop)]
+pub struct FuseDevice<D: Device> {
+    inner: D,
+    fuse: Fuse,
+    counts: Counts,
+}
+
+impl<D: Device> FuseDevice<D> {
+    ghost use Rattle.staged.specs.Fuse.{inner_of, fuse_of, fuse_failures, fuse_writes};
+
+    /// Passes so many calls on, fails so many, and passes the rest on.
+    pub fn new(device: D, pass: u64, fail: u64) -> Self
+        ensures inner { inner_of result ≡ device }
+        ensures fuse { fuse_of result ≡ record { pass = pass; fail = fail } }
+        ensures writes { (which : Which) → fuse_writes result which ≡ 0 }
+        ensures failures { fuse_failures result ≡ 0 }
+    {
+        let counts = Counts {
+            failures: 0,
+            home_writes: 0,
+            log_writes: 0,
+        };
+        FuseDevice {
+            inner: device,
+            fuse: Fuse { pass, fail },
+            counts,
+        }
+    }
+
+    /// The other device.
+    pub fn into_inner(self) -> D
+        ensures { result ≡ inner_of self }
+    {
+        self.inner
+    }
+}
+
+impl<D: Device> Device for FuseDevice<D> {
+    ghost use Rattle.staged.specs.Fuse.{inner_of, fuse_failures, fuse_writes, FuseRests, GoesByFuse};
+
+    ghost content = { λ d. D.content d.inner };
+
+    ghost honest = { λ d. D.honest d.inner };
+
+    ghost writes = { λ d which. fuse_writes d which };
+
+    ghost failures = { λ d. fuse_failures d };
+
+    ghost rests = { λ a b. FuseRests D.rests a b };
+
+    ghost moment = { λ d. D.moment d.inner };
+
+    ghost may_leave = { λ d left. D.may_leave d.inner left };
+
+    ghost left_since = { λ d moment left. D.left_since d.inner moment left };
+
+    fn len(&mut self, which: Which) -> Result<u64, Error>
+        ensures length { IsTrue (D.honest (inner_of self.old)) → IfOk result (λ count. count ≡ length (file_of (D.content (inner_of self.old)) which)) }
+        ensures same { IsTrue (D.honest (inner_of self.old)) → D.content (inner_of self.new) ≡ D.content (inner_of self.old) }
+        ensures honest { D.honest (inner_of self.new) ≡ D.honest (inner_of self.old) }
+        ensures failures { fuse_failures self.old ≤ fuse_failures self.new }
+        ensures rests { Extends (λ a b. FuseRests D.rests a b) self.old self.new }
+        ensures fault { IfErr result (IsDeviceFault (λ d. fuse_failures d) self.old self.new) }
+        ensures fuse { GoesByFuse D.failures self.old self.new (is_err result) }
+    {
+        if self.fuse.blows() {
+            return Err(self.counts.fault());
+        }
+        match self.inner.len(which) {
+            Ok(len) => Ok(len),
+            Err(_) => Err(self.counts.fault()),
+        }
+    }
+
+    fn read_at(&mut self, which: Which, at: u64, buffer: &mut [u8]) -> Result<usize, Error>
+        ensures within { IfOk result (λ count. count ≤ length buffer.old) }
+        ensures serves { IsTrue (D.honest (inner_of self.old)) → IfOk result (Serves (file_of (D.content (inner_of self.old)) which) at buffer.old buffer.new) }
+        ensures same { IsTrue (D.honest (inner_of self.old)) → D.content (inner_of self.new) ≡ D.content (inner_of self.old) }
+        ensures honest { D.honest (inner_of self.new) ≡ D.honest (inner_of self.old) }
+        ensures failures { fuse_failures self.old ≤ fuse_failures self.new }
+        ensures rests { Extends (λ a b. FuseRests D.rests a b) self.old self.new }
+        ensures fault { IfErr result (IsDeviceFault (λ d. fuse_failures d) self.old self.new) }
+        ensures fuse { GoesByFuse D.failures self.old self.new (is_err result) }
+    {
+        if self.fuse.blows() {
+            return Err(self.counts.fault());
+        }
+        match self.inner.read_at(which, at, buffer) {
+            Ok(count) => Ok(count),
+            Err(_) => Err(self.counts.fault()),
+        }
+    }
+
+    fn write_at(&mut self, which: Which, at: u64, bytes: &[u8]) -> Result<(), Error>
+        requires { IsTrue (D.honest (inner_of self.old)) → at ≤ length (file_of (D.content (inner_of self.old)) which) }
+        ensures written { IsTrue (D.honest (inner_of self.old)) → OnOk result (D.content (inner_of self.new) ≡ with_file (D.content (inner_of self.old)) which (overwritten (file_of (D.content (inner_of self.old)) which) at bytes.now)) }
+        ensures torn { IsTrue (D.honest (inner_of self.old)) → OnErr result (TornFile which at (length bytes.now) (D.content (inner_of self.old)) (D.content (inner_of self.new))) }
+        ensures honest { D.honest (inner_of self.new) ≡ D.honest (inner_of self.old) }
+        ensures count { fuse_writes self.new which ≡ counted_up (fuse_writes self.old which) }
+        ensures others { (other : Which) → other ≢ which → fuse_writes self.new other ≡ fuse_writes self.old other }
+        ensures leaves { IsTrue (D.honest (inner_of self.old)) → LeavesOnly (λ d. D.moment (inner_of d)) (λ d moment left. D.left_since (inner_of d) moment left) self.old self.new (IsCutFrom which at (length bytes.now) (D.may_leave (inner_of self.old))) }
+        ensures remembers { Remembers (λ d. D.moment (inner_of d)) (λ d moment left. D.left_since (inner_of d) moment left) self.old self.new }
+        ensures failures { fuse_failures self.old ≤ fuse_failures self.new }
+        ensures fault { IfErr result (IsDeviceFault (λ d. fuse_failures d) self.old self.new) }
+        ensures fuse { GoesByFuse D.failures self.old self.new (is_err result) }
+    {
+        self.counts.write(which);
+        if self.fuse.blows() {
+            return Err(self.counts.fault());
+        }
+        match self.inner.write_at(which, at, bytes) {
+            Ok(()) => Ok(()),
+            Err(_) => Err(self.counts.fault()),
+        }
+    }
+
+    fn sync(&mut self, which: Which) -> Result<(), Error>
+        ensures same { IsTrue (D.honest (inner_of self.old)) → D.content (inner_of self.new) ≡ D.content (inner_of self.old) }
+        ensures durable { IsTrue (D.honest (inner_of self.old)) → OnOk result (IsKept which (D.content (inner_of self.new)) (D.may_leave (inner_of self.new))) }
+        ensures honest { D.honest (inner_of self.new) ≡ D.honest (inner_of self.old) }
+        ensures failures { fuse_failures self.old ≤ fuse_failures self.new }
+        ensures rests { Extends (λ a b. FuseRests D.rests a b) self.old self.new }
+        ensures fault { IfErr result (IsDeviceFault (λ d. fuse_failures d) self.old self.new) }
+        ensures fuse { GoesByFuse D.failures self.old self.new (is_err result) }
+    {
+        if self.fuse.blows() {
+            return Err(self.counts.fault());
+        }
+        match self.inner.sync(which) {
+            Ok(()) => Ok(()),
+            Err(_) => Err(self.counts.fault()),
+        }
+    }
+
+    ghost rests_refl = { λ d. record { inner = D.rests_refl d.inner; writes = λ _. refl; failures = Prim.omega arith } };
+
+    ghost rests_keeps = { λ a b rests. let kept = D.rests_keeps a.inner b.inner rests.inner in record { as_honest = kept.as_honest; same = kept.same; unwritten = rests.writes; counted = rests.failures } };
+
+    ghost counts_now = { λ d t left earlier now. D.counts_now d.inner t left earlier now };
+
+    ghost only_now = { λ d left since. D.only_now d.inner left since };
+
+    ghost rests_leaves = { λ a b rests. let leaves = D.rests_leaves a.inner b.inner rests.inner in record { later = leaves.later; each = leaves.each; before = leaves.before } };
+
+    ghost rests_remember = { λ a b rests. D.rests_remember a.inner b.inner rests.inner };
+
+    ghost shows_now = { λ d honest. D.shows_now d.inner honest };
+}
