@@ -5,7 +5,6 @@ use Rattle.std.specs.Int.{w16, w32, w64, to_le_bytes}
 use Rattle.std.proofs.lemmas.List.{drop-drop, drop-replicate, take-append-drop}
 use Rattle.std.proofs.lemmas.Slice.{take-put_mid, drop-put_mid}
 use borrow.Rule.Slice.PartMut.{put_mid}
-use Rattle.cfb_medium.specs.Numbers.{number_bytes}
 use Rattle.cfb_tree.specs.Directory.{Entry, entry_bytes, clsid_of}
 use Rattle.cfb_tree.specs.Names.{name_units}
 use Rattle.cfb_tree.specs.Entries.{name_field}

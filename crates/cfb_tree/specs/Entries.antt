@@ -1,10 +1,10 @@
 -- Entries that are made, and those that a reader takes in the tree.
-use Rattle.std.specs.Prelude.{◌≡◌, ℕ, ◌+◌, ◌-◌, ◌*◌, ◌==◌, List, ◌++◌, length, replicate, codes, if◌then◌else◌, ⊤, ◌⊎◌}
+use Rattle.std.specs.Prelude.{◌≡◌, ℕ, ◌+◌, ◌-◌, ◌*◌, ◌==◌, List, ◌++◌, length, replicate, codes, if◌then◌else◌, ◌⊎◌}
 use Rattle.cfb_sectors.specs.declared.validation.Validation.{Validation}
 use Rattle.cfb_sectors.specs.declared.validation.Validation.TheVariants.{Permissive, Strict}
 use Rattle.cfb_sectors.specs.Sectors.{end_of_chain}
 use Rattle.cfb_tree.specs.Names.{name_units}
-use Rattle.cfb_tree.specs.Directory.{Entry, HasName, no_entry, kind_storage, kind_stream, kind_root, red, black}
+use Rattle.cfb_tree.specs.Directory.{Entry, no_entry, kind_storage, kind_stream, kind_root, red, black}
 
 -- the 32 units of a name's field: the name's, and zeros ([MS-CFB] 2.6.1)
 abbrev pub name_field : List ℕ → List ℕ
@@ -35,12 +35,12 @@ new_entry name kind moment = record {
 abbrev pub empty_root : Entry
 empty_root = new_entry (codes "Root Entry") kind_root 0
 
--- what a reader asks of the root entry: its kind, and a strict one that it is black and has its name ([MS-CFB] 2.6.2)
+-- what a reader asks of the root entry besides its name: its kind, and a strict one that it is black ([MS-CFB] 2.6.2, 2.6.4)
 abbrev pub IsTakenRoot : Validation → Entry → Type 0
 IsTakenRoot Permissive e = e.kind ≡ kind_root
-IsTakenRoot Strict e = (e.kind ≡ kind_root) × HasName e (codes "Root Entry") × (e.color ≡ black)
+IsTakenRoot Strict e = (e.kind ≡ kind_root) × (e.color ≡ black)
 
--- what a reader asks of an entry below the root, besides its name: its kind, and a strict one its colour ([MS-CFB] 2.6.1)
-abbrev pub IsTakenNode : Validation → Entry → Type 0
-IsTakenNode Permissive e = (e.kind ≡ kind_storage) ⊎ (e.kind ≡ kind_stream)
-IsTakenNode Strict e = ((e.kind ≡ kind_storage) ⊎ (e.kind ≡ kind_stream)) × ((e.color ≡ red) ⊎ (e.color ≡ black))
+-- what a reader asks of an entry below the root besides its name: its kind, and a strict one its colour ([MS-CFB] 2.6.1)
+abbrev pub IsTakenBelow : Validation → Entry → Type 0
+IsTakenBelow Permissive e = (e.kind ≡ kind_storage) ⊎ (e.kind ≡ kind_stream)
+IsTakenBelow Strict e = ((e.kind ≡ kind_storage) ⊎ (e.kind ≡ kind_stream)) × ((e.color ≡ red) ⊎ (e.color ≡ black))

@@ -1,21 +1,25 @@
 //! Directory entries.
 ghost use Rattle.cfb_medium.specs.Numbers.{number_bytes, u64_at};
 ghost use Rattle.cfb_medium.specs.Times.{units_of};
-ghost use Rattle.cfb_medium.specs.declared.error.Error.TheVariants.{Memory, UnexpectedEof};
+ghost use Rattle.cfb_medium.specs.declared.error.Error.TheVariants.{InvalidData, Memory, UnexpectedEof};
 ghost use Rattle.cfb_sectors.specs.Appended.{Begins};
-ghost use Rattle.cfb_tree.specs.Directory.{clsid_of, entry_bytes, entry_of, name_units_of, size_of, unused_entry};
-ghost use Rattle.cfb_tree.specs.Entries.{empty_root, name_field, new_entry};
+ghost use Rattle.cfb_tree.specs.Directory.{clsid_of, entry_bytes, entry_of, name_units_of, size_of, unused_entry, FitsEntry, HasName};
+ghost use Rattle.cfb_tree.specs.Entries.{empty_root, name_field, new_entry, IsTakenBelow, IsTakenRoot};
+ghost use Rattle.cfb_medium.specs.Versions.{stream_len_mask};
+ghost use Rattle.cfb_tree.specs.declared.kinds.Color.{Color as Hue};
+ghost use Rattle.cfb_tree.specs.declared.kinds.ObjType.{ObjType as Kind};
 ghost use Rattle.cfb_tree.specs.Names.{is_name, name_units};
 ghost use Rattle.std.specs.Int.{to_le_bytes, w16, w32, w64};
-ghost use Rattle.std.specs.List.{flat_map};
-ghost use Rattle.std.specs.Prelude.{chars, drop, length, take, IfErr, IfOk, IsOk, IsTrue, OnErr, OnOk, ◌+◌, ◌++◌, ◌≡◌, ◌≤◌, ◌↔◌, ◌∷◌};
+ghost use Rattle.std.specs.List.{flat_map, AllByRecursion};
+ghost use Rattle.std.specs.Prelude.{chars, drop, length, string_bytes, take, IfErr, IfOk, IsOk, IsTrue, List, MatchOption, OnErr, OnOk, ℕ, ◌+◌, ◌++◌, ◌<◌, ◌≡◌, ◌≢◌, ◌≤◌, ◌↔◌, ◌∷◌, ◌^◌, ◌⊎◌};
 
 use crate::kinds::{Color, ObjType};
 use cfb_medium::{Error, Timestamp, Version};
 use cfb_sectors::{
-    DIR_ENTRY_LEN, END_OF_CHAIN, NO_STREAM, ROOT_DIR_NAME, Validation, u16_at, u32_at, u64_at,
+    COLOR_BLACK, COLOR_RED, DIR_ENTRY_LEN, END_OF_CHAIN, NO_STREAM, OBJ_TYPE_ROOT,
+    OBJ_TYPE_STORAGE, OBJ_TYPE_STREAM, ROOT_DIR_NAME, Validation, u16_at, u32_at, u64_at,
 };
-use std::alloc::AllocError;
+use std::alloc::{AllocError, Global};
 use uuid::Uuid;
 
 // The UTF-16 units of a name's field.
@@ -126,8 +130,32 @@ fn push_u32s(out: &mut Vec<u8>, numbers: &[u32]) -> Result<(), AllocError>
     Ok(())
 }
 
+// Numbers are below the powers that their types say, which a proof can't know of those that nobody reads.
+fn fit_two_bytes(numbers: &[u16])
+    ensures { AllByRecursion (λ n. n < 2 ^ 16) numbers.now }
+{
+    let _numbers = numbers;
+}
+
+// The same of fields.
+fn fit_fields(name_len: u16, kind: u8, color: u8, state_bits: u32, start: u32)
+    ensures { (name_len < 2 ^ 16) × (kind < 2 ^ 8) × (color < 2 ^ 8) × (state_bits < 2 ^ 32) × (start < 2 ^ 32) }
+{}
+
+// The same of numbers of entries.
+fn fit_links(left: u32, right: u32, child: u32)
+    ensures { (left < 2 ^ 32) × (right < 2 ^ 32) × (child < 2 ^ 32) }
+{}
+
+// The same of a moment.
+fn fit_time(moment: Timestamp)
+    ensures { units_of moment < 2 ^ 64 }
+{
+    let _moment = moment;
+}
+
 impl DirEntry {
-    ghost use Rattle.cfb_tree.specs.EntryViews.{entry_in, kind_of};
+    ghost use Rattle.cfb_tree.specs.EntryViews.{color_of, entry_in, kind_of};
 
     /// An entry of this name and kind: black, without siblings and child, with no bytes. A storage has the moment as both
     /// times and begins nowhere; any other has no times. It takes no memory.
@@ -137,7 +165,11 @@ impl DirEntry {
     {
         let (name_units, len) = field_of(name);
         let is_storage = obj_type == ObjType::Storage;
-        let time = if is_storage { moment } else { Timestamp::zero() };
+        let time = if is_storage {
+            moment
+        } else {
+            Timestamp::zero()
+        };
         DirEntry {
             name_units,
             name_len: 2 * len as u16 + 2,
@@ -159,14 +191,15 @@ impl DirEntry {
     pub fn unallocated() -> DirEntry
         ensures { entry_bytes (entry_in result) ≡ unused_entry }
     {
+        let none = NO_STREAM;
         DirEntry {
             name_units: [0; NAME_UNITS],
             name_len: 0,
             kind: ObjType::Unallocated.as_byte(),
             color: Color::Red.as_byte(),
-            left_sibling: NO_STREAM,
-            right_sibling: NO_STREAM,
-            child: NO_STREAM,
+            left_sibling: none,
+            right_sibling: none,
+            child: none,
             clsid: Uuid::nil(),
             state_bits: 0,
             creation_time: Timestamp::zero(),
@@ -223,6 +256,79 @@ impl DirEntry {
         }
     }
 
+    /// What the entry is, where its byte has a kind.
+    pub fn obj_type(&self) -> Option<ObjType>
+        ensures { MatchOption result ((k : Kind) → (entry_in self.now).kind ≢ kind_of k) (λ k. (entry_in self.now).kind ≡ kind_of k) }
+    {
+        ObjType::from_byte(self.kind)
+    }
+
+    /// Its colour, where its byte has one.
+    pub fn color(&self) -> Option<Color>
+        ensures { MatchOption result ((k : Hue) → (entry_in self.now).color ≢ color_of k) (λ k. (entry_in self.now).color ≡ color_of k) }
+    {
+        Color::from_byte(self.color)
+    }
+
+    /// Its name. `InvalidData` where it has none: its length in bytes is odd or above 64, or the units are no UTF-16. The one
+    /// other error is `Memory`.
+    pub fn name(&self, alloc: Global) -> Result<String, Error>
+        ensures named { IfOk result (λ name. HasName (entry_in self.now) (chars (string_bytes name))) }
+        ensures error { IfErr result (λ e. (e ≡ Memory) ⊎ ((e ≡ InvalidData) × ((name : List ℕ) → HasName (entry_in self.now) name → ⊥))) }
+    {
+        if self.name_len % 2 != 0 {
+            return Err(Error::InvalidData);
+        }
+        if self.name_len > 64 {
+            return Err(Error::InvalidData);
+        }
+        let units = (self.name_len as usize / 2).saturating_sub(1);
+        match String::from_utf16(alloc, &self.name_units[..units])? {
+            Ok(name) => Ok(name),
+            Err(_) => Err(Error::InvalidData),
+        }
+    }
+
+    /// Whether a reader takes it as the root, besides its name: by its kind, and a strict reader by its colour.
+    pub fn is_taken_as_root(&self, validation: Validation) -> bool
+        ensures { IsTrue result ↔ IsTakenRoot validation (entry_in self.now) }
+    {
+        match validation {
+            Validation::Permissive => self.kind == OBJ_TYPE_ROOT,
+            Validation::Strict => self.kind == OBJ_TYPE_ROOT && self.color == COLOR_BLACK,
+        }
+    }
+
+    /// Whether a reader takes it below the root, besides its name: by its kind, and a strict reader by its colour.
+    pub fn is_taken_below(&self, validation: Validation) -> bool
+        ensures { IsTrue result ↔ IsTakenBelow validation (entry_in self.now) }
+    {
+        let has_kind = matches!(self.kind, OBJ_TYPE_STORAGE | OBJ_TYPE_STREAM);
+        match validation {
+            Validation::Permissive => has_kind,
+            Validation::Strict => has_kind && matches!(self.color, COLOR_RED | COLOR_BLACK),
+        }
+    }
+
+    // Its numbers fit into its bytes, as their types say.
+    fn fits(&self, version: Version)
+        requires { self.now.stream_len ≤ stream_len_mask version }
+        ensures { FitsEntry version (entry_in self.now) }
+    {
+        fit_two_bytes(&self.name_units);
+        fit_fields(
+            self.name_len,
+            self.kind,
+            self.color,
+            self.state_bits,
+            self.start_sector,
+        );
+        fit_links(self.left_sibling, self.right_sibling, self.child);
+        fit_time(self.creation_time);
+        fit_time(self.modified_time);
+        let _clsid = self.clsid.into_bytes();
+    }
+
     // Appends what stands before the class identifier, or a beginning of it.
     fn append_head(&self, out: &mut Vec<u8>) -> Result<(), AllocError>
         ensures ok { OnOk result (out.new.items ≡ out.old.items ++ (flat_map (to_le_bytes w16) self.now.name_units
@@ -273,4 +379,19 @@ impl DirEntry {
         }
         Ok(())
     }
+}
+
+ghost use Rattle.cfb_tree.specs.EntryViews.{entry_in};
+
+/// An entry that is written and read again is as it was, where its size fits the version. The one error is `Memory`.
+pub fn entry_again(alloc: Global, entry: DirEntry, version: Version) -> Result<DirEntry, Error>
+    requires { entry.stream_len ≤ stream_len_mask version }
+    ensures same { IfOk result (λ e. entry_in e ≡ entry_in entry) }
+    ensures error { IfErr result (λ e. e ≡ Memory) }
+{
+    entry.fits(version);
+    let mut bytes = Vec::new(alloc);
+    entry.write_to(&mut bytes)?;
+    let mut reader = bytes.as_slice();
+    DirEntry::read_from(&mut reader, version)
 }

@@ -1,4 +1,3 @@
-use Rattle.std.proofs.Common.{◌++◌, ap, ◌∙◌}
 use Rattle.cfb_sectors.proofs.Appending.{appended_5}
 use Rattle.cfb_tree.proofs.entry.DirEntry.append_tail.Goals as goal
 
