@@ -1,5 +1,5 @@
-//! Tests from outside: of the store and of sessions over a device that fails one of its calls, of sectors and their chains, of texts,
-//! values and pools, of expressions, and of tables.
+//! Tests from outside: of the store and of sessions over a device that fails one of its calls, of sectors and their chains, of names
+//! and entries, of texts, values and pools, of expressions, and of tables.
 #![tactic(auto)]
 
 #[cfg(test)]
@@ -20,6 +20,8 @@ mod faulty;
 mod lists;
 #[cfg(test)]
 mod logs;
+#[cfg(test)]
+mod names;
 #[cfg(test)]
 mod pool;
 #[cfg(test)]

@@ -16,13 +16,13 @@ pub all_append : {A : Type 0} (P : A → Type 0) (xs ys : List A) → AllByRecur
 all_append P [] ys h k = k
 all_append P (x ∷ xs) ys h k = (h.0, all_append P xs ys h.1 k)
 
-one_unit : (c : ℕ) → c < 0x1_0000 → encode_utf16 c ≡ c ∷ []
+pub one_unit : (c : ℕ) → c < 0x1_0000 → encode_utf16 c ≡ c ∷ []
 one_unit c h = rw (lt-ltb c 0x1_0000 h)
 
-two_units : (c : ℕ) → 0x1_0000 ≤ c → encode_utf16 c ≡ (0xD800 + (c - 0x1_0000) / 0x400) ∷ (0xDC00 + (c - 0x1_0000) % 0x400) ∷ []
+pub two_units : (c : ℕ) → 0x1_0000 ≤ c → encode_utf16 c ≡ (0xD800 + (c - 0x1_0000) / 0x400) ∷ (0xDC00 + (c - 0x1_0000) % 0x400) ∷ []
 two_units c h = rw (le-ltb c 0x1_0000 h)
 
-two_sides : (a b : ℕ) → (a < b) ⊎ (b ≤ a)
+pub two_sides : (a b : ℕ) → (a < b) ⊎ (b ≤ a)
 two_sides a b = elim (leb_tells b a) [ inl yes' ↦ inr yes'.1 | inr no' ↦ inl no'.1 ]
 
 lone : (c : ℕ) → (c < 0xD800) ⊎ (0xE000 ≤ c) → lone_unit_char c ≡ Some c

@@ -1,0 +1,46 @@
+-- Entries that are made, and those that a reader takes in the tree.
+use Rattle.std.specs.Prelude.{◌≡◌, ℕ, ◌+◌, ◌-◌, ◌*◌, ◌==◌, List, ◌++◌, length, replicate, codes, if◌then◌else◌, ◌⊎◌}
+use Rattle.cfb_sectors.specs.declared.validation.Validation.{Validation}
+use Rattle.cfb_sectors.specs.declared.validation.Validation.TheVariants.{Permissive, Strict}
+use Rattle.cfb_sectors.specs.Sectors.{end_of_chain}
+use Rattle.cfb_tree.specs.Names.{name_units}
+use Rattle.cfb_tree.specs.Directory.{Entry, no_entry, kind_storage, kind_stream, kind_root, red, black}
+
+-- the 32 units of a name's field: the name's, and zeros ([MS-CFB] 2.6.1)
+abbrev pub name_field : List ℕ → List ℕ
+name_field name = name_units name ++ replicate (32 - length (name_units name)) 0
+
+-- an entry that was made: black, without siblings and child, with no bytes. A storage begins nowhere, and it alone has
+-- times ([MS-CFB] 2.6.1)
+abbrev pub new_entry : List ℕ → ℕ → ℕ → Entry
+new_entry name kind moment = record {
+  name_units = name_field name;
+  name_len = 2 * length (name_units name) + 2;
+  kind = kind;
+  color = black;
+  left = no_entry;
+  right = no_entry;
+  child = no_entry;
+  facts = record {
+    clsid = replicate 16 0;
+    state_bits = 0;
+    created = if kind == kind_storage then moment else 0;
+    modified = if kind == kind_storage then moment else 0;
+  };
+  start = if kind == kind_storage then 0 else end_of_chain;
+  size = 0;
+}
+
+-- the root of an empty tree ([MS-CFB] 2.6.2)
+abbrev pub empty_root : Entry
+empty_root = new_entry (codes "Root Entry") kind_root 0
+
+-- what a reader asks of the root entry besides its name: its kind, and a strict one that it is black ([MS-CFB] 2.6.2, 2.6.4)
+abbrev pub IsTakenRoot : Validation → Entry → Type 0
+IsTakenRoot Permissive e = e.kind ≡ kind_root
+IsTakenRoot Strict e = (e.kind ≡ kind_root) × (e.color ≡ black)
+
+-- what a reader asks of an entry below the root besides its name: its kind, and a strict one its colour ([MS-CFB] 2.6.1)
+abbrev pub IsTakenBelow : Validation → Entry → Type 0
+IsTakenBelow Permissive e = (e.kind ≡ kind_storage) ⊎ (e.kind ≡ kind_stream)
+IsTakenBelow Strict e = ((e.kind ≡ kind_storage) ⊎ (e.kind ≡ kind_stream)) × ((e.color ≡ red) ⊎ (e.color ≡ black))
