@@ -5,7 +5,7 @@ ghost use Rattle.cfb_medium.specs.declared.error.Error.TheVariants.{Failed, Inva
 ghost use Rattle.cfb_chains.specs.Changes.{IsNoneOf};
 ghost use Rattle.cfb_fat.specs.Listed.{Lists};
 ghost use Rattle.cfb_fat.specs.Orderly.{AreBelow, IsOrderly};
-ghost use Rattle.cfb_sectors.specs.Held.{bytes_of as sectors_bytes, count_of as sectors_count, has_failed_here as sectors_failed, medium_of as sectors_medium, version_of as sectors_version, AreCounted, IsHonest as AreHonest, IsRefused, Rests};
+ghost use Rattle.cfb_sectors.specs.Held.{bytes_of as sectors_bytes, count_of as sectors_count, has_failed_here as sectors_failed, medium_of as sectors_medium, version_of as sectors_version, AreCounted, IsHonest as AreHonest, IsRefused, LeavesOldOrBytes, Rests};
 ghost use Rattle.cfb_sectors.specs.Sectors.{fat_in, free, Chain as IsChain};
 ghost use Rattle.std.specs.Prelude.{false, length, slice_get, slice_index, take, true, IfErr, IfOk, IsErrOf, IsTrue, List, None, OnErr, OnOk, Some, ℕ, ◌*◌, ◌++◌, ◌/◌, ◌<◌, ◌≡◌, ◌≤◌, ◌↔◌, ◌⊎◌};
 
@@ -210,7 +210,7 @@ impl<F: ReadMedium> Allocator<F> {
 }
 
 impl<F: Medium> Allocator<F> {
-    ghost use Rattle.cfb_fat.specs.Tables.{bytes_of, difat_sectors_of, fat_of, fat_sectors_of, has_failed, has_failed_here, medium_of, orderly_of, sectors_of, version_of, AllRests, HasCauseBelow};
+    ghost use Rattle.cfb_fat.specs.Tables.{bytes_of, has_failed, has_failed_here, medium_of, sectors_of, AllRests, HasCauseBelow, KeepsTables};
 
     /// Whether a fault in a write or a commit has left it, or the medium, in a state in which every call is refused.
     pub fn has_failed(&self) -> bool
@@ -233,19 +233,16 @@ impl<F: Medium> Allocator<F> {
     pub fn commit(&mut self) -> Result<(), Error>
         ensures published { AreHonest (sectors_of self.old)
             → OnOk result (F.has_published (medium_of self.new) (bytes_of self.old)) }
+        ensures left { AreHonest (sectors_of self.old)
+            → LeavesOldOrBytes (sectors_of self.old) (sectors_of self.new) }
         ensures bytes { has_failed_here self.new ≡ false → AreHonest (sectors_of self.old)
             → bytes_of self.new ≡ bytes_of self.old }
         ensures was_live { has_failed_here self.new ≡ false → has_failed_here self.old ≡ false }
         ensures honest { F.honest (medium_of self.new) ≡ F.honest (medium_of self.old) }
-        ensures tables { (version_of self.new ≡ version_of self.old)
-            × (fat_of self.new ≡ fat_of self.old) × (fat_sectors_of self.new
-            ≡ fat_sectors_of self.old) × (difat_sectors_of self.new ≡ difat_sectors_of self.old) }
-        ensures stays { (sectors_count (sectors_of self.new) ≡ sectors_count (sectors_of self.old))
-            × (orderly_of self.new ≡ orderly_of self.old) }
+        ensures tables { KeepsTables self.old self.new }
         ensures live { OnOk result (has_failed_here self.new ≡ false) }
         ensures err { OnErr result (has_failed_here self.new ≡ true) }
-        ensures failed { has_failed_here self.old ≡ true
-            → IsErrOf result Failed × AllRests self.old self.new }
+        ensures failed { has_failed_here self.old ≡ true → IsErrOf result Failed × AllRests self.old self.new }
         ensures cause { IfErr result (HasCauseBelow self.old self.new) }
         ensures failures { F.failures (medium_of self.old) ≤ F.failures (medium_of self.new) }
         ensures fault { IfErr result (IsFaultUnless ⊥) }
