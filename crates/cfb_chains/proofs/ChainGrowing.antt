@@ -231,9 +231,7 @@ pub ends_here : {W R X : Type 0} → W ⊎ R → W ⊎ R ⊎ X
 ends_here (inl w) = inl w
 ends_here (inr r) = inr (inl r)
 
--- where a refusal has left no state of failure nothing was changed
-pub rests_yet : {A R I U : Type 0} (failed : Bool) → (A × ((failed ≡ true) ⊎ R)) ⊎ I ⊎ U → (I → R) → (U → R) → failed ≡ false → R
-rests_yet failed (inl (a, inl wrong)) refused full live = absurd (let clash : true ≡ false = sym wrong ∙ live in cc)
-rests_yet failed (inl (a, inr rests)) refused full live = rests
-rests_yet failed (inr (inl is)) refused full live = refused is
-rests_yet failed (inr (inr is)) refused full live = full is
+-- where it hasn't failed nothing was changed
+pub rests_yet : {R : Type 0} (failed : Bool) → (failed ≡ true) ⊎ R → failed ≡ false → R
+rests_yet failed (inl wrong) live = absurd (let clash : true ≡ false = sym wrong ∙ live in cc)
+rests_yet failed (inr rests) live = rests

@@ -41,3 +41,8 @@ module _ {H : Type 0} {g : Ghosts H} where
     pub links : new.links.ghost_name ≡ old.links.ghost_name
     pub version : version_of new ≡ version_of old
     pub init : init_of new ≡ init_of old
+
+  -- the same at the same position but for its sectors
+  pub record IsSameButSectors (old new : Chain H g) : Type 0 where
+    pub same : IsSameBut old new
+    pub position : position_of new ≡ position_of old

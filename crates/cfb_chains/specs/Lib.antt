@@ -1,7 +1,9 @@
 pub mod Behind
+pub mod ChainCalls
 pub mod ChainViews
 pub mod Changes
 pub mod Grown
+pub mod Layers
 pub mod LinkViews
 pub mod Owned
 pub mod Positions

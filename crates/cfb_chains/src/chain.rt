@@ -5,9 +5,9 @@ ghost use Rattle.cfb_medium.specs.declared.error.Error.TheVariants.{Failed};
 ghost use Rattle.cfb_chains.specs.Grown.{IsLinked};
 ghost use Rattle.cfb_chains.specs.Positions.{left_in, place_in};
 ghost use Rattle.cfb_chains.specs.LinkViews.{ids_of, links_version};
-ghost use Rattle.cfb_sectors.specs.Sectors.{end_of_chain, greatest_regular, joined, Chain as IsChain};
+ghost use Rattle.cfb_sectors.specs.Sectors.{end_of_chain, Chain as IsChain};
 ghost use Rattle.cfb_sectors.specs.Seeking.{Finds, IsNotFound};
-ghost use Rattle.std.specs.Prelude.{drop, false, length, slice_index_or, take, true, vec_len, IfErr, IfOk, IsErrOf, IsTrue, List, OnErr, OnOk, ℕ, ◌*◌, ◌+◌, ◌-◌, ◌<◌, ◌≡◌, ◌≤◌};
+ghost use Rattle.std.specs.Prelude.{drop, false, length, slice_index_or, take, true, IfErr, IfOk, IsErrOf, IsTrue, List, OnErr, OnOk, ℕ, ◌*◌, ◌+◌, ◌-◌, ◌<◌, ◌≡◌, ◌≤◌};
 
 use crate::Links;
 use cfb_medium::{Error, Version};
@@ -25,6 +25,7 @@ pub struct Chain<'a, H: HasSectors> {
 }
 
 impl<'a, H: HasSectors> Chain<'a, H> {
+    ghost use Rattle.cfb_chains.specs.ChainCalls.{chain_bytes, len_of};
     ghost use Rattle.cfb_chains.specs.ChainViews.{holder_of, init_of, position_of, sectors_of, version_of, IsSame};
 
     /// The chain of these sectors, at its first byte. What it takes in later holds at first what `init` says; the links follow
@@ -33,7 +34,9 @@ impl<'a, H: HasSectors> Chain<'a, H> {
         ensures same_reference { result.holder.ghost_name ≡ holder.entry.ghost_name }
         ensures same_links { result.links.ghost_name ≡ links.entry.ghost_name }
         ensures holder { holder_of result ≡ holder.old }
-        ensures chain { (version_of result ≡ links_version links.old) × (sectors_of result ≡ ids_of links.old) × (position_of result ≡ 0) × (init_of result ≡ init) }
+        ensures chain { (version_of result ≡ links_version links.old)
+            × (sectors_of result ≡ ids_of links.old) × (position_of result ≡ 0)
+            × (init_of result ≡ init) }
     {
         Chain {
             holder,
@@ -55,7 +58,8 @@ impl<'a, H: HasSectors> Chain<'a, H> {
 
     // Its last sector, or "end of chain" where it has none: a table with the chain has one from there.
     pub(crate) fn last_sector_id(&self) -> u32
-        ensures { (table : List ℕ) → IsLinked table (sectors_of self.now) → (ids : List ℕ) × IsChain table result ids }
+        ensures { (table : List ℕ) → IsLinked table (sectors_of self.now)
+            → (ids : List ℕ) × IsChain table result ids }
     {
         let count = self.links.sector_ids().len();
         if count == 0 {
@@ -80,14 +84,14 @@ impl<'a, H: HasSectors> Chain<'a, H> {
 
     /// How many bytes its sectors have.
     pub fn len(&self) -> u64
-        ensures { result ≡ length (sectors_of self.now) * sector_len (version_of self.now) }
+        ensures { result ≡ len_of self.now }
     {
         self.links.sector_ids().len() as u64 * self.links.version().sector_len() as u64
     }
 
     // The place in the file of the byte at a position, and how many bytes its sector has from there on.
     pub(crate) fn place(&self, position: u64) -> (u64, usize)
-        requires { position < length (sectors_of self.now) * sector_len (version_of self.now) }
+        requires { position < len_of self.now }
         ensures place { result.0 ≡ place_in (version_of self.now) (sectors_of self.now) position }
         ensures left { result.1 ≡ left_in (version_of self.now) position }
     {
@@ -106,10 +110,13 @@ impl<'a, H: HasSectors> Chain<'a, H> {
     /// 0 bytes are read at the end alone, or into an empty buffer.
     pub fn read(&mut self, buffer: &mut [u8]) -> Result<usize, Error>
         ensures read { IfOk result (λ n. IsTrue (H.honest (holder_of self.old))
-            → take n buffer.new ≡ take n (drop (position_of self.old) (joined (version_of self.old) (H.bytes (holder_of self.old)) (sectors_of self.old)))) }
+            → take n buffer.new ≡ take n (drop (position_of self.old)
+            (chain_bytes H.bytes self.old))) }
         ensures rest { IfOk result (λ n. drop n buffer.new ≡ drop n buffer.old) }
-        ensures count { IfOk result (λ n. (n ≤ length buffer.old) × (position_of self.old + n ≤ length (sectors_of self.old) * sector_len (version_of self.old))) }
-        ensures some { IfOk result (λ n. 0 < length buffer.old → position_of self.old < length (sectors_of self.old) * sector_len (version_of self.old) → 0 < n) }
+        ensures count { IfOk result (λ n. (n ≤ length buffer.old)
+            × (position_of self.old + n ≤ len_of self.old)) }
+        ensures some { IfOk result (λ n. 0 < length buffer.old
+            → position_of self.old < len_of self.old → 0 < n) }
         ensures moved { IfOk result (λ n. position_of self.new ≡ position_of self.old + n) }
         ensures stays { OnErr result (position_of self.new ≡ position_of self.old) }
         ensures same { IsSame self.old self.new }
@@ -135,9 +142,11 @@ impl<'a, H: HasSectors> Chain<'a, H> {
     /// Moves the position to a place of the chain or to its end, and gives it. `InvalidInput` where it is before the chain or
     /// behind its end, and `Failed` where the layer has failed; then the position stays.
     pub fn seek(&mut self, from: SeekFrom) -> Result<u64, Error>
-        ensures ok { IfOk result (λ n. Finds from (length (sectors_of self.old) * sector_len (version_of self.old)) (position_of self.old) n × (position_of self.new ≡ n)) }
+        ensures ok { IfOk result (λ n. Finds from (len_of self.old) (position_of self.old) n
+            × (position_of self.new ≡ n)) }
         ensures live { OnOk result (H.failed (holder_of self.old) ≡ false) }
-        ensures error { IfErr result (IsNotFound (H.failed (holder_of self.old)) from (length (sectors_of self.old) * sector_len (version_of self.old)) (position_of self.old)) }
+        ensures error { IfErr result (IsNotFound (H.failed (holder_of self.old)) from
+            (len_of self.old) (position_of self.old)) }
         ensures failed { H.failed (holder_of self.old) ≡ true → IsErrOf result Failed }
         ensures stays { OnErr result (position_of self.new ≡ position_of self.old) }
         ensures same { IsSame self.old self.new }

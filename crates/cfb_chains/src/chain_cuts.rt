@@ -1,15 +1,9 @@
 //! Chains that become shorter, and chains of a given length.
-ghost use Rattle.cfb_chains.specs.Changes.{AreAmong};
-ghost use Rattle.cfb_chains.specs.Grown.{AreWritable, IsLinked};
-ghost use Rattle.cfb_chains.specs.Changes.{HaveEntry};
+ghost use Rattle.cfb_chains.specs.ChainCalls.{chain_bytes, len_of, new_sector, Answers, ChainRests, Cuts, FreesBehind, Holds, IsCutTo, IsInvalid, IsInvalidOrFull, IsUnlinked, Keeps, KeepsBytes, LacksNumber, Lengthens, StaysLinked, StaysWritable};
 ghost use Rattle.cfb_chains.specs.Positions.{sectors_for};
-ghost use Rattle.cfb_medium.specs.Calls.{IsFaultUnless};
-ghost use Rattle.cfb_medium.specs.Versions.{sector_len};
 ghost use Rattle.cfb_medium.specs.declared.error.Error.TheVariants.{Failed, Full, InvalidData};
 ghost use Rattle.cfb_sectors.specs.Copies.{copies};
-ghost use Rattle.cfb_sectors.specs.Initial.{initial};
-ghost use Rattle.cfb_sectors.specs.Sectors.{free, greatest_regular, joined};
-ghost use Rattle.std.specs.Prelude.{drop, false, length, min, take, true, IfErr, IsErrOf, IsTrue, List, OnErr, OnOk, ℕ, ◌*◌, ◌+◌, ◌++◌, ◌-◌, ◌<◌, ◌≡◌, ◌≤◌, ◌⊎◌};
+ghost use Rattle.std.specs.Prelude.{false, length, min, IsErrOf, IsTrue, OnErr, OnOk, ◌*◌, ◌+◌, ◌++◌, ◌-◌, ◌<◌, ◌≡◌, ◌≤◌};
 
 use crate::{Chain, FreesChains, GrowsChains};
 use cfb_medium::{Error, Version};
@@ -21,20 +15,18 @@ impl<'a, H: FreesChains> Chain<'a, H> {
     pub(crate) fn cut_behind(&mut self, count: usize) -> Result<(), Error>
         requires some { 0 < count }
         requires there { count ≤ length (sectors_of self.old) }
-        ensures cut { OnOk result ((sectors_of self.new ≡ take count (sectors_of self.old)) × (position_of self.new ≡ min (position_of self.old) (count * sector_len (version_of self.old)))) }
-        ensures kept { OnErr result ((sectors_of self.new ≡ sectors_of self.old) × (position_of self.new ≡ position_of self.old)) }
-        ensures frees { (changed : List ℕ) × H.changes_fat changed (holder_of self.old) (holder_of self.new)
-            × OnOk result (IsLinked (H.fat (holder_of self.old)) (sectors_of self.old) → AreAmong (sectors_of self.old) changed × HaveEntry free (H.fat (holder_of self.new)) (drop count (sectors_of self.old))) }
-        ensures linked { OnOk result (IsLinked (H.fat (holder_of self.old)) (sectors_of self.old) → IsLinked (H.fat (holder_of self.new)) (sectors_of self.new)) }
-        ensures writable { OnOk result (AreWritable (H.may_write (holder_of self.old)) (version_of self.old) (sectors_of self.old) → AreWritable (H.may_write (holder_of self.new)) (version_of self.old) (sectors_of self.new)) }
-        ensures bytes { OnOk result (IsTrue (H.honest (holder_of self.old)) → AreWritable (H.may_write (holder_of self.old)) (version_of self.old) (sectors_of self.old)
-            → joined (version_of self.old) (H.bytes (holder_of self.new)) (sectors_of self.new) ≡ joined (version_of self.old) (H.bytes (holder_of self.old)) (sectors_of self.new)) }
+        ensures cut { OnOk result (IsCutTo count self.old self.new) }
+        ensures kept { OnErr result ((sectors_of self.new ≡ sectors_of self.old)
+            × (position_of self.new ≡ position_of self.old)) }
+        ensures frees { FreesBehind H.FreesChains count result self.old self.new }
+        ensures linked { OnOk result (StaysLinked H.fat self.old self.new) }
+        ensures writable { OnOk result (StaysWritable H.may_write self.old self.new) }
+        ensures bytes { OnOk result (KeepsBytes H.FreesChains self.old self.new) }
         ensures same { IsSameBut self.old self.new }
-        ensures live { OnOk result ((H.failed (holder_of self.old) ≡ false) × IsTrue (H.orderly (holder_of self.old)) × (H.failed (holder_of self.new) ≡ false)) }
-        ensures refused { IsErrOf result InvalidData → (IsTrue (H.orderly (holder_of self.old)) → IsLinked (H.fat (holder_of self.old)) (sectors_of self.old) → ⊥) × H.rests (holder_of self.old) (holder_of self.new) }
-        ensures failed { H.failed (holder_of self.old) ≡ true → IsErrOf result Failed × H.rests (holder_of self.old) (holder_of self.new) }
-        ensures cause { IfErr result (H.has_cause (holder_of self.old) (holder_of self.new)) }
-        ensures fault { IfErr result (λ e. (IsFaultUnless ⊥ e × ((H.failed (holder_of self.new) ≡ true) ⊎ H.rests (holder_of self.old) (holder_of self.new))) ⊎ (e ≡ InvalidData)) }
+        ensures orderly { OnOk result (IsTrue (H.orderly (holder_of self.old))) }
+        ensures refused { IsErrOf result InvalidData
+            → IsUnlinked H.FreesChains self.old × ChainRests H.rests self.old self.new }
+        ensures answers { Answers H.ChangesSectors IsInvalid result self.old self.new }
     {
         let last = self.links.sector_ids()[count - 1];
         match self.holder.free_chain_after(last) {
@@ -51,20 +43,14 @@ impl<'a, H: FreesChains> Chain<'a, H> {
     // Keeps so many sectors, and frees those behind them. A position behind the new end goes there.
     pub(crate) fn cut_to(&mut self, count: usize) -> Result<(), Error>
         requires { count ≤ length (sectors_of self.old) }
-        ensures cut { OnOk result ((sectors_of self.new ≡ take count (sectors_of self.old)) × (position_of self.new ≡ min (position_of self.old) (count * sector_len (version_of self.old)))) }
-        ensures kept { OnErr result ((sectors_of self.new ≡ sectors_of self.old) × (position_of self.new ≡ position_of self.old)) }
-        ensures frees { (changed : List ℕ) × H.changes_fat changed (holder_of self.old) (holder_of self.new)
-            × OnOk result (IsLinked (H.fat (holder_of self.old)) (sectors_of self.old) → AreAmong (sectors_of self.old) changed × HaveEntry free (H.fat (holder_of self.new)) (drop count (sectors_of self.old))) }
-        ensures linked { OnOk result (IsLinked (H.fat (holder_of self.old)) (sectors_of self.old) → IsLinked (H.fat (holder_of self.new)) (sectors_of self.new)) }
-        ensures writable { OnOk result (AreWritable (H.may_write (holder_of self.old)) (version_of self.old) (sectors_of self.old) → AreWritable (H.may_write (holder_of self.new)) (version_of self.old) (sectors_of self.new)) }
-        ensures bytes { OnOk result (IsTrue (H.honest (holder_of self.old)) → AreWritable (H.may_write (holder_of self.old)) (version_of self.old) (sectors_of self.old)
-            → joined (version_of self.old) (H.bytes (holder_of self.new)) (sectors_of self.new) ≡ joined (version_of self.old) (H.bytes (holder_of self.old)) (sectors_of self.new)) }
+        ensures cuts { Cuts H.FreesChains count result self.old self.new }
+        ensures kept { OnErr result ((sectors_of self.new ≡ sectors_of self.old)
+            × (position_of self.new ≡ position_of self.old)) }
         ensures same { IsSameBut self.old self.new }
-        ensures live { OnOk result ((H.failed (holder_of self.old) ≡ false) × IsTrue (H.orderly (holder_of self.old)) × (H.failed (holder_of self.new) ≡ false)) }
-        ensures refused { IsErrOf result InvalidData → (IsTrue (H.orderly (holder_of self.old)) → IsLinked (H.fat (holder_of self.old)) (sectors_of self.old) → ⊥) × H.rests (holder_of self.old) (holder_of self.new) }
-        ensures failed { H.failed (holder_of self.old) ≡ true → IsErrOf result Failed × H.rests (holder_of self.old) (holder_of self.new) }
-        ensures cause { IfErr result (H.has_cause (holder_of self.old) (holder_of self.new)) }
-        ensures fault { IfErr result (λ e. (IsFaultUnless ⊥ e × ((H.failed (holder_of self.new) ≡ true) ⊎ H.rests (holder_of self.old) (holder_of self.new))) ⊎ (e ≡ InvalidData)) }
+        ensures orderly { OnOk result (IsTrue (H.orderly (holder_of self.old))) }
+        ensures refused { IsErrOf result InvalidData
+            → IsUnlinked H.FreesChains self.old × ChainRests H.rests self.old self.new }
+        ensures answers { Answers H.ChangesSectors IsInvalid result self.old self.new }
     {
         if count == 0 {
             return self.free();
@@ -86,7 +72,7 @@ fn needed_sectors(version: Version, len: u64) -> u64
 }
 
 impl<'a, H: GrowsChains> Chain<'a, H> {
-    ghost use Rattle.cfb_chains.specs.ChainViews.{holder_of, init_of, position_of, sectors_of, version_of, IsSameBut};
+    ghost use Rattle.cfb_chains.specs.ChainViews.{holder_of, position_of, sectors_of, version_of, IsSameBut};
 
     /// Gives the chain as many sectors as so many bytes need, in the FAT too. Those at its front stay, with their bytes; it
     /// takes in others behind them, which hold what its `init` says, or frees those that are too many. A position behind the
@@ -94,31 +80,27 @@ impl<'a, H: GrowsChains> Chain<'a, H> {
     /// numbers of sectors are left. After an error nothing is changed, or the layer has failed ([MS-CFB] 2.3).
     #[tactic(auto, using(crate::proofs::ChainCutting::stays_inside))]
     pub fn set_len(&mut self, len: u64) -> Result<(), Error>
-        ensures count { OnOk result (length (sectors_of self.new) ≡ sectors_for (version_of self.old) len) }
-        ensures longer { length (sectors_of self.old) ≤ sectors_for (version_of self.old) len → (more : List ℕ) × (changed : List ℕ) × (sectors_of self.new ≡ sectors_of self.old ++ more) × H.grows more changed (holder_of self.old) (holder_of self.new)
-            × (IsLinked (H.fat (holder_of self.old)) (sectors_of self.old) → AreAmong (sectors_of self.new) changed) }
-        ensures shorter { sectors_for (version_of self.old) len < length (sectors_of self.old) → (changed : List ℕ) × H.changes_fat changed (holder_of self.old) (holder_of self.new)
-            × OnOk result (IsLinked (H.fat (holder_of self.old)) (sectors_of self.old) → AreAmong (sectors_of self.old) changed × HaveEntry free (H.fat (holder_of self.new)) (drop (sectors_for (version_of self.old) len) (sectors_of self.old))) }
-        ensures cut { sectors_for (version_of self.old) len < length (sectors_of self.old) → OnOk result (sectors_of self.new ≡ take (sectors_for (version_of self.old) len) (sectors_of self.old)) }
-        ensures linked { OnOk result (IsLinked (H.fat (holder_of self.old)) (sectors_of self.old) → IsLinked (H.fat (holder_of self.new)) (sectors_of self.new)) }
-        ensures writable { OnOk result (H.version (holder_of self.old) ≡ version_of self.old → AreWritable (H.may_write (holder_of self.old)) (version_of self.old) (sectors_of self.old) → AreWritable (H.may_write (holder_of self.new)) (version_of self.old) (sectors_of self.new)) }
-        ensures filled { length (sectors_of self.old) ≤ sectors_for (version_of self.old) len → OnOk result (IsTrue (H.honest (holder_of self.old)) → H.version (holder_of self.old) ≡ version_of self.old → IsLinked (H.fat (holder_of self.old)) (sectors_of self.old)
-            → AreWritable (H.may_write (holder_of self.old)) (version_of self.old) (sectors_of self.old)
-            → joined (version_of self.old) (H.bytes (holder_of self.new)) (sectors_of self.new)
-            ≡ joined (version_of self.old) (H.bytes (holder_of self.old)) (sectors_of self.old) ++ copies (length (sectors_of self.new) - length (sectors_of self.old)) (initial (init_of self.old) (sector_len (version_of self.old)))) }
-        ensures bytes { sectors_for (version_of self.old) len < length (sectors_of self.old) → OnOk result (IsTrue (H.honest (holder_of self.old)) → AreWritable (H.may_write (holder_of self.old)) (version_of self.old) (sectors_of self.old)
-            → joined (version_of self.old) (H.bytes (holder_of self.new)) (sectors_of self.new) ≡ joined (version_of self.old) (H.bytes (holder_of self.old)) (sectors_of self.new)) }
-        ensures position { OnOk result (position_of self.new ≡ min (position_of self.old) (length (sectors_of self.new) * sector_len (version_of self.old))) }
+        ensures count { OnOk result (length (sectors_of self.new)
+            ≡ sectors_for (version_of self.old) len) }
+        ensures longer { length (sectors_of self.old) ≤ sectors_for (version_of self.old) len
+            → Lengthens H.GrowsChains self.old (sectors_of self.new) (holder_of self.new) }
+        ensures filled { length (sectors_of self.old) ≤ sectors_for (version_of self.old) len
+            → OnOk result (Holds H.GrowsChains self.old (sectors_of self.new) (holder_of self.new)
+            (chain_bytes H.bytes self.old ++ copies (length (sectors_of self.new)
+            - length (sectors_of self.old)) (new_sector self.old))) }
+        ensures shorter { sectors_for (version_of self.old) len < length (sectors_of self.old)
+            → Cuts H.FreesChains (sectors_for (version_of self.old) len) result self.old self.new }
+        ensures keeps { OnOk result (Keeps H.GrowsChains self.old (sectors_of self.new)
+            (holder_of self.new)) }
+        ensures position { OnOk result (position_of self.new
+            ≡ min (position_of self.old) (len_of self.new)) }
         ensures stays { OnErr result (position_of self.new ≡ position_of self.old) }
         ensures same { IsSameBut self.old self.new }
-        ensures live { OnOk result ((H.failed (holder_of self.old) ≡ false) × (H.failed (holder_of self.new) ≡ false)) }
-        ensures refused { IsErrOf result InvalidData → IsTrue (H.orderly (holder_of self.old)) → IsLinked (H.fat (holder_of self.old)) (sectors_of self.old) → ⊥ }
-        ensures full { IsErrOf result Full → H.failed (holder_of self.new) ≡ false → IsTrue (H.orderly (holder_of self.old))
-            × (H.lacks (holder_of self.old) (sectors_for (version_of self.old) len - length (sectors_of self.old)) ⊎ (greatest_regular + 1 < sectors_for (version_of self.old) len)) }
-        ensures failed { H.failed (holder_of self.old) ≡ true → IsErrOf result Failed }
-        ensures after { OnErr result ((H.failed (holder_of self.new) ≡ true) ⊎ (H.rests (holder_of self.old) (holder_of self.new) × (sectors_of self.new ≡ sectors_of self.old))) }
-        ensures cause { IfErr result (H.has_cause (holder_of self.old) (holder_of self.new)) }
-        ensures fault { IfErr result (λ e. IsFaultUnless ⊥ e ⊎ (e ≡ InvalidData) ⊎ (e ≡ Full)) }
+        ensures refused { IsErrOf result InvalidData → IsUnlinked H.FreesChains self.old }
+        ensures full { IsErrOf result Full → H.failed (holder_of self.new) ≡ false
+            → IsTrue (H.orderly (holder_of self.old))
+            × LacksNumber H.lacks (sectors_for (version_of self.old) len) self.old }
+        ensures answers { Answers H.ChangesSectors IsInvalidOrFull result self.old self.new }
     {
         let count = needed_sectors(self.links.version(), len) as usize;
         if count < self.num_sectors() {

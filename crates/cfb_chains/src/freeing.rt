@@ -1,9 +1,10 @@
 //! Chains that are freed, at whatever height.
+ghost use Rattle.cfb_chains.specs.ChainCalls.{start_of, Answers, ChainRests, IsInvalid};
 ghost use Rattle.cfb_chains.specs.Changes.{DifferAt, HaveEntry};
 ghost use Rattle.cfb_medium.specs.Calls.{IsFaultUnless};
 ghost use Rattle.cfb_medium.specs.declared.error.Error.TheVariants.{Failed, InvalidData};
 ghost use Rattle.cfb_sectors.specs.Sectors.{end_of_chain, filled_part, free, Chain as IsChain};
-ghost use Rattle.std.specs.Prelude.{false, slice_index, slice_index_or, true, Bool, IfErr, IsErrOf, IsTrue, List, OnErr, OnOk, ℕ, [], ◌∷◌, ◌≡◌, ◌⊎◌};
+ghost use Rattle.std.specs.Prelude.{false, slice_index, true, Bool, IfErr, IsErrOf, IsTrue, List, OnErr, OnOk, ℕ, [], ◌∷◌, ◌≡◌, ◌⊎◌};
 
 use crate::Chain;
 use cfb_medium::Error;
@@ -23,23 +24,40 @@ pub trait FreesChains: ChangesSectors {
     /// Frees the sectors of the chain from a start. `InvalidData` where the FAT has none or the tables can't be changed, and
     /// then nothing is changed. After a fault in a write it has failed.
     fn free_chain(&mut self, start: u32) -> Result<(), Error>
-        ensures frees { (ids : List ℕ) × OnOk result (IsChain (fat self.old) start ids × HaveEntry free (fat self.new) ids) × changes_fat ids self.old self.new }
-        ensures live { OnOk result ((Self.failed self.old ≡ false) × IsTrue (orderly self.old) × (Self.failed self.new ≡ false)) }
-        ensures refused { IsErrOf result InvalidData → (IsTrue (orderly self.old) → (ids : List ℕ) → IsChain (fat self.old) start ids → ⊥) × Self.rests self.old self.new }
-        ensures failed { Self.failed self.old ≡ true → IsErrOf result Failed × Self.rests self.old self.new }
+        ensures frees { (ids : List ℕ) × OnOk result (IsChain (fat self.old) start ids
+            × HaveEntry free (fat self.new) ids) × changes_fat ids self.old self.new }
+        ensures live { OnOk result ((Self.failed self.old ≡ false) × IsTrue (orderly self.old)
+            × (Self.failed self.new ≡ false)) }
+        ensures refused { IsErrOf result InvalidData
+            → (IsTrue (orderly self.old) → (ids : List ℕ) → IsChain (fat self.old) start ids → ⊥)
+            × Self.rests self.old self.new }
+        ensures failed { Self.failed self.old ≡ true
+            → IsErrOf result Failed × Self.rests self.old self.new }
         ensures cause { IfErr result (Self.has_cause self.old self.new) }
-        ensures fault { IfErr result (λ e. (IsFaultUnless ⊥ e × ((Self.failed self.new ≡ true) ⊎ Self.rests self.old self.new)) ⊎ (e ≡ InvalidData)) };
+        ensures fault { IfErr result (λ e. (IsFaultUnless ⊥ e
+            × ((Self.failed self.new ≡ true) ⊎ Self.rests self.old self.new))
+            ⊎ (e ≡ InvalidData)) };
 
     /// Ends a chain with this sector, and frees those behind it. `InvalidData` where the FAT has no chain from it or the tables
     /// can't be changed, and then nothing is changed. After a fault in a write it has failed.
     fn free_chain_after(&mut self, sector_id: u32) -> Result<(), Error>
-        ensures frees { (ids : List ℕ) × OnOk result (IsChain (fat self.old) sector_id (sector_id ∷ ids) × (slice_index (fat self.new) sector_id ≡ end_of_chain) × HaveEntry free (fat self.new) ids)
+        ensures frees { (ids : List ℕ) × OnOk result
+            (IsChain (fat self.old) sector_id (sector_id ∷ ids)
+            × (slice_index (fat self.new) sector_id ≡ end_of_chain)
+            × HaveEntry free (fat self.new) ids)
             × changes_fat (sector_id ∷ ids) self.old self.new }
-        ensures live { OnOk result ((Self.failed self.old ≡ false) × IsTrue (orderly self.old) × (Self.failed self.new ≡ false)) }
-        ensures refused { IsErrOf result InvalidData → (IsTrue (orderly self.old) → (ids : List ℕ) → IsChain (fat self.old) sector_id (sector_id ∷ ids) → ⊥) × Self.rests self.old self.new }
-        ensures failed { Self.failed self.old ≡ true → IsErrOf result Failed × Self.rests self.old self.new }
+        ensures live { OnOk result ((Self.failed self.old ≡ false) × IsTrue (orderly self.old)
+            × (Self.failed self.new ≡ false)) }
+        ensures refused { IsErrOf result InvalidData
+            → (IsTrue (orderly self.old) → (ids : List ℕ)
+            → IsChain (fat self.old) sector_id (sector_id ∷ ids) → ⊥)
+            × Self.rests self.old self.new }
+        ensures failed { Self.failed self.old ≡ true
+            → IsErrOf result Failed × Self.rests self.old self.new }
         ensures cause { IfErr result (Self.has_cause self.old self.new) }
-        ensures fault { IfErr result (λ e. (IsFaultUnless ⊥ e × ((Self.failed self.new ≡ true) ⊎ Self.rests self.old self.new)) ⊎ (e ≡ InvalidData)) };
+        ensures fault { IfErr result (λ e. (IsFaultUnless ⊥ e
+            × ((Self.failed self.new ≡ true) ⊎ Self.rests self.old self.new))
+            ⊎ (e ≡ InvalidData)) };
 
     // other entries stay, and so do the bytes that may be written
     ghost changes_keep: { (entries : List ℕ) (a b : Self) → changes_fat entries a b → (Self.honest b ≡ Self.honest a)
@@ -58,17 +76,20 @@ impl<'a, H: FreesChains> Chain<'a, H> {
     /// Frees the sectors of the chain from its first on, as the FAT has it; it has none then. `InvalidData` where the FAT has
     /// none or the tables can't be changed, and then nothing is changed. After a fault in a write the layer has failed.
     pub fn free(&mut self) -> Result<(), Error>
-        ensures frees { (ids : List ℕ) × OnOk result (IsChain (H.fat (holder_of self.old)) (slice_index_or (sectors_of self.old) 0 end_of_chain) ids × HaveEntry free (H.fat (holder_of self.new)) ids)
+        ensures frees { (ids : List ℕ) × OnOk result
+            (IsChain (H.fat (holder_of self.old)) (start_of self.old) ids
+            × HaveEntry free (H.fat (holder_of self.new)) ids)
             × H.changes_fat ids (holder_of self.old) (holder_of self.new) }
         ensures emptied { OnOk result ((sectors_of self.new ≡ []) × (position_of self.new ≡ 0)) }
-        ensures kept { OnErr result ((sectors_of self.new ≡ sectors_of self.old) × (position_of self.new ≡ position_of self.old)) }
+        ensures kept { OnErr result ((sectors_of self.new ≡ sectors_of self.old)
+            × (position_of self.new ≡ position_of self.old)) }
         ensures same { IsSameBut self.old self.new }
-        ensures live { OnOk result ((H.failed (holder_of self.old) ≡ false) × IsTrue (H.orderly (holder_of self.old)) × (H.failed (holder_of self.new) ≡ false)) }
-        ensures refused { IsErrOf result InvalidData → (IsTrue (H.orderly (holder_of self.old)) → (ids : List ℕ) → IsChain (H.fat (holder_of self.old)) (slice_index_or (sectors_of self.old) 0 end_of_chain) ids → ⊥)
-            × H.rests (holder_of self.old) (holder_of self.new) }
-        ensures failed { H.failed (holder_of self.old) ≡ true → IsErrOf result Failed × H.rests (holder_of self.old) (holder_of self.new) }
-        ensures cause { IfErr result (H.has_cause (holder_of self.old) (holder_of self.new)) }
-        ensures fault { IfErr result (λ e. (IsFaultUnless ⊥ e × ((H.failed (holder_of self.new) ≡ true) ⊎ H.rests (holder_of self.old) (holder_of self.new))) ⊎ (e ≡ InvalidData)) }
+        ensures orderly { OnOk result (IsTrue (H.orderly (holder_of self.old))) }
+        ensures refused { IsErrOf result InvalidData
+            → (IsTrue (H.orderly (holder_of self.old)) → (ids : List ℕ)
+            → IsChain (H.fat (holder_of self.old)) (start_of self.old) ids → ⊥)
+            × ChainRests H.rests self.old self.new }
+        ensures answers { Answers H.ChangesSectors IsInvalid result self.old self.new }
     {
         let start = self.start_sector_id();
         self.holder.free_chain(start)?;

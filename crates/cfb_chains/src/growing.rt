@@ -37,40 +37,64 @@ pub trait GrowsChains: FreesChains {
     /// `InvalidData` where the tables can't be changed, `Full` where no sector's number is left, and then nothing is changed.
     /// After a fault in a write it has failed.
     fn begin_chain(&mut self, init: SectorInit) -> Result<u32, Error>
-        ensures begins { IfOk result (λ n. IsChain (Self.fat self.new) n (n ∷ []) × grows (n ∷ []) (n ∷ []) self.old self.new) }
+        ensures begins { IfOk result (λ n. IsChain (Self.fat self.new) n (n ∷ [])
+            × grows (n ∷ []) (n ∷ []) self.old self.new) }
         ensures none { OnErr result (grows [] [] self.old self.new) }
-        ensures filled { IfOk result (λ n. IsTrue (Self.honest self.old) → sector (version self.old) (Self.bytes self.new) n ≡ initial init (sector_len (version self.old))) }
-        ensures appended { IfOk result (λ n. length (Self.fat self.old) ≤ n → (k : ℕ) → slice_get (Self.fat self.old) k ≡ Some free → IsNoneOf (tables self.old) k → ⊥) }
-        ensures writable { IfOk result (λ n. Self.may_write self.new (sector_start (version self.old) n) (sector_len (version self.old))) }
-        ensures live { OnOk result ((Self.failed self.old ≡ false) × IsTrue (Self.orderly self.old) × (Self.failed self.new ≡ false)) }
-        ensures refused { IsErrOf result InvalidData → (IsTrue (Self.orderly self.old) → ⊥) × Self.rests self.old self.new }
+        ensures filled { IfOk result (λ n. IsTrue (Self.honest self.old)
+            → sector (version self.old) (Self.bytes self.new) n
+            ≡ initial init (sector_len (version self.old))) }
+        ensures appended { IfOk result (λ n. length (Self.fat self.old) ≤ n → (k : ℕ)
+            → slice_get (Self.fat self.old) k ≡ Some free → IsNoneOf (tables self.old) k → ⊥) }
+        ensures writable { IfOk result (λ n. Self.may_write self.new
+            (sector_start (version self.old) n) (sector_len (version self.old))) }
+        ensures live { OnOk result ((Self.failed self.old ≡ false) × IsTrue (Self.orderly self.old)
+            × (Self.failed self.new ≡ false)) }
+        ensures refused { IsErrOf result InvalidData
+            → (IsTrue (Self.orderly self.old) → ⊥) × Self.rests self.old self.new }
         ensures full { IsErrOf result Full → is_full self.old × Self.rests self.old self.new }
-        ensures failed { Self.failed self.old ≡ true → IsErrOf result Failed × Self.rests self.old self.new }
+        ensures failed { Self.failed self.old ≡ true
+            → IsErrOf result Failed × Self.rests self.old self.new }
         ensures cause { IfErr result (Self.has_cause self.old self.new) }
-        ensures fault { IfErr result (λ e. (IsFaultUnless ⊥ e × ((Self.failed self.new ≡ true) ⊎ Self.rests self.old self.new)) ⊎ (e ≡ InvalidData) ⊎ (e ≡ Full)) };
+        ensures fault { IfErr result (λ e. (IsFaultUnless ⊥ e
+            × ((Self.failed self.new ≡ true) ⊎ Self.rests self.old self.new)) ⊎ (e ≡ InvalidData)
+            ⊎ (e ≡ Full)) };
 
     /// Extends the chain from a start by one sector behind its last. `InvalidData` where the FAT has no such chain, it has no
     /// sector, or the tables can't be changed, `Full` where no sector's number is left, and then nothing is changed. After a
     /// fault in a write it has failed.
     fn extend_chain(&mut self, start: u32, init: SectorInit) -> Result<u32, Error>
-        ensures extends { IfOk result (λ n. (ids : List ℕ) × (last : ℕ) × IsChain (Self.fat self.old) start (ids ++ last ∷ []) × IsChain (Self.fat self.new) start (ids ++ last ∷ n ∷ [])
+        ensures extends { IfOk result (λ n. (ids : List ℕ) × (last : ℕ)
+            × IsChain (Self.fat self.old) start (ids ++ last ∷ [])
+            × IsChain (Self.fat self.new) start (ids ++ last ∷ n ∷ [])
             × grows (n ∷ []) (last ∷ n ∷ []) self.old self.new) }
         ensures none { OnErr result (grows [] [] self.old self.new) }
-        ensures filled { IfOk result (λ n. IsTrue (Self.honest self.old) → sector (version self.old) (Self.bytes self.new) n ≡ initial init (sector_len (version self.old))) }
-        ensures appended { IfOk result (λ n. length (Self.fat self.old) ≤ n → (k : ℕ) → slice_get (Self.fat self.old) k ≡ Some free → IsNoneOf (tables self.old) k → ⊥) }
-        ensures writable { IfOk result (λ n. Self.may_write self.new (sector_start (version self.old) n) (sector_len (version self.old))) }
-        ensures live { OnOk result ((Self.failed self.old ≡ false) × IsTrue (Self.orderly self.old) × (Self.failed self.new ≡ false)) }
-        ensures refused { IsErrOf result InvalidData → (IsTrue (Self.orderly self.old) → (ids : List ℕ) (last : ℕ) → IsChain (Self.fat self.old) start (ids ++ last ∷ []) → ⊥) × Self.rests self.old self.new }
+        ensures filled { IfOk result (λ n. IsTrue (Self.honest self.old)
+            → sector (version self.old) (Self.bytes self.new) n
+            ≡ initial init (sector_len (version self.old))) }
+        ensures appended { IfOk result (λ n. length (Self.fat self.old) ≤ n → (k : ℕ)
+            → slice_get (Self.fat self.old) k ≡ Some free → IsNoneOf (tables self.old) k → ⊥) }
+        ensures writable { IfOk result (λ n. Self.may_write self.new
+            (sector_start (version self.old) n) (sector_len (version self.old))) }
+        ensures live { OnOk result ((Self.failed self.old ≡ false) × IsTrue (Self.orderly self.old)
+            × (Self.failed self.new ≡ false)) }
+        ensures refused { IsErrOf result InvalidData
+            → (IsTrue (Self.orderly self.old) → (ids : List ℕ) (last : ℕ)
+            → IsChain (Self.fat self.old) start (ids ++ last ∷ []) → ⊥)
+            × Self.rests self.old self.new }
         ensures full { IsErrOf result Full → is_full self.old × Self.rests self.old self.new }
-        ensures failed { Self.failed self.old ≡ true → IsErrOf result Failed × Self.rests self.old self.new }
+        ensures failed { Self.failed self.old ≡ true
+            → IsErrOf result Failed × Self.rests self.old self.new }
         ensures cause { IfErr result (Self.has_cause self.old self.new) }
-        ensures fault { IfErr result (λ e. (IsFaultUnless ⊥ e × ((Self.failed self.new ≡ true) ⊎ Self.rests self.old self.new)) ⊎ (e ≡ InvalidData) ⊎ (e ≡ Full)) };
+        ensures fault { IfErr result (λ e. (IsFaultUnless ⊥ e
+            × ((Self.failed self.new ≡ true) ⊎ Self.rests self.old self.new)) ⊎ (e ≡ InvalidData)
+            ⊎ (e ≡ Full)) };
 
     /// Sees whether the chain from a start can take in so many sectors: `InvalidData` where the FAT has no such chain or the
     /// tables can't be changed, and then `Full` where fewer numbers are left. Nothing is changed.
     fn check_growth(&self, start: u32, count: usize) -> Result<(), Error>
         ensures ready { OnOk result (IsTrue (Self.orderly self.now)) }
-        ensures refused { IsErrOf result InvalidData → IsTrue (Self.orderly self.now) → (ids : List ℕ) → IsChain (Self.fat self.now) start ids → ⊥ }
+        ensures refused { IsErrOf result InvalidData → IsTrue (Self.orderly self.now)
+            → (ids : List ℕ) → IsChain (Self.fat self.now) start ids → ⊥ }
         ensures full { IsErrOf result Full → IsTrue (Self.orderly self.now) × lacks self.now count }
         ensures failed { Self.failed self.now ≡ true → IsErrOf result Failed }
         ensures cause { IfErr result (Self.has_cause self.now self.now) }

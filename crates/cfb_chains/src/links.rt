@@ -20,9 +20,11 @@ impl Links {
 
     /// These sectors of a file of this version. `InvalidData` where they are more than there are numbers for them.
     pub fn new(version: Version, sector_ids: Vec<u32>) -> Result<Links, Error>
-        ensures links { IfOk result (λ it. (links_version it ≡ version) × (ids_of it ≡ sector_ids.items)) }
+        ensures links { IfOk result (λ it. (links_version it ≡ version)
+            × (ids_of it ≡ sector_ids.items)) }
         ensures few { OnOk result (length sector_ids.items ≤ greatest_regular + 1) }
-        ensures many { IfErr result (λ e. (e ≡ InvalidData) × (length sector_ids.items ≤ greatest_regular + 1 → ⊥)) }
+        ensures many { IfErr result (λ e. (e ≡ InvalidData)
+            × (length sector_ids.items ≤ greatest_regular + 1 → ⊥)) }
     {
         if sector_ids.len() > MAX_REGULAR_SECTOR as usize + 1 {
             return Err(Error::InvalidData);
@@ -50,8 +52,10 @@ impl Links {
     // Makes room for one sector more. `Full` where there is no number for it.
     pub(crate) fn reserve_one(&mut self) -> Result<(), Error>
         ensures room { OnOk result (HasRoom self.new) }
-        ensures same { (ids_of self.new ≡ ids_of self.old) × (links_version self.new ≡ links_version self.old) }
-        ensures error { IfErr result (λ e. (e ≡ Memory) ⊎ ((e ≡ Full) × (greatest_regular < length (ids_of self.old)))) }
+        ensures same { (ids_of self.new ≡ ids_of self.old)
+            × (links_version self.new ≡ links_version self.old) }
+        ensures error { IfErr result (λ e. (e ≡ Memory)
+            ⊎ ((e ≡ Full) × (greatest_regular < length (ids_of self.old)))) }
     {
         if self.sector_ids.len() > MAX_REGULAR_SECTOR as usize {
             return Err(Error::Full);
@@ -62,8 +66,10 @@ impl Links {
 
     // Makes room for so many sectors more. `Full` where there are not so many numbers.
     pub(crate) fn reserve(&mut self, count: usize) -> Result<(), Error>
-        ensures same { (ids_of self.new ≡ ids_of self.old) × (links_version self.new ≡ links_version self.old) }
-        ensures error { IfErr result (λ e. (e ≡ Memory) ⊎ ((e ≡ Full) × (greatest_regular + 1 < length (ids_of self.old) + count))) }
+        ensures same { (ids_of self.new ≡ ids_of self.old)
+            × (links_version self.new ≡ links_version self.old) }
+        ensures error { IfErr result (λ e. (e ≡ Memory)
+            ⊎ ((e ≡ Full) × (greatest_regular + 1 < length (ids_of self.old) + count))) }
     {
         if count > MAX_REGULAR_SECTOR as usize + 1 - self.sector_ids.len() {
             return Err(Error::Full);
@@ -75,14 +81,16 @@ impl Links {
     // Takes in a sector behind the last.
     pub(crate) fn push_reserved(&mut self, sector_id: u32)
         requires { HasRoom self.old }
-        ensures { (ids_of self.new ≡ ids_of self.old ++ sector_id ∷ []) × (links_version self.new ≡ links_version self.old) }
+        ensures { (ids_of self.new ≡ ids_of self.old ++ sector_id ∷ [])
+            × (links_version self.new ≡ links_version self.old) }
     {
         self.sector_ids.push_reserved(sector_id);
     }
 
     // Keeps so many sectors, those at the front.
     pub(crate) fn truncate(&mut self, count: usize)
-        ensures { (ids_of self.new ≡ take count (ids_of self.old)) × (links_version self.new ≡ links_version self.old) }
+        ensures { (ids_of self.new ≡ take count (ids_of self.old))
+            × (links_version self.new ≡ links_version self.old) }
     {
         self.sector_ids.truncate(count);
     }
@@ -99,7 +107,8 @@ impl Links {
 pub fn chain_in(alloc: Global, table: &[u32], start: u32) -> Result<Vec<u32>, Error>
     ensures chain { IfOk result (λ sectors. IsChain table.now start sectors.items) }
     ensures few { IfOk result (λ sectors. vec_len sectors ≤ greatest_regular + 1) }
-    ensures none { IsErrOf result InvalidData → (sectors : List ℕ) → IsChain table.now start sectors → ⊥ }
+    ensures none { IsErrOf result InvalidData → (sectors : List ℕ)
+        → IsChain table.now start sectors → ⊥ }
     ensures error { IfErr result (λ e. (e ≡ InvalidData) ⊎ (e ≡ Memory)) }
 {
     let mut sectors = Vec::new(alloc);

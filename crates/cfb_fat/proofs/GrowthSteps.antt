@@ -177,6 +177,10 @@ pub ok_four : {T : Type 0} (r : Result T Error) (P Q R S X : T → Type 0) → I
 ok_four (Ok x) P Q R S X p q r s f = f x p q r s
 ok_four (Err e) P Q R S X p q r s f = tt
 
+pub err_both : {T : Type 0} (r : Result T Error) (P : Error → Type 0) (X : Type 0) (Q : Error → Type 0) → IfErr r P → OnErr r X → ((e : Error) → P e → X → Q e) → IfErr r Q
+err_both (Ok x) P X Q h k f = tt
+err_both (Err e) P X Q h k f = f e h k
+
 pub on_ok_map : {T : Type 0} (r : Result T Error) (X Y : Type 0) → OnOk r X → (X → Y) → OnOk r Y
 on_ok_map (Ok x) X Y h f = f h
 on_ok_map (Err e) X Y h f = tt

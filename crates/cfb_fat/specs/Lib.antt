@@ -1,3 +1,4 @@
+pub mod Calls
 pub mod Changing
 pub mod Growing
 pub mod HeaderWords

@@ -66,6 +66,15 @@ module _ {F : Type 0} {g : Ghosts F} where
     pub difat_sectors : difat_sectors_of new ≡ difat_sectors_of old
     pub orderly : orderly_of new ≡ orderly_of old
 
+  -- the tables are those that they were, and as many sectors are there
+  pub record KeepsTables (old new : Allocator F g) : Type 0 where
+    pub version : version_of new ≡ version_of old
+    pub count : held.count_of (sectors_of new) ≡ held.count_of (sectors_of old)
+    pub fat : fat_of new ≡ fat_of old
+    pub fat_sectors : fat_sectors_of new ≡ fat_sectors_of old
+    pub difat_sectors : difat_sectors_of new ≡ difat_sectors_of old
+    pub orderly : orderly_of new ≡ orderly_of old
+
   -- it is as it was, but every call is refused
   pub record AllFails (old new : Allocator F g) : Type 0 where
     pub sectors : held.Fails old.sectors new.sectors

@@ -21,7 +21,8 @@ use cfb_sectors::{ChangesSectors, HasSectors, Part};
 // Whether a part of the file has no byte of a sector.
 fn is_apart(version: Version, sector_id: u32, place: u64, count: usize) -> bool
     requires { place + count < 2 ^ 63 }
-    ensures { IsTrue result ↔ ((sector_start version sector_id + sector_len version ≤ place) ⊎ (place + count ≤ sector_start version sector_id)) }
+    ensures { IsTrue result ↔ ((sector_start version sector_id + sector_len version ≤ place)
+        ⊎ (place + count ≤ sector_start version sector_id)) }
 {
     let len = version.sector_len() as u64;
     let start = (u64::from(sector_id) + 1) * len;
@@ -55,7 +56,8 @@ impl<F: ReadMedium> Allocator<F> {
 
     // Reads as the sectors do.
     fn read_filled(&mut self, place: u64, buffer: &mut [u8]) -> Result<(), Error>
-        ensures read { OnOk result (IsTrue (is_honest self.old) → buffer.new ≡ filled_part (bytes_of self.old) place (length buffer.old)) }
+        ensures read { OnOk result (IsTrue (is_honest self.old)
+            → buffer.new ≡ filled_part (bytes_of self.old) place (length buffer.old)) }
         ensures rests { AllRests self.old self.new }
         ensures failed { has_failed_here self.old ≡ true → IsErrOf result Failed }
         ensures cause { IfErr result (HasCauseBelow self.old self.new) }
@@ -72,10 +74,15 @@ impl<F: ReadMedium> Allocator<F> {
         offset: usize,
         buffer: &mut [u8],
     ) -> Result<(), Error>
-        ensures read { OnOk result (IsTrue (is_honest self.old) → buffer.new ≡ filled_part (bytes_of self.old) (sector_start (version_of self.old) sector_id + offset) (length buffer.old)) }
-        ensures inside { OnOk result ((has_failed_here self.old ≡ false) × LiesIn (sectors_of self.old) sector_id offset (length buffer.old)) }
+        ensures read { OnOk result (IsTrue (is_honest self.old)
+            → buffer.new ≡ filled_part (bytes_of self.old)
+            (sector_start (version_of self.old) sector_id + offset) (length buffer.old)) }
+        ensures inside { OnOk result ((has_failed_here self.old ≡ false)
+            × LiesIn (sectors_of self.old) sector_id offset (length buffer.old)) }
         ensures failed { has_failed_here self.old ≡ true → IsErrOf result Failed }
-        ensures refused { IsErrOf result InvalidData ↔ ((has_failed_here self.old ≡ false) × (LiesIn (sectors_of self.old) sector_id offset (length buffer.old) → ⊥)) }
+        ensures refused { IsErrOf result InvalidData
+            ↔ ((has_failed_here self.old ≡ false) × (LiesIn (sectors_of self.old) sector_id offset
+            (length buffer.old) → ⊥)) }
         ensures rests { AllRests self.old self.new }
         ensures cause { IfErr result (HasCauseBelow self.old self.new) }
         ensures fault { IfErr result (λ e. IsFaultUnless ⊥ e ⊎ (e ≡ InvalidData)) }
@@ -85,7 +92,8 @@ impl<F: ReadMedium> Allocator<F> {
 
     /// The header as a part of the file, at this offset. `InvalidData` where the offset is past its end.
     pub fn seek_within_header(&self, offset: usize) -> Result<Part, Error>
-        ensures part { IfOk result (λ it. (part_start it ≡ 0) × (part_len it ≡ 512) × (part_position it ≡ offset)) }
+        ensures part { IfOk result (λ it. (part_start it ≡ 0) × (part_len it ≡ 512)
+            × (part_position it ≡ offset)) }
         ensures there { OnOk result ((has_failed_here self.now ≡ false) × (offset ≤ 512)) }
         ensures error { IfErr result (IsRefused (has_failed_here self.now) (offset ≤ 512)) }
     {
@@ -94,18 +102,28 @@ impl<F: ReadMedium> Allocator<F> {
 
     /// A sector as a part of the file, at its first byte. `InvalidData` where it isn't there.
     pub fn seek_to_sector(&self, sector_id: u32) -> Result<Part, Error>
-        ensures part { IfOk result (λ it. (part_start it ≡ sector_start (version_of self.now) sector_id) × (part_len it ≡ sector_len (version_of self.now)) × (part_position it ≡ 0)) }
-        ensures there { OnOk result ((has_failed_here self.now ≡ false) × (sector_id < count_of (sectors_of self.now))) }
-        ensures error { IfErr result (IsRefused (has_failed_here self.now) (sector_id < count_of (sectors_of self.now))) }
+        ensures part { IfOk result (λ it. (part_start it
+            ≡ sector_start (version_of self.now) sector_id)
+            × (part_len it ≡ sector_len (version_of self.now)) × (part_position it ≡ 0)) }
+        ensures there { OnOk result ((has_failed_here self.now ≡ false)
+            × (sector_id < count_of (sectors_of self.now))) }
+        ensures error { IfErr result (IsRefused (has_failed_here self.now)
+            (sector_id < count_of (sectors_of self.now))) }
     {
         self.sectors.seek_to_sector(sector_id)
     }
 
     /// A sector as a part of the file, at this offset. `InvalidData` where it isn't there or the offset is past its end.
     pub fn seek_within_sector(&self, sector_id: u32, offset: usize) -> Result<Part, Error>
-        ensures part { IfOk result (λ it. (part_start it ≡ sector_start (version_of self.now) sector_id) × (part_len it ≡ sector_len (version_of self.now)) × (part_position it ≡ offset)) }
-        ensures there { OnOk result ((has_failed_here self.now ≡ false) × (sector_id < count_of (sectors_of self.now)) × (offset ≤ sector_len (version_of self.now))) }
-        ensures error { IfErr result (IsRefused (has_failed_here self.now) ((sector_id < count_of (sectors_of self.now)) × (offset ≤ sector_len (version_of self.now)))) }
+        ensures part { IfOk result (λ it. (part_start it
+            ≡ sector_start (version_of self.now) sector_id)
+            × (part_len it ≡ sector_len (version_of self.now)) × (part_position it ≡ offset)) }
+        ensures there { OnOk result ((has_failed_here self.now ≡ false)
+            × (sector_id < count_of (sectors_of self.now))
+            × (offset ≤ sector_len (version_of self.now))) }
+        ensures error { IfErr result (IsRefused (has_failed_here self.now)
+            ((sector_id < count_of (sectors_of self.now))
+            × (offset ≤ sector_len (version_of self.now)))) }
     {
         self.sectors.seek_within_sector(sector_id, offset)
     }
@@ -119,9 +137,15 @@ impl<F: ReadMedium> Allocator<F> {
         len: usize,
         offset: usize,
     ) -> Result<Part, Error>
-        ensures part { IfOk result (λ it. (part_start it ≡ sector_start (version_of self.now) sector_id + index * len) × (part_len it ≡ len) × (part_position it ≡ offset)) }
-        ensures there { OnOk result ((has_failed_here self.now ≡ false) × (sector_id < count_of (sectors_of self.now)) × (index * len + len ≤ sector_len (version_of self.now)) × (offset ≤ len)) }
-        ensures error { IfErr result (IsRefused (has_failed_here self.now) ((sector_id < count_of (sectors_of self.now)) × (index * len + len ≤ sector_len (version_of self.now)) × (offset ≤ len))) }
+        ensures part { IfOk result (λ it. (part_start it
+            ≡ sector_start (version_of self.now) sector_id + index * len) × (part_len it ≡ len)
+            × (part_position it ≡ offset)) }
+        ensures there { OnOk result ((has_failed_here self.now ≡ false)
+            × (sector_id < count_of (sectors_of self.now))
+            × (index * len + len ≤ sector_len (version_of self.now)) × (offset ≤ len)) }
+        ensures error { IfErr result (IsRefused (has_failed_here self.now)
+            ((sector_id < count_of (sectors_of self.now))
+            × (index * len + len ≤ sector_len (version_of self.now)) × (offset ≤ len))) }
     {
         let sector = self.seek_to_sector(sector_id)?;
         let Some(start) = (index as usize).checked_mul(len) else {
@@ -160,15 +184,26 @@ impl<F: Medium> Allocator<F> {
         offset: usize,
         bytes: &[u8],
     ) -> Result<(), Error>
-        ensures writes { OnOk result (WritesBeside (sector_start (version_of self.old) sector_id + offset) bytes.now self.old self.new) }
-        ensures leaves { OnOk result (offset + length bytes.now ≤ sector_len (version_of self.old) → IsTrue (is_honest self.old) → Leaves (sector (version_of self.old)) [] (sector_id ∷ []) (seen_of self.old) (seen_of self.new)) }
-        ensures there { OnOk result ((sector_id < count_of (sectors_of self.old)) × MayWrite self.old (sector_start (version_of self.old) sector_id + offset) (length bytes.now)) }
-        ensures refused { IsErrOf result InvalidData ↔ ((has_failed_here self.old ≡ false) × ((sector_id < count_of (sectors_of self.old)) × MayWrite self.old (sector_start (version_of self.old) sector_id + offset) (length bytes.now) → ⊥)) }
+        ensures writes { OnOk result (WritesBeside
+            (sector_start (version_of self.old) sector_id + offset) bytes.now self.old self.new) }
+        ensures leaves { OnOk result (offset + length bytes.now ≤ sector_len (version_of self.old)
+            → IsTrue (is_honest self.old) → Leaves (sector (version_of self.old)) []
+            (sector_id ∷ []) (seen_of self.old) (seen_of self.new)) }
+        ensures there { OnOk result ((sector_id < count_of (sectors_of self.old))
+            × MayWrite self.old (sector_start (version_of self.old) sector_id + offset)
+            (length bytes.now)) }
+        ensures refused { IsErrOf result InvalidData
+            ↔ ((has_failed_here self.old ≡ false) × ((sector_id < count_of (sectors_of self.old))
+            × MayWrite self.old (sector_start (version_of self.old) sector_id + offset)
+            (length bytes.now) → ⊥)) }
         ensures rests { IsErrOf result InvalidData → AllRests self.old self.new }
-        ensures live { OnOk result ((has_failed_here self.old ≡ false) × (has_failed_here self.new ≡ false)) }
-        ensures failed { has_failed_here self.old ≡ true → IsErrOf result Failed × AllRests self.old self.new }
+        ensures live { OnOk result ((has_failed_here self.old ≡ false)
+            × (has_failed_here self.new ≡ false)) }
+        ensures failed { has_failed_here self.old ≡ true
+            → IsErrOf result Failed × AllRests self.old self.new }
         ensures cause { IfErr result (HasCauseBelow self.old self.new) }
-        ensures fault { IfErr result (λ e. (IsFaultUnless ⊥ e × (has_failed_here self.new ≡ true)) ⊎ (e ≡ InvalidData)) }
+        ensures fault { IfErr result (λ e. (IsFaultUnless ⊥ e × (has_failed_here self.new ≡ true))
+            ⊎ (e ≡ InvalidData)) }
     {
         if self.sectors.is_failed() {
             return Err(Error::Failed);
@@ -189,9 +224,11 @@ impl<F: Medium> Allocator<F> {
     pub(crate) fn write_beside(&mut self, place: u64, bytes: &[u8]) -> Result<(), Error>
         requires { MayWrite self.old place (length bytes.now) }
         ensures writes { WritesBeside place bytes.now self.old self.new }
-        ensures live { OnOk result ((has_failed_here self.old ≡ false) × (has_failed_here self.new ≡ false)) }
+        ensures live { OnOk result ((has_failed_here self.old ≡ false)
+            × (has_failed_here self.new ≡ false)) }
         ensures err { OnErr result (has_failed_here self.new ≡ true) }
-        ensures failed { has_failed_here self.old ≡ true → IsErrOf result Failed × AllRests self.old self.new }
+        ensures failed { has_failed_here self.old ≡ true
+            → IsErrOf result Failed × AllRests self.old self.new }
         ensures cause { IfErr result (HasCauseBelow self.old self.new) }
         ensures fault { IfErr result (IsFaultUnless ⊥) }
     {

@@ -5,7 +5,7 @@ ghost use Rattle.cfb_medium.specs.declared.error.Error.TheVariants.{Failed, Inva
 ghost use Rattle.cfb_chains.specs.Changes.{IsNoneOf};
 ghost use Rattle.cfb_fat.specs.Listed.{Lists};
 ghost use Rattle.cfb_fat.specs.Orderly.{AreBelow, IsOrderly};
-ghost use Rattle.cfb_sectors.specs.Held.{bytes_of as sectors_bytes, count_of as sectors_count, has_failed_here as sectors_failed, medium_of as sectors_medium, version_of as sectors_version, AreCounted, IsHonest as AreHonest, IsRefused, Rests};
+ghost use Rattle.cfb_sectors.specs.Held.{bytes_of as sectors_bytes, count_of as sectors_count, has_failed_here as sectors_failed, medium_of as sectors_medium, version_of as sectors_version, AreCounted, IsHonest as AreHonest, IsRefused, LeavesOldOrBytes, Rests};
 ghost use Rattle.cfb_sectors.specs.Sectors.{fat_in, free, Chain as IsChain};
 ghost use Rattle.std.specs.Prelude.{false, length, slice_get, slice_index, take, true, IfErr, IfOk, IsErrOf, IsTrue, List, None, OnErr, OnOk, Some, ℕ, ◌*◌, ◌++◌, ◌/◌, ◌<◌, ◌≡◌, ◌≤◌, ◌↔◌, ◌⊎◌};
 
@@ -49,14 +49,19 @@ impl<F: ReadMedium> Allocator<F> {
         fat_sectors: Vec<u32>,
     ) -> Result<Allocator<F>, (F, Error)>
         ensures sectors { IfOk result (λ it. Rests sectors (sectors_of it)) }
-        ensures tables { IfOk result (λ it. (difat_sectors_of it ≡ difat_sectors.items) × (fat_sectors_of it ≡ fat_sectors.items)) }
-        ensures fat { IfOk result (λ it. AreHonest sectors → fat_of it ≡ take (sectors_count sectors) (fat_in (sectors_version sectors) (sectors_bytes sectors) fat_sectors.items)) }
+        ensures tables { IfOk result (λ it. (difat_sectors_of it ≡ difat_sectors.items)
+            × (fat_sectors_of it ≡ fat_sectors.items)) }
+        ensures fat { IfOk result (λ it. AreHonest sectors
+            → fat_of it ≡ take (sectors_count sectors)
+            (fat_in (sectors_version sectors) (sectors_bytes sectors) fat_sectors.items)) }
         ensures there { IfOk result (λ _. AreCounted sectors fat_sectors.items) }
-        ensures missing { IfErr result (λ e. e.1 ≡ InvalidData → AreCounted sectors fat_sectors.items → ⊥) }
+        ensures missing { IfErr result (λ e. e.1 ≡ InvalidData
+            → AreCounted sectors fat_sectors.items → ⊥) }
         ensures fault { IfErr result (λ e. IsFaultUnless ⊥ e.1 ⊎ (e.1 ≡ InvalidData)) }
         ensures honest { IfErr result (λ e. F.honest e.0 ≡ F.honest (sectors_medium sectors)) }
         ensures continues { IfErr result (λ e. Extends F.continues (sectors_medium sectors) e.0) }
-        ensures bytes { IfErr result (λ e. AreHonest sectors → F.bytes e.0 ≡ sectors_bytes sectors) }
+        ensures bytes { IfErr result (λ e. AreHonest sectors
+            → F.bytes e.0 ≡ sectors_bytes sectors) }
     {
         match read_parts(alloc, &mut sectors, &difat_sectors, &fat_sectors) {
             Ok((fat, is_orderly)) => Ok(Allocator {
@@ -132,9 +137,11 @@ impl<F: ReadMedium> Allocator<F> {
 
     /// The sectors of the DIFAT and then those of the FAT.
     pub fn table_sectors(&self) -> Result<Vec<u32>, Error>
-        ensures all { IfOk result (λ all. all.items ≡ difat_sectors_of self.now ++ fat_sectors_of self.now) }
+        ensures all { IfOk result (λ all. all.items
+            ≡ difat_sectors_of self.now ++ fat_sectors_of self.now) }
         ensures failed { has_failed_here self.now ≡ true → IsErrOf result Failed }
-        ensures error { IfErr result (λ e. ((e ≡ Failed) × (has_failed_here self.now ≡ true)) ⊎ (e ≡ Memory)) }
+        ensures error { IfErr result (λ e. ((e ≡ Failed) × (has_failed_here self.now ≡ true))
+            ⊎ (e ≡ Memory)) }
     {
         if self.sectors.is_failed() {
             return Err(Error::Failed);
@@ -154,17 +161,25 @@ impl<F: ReadMedium> Allocator<F> {
     /// DIFAT has these sectors, and no others. The header's numbers of the tables' sectors aren't asked.
     pub fn is_orderly(&self) -> bool
         ensures value { result ≡ orderly_of self.now }
-        ensures orderly { IsTrue result → IsOrderly (version_of self.now) (sectors_count (sectors_of self.now)) (fat_of self.now) (fat_sectors_of self.now) (difat_sectors_of self.now) }
-        ensures listed { has_failed_here self.now ≡ false → IsTrue (is_honest self.now) → IsTrue result
-            ↔ (IsOrderly (version_of self.now) (sectors_count (sectors_of self.now)) (fat_of self.now) (fat_sectors_of self.now) (difat_sectors_of self.now) × ∥ Lists (version_of self.now) (bytes_of self.now) (difat_sectors_of self.now) (fat_sectors_of self.now) ∥₁) }
+        ensures orderly { IsTrue result → IsOrderly (version_of self.now)
+            (sectors_count (sectors_of self.now)) (fat_of self.now) (fat_sectors_of self.now)
+            (difat_sectors_of self.now) }
+        ensures listed { has_failed_here self.now ≡ false → IsTrue (is_honest self.now)
+            → IsTrue result
+            ↔ (IsOrderly (version_of self.now) (sectors_count (sectors_of self.now))
+            (fat_of self.now) (fat_sectors_of self.now) (difat_sectors_of self.now)
+            × ∥ Lists (version_of self.now) (bytes_of self.now) (difat_sectors_of self.now)
+            (fat_sectors_of self.now) ∥₁) }
     {
         self.is_orderly
     }
 
     /// The FAT's entry for a sector. `InvalidData` where it has none.
     pub fn next(&self, sector_id: u32) -> Result<u32, Error>
-        ensures entry { IfOk result (λ n. (has_failed_here self.now ≡ false) × (slice_get (fat_of self.now) sector_id ≡ Some n)) }
-        ensures error { IfErr result (IsRefused (has_failed_here self.now) (sector_id < length (fat_of self.now))) }
+        ensures entry { IfOk result (λ n. (has_failed_here self.now ≡ false)
+            × (slice_get (fat_of self.now) sector_id ≡ Some n)) }
+        ensures error { IfErr result (IsRefused (has_failed_here self.now)
+            (sector_id < length (fat_of self.now))) }
     {
         if self.sectors.is_failed() {
             return Err(Error::Failed);
@@ -181,8 +196,10 @@ impl<F: ReadMedium> Allocator<F> {
         ensures version { IfOk result (λ links. links_version links ≡ version_of self.now) }
         ensures live { OnOk result (has_failed_here self.now ≡ false) }
         ensures failed { has_failed_here self.now ≡ true → IsErrOf result Failed }
-        ensures none { IsErrOf result InvalidData → (sectors : List ℕ) → IsChain (fat_of self.now) start sectors → ⊥ }
-        ensures error { IfErr result (λ e. ((e ≡ Failed) × (has_failed_here self.now ≡ true)) ⊎ (e ≡ InvalidData) ⊎ (e ≡ Memory)) }
+        ensures none { IsErrOf result InvalidData → (sectors : List ℕ)
+            → IsChain (fat_of self.now) start sectors → ⊥ }
+        ensures error { IfErr result (λ e. ((e ≡ Failed) × (has_failed_here self.now ≡ true))
+            ⊎ (e ≡ InvalidData) ⊎ (e ≡ Memory)) }
     {
         if self.sectors.is_failed() {
             return Err(Error::Failed);
@@ -193,7 +210,7 @@ impl<F: ReadMedium> Allocator<F> {
 }
 
 impl<F: Medium> Allocator<F> {
-    ghost use Rattle.cfb_fat.specs.Tables.{bytes_of, difat_sectors_of, fat_of, fat_sectors_of, has_failed, has_failed_here, medium_of, orderly_of, sectors_of, version_of, AllRests, HasCauseBelow};
+    ghost use Rattle.cfb_fat.specs.Tables.{bytes_of, has_failed, has_failed_here, medium_of, sectors_of, AllRests, HasCauseBelow, KeepsTables};
 
     /// Whether a fault in a write or a commit has left it, or the medium, in a state in which every call is refused.
     pub fn has_failed(&self) -> bool
@@ -214,12 +231,15 @@ impl<F: Medium> Allocator<F> {
 
     /// Publishes the bytes, by a commit of the medium. After a fault it has failed.
     pub fn commit(&mut self) -> Result<(), Error>
-        ensures published { AreHonest (sectors_of self.old) → OnOk result (F.has_published (medium_of self.new) (bytes_of self.old)) }
-        ensures bytes { has_failed_here self.new ≡ false → AreHonest (sectors_of self.old) → bytes_of self.new ≡ bytes_of self.old }
+        ensures published { AreHonest (sectors_of self.old)
+            → OnOk result (F.has_published (medium_of self.new) (bytes_of self.old)) }
+        ensures left { AreHonest (sectors_of self.old)
+            → LeavesOldOrBytes (sectors_of self.old) (sectors_of self.new) }
+        ensures bytes { has_failed_here self.new ≡ false → AreHonest (sectors_of self.old)
+            → bytes_of self.new ≡ bytes_of self.old }
         ensures was_live { has_failed_here self.new ≡ false → has_failed_here self.old ≡ false }
         ensures honest { F.honest (medium_of self.new) ≡ F.honest (medium_of self.old) }
-        ensures tables { (version_of self.new ≡ version_of self.old) × (fat_of self.new ≡ fat_of self.old) × (fat_sectors_of self.new ≡ fat_sectors_of self.old) × (difat_sectors_of self.new ≡ difat_sectors_of self.old) }
-        ensures stays { (sectors_count (sectors_of self.new) ≡ sectors_count (sectors_of self.old)) × (orderly_of self.new ≡ orderly_of self.old) }
+        ensures tables { KeepsTables self.old self.new }
         ensures live { OnOk result (has_failed_here self.new ≡ false) }
         ensures err { OnErr result (has_failed_here self.new ≡ true) }
         ensures failed { has_failed_here self.old ≡ true → IsErrOf result Failed × AllRests self.old self.new }

@@ -1,13 +1,15 @@
 //! Entries of the FAT that change, and chains that are freed ([MS-CFB] 2.3).
+ghost use Rattle.cfb_fat.specs.Calls.{ChangesTables};
+ghost use Rattle.cfb_chains.specs.ChainCalls.{IsInvalid};
 ghost use Rattle.cfb_chains.specs.Changes.{HaveEntry};
 ghost use Rattle.cfb_chains.specs.Owned.{Leaves};
 ghost use Rattle.cfb_fat.specs.Changing.{ChangesFat};
 ghost use Rattle.cfb_fat.specs.Keeping.{changes_keep, rests_keep_tables, writes_keep_tables};
 ghost use Rattle.cfb_fat.specs.Orderly.{AreBelow};
 ghost use Rattle.cfb_medium.specs.Calls.{IsFaultUnless};
-ghost use Rattle.cfb_medium.specs.declared.error.Error.TheVariants.{Failed, InvalidData};
+ghost use Rattle.cfb_medium.specs.declared.error.Error.TheVariants.{InvalidData};
 ghost use Rattle.cfb_sectors.specs.Sectors.{end_of_chain, free, sector, Chain as IsChain};
-ghost use Rattle.std.specs.Prelude.{false, length, slice_index, slice_set, true, IfErr, IsErrOf, IsTrue, List, OnErr, OnOk, [], ℕ, ◌<◌, ◌∷◌, ◌≡◌, ◌≤◌, ◌⊎◌};
+ghost use Rattle.std.specs.Prelude.{false, length, slice_index, slice_set, true, IfErr, IsErrOf, IsTrue, List, OnErr, OnOk, [], ℕ, ◌<◌, ◌∷◌, ◌≡◌, ◌≤◌};
 
 use crate::Allocator;
 use crate::fat::{ENTRY_LEN, write_number};
@@ -37,7 +39,8 @@ impl<F: Medium> Allocator<F> {
         requires orderly { IsTrue (orderly_of self.old) }
         requires there { sector_id < length (fat_of self.old) }
         ensures changes { ChangesFat (sector_id ∷ []) self.old self.new }
-        ensures entry { has_failed_here self.new ≡ false → fat_of self.new ≡ slice_set (fat_of self.old) sector_id entry }
+        ensures entry { has_failed_here self.new ≡ false
+            → fat_of self.new ≡ slice_set (fat_of self.old) sector_id entry }
         ensures capacity { capacity_of self.new ≡ capacity_of self.old }
         ensures live { OnOk result (has_failed_here self.new ≡ false) }
         ensures err { OnErr result (has_failed_here self.new ≡ true) }
@@ -59,7 +62,8 @@ impl<F: Medium> Allocator<F> {
         requires orderly { IsTrue (orderly_of self.old) }
         requires there { AreBelow (length (fat_of self.old)) sector_ids.now }
         ensures changes { ChangesFat sector_ids.now self.old self.new }
-        ensures entries { has_failed_here self.new ≡ false → HaveEntry entry (fat_of self.new) sector_ids.now }
+        ensures entries { has_failed_here self.new ≡ false
+            → HaveEntry entry (fat_of self.new) sector_ids.now }
         ensures live { OnOk result (has_failed_here self.new ≡ false) }
         ensures err { OnErr result (has_failed_here self.new ≡ true) }
         ensures cause { IfErr result (HasCauseBelow self.old self.new) }
@@ -74,13 +78,16 @@ impl<F: Medium> Allocator<F> {
     /// Frees the sectors of the chain from a start. `InvalidData` where the FAT has none or the tables can't be changed, and
     /// then nothing is changed. After a fault in a write it has failed.
     pub fn free_chain(&mut self, start: u32) -> Result<(), Error>
-        ensures frees { (ids : List ℕ) × OnOk result (IsChain (fat_of self.old) start ids × HaveEntry free (fat_of self.new) ids) × ChangesFat ids self.old self.new }
-        ensures leaves { OnOk result ((ids : List ℕ) × IsChain (fat_of self.old) start ids × (IsTrue (is_honest self.old) → Leaves (sector (version_of self.old)) [] ids (seen_of self.old) (seen_of self.new))) }
-        ensures live { OnOk result ((has_failed_here self.old ≡ false) × IsTrue (orderly_of self.old) × (has_failed_here self.new ≡ false)) }
-        ensures refused { IsErrOf result InvalidData → (IsTrue (orderly_of self.old) → (ids : List ℕ) → IsChain (fat_of self.old) start ids → ⊥) × AllRests self.old self.new }
-        ensures failed { has_failed_here self.old ≡ true → IsErrOf result Failed × AllRests self.old self.new }
-        ensures cause { IfErr result (HasCauseBelow self.old self.new) }
-        ensures fault { IfErr result (λ e. (IsFaultUnless ⊥ e × ((has_failed_here self.new ≡ true) ⊎ AllRests self.old self.new)) ⊎ (e ≡ InvalidData)) }
+        ensures frees { (ids : List ℕ) × OnOk result (IsChain (fat_of self.old) start ids
+            × HaveEntry free (fat_of self.new) ids) × ChangesFat ids self.old self.new }
+        ensures leaves { OnOk result ((ids : List ℕ) × IsChain (fat_of self.old) start ids
+            × (IsTrue (is_honest self.old)
+            → Leaves (sector (version_of self.old)) [] ids (seen_of self.old) (seen_of self.new))) }
+        ensures refused { IsErrOf result InvalidData
+            → (IsTrue (orderly_of self.old) → (ids : List ℕ) → IsChain (fat_of self.old) start ids
+            → ⊥)
+            × AllRests self.old self.new }
+        ensures changes { ChangesTables IsInvalid result self.old self.new }
     {
         let links = self.open_chain(start)?;
         if !self.is_orderly {
@@ -92,15 +99,21 @@ impl<F: Medium> Allocator<F> {
     /// Ends a chain with this sector, and frees those behind it. `InvalidData` where the FAT has no chain from it or the tables
     /// can't be changed, and then nothing is changed. After a fault in a write it has failed.
     pub fn free_chain_after(&mut self, sector_id: u32) -> Result<(), Error>
-        ensures frees { (ids : List ℕ) × OnOk result (IsChain (fat_of self.old) sector_id (sector_id ∷ ids) × (slice_index (fat_of self.new) sector_id ≡ end_of_chain) × HaveEntry free (fat_of self.new) ids)
+        ensures frees { (ids : List ℕ) × OnOk result
+            (IsChain (fat_of self.old) sector_id (sector_id ∷ ids)
+            × (slice_index (fat_of self.new) sector_id ≡ end_of_chain)
+            × HaveEntry free (fat_of self.new) ids)
             × ChangesFat (sector_id ∷ ids) self.old self.new }
-        ensures leaves { OnOk result ((ids : List ℕ) × IsChain (fat_of self.old) sector_id (sector_id ∷ ids)
-            × (IsTrue (is_honest self.old) → Leaves (sector (version_of self.old)) [] (sector_id ∷ ids) (seen_of self.old) (seen_of self.new))) }
-        ensures live { OnOk result ((has_failed_here self.old ≡ false) × IsTrue (orderly_of self.old) × (has_failed_here self.new ≡ false)) }
-        ensures refused { IsErrOf result InvalidData → (IsTrue (orderly_of self.old) → (ids : List ℕ) → IsChain (fat_of self.old) sector_id (sector_id ∷ ids) → ⊥) × AllRests self.old self.new }
-        ensures failed { has_failed_here self.old ≡ true → IsErrOf result Failed × AllRests self.old self.new }
-        ensures cause { IfErr result (HasCauseBelow self.old self.new) }
-        ensures fault { IfErr result (λ e. (IsFaultUnless ⊥ e × ((has_failed_here self.new ≡ true) ⊎ AllRests self.old self.new)) ⊎ (e ≡ InvalidData)) }
+        ensures leaves { OnOk result ((ids : List ℕ)
+            × IsChain (fat_of self.old) sector_id (sector_id ∷ ids)
+            × (IsTrue (is_honest self.old)
+            → Leaves (sector (version_of self.old)) [] (sector_id ∷ ids) (seen_of self.old)
+            (seen_of self.new))) }
+        ensures refused { IsErrOf result InvalidData
+            → (IsTrue (orderly_of self.old) → (ids : List ℕ)
+            → IsChain (fat_of self.old) sector_id (sector_id ∷ ids) → ⊥)
+            × AllRests self.old self.new }
+        ensures changes { ChangesTables IsInvalid result self.old self.new }
     {
         let next = self.next(sector_id)?;
         let rest = self.open_chain(next)?;

@@ -1,4 +1,5 @@
 //! The DIFAT: the sectors that hold it and the FAT, listed, read and added to ([MS-CFB] 2.5).
+ghost use Rattle.cfb_fat.specs.Calls.{Attempts};
 ghost use Rattle.cfb_chains.specs.Changes.{AreOnce};
 ghost use Rattle.cfb_fat.specs.Growing.{Appends, IsBesideDifat};
 ghost use Rattle.cfb_fat.specs.Listed.{IsStop, Lists};
@@ -46,7 +47,8 @@ pub(crate) const HEADER_END: u64 = 512;
 
 // A number of the header.
 pub(crate) fn read_word<F: ReadMedium>(sectors: &mut Sectors<F>, place: u64) -> Result<u32, Error>
-    ensures read { IfOk result (λ n. IsHonest sectors.old → place + 4 ≤ length (bytes_of sectors.old) → n ≡ u32_at (bytes_of sectors.old) place) }
+    ensures read { IfOk result (λ n. IsHonest sectors.old
+        → place + 4 ≤ length (bytes_of sectors.old) → n ≡ u32_at (bytes_of sectors.old) place) }
     ensures live { OnOk result (has_failed_here sectors.old ≡ false) }
     ensures rests { Rests sectors.old sectors.new }
     ensures cause { IfErr result (HasItsCause sectors.old sectors.new) }
@@ -59,9 +61,13 @@ pub(crate) fn read_word<F: ReadMedium>(sectors: &mut Sectors<F>, place: u64) -> 
 
 // What a sector of the DIFAT names as the next.
 fn read_next<F: ReadMedium>(sectors: &mut Sectors<F>, sector_id: u32) -> Result<u32, Error>
-    ensures read { IfOk result (λ n. IsHonest sectors.old → n ≡ u32_at (sector (version_of sectors.old) (bytes_of sectors.old) sector_id) (sector_len (version_of sectors.old) - 4)) }
-    ensures there { OnOk result ((has_failed_here sectors.old ≡ false) × (sector_id < count_of sectors.old)) }
-    ensures missing { IsErrOf result InvalidData → (has_failed_here sectors.old ≡ false) × (count_of sectors.old ≤ sector_id) }
+    ensures read { IfOk result (λ n. IsHonest sectors.old
+        → n ≡ u32_at (sector (version_of sectors.old) (bytes_of sectors.old) sector_id)
+        (sector_len (version_of sectors.old) - 4)) }
+    ensures there { OnOk result ((has_failed_here sectors.old ≡ false)
+        × (sector_id < count_of sectors.old)) }
+    ensures missing { IsErrOf result InvalidData
+        → (has_failed_here sectors.old ≡ false) × (count_of sectors.old ≤ sector_id) }
     ensures rests { Rests sectors.old sectors.new }
     ensures cause { IfErr result (HasItsCause sectors.old sectors.new) }
     ensures fault { IfErr result (λ e. IsFaultUnless ⊥ e ⊎ (e ≡ InvalidData)) }
@@ -79,8 +85,11 @@ fn walk<F: ReadMedium>(
     start: u32,
 ) -> Result<(Vec<u32>, u32), Error>
     ensures stops { IfOk result (λ it. IsStop it.1) }
-    ensures chain { IfOk result (λ it. IsHonest sectors.old → DifatChain (version_of sectors.old) (bytes_of sectors.old) start it.0.items it.1) }
-    ensures none { IsErrOf result InvalidData → IsHonest sectors.old → (ids : List ℕ) (stop : ℕ) → IsStop stop → DifatChain (version_of sectors.old) (bytes_of sectors.old) start ids stop → ⊥ }
+    ensures chain { IfOk result (λ it. IsHonest sectors.old
+        → DifatChain (version_of sectors.old) (bytes_of sectors.old) start it.0.items it.1) }
+    ensures none { IsErrOf result InvalidData → IsHonest sectors.old → (ids : List ℕ) (stop : ℕ)
+        → IsStop stop → DifatChain (version_of sectors.old) (bytes_of sectors.old) start ids stop
+        → ⊥ }
     ensures there { IfOk result (λ it. AreCounted sectors.old it.0.items) }
     ensures rests { Rests sectors.old sectors.new }
     ensures cause { IfErr result (HasItsCause sectors.old sectors.new) }
@@ -106,7 +115,10 @@ fn push_entries<F: ReadMedium>(
     sector_id: u32,
     found: &mut Vec<u32>,
 ) -> Result<(), Error>
-    ensures read { OnOk result (IsHonest sectors.old → found.new.items ≡ found.old.items ++ numbers (take (sector_len (version_of sectors.old) - 4) (sector (version_of sectors.old) (bytes_of sectors.old) sector_id))) }
+    ensures read { OnOk result (IsHonest sectors.old
+        → found.new.items ≡ found.old.items ++ numbers
+        (take (sector_len (version_of sectors.old) - 4)
+        (sector (version_of sectors.old) (bytes_of sectors.old) sector_id))) }
     ensures missing { IsErrOf result InvalidData → sector_id < count_of sectors.old → ⊥ }
     ensures rests { Rests sectors.old sectors.new }
     ensures cause { IfErr result (HasItsCause sectors.old sectors.new) }
@@ -125,7 +137,8 @@ fn read_entries<F: ReadMedium>(
     sectors: &mut Sectors<F>,
     difat_sectors: &[u32],
 ) -> Result<Vec<u32>, Error>
-    ensures read { IfOk result (λ all. IsHonest sectors.old → 512 ≤ length (bytes_of sectors.old) → all.items ≡ difat (version_of sectors.old) (bytes_of sectors.old) difat_sectors.now) }
+    ensures read { IfOk result (λ all. IsHonest sectors.old → 512 ≤ length (bytes_of sectors.old)
+        → all.items ≡ difat (version_of sectors.old) (bytes_of sectors.old) difat_sectors.now) }
     ensures missing { IsErrOf result InvalidData → AreCounted sectors.old difat_sectors.now → ⊥ }
     ensures rests { Rests sectors.old sectors.new }
     ensures cause { IfErr result (HasItsCause sectors.old sectors.new) }
@@ -142,7 +155,8 @@ fn read_entries<F: ReadMedium>(
 
 // Takes the "free" entries at the end away.
 fn drop_free_end(entries: &mut Vec<u32>)
-    ensures rest { entries.old.items ≡ entries.new.items ++ replicate (length entries.old.items - length entries.new.items) free }
+    ensures rest { entries.old.items ≡ entries.new.items
+        ++ replicate (length entries.old.items - length entries.new.items) free }
     ensures last { (front : List ℕ) → entries.new.items ≡ front ++ free ∷ [] → ⊥ }
 {
     let mut len = entries.len();
@@ -167,13 +181,19 @@ pub struct Difat {
 /// behind the last are left out ([MS-CFB] 2.5). `InvalidData` where the DIFAT's chain leads to a sector that isn't there, or
 /// never ends.
 pub fn read_difat<F: ReadMedium>(alloc: Global, sectors: &mut Sectors<F>) -> Result<Difat, Error>
-    ensures lists { IfOk result (λ it. IsHonest sectors.old → 512 ≤ length (bytes_of sectors.old) → Lists (version_of sectors.old) (bytes_of sectors.old) it.sectors.items it.fat_sectors.items) }
+    ensures lists { IfOk result (λ it. IsHonest sectors.old → 512 ≤ length (bytes_of sectors.old)
+        → Lists (version_of sectors.old) (bytes_of sectors.old) it.sectors.items
+        it.fat_sectors.items) }
     ensures stop { IfOk result (λ it. IsHonest sectors.old → 512 ≤ length (bytes_of sectors.old)
-        → IsStop it.stop × DifatChain (version_of sectors.old) (bytes_of sectors.old) (first_difat_sector (bytes_of sectors.old)) it.sectors.items it.stop) }
-    ensures last { IfOk result (λ it. (front : List ℕ) → it.fat_sectors.items ≡ front ++ free ∷ [] → ⊥) }
+        → IsStop it.stop × DifatChain (version_of sectors.old) (bytes_of sectors.old)
+        (first_difat_sector (bytes_of sectors.old)) it.sectors.items it.stop) }
+    ensures last { IfOk result (λ it. (front : List ℕ) → it.fat_sectors.items ≡ front ++ free ∷ []
+        → ⊥) }
     ensures live { OnOk result (has_failed_here sectors.old ≡ false) }
     ensures refused { IsErrOf result InvalidData → has_failed_here sectors.old ≡ false }
-    ensures none { IsErrOf result InvalidData → IsHonest sectors.old → 512 ≤ length (bytes_of sectors.old) → (difat_sectors fat_sectors : List ℕ) → Lists (version_of sectors.old) (bytes_of sectors.old) difat_sectors fat_sectors → ⊥ }
+    ensures none { IsErrOf result InvalidData → IsHonest sectors.old
+        → 512 ≤ length (bytes_of sectors.old) → (difat_sectors fat_sectors : List ℕ)
+        → Lists (version_of sectors.old) (bytes_of sectors.old) difat_sectors fat_sectors → ⊥ }
     ensures rests { Rests sectors.old sectors.new }
     ensures cause { IfErr result (HasItsCause sectors.old sectors.new) }
     ensures fault { IfErr result (λ e. IsFaultUnless ⊥ e ⊎ (e ≡ InvalidData)) }
@@ -207,7 +227,9 @@ pub(crate) fn are_listed<F: ReadMedium>(
 ) -> Result<bool, Error>
     requires some { 0 < count_of sectors.old }
     requires there { AreBelow (count_of sectors.old) fat_sectors.now }
-    ensures listed { IfOk result (λ is_listed. IsHonest sectors.old → IsTrue is_listed ↔ Lists (version_of sectors.old) (bytes_of sectors.old) difat_sectors.now fat_sectors.now) }
+    ensures listed { IfOk result (λ is_listed. IsHonest sectors.old
+        → IsTrue is_listed ↔ Lists (version_of sectors.old)
+        (bytes_of sectors.old) difat_sectors.now fat_sectors.now) }
     ensures rests { Rests sectors.old sectors.new }
     ensures cause { IfErr result (HasItsCause sectors.old sectors.new) }
     ensures fault { IfErr result (IsFaultUnless ⊥) }
@@ -229,8 +251,12 @@ pub(crate) fn append_sector<F: Medium>(
     requires few { count_of sectors.old ≤ greatest_regular }
     ensures number { IfOk result (λ n. n ≡ count_of sectors.old) }
     ensures appends { Appends (λ _ _. ⊤) sectors.old sectors.new }
-    ensures content { has_failed_here sectors.new ≡ false → IsHonest sectors.old → sector (version_of sectors.old) (bytes_of sectors.new) (count_of sectors.old) ≡ initial init (sector_len (version_of sectors.old)) }
-    ensures whole { has_failed_here sectors.new ≡ false → IsHonest sectors.old → sector_start (version_of sectors.old) (count_of sectors.old) + sector_len (version_of sectors.old) ≤ length (bytes_of sectors.new) }
+    ensures content { has_failed_here sectors.new ≡ false → IsHonest sectors.old
+        → sector (version_of sectors.old) (bytes_of sectors.new) (count_of sectors.old)
+        ≡ initial init (sector_len (version_of sectors.old)) }
+    ensures whole { has_failed_here sectors.new ≡ false → IsHonest sectors.old
+        → sector_start (version_of sectors.old) (count_of sectors.old)
+        + sector_len (version_of sectors.old) ≤ length (bytes_of sectors.new) }
     ensures live { OnOk result (has_failed_here sectors.new ≡ false) }
     ensures err { OnErr result (has_failed_here sectors.new ≡ true) }
     ensures cause { IfErr result (HasItsCause sectors.old sectors.new) }
@@ -248,7 +274,8 @@ pub(crate) fn write_word<F: Medium>(
     number: u32,
 ) -> Result<(), Error>
     requires { EndsIn sectors.old place 4 }
-    ensures changes { Changes (λ b. overwritten b place (to_le_bytes w32 number)) sectors.old sectors.new }
+    ensures changes { Changes (λ b. overwritten b place
+        (to_le_bytes w32 number)) sectors.old sectors.new }
     ensures count { count_of sectors.new ≡ count_of sectors.old }
     ensures live { OnOk result (has_failed_here sectors.new ≡ false) }
     ensures err { OnErr result (has_failed_here sectors.new ≡ true) }
@@ -266,7 +293,8 @@ fn write_counts<F: Medium>(
     difat_count: u32,
 ) -> Result<(), Error>
     requires some { 0 < count_of sectors.old }
-    ensures changes { Changes (λ b. overwritten (overwritten b 44 (to_le_bytes w32 fat_count)) 72 (to_le_bytes w32 difat_count)) sectors.old sectors.new }
+    ensures changes { Changes (λ b. overwritten (overwritten b 44 (to_le_bytes w32 fat_count)) 72
+        (to_le_bytes w32 difat_count)) sectors.old sectors.new }
     ensures count { count_of sectors.new ≡ count_of sectors.old }
     ensures live { OnOk result (has_failed_here sectors.new ≡ false) }
     ensures err { OnErr result (has_failed_here sectors.new ≡ true) }
@@ -282,7 +310,9 @@ fn write_counts<F: Medium>(
 fn entry_place(version: Version, difat_sectors: &[u32], index: usize) -> u64
     requires { index < named_at_most version (length difat_sectors.now) }
     ensures header { index < 109 → result ≡ 76 + 4 * index }
-    ensures sector { 109 ≤ index → result ≡ sector_start version (slice_index difat_sectors.now ((index - 109) / (sector_len version / 4 - 1))) + 4 * ((index - 109) % (sector_len version / 4 - 1)) }
+    ensures sector { 109 ≤ index → result ≡ sector_start version
+        (slice_index difat_sectors.now ((index - 109) / (sector_len version / 4 - 1)))
+        + 4 * ((index - 109) % (sector_len version / 4 - 1)) }
 {
     if index < NUM_DIFAT_ENTRIES_IN_HEADER {
         return HEADER_ENTRIES + (NUMBER_LEN * index) as u64;
@@ -296,7 +326,9 @@ fn entry_place(version: Version, difat_sectors: &[u32], index: usize) -> u64
 // Where the DIFAT names the next sector of it.
 fn link_place(version: Version, difat_sectors: &[u32]) -> u64
     ensures first { length difat_sectors.now ≡ 0 → result ≡ 68 }
-    ensures last { 0 < length difat_sectors.now → result ≡ sector_start version (slice_index difat_sectors.now (length difat_sectors.now - 1)) + (sector_len version - 4) }
+    ensures last { 0 < length difat_sectors.now
+        → result ≡ sector_start version (slice_index difat_sectors.now
+        (length difat_sectors.now - 1)) + (sector_len version - 4) }
 {
     match difat_sectors.last() {
         None => FIRST_DIFAT_SECTOR,
@@ -319,14 +351,19 @@ pub(crate) fn add_fat_sector<F: Medium>(
     requires fewer { length difat_sectors.now ≤ count_of sectors.old }
     ensures number { IfOk result (λ n. n ≡ count_of sectors.old) }
     ensures appends { Appends (IsBesideDifat sectors.old difat_sectors.now) sectors.old sectors.new }
-    ensures content { has_failed_here sectors.new ≡ false → IsHonest sectors.old → sector (version_of sectors.old) (bytes_of sectors.new) (count_of sectors.old) ≡ initial Fat (sector_len (version_of sectors.old)) }
-    ensures listed { has_failed_here sectors.new ≡ false → IsHonest sectors.old → AreOnce difat_sectors.now → (fat_sectors : List ℕ) → length fat_sectors ≡ fat_count
-        → Lists (version_of sectors.old) (bytes_of sectors.old) difat_sectors.now fat_sectors → Lists (version_of sectors.old) (bytes_of sectors.new) difat_sectors.now (fat_sectors ++ count_of sectors.old ∷ []) }
-    ensures told { has_failed_here sectors.new ≡ false → IsHonest sectors.old → (fat_sector_count (bytes_of sectors.new) ≡ fat_count + 1) × (difat_sector_count (bytes_of sectors.new) ≡ length difat_sectors.now) }
-    ensures live { OnOk result (has_failed_here sectors.new ≡ false) }
-    ensures err { OnErr result (has_failed_here sectors.new ≡ true) }
-    ensures cause { IfErr result (HasItsCause sectors.old sectors.new) }
-    ensures fault { IfErr result (IsFaultUnless ⊥) }
+    ensures content { has_failed_here sectors.new ≡ false → IsHonest sectors.old
+        → sector (version_of sectors.old) (bytes_of sectors.new) (count_of sectors.old)
+        ≡ initial Fat (sector_len (version_of sectors.old)) }
+    ensures listed { has_failed_here sectors.new ≡ false → IsHonest sectors.old
+        → AreOnce difat_sectors.now
+        → (fat_sectors : List ℕ) → length fat_sectors ≡ fat_count
+        → Lists (version_of sectors.old) (bytes_of sectors.old) difat_sectors.now fat_sectors
+        → Lists (version_of sectors.old) (bytes_of sectors.new) difat_sectors.now
+        (fat_sectors ++ count_of sectors.old ∷ []) }
+    ensures told { has_failed_here sectors.new ≡ false → IsHonest sectors.old
+        → (fat_sector_count (bytes_of sectors.new) ≡ fat_count + 1)
+        × (difat_sector_count (bytes_of sectors.new) ≡ length difat_sectors.now) }
+    ensures attempts { Attempts result sectors.old sectors.new }
 {
     let place = entry_place(sectors.version(), difat_sectors, fat_count);
     let sector_id = append_sector(sectors, SectorInit::Fat)?;
@@ -345,8 +382,11 @@ pub(crate) fn add_difat_sector<F: Medium>(
     requires there { AreBelow (count_of sectors.old) difat_sectors.now }
     ensures number { IfOk result (λ n. n ≡ count_of sectors.old) }
     ensures appends { Appends (IsBesideDifat sectors.old difat_sectors.now) sectors.old sectors.new }
-    ensures listed { has_failed_here sectors.new ≡ false → IsHonest sectors.old → AreOnce difat_sectors.now → (fat_sectors : List ℕ)
-        → Lists (version_of sectors.old) (bytes_of sectors.old) difat_sectors.now fat_sectors → Lists (version_of sectors.old) (bytes_of sectors.new) (difat_sectors.now ++ count_of sectors.old ∷ []) fat_sectors }
+    ensures listed { has_failed_here sectors.new ≡ false → IsHonest sectors.old
+        → AreOnce difat_sectors.now → (fat_sectors : List ℕ)
+        → Lists (version_of sectors.old) (bytes_of sectors.old) difat_sectors.now fat_sectors
+        → Lists (version_of sectors.old) (bytes_of sectors.new)
+        (difat_sectors.now ++ count_of sectors.old ∷ []) fat_sectors }
     ensures live { OnOk result (has_failed_here sectors.new ≡ false) }
     ensures err { OnErr result (has_failed_here sectors.new ≡ true) }
     ensures cause { IfErr result (HasItsCause sectors.old sectors.new) }

@@ -28,8 +28,10 @@ pub fn read_joined<F: ReadMedium>(
     sectors: &mut Sectors<F>,
     sector_ids: &[u32],
 ) -> Result<Vec<u8>, Error>
-    ensures read { IfOk result (λ all. IsHonest sectors.old → all.items ≡ joined (version_of sectors.old) (bytes_of sectors.old) sector_ids.now) }
-    ensures size { IfOk result (λ all. length all.items ≡ length sector_ids.now * sector_len (version_of sectors.old)) }
+    ensures read { IfOk result (λ all. IsHonest sectors.old
+        → all.items ≡ joined (version_of sectors.old) (bytes_of sectors.old) sector_ids.now) }
+    ensures size { IfOk result (λ all. length all.items
+        ≡ length sector_ids.now * sector_len (version_of sectors.old)) }
     ensures there { IfOk result (λ _. AreCounted sectors.old sector_ids.now) }
     ensures missing { IsErrOf result InvalidData → AreCounted sectors.old sector_ids.now → ⊥ }
     ensures rests { Rests sectors.old sectors.new }
@@ -52,8 +54,10 @@ pub fn read_table<F: ReadMedium>(
     sectors: &mut Sectors<F>,
     sector_ids: &[u32],
 ) -> Result<Vec<u32>, Error>
-    ensures read { IfOk result (λ table. IsHonest sectors.old → table.items ≡ fat_in (version_of sectors.old) (bytes_of sectors.old) sector_ids.now) }
-    ensures size { IfOk result (λ table. length table.items ≡ length sector_ids.now * (sector_len (version_of sectors.old) / 4)) }
+    ensures read { IfOk result (λ table. IsHonest sectors.old
+        → table.items ≡ fat_in (version_of sectors.old) (bytes_of sectors.old) sector_ids.now) }
+    ensures size { IfOk result (λ table. length table.items
+        ≡ length sector_ids.now * (sector_len (version_of sectors.old) / 4)) }
     ensures there { IfOk result (λ _. AreCounted sectors.old sector_ids.now) }
     ensures missing { IsErrOf result InvalidData → AreCounted sectors.old sector_ids.now → ⊥ }
     ensures rests { Rests sectors.old sectors.new }
@@ -73,7 +77,9 @@ pub(crate) fn write_number<F: Medium>(
 ) -> Result<(), Error>
     requires there { sector_id < count_of sectors.old }
     requires inside { index < sector_len (version_of sectors.old) / 4 }
-    ensures changes { Changes (λ b. overwritten b (sector_start (version_of sectors.old) sector_id + 4 * index) (to_le_bytes w32 number)) sectors.old sectors.new }
+    ensures changes { Changes (λ b. overwritten b
+        (sector_start (version_of sectors.old) sector_id + 4 * index)
+        (to_le_bytes w32 number)) sectors.old sectors.new }
     ensures count { count_of sectors.new ≡ count_of sectors.old }
     ensures live { OnOk result (has_failed_here sectors.new ≡ false) }
     ensures err { OnErr result (has_failed_here sectors.new ≡ true) }
@@ -168,12 +174,20 @@ pub(crate) fn read_parts<F: ReadMedium>(
     difat_sectors: &[u32],
     fat_sectors: &[u32],
 ) -> Result<(Vec<u32>, bool), Error>
-    ensures read { IfOk result (λ it. IsHonest sectors.old → it.0.items ≡ take (count_of sectors.old) (fat_in (version_of sectors.old) (bytes_of sectors.old) fat_sectors.now)) }
+    ensures read { IfOk result (λ it. IsHonest sectors.old
+        → it.0.items ≡ take (count_of sectors.old)
+        (fat_in (version_of sectors.old) (bytes_of sectors.old) fat_sectors.now)) }
     ensures inside { IfOk result (λ it. length it.0.items ≤ count_of sectors.old) }
-    ensures whole { IfOk result (λ it. length it.0.items ≤ length fat_sectors.now * (sector_len (version_of sectors.old) / 4)) }
-    ensures orderly { IfOk result (λ it. IsTrue it.1 → IsOrderly (version_of sectors.old) (count_of sectors.old) it.0.items fat_sectors.now difat_sectors.now) }
-    ensures listed { IfOk result (λ it. has_failed_here sectors.old ≡ false → IsHonest sectors.old → IsTrue it.1
-        ↔ (IsOrderly (version_of sectors.old) (count_of sectors.old) it.0.items fat_sectors.now difat_sectors.now × Lists (version_of sectors.old) (bytes_of sectors.old) difat_sectors.now fat_sectors.now)) }
+    ensures whole { IfOk result (λ it. length it.0.items
+        ≤ length fat_sectors.now * (sector_len (version_of sectors.old) / 4)) }
+    ensures orderly { IfOk result (λ it. IsTrue it.1
+        → IsOrderly (version_of sectors.old) (count_of sectors.old) it.0.items fat_sectors.now
+        difat_sectors.now) }
+    ensures listed { IfOk result (λ it. has_failed_here sectors.old ≡ false → IsHonest sectors.old
+        → IsTrue it.1
+        ↔ (IsOrderly (version_of sectors.old) (count_of sectors.old) it.0.items fat_sectors.now
+        difat_sectors.now × Lists (version_of sectors.old)
+        (bytes_of sectors.old) difat_sectors.now fat_sectors.now)) }
     ensures there { IfOk result (λ _. AreCounted sectors.old fat_sectors.now) }
     ensures below { IfOk result (λ _. AreBelow (count_of sectors.old) fat_sectors.now) }
     ensures missing { IsErrOf result InvalidData → AreCounted sectors.old fat_sectors.now → ⊥ }

@@ -1,15 +1,13 @@
 //! Tables that become longer, and the file with them.
-ghost use Rattle.cfb_chains.specs.Changes.{IsNoneOf};
-ghost use Rattle.cfb_fat.specs.Changing.{MayWrite};
+ghost use Rattle.cfb_fat.specs.Calls.{places_of, Attempts, EndsBehind, HasNoneBelow, HasPlace, IsFresh};
 ghost use Rattle.cfb_fat.specs.Growing.{GrowsFat, HasWhole, IsFull, MarksBehind};
 ghost use Rattle.cfb_fat.specs.Orderly.{named_at_most};
 ghost use Rattle.cfb_medium.specs.Calls.{IsFaultUnless};
 ghost use Rattle.cfb_medium.specs.Versions.{sector_len};
 ghost use Rattle.cfb_medium.specs.declared.error.Error.TheVariants.{Full};
 ghost use Rattle.cfb_sectors.specs.Held.{count_of};
-ghost use Rattle.cfb_sectors.specs.Initial.{initial};
-ghost use Rattle.cfb_sectors.specs.Sectors.{end_of_chain, free, greatest_regular, sector, sector_start};
-ghost use Rattle.std.specs.Prelude.{false, length, slice_index, true, IfErr, IfOk, IsErrOf, IsTrue, OnErr, OnOk, [], ℕ, ◌*◌, ◌++◌, ◌+◌, ◌/◌, ◌<◌, ◌∷◌, ◌≡◌, ◌≤◌, ◌⊎◌};
+ghost use Rattle.cfb_sectors.specs.Sectors.{free, greatest_regular};
+ghost use Rattle.std.specs.Prelude.{false, length, true, IfErr, IfOk, IsErrOf, IsTrue, OnErr, OnOk, [], ◌*◌, ◌++◌, ◌+◌, ◌/◌, ◌<◌, ◌∷◌, ◌≡◌, ◌≤◌, ◌⊎◌};
 
 use crate::Allocator;
 use crate::difat::{add_difat_sector, add_fat_sector, append_sector, can_name};
@@ -20,23 +18,28 @@ use cfb_sectors::{
 };
 
 impl<F: Medium> Allocator<F> {
-    ghost use Rattle.cfb_fat.specs.Tables.{bytes_of, capacity_of, difat_sectors_of, fat_of, fat_sectors_of, has_failed_here, is_honest, orderly_of, sectors_of, version_of, AllRests, HasCauseBelow};
+    ghost use Rattle.cfb_fat.specs.Tables.{capacity_of, difat_sectors_of, fat_of, fat_sectors_of, has_failed_here, is_honest, orderly_of, sectors_of, version_of, AllRests, HasCauseBelow};
 
     // Makes the FAT longer by a sector that the DIFAT has a place for. Its own entry is "free" still. `Memory` with nothing
     // changed; after a fault in a write it has failed.
     fn grow_fat(&mut self) -> Result<(), Error>
         requires live { has_failed_here self.old ≡ false }
         requires orderly { IsTrue (orderly_of self.old) }
-        requires full { length (fat_of self.old) ≡ length (fat_sectors_of self.old) * (sector_len (version_of self.old) / 4) }
+        requires full { length (fat_of self.old)
+            ≡ length (fat_sectors_of self.old) * (sector_len (version_of self.old) / 4) }
         requires few { count_of (sectors_of self.old) ≤ greatest_regular }
-        requires room { length (fat_sectors_of self.old) < named_at_most (version_of self.old) (length (difat_sectors_of self.old)) }
+        requires room { length (fat_sectors_of self.old)
+            < named_at_most (version_of self.old) (length (difat_sectors_of self.old)) }
         ensures grows { GrowsFat [] [] self.old self.new }
         ensures fat { OnOk result (fat_of self.new ≡ fat_of self.old ++ free ∷ []) }
-        ensures tables { OnOk result ((difat_sectors_of self.new ≡ difat_sectors_of self.old) × (fat_sectors_of self.new ≡ fat_sectors_of self.old ++ length (fat_of self.old) ∷ [])) }
+        ensures tables { OnOk result ((difat_sectors_of self.new ≡ difat_sectors_of self.old)
+            × (fat_sectors_of self.new ≡ fat_sectors_of self.old
+            ++ length (fat_of self.old) ∷ [])) }
         ensures memory { capacity_of self.old ≤ capacity_of self.new }
         ensures live { OnOk result (has_failed_here self.new ≡ false) }
         ensures cause { IfErr result (HasCauseBelow self.old self.new) }
-        ensures fault { IfErr result (λ e. IsFaultUnless ⊥ e × ((has_failed_here self.new ≡ true) ⊎ AllRests self.old self.new)) }
+        ensures fault { IfErr result (λ e. IsFaultUnless ⊥ e
+            × ((has_failed_here self.new ≡ true) ⊎ AllRests self.old self.new)) }
     {
         self.fat_sectors.reserve(1)?;
         self.fat.reserve(1)?;
@@ -57,16 +60,22 @@ impl<F: Medium> Allocator<F> {
     fn grow_both(&mut self) -> Result<(), Error>
         requires live { has_failed_here self.old ≡ false }
         requires orderly { IsTrue (orderly_of self.old) }
-        requires full { length (fat_of self.old) ≡ length (fat_sectors_of self.old) * (sector_len (version_of self.old) / 4) }
+        requires full { length (fat_of self.old)
+            ≡ length (fat_sectors_of self.old) * (sector_len (version_of self.old) / 4) }
         requires few { count_of (sectors_of self.old) < greatest_regular }
-        requires crowded { named_at_most (version_of self.old) (length (difat_sectors_of self.old)) ≤ length (fat_sectors_of self.old) }
+        requires crowded { named_at_most (version_of self.old) (length (difat_sectors_of self.old))
+            ≤ length (fat_sectors_of self.old) }
         ensures grows { GrowsFat [] [] self.old self.new }
         ensures fat { OnOk result (fat_of self.new ≡ fat_of self.old ++ free ∷ free ∷ []) }
-        ensures tables { OnOk result ((difat_sectors_of self.new ≡ difat_sectors_of self.old ++ length (fat_of self.old) ∷ []) × (fat_sectors_of self.new ≡ fat_sectors_of self.old ++ (length (fat_of self.old) + 1) ∷ [])) }
+        ensures tables { OnOk result ((difat_sectors_of self.new
+            ≡ difat_sectors_of self.old ++ length (fat_of self.old) ∷ [])
+            × (fat_sectors_of self.new ≡ fat_sectors_of self.old
+            ++ (length (fat_of self.old) + 1) ∷ [])) }
         ensures memory { capacity_of self.old ≤ capacity_of self.new }
         ensures live { OnOk result (has_failed_here self.new ≡ false) }
         ensures cause { IfErr result (HasCauseBelow self.old self.new) }
-        ensures fault { IfErr result (λ e. IsFaultUnless ⊥ e × ((has_failed_here self.new ≡ true) ⊎ AllRests self.old self.new)) }
+        ensures fault { IfErr result (λ e. IsFaultUnless ⊥ e
+            × ((has_failed_here self.new ≡ true) ⊎ AllRests self.old self.new)) }
     {
         self.difat_sectors.reserve(1)?;
         self.fat_sectors.reserve(1)?;
@@ -91,17 +100,18 @@ impl<F: Medium> Allocator<F> {
     fn lengthen(&mut self) -> Result<(), Error>
         requires live { has_failed_here self.old ≡ false }
         requires orderly { IsTrue (orderly_of self.old) }
-        requires full { length (fat_of self.old) ≡ length (fat_sectors_of self.old) * (sector_len (version_of self.old) / 4) }
+        requires full { length (fat_of self.old) ≡ places_of self.old }
         requires few { count_of (sectors_of self.old) < greatest_regular }
         requires memory { length (fat_of self.old) + 3 ≤ capacity_of self.old }
         ensures grows { GrowsFat [] [] self.old self.new }
         ensures added { OnOk result (MarksBehind [] [] self.old self.new) }
-        ensures longer { OnOk result (length (fat_of self.new) ≤ length (fat_of self.old) + 2) }
         ensures memory { capacity_of self.old ≤ capacity_of self.new }
-        ensures room { OnOk result (length (fat_of self.new) < length (fat_sectors_of self.new) * (sector_len (version_of self.new) / 4)) }
+        ensures room { OnOk result ((length (fat_of self.new) ≤ length (fat_of self.old) + 2)
+            × (length (fat_of self.new) < places_of self.new)) }
         ensures live { OnOk result (has_failed_here self.new ≡ false) }
         ensures cause { IfErr result (HasCauseBelow self.old self.new) }
-        ensures fault { IfErr result (λ e. IsFaultUnless ⊥ e × ((has_failed_here self.new ≡ true) ⊎ AllRests self.old self.new)) }
+        ensures fault { IfErr result (λ e. IsFaultUnless ⊥ e
+            × ((has_failed_here self.new ≡ true) ⊎ AllRests self.old self.new)) }
     {
         let count = self.num_sectors();
         if can_name(
@@ -127,13 +137,15 @@ impl<F: Medium> Allocator<F> {
         requires orderly { IsTrue (orderly_of self.old) }
         ensures grows { GrowsFat [] [] self.old self.new }
         ensures memory { OnOk result (length (fat_of self.new) < capacity_of self.new) }
-        ensures room { OnOk result (length (fat_of self.new) < length (fat_sectors_of self.new) * (sector_len (version_of self.new) / 4)) }
+        ensures room { OnOk result (length (fat_of self.new)
+            < length (fat_sectors_of self.new) * (sector_len (version_of self.new) / 4)) }
         ensures few { OnOk result (length (fat_of self.new) ≤ greatest_regular) }
         ensures added { OnOk result (MarksBehind [] [] self.old self.new) }
         ensures live { OnOk result (has_failed_here self.new ≡ false) }
         ensures full { IsErrOf result Full → IsFull self.old × AllRests self.old self.new }
         ensures cause { IfErr result (HasCauseBelow self.old self.new) }
-        ensures fault { IfErr result (λ e. (IsFaultUnless ⊥ e × ((has_failed_here self.new ≡ true) ⊎ AllRests self.old self.new)) ⊎ (e ≡ Full)) }
+        ensures fault { IfErr result (λ e. (IsFaultUnless ⊥ e
+            × ((has_failed_here self.new ≡ true) ⊎ AllRests self.old self.new)) ⊎ (e ≡ Full)) }
     {
         let count = self.num_sectors();
         if count > MAX_REGULAR_SECTOR {
@@ -153,22 +165,17 @@ impl<F: Medium> Allocator<F> {
     pub(crate) fn append(&mut self, init: SectorInit) -> Result<u32, Error>
         requires live { has_failed_here self.old ≡ false }
         requires orderly { IsTrue (orderly_of self.old) }
-        requires room { length (fat_of self.old) < length (fat_sectors_of self.old) * (sector_len (version_of self.old) / 4) }
+        requires place { HasPlace self.old }
         requires few { count_of (sectors_of self.old) ≤ greatest_regular }
-        requires memory { length (fat_of self.old) < capacity_of self.old }
-        requires crowded { (k : ℕ) → k < length (fat_of self.old) → slice_index (fat_of self.old) k ≡ free → IsNoneOf (difat_sectors_of self.old) k → IsNoneOf (fat_sectors_of self.old) k → ⊥ }
+        requires crowded { HasNoneBelow self.old (length (fat_of self.old)) }
         ensures number { IfOk result (λ n. n ≡ length (fat_of self.old)) }
         ensures grows { IfOk result (λ n. GrowsFat (n ∷ []) [] self.old self.new) }
-        ensures fat { OnOk result (fat_of self.new ≡ fat_of self.old ++ end_of_chain ∷ []) }
-        ensures tables { OnOk result ((difat_sectors_of self.new ≡ difat_sectors_of self.old) × (fat_sectors_of self.new ≡ fat_sectors_of self.old)) }
-        ensures filled { IfOk result (λ n. IsTrue (is_honest self.old) → sector (version_of self.old) (bytes_of self.new) n ≡ initial init (sector_len (version_of self.old))) }
-        ensures whole { IfOk result (λ n. IsTrue (is_honest self.old) → HasWhole (n ∷ []) self.new) }
-        ensures writable { IfOk result (λ n. MayWrite self.new (sector_start (version_of self.old) n) (sector_len (version_of self.old))) }
-        ensures live { OnOk result (has_failed_here self.new ≡ false) }
+        ensures ends { OnOk result (EndsBehind self.old self.new) }
+        ensures fresh { IfOk result (IsFresh init self.old self.new) }
+        ensures whole { IfOk result (λ n. IsTrue (is_honest self.old)
+            → HasWhole (n ∷ []) self.new) }
         ensures none { OnErr result (GrowsFat [] [] self.old self.new) }
-        ensures err { OnErr result (has_failed_here self.new ≡ true) }
-        ensures cause { IfErr result (HasCauseBelow self.old self.new) }
-        ensures fault { IfErr result (IsFaultUnless ⊥) }
+        ensures attempts { Attempts result (sectors_of self.old) (sectors_of self.new) }
     {
         self.fat.reserve(1)?;
         let index = self.fat.len();

@@ -44,11 +44,17 @@ impl<F: Medium> Allocator<F> {
 
     /// Writes a number of the header; all else of the file stays. After a fault it has failed.
     pub fn write_header_word(&mut self, word: HeaderWord, number: u32) -> Result<(), Error>
-        ensures writes { OnOk result (WritesBeside (word_place word) (to_le_bytes w32 number) self.old self.new) }
-        ensures leaves { OnOk result (IsTrue (is_honest self.old) → Leaves (sector (version_of self.old)) (word_place word ∷ []) [] (seen_of self.old) (seen_of self.new)) }
-        ensures live { OnOk result ((has_failed_here self.old ≡ false) × (has_failed_here self.new ≡ false)) }
-        ensures after { OnErr result ((has_failed_here self.new ≡ true) ⊎ AllRests self.old self.new) }
-        ensures failed { has_failed_here self.old ≡ true → IsErrOf result Failed × AllRests self.old self.new }
+        ensures writes { OnOk result (WritesBeside (word_place word)
+            (to_le_bytes w32 number) self.old self.new) }
+        ensures leaves { OnOk result (IsTrue (is_honest self.old)
+            → Leaves (sector (version_of self.old)) (word_place word ∷ []) [] (seen_of self.old)
+            (seen_of self.new)) }
+        ensures live { OnOk result ((has_failed_here self.old ≡ false)
+            × (has_failed_here self.new ≡ false)) }
+        ensures after { OnErr result ((has_failed_here self.new ≡ true)
+            ⊎ AllRests self.old self.new) }
+        ensures failed { has_failed_here self.old ≡ true
+            → IsErrOf result Failed × AllRests self.old self.new }
         ensures cause { IfErr result (HasCauseBelow self.old self.new) }
         ensures fault { IfErr result (IsFaultUnless ⊥) }
     {

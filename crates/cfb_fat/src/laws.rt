@@ -15,16 +15,22 @@ use cfb_sectors::SectorInit;
 
 /// That the DIFAT lists these sectors is a fact, which holds where it merely holds; and so is where its chain stops.
 pub fn lists_are_facts()
-    ensures lists { (version : Version) (bytes difat_sectors fat_sectors : List ℕ) → ∥ Lists version bytes difat_sectors fat_sectors ∥₁ → Lists version bytes difat_sectors fat_sectors }
-    ensures stop { (version : Version) (bytes difat_sectors fat_sectors : List ℕ) → (lists : Lists version bytes difat_sectors fat_sectors)
+    ensures lists { (version : Version) (bytes difat_sectors fat_sectors : List ℕ)
+        → ∥ Lists version bytes difat_sectors fat_sectors ∥₁
+        → Lists version bytes difat_sectors fat_sectors }
+    ensures stop { (version : Version) (bytes difat_sectors fat_sectors : List ℕ)
+        → (lists : Lists version bytes difat_sectors fat_sectors)
         → lists.stop ≡ stop_behind version bytes (first_difat_sector bytes) difat_sectors }
 {}
 
 /// Begins a chain, writes over its sector, makes it longer by a sector that it writes over too, cuts that off and frees the
 /// chain, as a layer above does over time. Whatever others own stays theirs, with its bytes.
 pub fn use_a_chain<F: Medium>(allocator: &mut Allocator<F>, bytes: &[u8]) -> Result<(), Error>
-    ensures stays { OnOk result (IsTrue (is_honest allocator.old) → length bytes.now ≤ sector_len (version_of allocator.old) → (own : ℕ → List ℕ) → Owned (fat_of allocator.old) (tables_of allocator.old) own
-        → (k : ℕ) → Stays (sector (version_of allocator.old)) (seen_of allocator.old) (seen_of allocator.new) (own k)) }
+    ensures stays { OnOk result (IsTrue (is_honest allocator.old)
+        → length bytes.now ≤ sector_len (version_of allocator.old) → (own : ℕ → List ℕ)
+        → Owned (fat_of allocator.old) (tables_of allocator.old) own
+        → (k : ℕ) → Stays (sector (version_of allocator.old)) (seen_of allocator.old)
+        (seen_of allocator.new) (own k)) }
 {
     let start = allocator.begin_chain(SectorInit::Zero)?;
     allocator.write_contiguous(start, 0, bytes)?;

@@ -1,4 +1,6 @@
 //! Sectors that are taken into use, for chains that begin or become longer ([MS-CFB] 2.3).
+ghost use Rattle.cfb_fat.specs.Calls.{Answers, Attempts, ChangesTables, FillsBehind, HasNoneBelow, IsFresh, IsLastResort, IsTheLast, Tries};
+ghost use Rattle.cfb_chains.specs.ChainCalls.{IsInvalidOrFull};
 ghost use Rattle.cfb_chains.specs.Changes.{AreAmong, IsFreeIn, IsNoneOf};
 ghost use Rattle.cfb_chains.specs.Grown.{AreWritable, IsLinked};
 ghost use Rattle.cfb_chains.specs.LinkViews.{ids_of, links_version};
@@ -44,10 +46,13 @@ impl<F: Medium> Allocator<F> {
     /// tables can't be changed, and then `Full` where fewer numbers are left.
     pub fn check_growth(&self, start: u32, count: usize) -> Result<(), Error>
         ensures ready { OnOk result (IsTrue (orderly_of self.now)) }
-        ensures refused { IsErrOf result InvalidData → IsTrue (orderly_of self.now) → (ids : List ℕ) → IsChain (fat_of self.now) start ids → ⊥ }
-        ensures full { IsErrOf result Full → IsTrue (orderly_of self.now) × LacksNumbers self.now count }
+        ensures refused { IsErrOf result InvalidData → IsTrue (orderly_of self.now)
+            → (ids : List ℕ) → IsChain (fat_of self.now) start ids → ⊥ }
+        ensures full { IsErrOf result Full → IsTrue (orderly_of self.now)
+            × LacksNumbers self.now count }
         ensures failed { has_failed_here self.now ≡ true → IsErrOf result Failed }
-        ensures error { IfErr result (λ e. ((e ≡ Failed) × (has_failed_here self.now ≡ true)) ⊎ (e ≡ InvalidData) ⊎ (e ≡ Memory) ⊎ (e ≡ Full)) }
+        ensures error { IfErr result (λ e. ((e ≡ Failed) × (has_failed_here self.now ≡ true))
+            ⊎ (e ≡ InvalidData) ⊎ (e ≡ Memory) ⊎ (e ≡ Full)) }
     {
         let _links = self.open_chain(start)?;
         if !self.is_orderly {
@@ -63,7 +68,9 @@ impl<F: Medium> Allocator<F> {
     // Whether a sector is in no use: its entry is "free", and it holds no part of the tables.
     fn is_spare(&self, sector_id: u32) -> bool
         requires { sector_id < length (fat_of self.now) }
-        ensures { IsTrue result ↔ ((slice_index (fat_of self.now) sector_id ≡ free) × IsNoneOf (difat_sectors_of self.now) sector_id × IsNoneOf (fat_sectors_of self.now) sector_id) }
+        ensures { IsTrue result ↔ ((slice_index (fat_of self.now) sector_id ≡ free)
+            × IsNoneOf (difat_sectors_of self.now) sector_id
+            × IsNoneOf (fat_sectors_of self.now) sector_id) }
     {
         if self.fat[sector_id as usize] != FREE_SECTOR {
             return false;
@@ -78,9 +85,10 @@ impl<F: Medium> Allocator<F> {
     // in use aren't looked at again.
     fn find_free(&self) -> Option<u32>
         requires { has_failed_here self.now ≡ false }
-        ensures { MatchOption result ((k : ℕ) → k < length (fat_of self.now) → slice_index (fat_of self.now) k ≡ free → IsNoneOf (difat_sectors_of self.now) k → IsNoneOf (fat_sectors_of self.now) k → ⊥)
-            (λ n. (slice_get (fat_of self.now) n ≡ Some free) × IsNoneOf (difat_sectors_of self.now) n × IsNoneOf (fat_sectors_of self.now) n
-            × ((k : ℕ) → k < n → slice_index (fat_of self.now) k ≡ free → IsNoneOf (difat_sectors_of self.now) k → IsNoneOf (fat_sectors_of self.now) k → ⊥)) }
+        ensures { MatchOption result (HasNoneBelow self.now (length (fat_of self.now)))
+            (λ n. (slice_get (fat_of self.now) n ≡ Some free)
+            × IsNoneOf (difat_sectors_of self.now) n
+            × IsNoneOf (fat_sectors_of self.now) n × HasNoneBelow self.now n) }
     {
         for i in self.first_free..self.fat.len() {
             let sector_id = i as u32;
@@ -97,8 +105,10 @@ impl<F: Medium> Allocator<F> {
         requires there { sector_id < count_of (sectors_of self.old) }
         requires no_difat { IsNoneOf (difat_sectors_of self.old) sector_id }
         requires no_fat { IsNoneOf (fat_sectors_of self.old) sector_id }
-        requires lowest { (k : ℕ) → k < sector_id → slice_index (fat_of self.old) k ≡ free → IsNoneOf (difat_sectors_of self.old) k → IsNoneOf (fat_sectors_of self.old) k → ⊥ }
-        ensures writes { WritesBeside (sector_start (version_of self.old) sector_id) (initial init (sector_len (version_of self.old))) self.old self.new }
+        requires lowest { (k : ℕ) → k < sector_id → slice_index (fat_of self.old) k ≡ free
+            → IsNoneOf (difat_sectors_of self.old) k → IsNoneOf (fat_sectors_of self.old) k → ⊥ }
+        ensures writes { WritesBeside (sector_start (version_of self.old) sector_id)
+            (initial init (sector_len (version_of self.old))) self.old self.new }
         ensures live { OnOk result (has_failed_here self.new ≡ false) }
         ensures err { OnErr result (has_failed_here self.new ≡ true) }
         ensures cause { IfErr result (HasCauseBelow self.old self.new) }
@@ -115,17 +125,15 @@ impl<F: Medium> Allocator<F> {
         requires there { sector_id < length (fat_of self.old) }
         requires no_difat { IsNoneOf (difat_sectors_of self.old) sector_id }
         requires no_fat { IsNoneOf (fat_sectors_of self.old) sector_id }
-        requires lowest { (k : ℕ) → k < sector_id → slice_index (fat_of self.old) k ≡ free → IsNoneOf (difat_sectors_of self.old) k → IsNoneOf (fat_sectors_of self.old) k → ⊥ }
+        requires lowest { HasNoneBelow self.old sector_id }
         ensures grows { OnOk result (GrowsFat (sector_id ∷ []) (sector_id ∷ []) self.old self.new) }
-        ensures fat { OnOk result (fat_of self.new ≡ slice_set (fat_of self.old) sector_id end_of_chain) }
-        ensures whole { OnOk result (IsTrue (is_honest self.old) → HasWhole (sector_id ∷ []) self.new) }
-        ensures filled { OnOk result (IsTrue (is_honest self.old) → sector (version_of self.old) (bytes_of self.new) sector_id ≡ initial init (sector_len (version_of self.old))) }
-        ensures writable { OnOk result (MayWrite self.new (sector_start (version_of self.old) sector_id) (sector_len (version_of self.old))) }
-        ensures live { OnOk result (has_failed_here self.new ≡ false) }
+        ensures fat { OnOk result (fat_of self.new
+            ≡ slice_set (fat_of self.old) sector_id end_of_chain) }
+        ensures whole { OnOk result (IsTrue (is_honest self.old)
+            → HasWhole (sector_id ∷ []) self.new) }
+        ensures fresh { OnOk result (IsFresh init self.old self.new sector_id) }
         ensures none { OnErr result (GrowsFat [] [] self.old self.new) }
-        ensures err { OnErr result (has_failed_here self.new ≡ true) }
-        ensures cause { IfErr result (HasCauseBelow self.old self.new) }
-        ensures fault { IfErr result (IsFaultUnless ⊥) }
+        ensures attempts { Attempts result (sectors_of self.old) (sectors_of self.new) }
     {
         self.init_beside(sector_id, init)?;
         self.set_entry(sector_id, END_OF_CHAIN)?;
@@ -140,16 +148,14 @@ impl<F: Medium> Allocator<F> {
         ensures free { IfOk result (IsFreeIn (fat_of self.old)) }
         ensures chain { IfOk result (λ n. IsChain (fat_of self.new) n (n ∷ [])) }
         ensures grows { IfOk result (λ n. GrowsFat (n ∷ []) (n ∷ []) self.old self.new) }
-        ensures filled { IfOk result (λ n. IsTrue (is_honest self.old) → sector (version_of self.old) (bytes_of self.new) n ≡ initial init (sector_len (version_of self.old))) }
-        ensures writable { IfOk result (λ n. MayWrite self.new (sector_start (version_of self.old) n) (sector_len (version_of self.old))) }
-        ensures appended { IfOk result (λ n. length (fat_of self.old) ≤ n → (k : ℕ) → slice_get (fat_of self.old) k ≡ Some free → IsNoneOf (tables_of self.old) k → ⊥) }
-        ensures whole { IfOk result (λ n. IsTrue (is_honest self.old) → HasWhole (n ∷ []) self.new) }
+        ensures fresh { IfOk result (IsFresh init self.old self.new) }
+        ensures appended { IfOk result (IsLastResort self.old) }
+        ensures whole { IfOk result (λ n. IsTrue (is_honest self.old)
+            → HasWhole (n ∷ []) self.new) }
         ensures behind { IfOk result (λ n. MarksBehind (n ∷ []) (n ∷ []) self.old self.new) }
-        ensures live { OnOk result (has_failed_here self.new ≡ false) }
         ensures full { IsErrOf result Full → IsFull self.old × AllRests self.old self.new }
         ensures none { OnErr result (GrowsFat [] [] self.old self.new) }
-        ensures cause { IfErr result (HasCauseBelow self.old self.new) }
-        ensures fault { IfErr result (λ e. (IsFaultUnless ⊥ e × ((has_failed_here self.new ≡ true) ⊎ AllRests self.old self.new)) ⊎ (e ≡ Full)) }
+        ensures tries { Tries IsTheLast result self.old self.new }
     {
         if let Some(sector_id) = self.find_free() {
             self.take_free(sector_id, init)?;
@@ -165,17 +171,16 @@ impl<F: Medium> Allocator<F> {
     pub fn begin_chain(&mut self, init: SectorInit) -> Result<u32, Error>
         ensures chain { IfOk result (λ n. IsChain (fat_of self.new) n (n ∷ [])) }
         ensures takes { IfOk result (λ n. TakesIn (n ∷ []) (n ∷ []) self.old self.new) }
-        ensures leaves { IfOk result (λ n. IsTrue (is_honest self.old) → Leaves (sector (version_of self.old)) [] (n ∷ n ∷ []) (seen_of self.old) (seen_of self.new)) }
-        ensures filled { IfOk result (λ n. IsTrue (is_honest self.old) → sector (version_of self.old) (bytes_of self.new) n ≡ initial init (sector_len (version_of self.old))) }
-        ensures writable { IfOk result (λ n. MayWrite self.new (sector_start (version_of self.old) n) (sector_len (version_of self.old))) }
-        ensures appended { IfOk result (λ n. length (fat_of self.old) ≤ n → (k : ℕ) → slice_get (fat_of self.old) k ≡ Some free → IsNoneOf (tables_of self.old) k → ⊥) }
-        ensures live { OnOk result ((has_failed_here self.old ≡ false) × IsTrue (orderly_of self.old) × (has_failed_here self.new ≡ false)) }
-        ensures refused { IsErrOf result InvalidData → (IsTrue (orderly_of self.old) → ⊥) × AllRests self.old self.new }
+        ensures leaves { IfOk result (λ n. IsTrue (is_honest self.old)
+            → Leaves (sector (version_of self.old)) [] (n ∷ n ∷ []) (seen_of self.old)
+            (seen_of self.new)) }
+        ensures fresh { IfOk result (IsFresh init self.old self.new) }
+        ensures appended { IfOk result (IsLastResort self.old) }
+        ensures refused { IsErrOf result InvalidData
+            → (IsTrue (orderly_of self.old) → ⊥) × AllRests self.old self.new }
         ensures full { IsErrOf result Full → IsFull self.old × AllRests self.old self.new }
-        ensures failed { has_failed_here self.old ≡ true → IsErrOf result Failed × AllRests self.old self.new }
         ensures none { OnErr result (TakesIn [] [] self.old self.new) }
-        ensures cause { IfErr result (HasCauseBelow self.old self.new) }
-        ensures fault { IfErr result (λ e. (IsFaultUnless ⊥ e × ((has_failed_here self.new ≡ true) ⊎ AllRests self.old self.new)) ⊎ (e ≡ InvalidData) ⊎ (e ≡ Full)) }
+        ensures changes { ChangesTables IsInvalidOrFull result self.old self.new }
     {
         if self.sectors.is_failed() {
             return Err(Error::Failed);
@@ -191,20 +196,23 @@ impl<F: Medium> Allocator<F> {
     /// can't be changed, `Full` where no number is left, and `Memory`, each with nothing changed. After a fault in a write it
     /// has failed ([MS-CFB] 2.3).
     pub fn extend_chain(&mut self, start: u32, init: SectorInit) -> Result<u32, Error>
-        ensures extends { IfOk result (λ n. (ids : List ℕ) × (last : ℕ) × IsChain (fat_of self.old) start (ids ++ last ∷ []) × IsChain (fat_of self.new) start (ids ++ last ∷ n ∷ [])
+        ensures extends { IfOk result (λ n. (ids : List ℕ) × (last : ℕ)
+            × IsChain (fat_of self.old) start (ids ++ last ∷ [])
+            × IsChain (fat_of self.new) start (ids ++ last ∷ n ∷ [])
             × TakesIn (n ∷ []) (last ∷ n ∷ []) self.old self.new) }
-        ensures leaves { IfOk result (λ n. (ids : List ℕ) × (last : ℕ) × IsChain (fat_of self.old) start (ids ++ last ∷ [])
-            × (IsTrue (is_honest self.old) → Leaves (sector (version_of self.old)) [] (n ∷ last ∷ n ∷ []) (seen_of self.old) (seen_of self.new))) }
+        ensures leaves { IfOk result (λ n. (ids : List ℕ) × (last : ℕ)
+            × IsChain (fat_of self.old) start (ids ++ last ∷ [])
+            × (IsTrue (is_honest self.old)
+            → Leaves (sector (version_of self.old)) [] (n ∷ last ∷ n ∷ []) (seen_of self.old)
+            (seen_of self.new))) }
         ensures none { OnErr result (TakesIn [] [] self.old self.new) }
-        ensures filled { IfOk result (λ n. IsTrue (is_honest self.old) → sector (version_of self.old) (bytes_of self.new) n ≡ initial init (sector_len (version_of self.old))) }
-        ensures appended { IfOk result (λ n. length (fat_of self.old) ≤ n → (k : ℕ) → slice_get (fat_of self.old) k ≡ Some free → IsNoneOf (tables_of self.old) k → ⊥) }
-        ensures writable { IfOk result (λ n. MayWrite self.new (sector_start (version_of self.old) n) (sector_len (version_of self.old))) }
-        ensures live { OnOk result ((has_failed_here self.old ≡ false) × IsTrue (orderly_of self.old) × (has_failed_here self.new ≡ false)) }
-        ensures refused { IsErrOf result InvalidData → (IsTrue (orderly_of self.old) → (ids : List ℕ) (last : ℕ) → IsChain (fat_of self.old) start (ids ++ last ∷ []) → ⊥) × AllRests self.old self.new }
+        ensures fresh { IfOk result (IsFresh init self.old self.new) }
+        ensures appended { IfOk result (IsLastResort self.old) }
+        ensures refused { IsErrOf result InvalidData
+            → (IsTrue (orderly_of self.old) → (ids : List ℕ) (last : ℕ)
+            → IsChain (fat_of self.old) start (ids ++ last ∷ []) → ⊥) × AllRests self.old self.new }
         ensures full { IsErrOf result Full → IsFull self.old × AllRests self.old self.new }
-        ensures failed { has_failed_here self.old ≡ true → IsErrOf result Failed × AllRests self.old self.new }
-        ensures cause { IfErr result (HasCauseBelow self.old self.new) }
-        ensures fault { IfErr result (λ e. (IsFaultUnless ⊥ e × ((has_failed_here self.new ≡ true) ⊎ AllRests self.old self.new)) ⊎ (e ≡ InvalidData) ⊎ (e ≡ Full)) }
+        ensures changes { ChangesTables IsInvalidOrFull result self.old self.new }
     {
         let links = self.open_chain(start)?;
         let count = links.sector_ids().len();
@@ -229,18 +237,25 @@ impl<F: Medium> Allocator<F> {
         count: usize,
         init: SectorInit,
     ) -> Result<(), Error>
-        ensures extends { OnOk result ((ids : List ℕ) × (more : List ℕ) × (changed : List ℕ) × IsChain (fat_of self.old) start ids × IsChain (fat_of self.new) start (ids ++ more) × (length more ≡ count)
+        ensures extends { OnOk result ((ids : List ℕ) × (more : List ℕ) × (changed : List ℕ)
+            × IsChain (fat_of self.old) start ids
+            × IsChain (fat_of self.new) start (ids ++ more) × (length more ≡ count)
             × TakesIn more changed self.old self.new × AreAmong (ids ++ more) changed
-            × (IsTrue (is_honest self.old) → AreWritable (MayWrite self.old) (version_of self.old) ids
-            → joined (version_of self.old) (bytes_of self.new) (ids ++ more) ≡ joined (version_of self.old) (bytes_of self.old) ids ++ copies count (initial init (sector_len (version_of self.old))))) }
-        ensures some { OnErr result ((more : List ℕ) × (changed : List ℕ) × TakesIn more changed self.old self.new) }
-        ensures live { OnOk result ((has_failed_here self.old ≡ false) × (has_failed_here self.new ≡ false)) }
-        ensures refused { IsErrOf result InvalidData → IsTrue (orderly_of self.old) → (ids : List ℕ) (last : ℕ) → IsChain (fat_of self.old) start (ids ++ last ∷ []) → ⊥ }
-        ensures full { IsErrOf result Full → has_failed_here self.new ≡ false → LacksNumbers self.old count ⊎ ((ids : List ℕ) × IsChain (fat_of self.old) start ids × (greatest_regular < length ids + count)) }
-        ensures after { OnErr result ((has_failed_here self.new ≡ true) ⊎ AllRests self.old self.new) }
-        ensures failed { has_failed_here self.old ≡ true → IsErrOf result Failed × AllRests self.old self.new }
-        ensures cause { IfErr result (HasCauseBelow self.old self.new) }
-        ensures fault { IfErr result (λ e. IsFaultUnless ⊥ e ⊎ (e ≡ InvalidData) ⊎ (e ≡ Full)) }
+            × (IsTrue (is_honest self.old) → AreWritable (MayWrite self.old)
+            (version_of self.old) ids
+            → joined (version_of self.old) (bytes_of self.new) (ids ++ more)
+            ≡ joined (version_of self.old) (bytes_of self.old) ids
+            ++ copies count (initial init (sector_len (version_of self.old))))) }
+        ensures some { OnErr result ((more : List ℕ) × (changed : List ℕ)
+            × TakesIn more changed self.old self.new) }
+        ensures refused { IsErrOf result InvalidData → IsTrue (orderly_of self.old)
+            → (ids : List ℕ) (last : ℕ)
+            → IsChain (fat_of self.old) start (ids ++ last ∷ []) → ⊥ }
+        ensures full { IsErrOf result Full → has_failed_here self.new ≡ false
+            → LacksNumbers self.old count
+            ⊎ ((ids : List ℕ) × IsChain (fat_of self.old) start ids
+            × (greatest_regular < length ids + count)) }
+        ensures answers { Answers IsInvalidOrFull result self.old self.new }
     {
         let mut links = self.open_chain(start)?;
         let old = links.sector_ids().len();
@@ -259,20 +274,23 @@ impl<F: Medium> Allocator<F> {
     // Gives the chain of these links so many bytes.
     fn lengthen_chain(&mut self, links: &mut Links, len: u64, init: SectorInit) -> Result<(), Error>
         requires more { length (ids_of links.old) ≤ sectors_for (links_version links.old) len }
-        ensures count { OnOk result (length (ids_of links.new) ≡ sectors_for (links_version links.old) len) }
-        ensures longer { (more : List ℕ) × (changed : List ℕ) × (ids_of links.new ≡ ids_of links.old ++ more) × TakesIn more changed self.old self.new
-            × (IsLinked (fat_of self.old) (ids_of links.old) → AreAmong (ids_of links.new) changed) }
-        ensures linked { OnOk result (IsLinked (fat_of self.old) (ids_of links.old) → IsLinked (fat_of self.new) (ids_of links.new)) }
-        ensures filled { OnOk result (IsTrue (is_honest self.old) → version_of self.old ≡ links_version links.old → IsLinked (fat_of self.old) (ids_of links.old) → AreWritable (MayWrite self.old) (links_version links.old) (ids_of links.old)
-            → joined (links_version links.old) (bytes_of self.new) (ids_of links.new)
-            ≡ joined (links_version links.old) (bytes_of self.old) (ids_of links.old) ++ copies (length (ids_of links.new) - length (ids_of links.old)) (initial init (sector_len (links_version links.old)))) }
-        ensures live { OnOk result ((has_failed_here self.old ≡ false) × (has_failed_here self.new ≡ false)) }
-        ensures refused { IsErrOf result InvalidData → IsTrue (orderly_of self.old) → IsLinked (fat_of self.old) (ids_of links.old) → ⊥ }
-        ensures full { IsErrOf result Full → has_failed_here self.new ≡ false → LacksNumbers self.old (sectors_for (links_version links.old) len - length (ids_of links.old)) ⊎ (greatest_regular + 1 < sectors_for (links_version links.old) len) }
-        ensures after { OnErr result ((has_failed_here self.new ≡ true) ⊎ AllRests self.old self.new) }
-        ensures failed { has_failed_here self.old ≡ true → IsErrOf result Failed }
-        ensures cause { IfErr result (HasCauseBelow self.old self.new) }
-        ensures fault { IfErr result (λ e. IsFaultUnless ⊥ e ⊎ (e ≡ InvalidData) ⊎ (e ≡ Full)) }
+        ensures count { OnOk result (length (ids_of links.new)
+            ≡ sectors_for (links_version links.old) len) }
+        ensures longer { (more : List ℕ) × (changed : List ℕ)
+            × (ids_of links.new ≡ ids_of links.old ++ more)
+            × TakesIn more changed self.old self.new
+            × (IsLinked (fat_of self.old) (ids_of links.old)
+            → AreAmong (ids_of links.new) changed) }
+        ensures linked { OnOk result (IsLinked (fat_of self.old) (ids_of links.old)
+            → IsLinked (fat_of self.new) (ids_of links.new)) }
+        ensures filled { OnOk result (FillsBehind init links.old links.new self.old self.new) }
+        ensures refused { IsErrOf result InvalidData → IsTrue (orderly_of self.old)
+            → IsLinked (fat_of self.old) (ids_of links.old) → ⊥ }
+        ensures full { IsErrOf result Full → has_failed_here self.new ≡ false
+            → LacksNumbers self.old (sectors_for (links_version links.old) len
+            - length (ids_of links.old))
+            ⊎ (greatest_regular + 1 < sectors_for (links_version links.old) len) }
+        ensures answers { Answers IsInvalidOrFull result self.old self.new }
     {
         let mut chain = Chain::new(self, links, init);
         chain.set_len(len)

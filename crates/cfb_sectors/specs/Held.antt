@@ -1,8 +1,9 @@
 -- What a `Sectors` shows: its medium, its sectors, and whether a call failed; and what its calls do.
-use Rattle.std.specs.Prelude.{◌≡◌, ℕ, ◌+◌, ◌<◌, ◌≤◌, ◌⊎◌, Bool, false, true, ◌||◌, List, IsTrue}
+use Rattle.std.specs.Prelude.{◌≡◌, ℕ, ◌+◌, ◌<◌, ◌≤◌, ◌⊎◌, Bool, false, true, ◌||◌, List, IsTrue, Some}
 use Rattle.std.specs.List.{AllByRecursion}
 use Rattle.cfb_medium.specs.Bytes.{overwritten}
 use Rattle.cfb_medium.specs.Calls.{Extends, HasCauseSince}
+use Rattle.cfb_medium.specs.Stops.{LeavesOnly}
 use Rattle.cfb_medium.specs.declared.error.Error.{Error}
 use Rattle.cfb_medium.specs.declared.error.Error.TheVariants.{Failed, InvalidData}
 use Rattle.cfb_medium.specs.declared.medium.ReadMedium.{Ghosts}
@@ -85,3 +86,7 @@ module _ {F : Type 0} {g : Ghosts F} where
   -- the error is one of the medium, with its cause there, or tells of an earlier fault here
   abbrev pub HasItsCause : Sectors F g → Sectors F g → Error → Type 0
   HasItsCause old new error = HasCauseSince g.continues g.failures (λ m. has_failed_here old || g.failed m) old.inner new.inner error
+
+  -- a stop at a moment since the old state leaves what one might have left by then, or the bytes that there were
+  abbrev pub LeavesOldOrBytes : Sectors F g → Sectors F g → Type 0
+  LeavesOldOrBytes old new = LeavesOnly g.moment g.left_since (medium_of old) (medium_of new) (λ left. g.may_leave (medium_of old) left ⊎ (left ≡ Some (bytes_of old)))

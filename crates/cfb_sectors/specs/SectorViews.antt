@@ -1,5 +1,5 @@
 -- What a `Part` and a `Sector` show: which part of the file it is, the position there, and the layer behind it.
-use Rattle.std.specs.Prelude.{◌≡◌, ℕ}
+use Rattle.std.specs.Prelude.{◌≡◌, ℕ, ◌+◌, ◌-◌, List, length, min}
 use Rattle.cfb_sectors.specs.declared.sector.Part.{Part}
 use Rattle.cfb_sectors.specs.declared.sector.Sector.{Sector}
 
@@ -24,6 +24,18 @@ module _ {H : Type 0} where
 
   abbrev pub position_of : Sector H → ℕ
   position_of it = part_position it.part
+
+  -- the place of its position in the file
+  abbrev pub place_of : Sector H → ℕ
+  place_of it = start_of it + position_of it
+
+  -- so many bytes lie behind its position
+  abbrev pub rest_of : Sector H → ℕ
+  rest_of it = len_of it - position_of it
+
+  -- as many of these bytes as fit in may be written there
+  abbrev pub MayTake : (H → ℕ → ℕ → Type 0) → List ℕ → Sector H → Type 0
+  MayTake may_write bytes it = may_write (holder_of it) (place_of it) (min (length bytes) (rest_of it))
 
   -- the same part, lent by the same layer
   pub record IsSame (old new : Sector H) : Type 0 where

@@ -34,7 +34,8 @@ pub struct Header {
 
 // The version of the header that the bytes begin with, if they begin with one.
 fn version_of(bytes: &[u8]) -> Option<Version>
-    ensures { MatchOption result ((v : Version) → IsHeader v bytes.now → ⊥) (λ v. IsHeader v bytes.now) }
+    ensures { MatchOption result ((v : Version) → IsHeader v bytes.now
+        → ⊥) (λ v. IsHeader v bytes.now) }
 {
     if bytes.len() < HEADER_LEN || !bytes.starts_with(&MAGIC_NUMBER) {
         return None;
@@ -72,7 +73,8 @@ impl Header {
         ensures read { IfOk result (λ h. HasFields (fields_of h) reader.old.now) }
         ensures rest { OnOk result (reader.new.now ≡ drop 512 reader.old.now) }
         ensures left { OnErr result (reader.new.now ≡ reader.old.now) }
-        ensures error { IfErr result (λ e. ((e ≡ UnexpectedEof) × (length reader.old.now < 512)) ⊎ ((e ≡ InvalidData) × (512 ≤ length reader.old.now))) }
+        ensures error { IfErr result (λ e. ((e ≡ UnexpectedEof) × (length reader.old.now < 512))
+            ⊎ ((e ≡ InvalidData) × (512 ≤ length reader.old.now))) }
     {
         let bytes = *reader;
         if bytes.len() < HEADER_LEN {
@@ -101,7 +103,8 @@ impl Header {
 
     /// Appends the 512 bytes. `Memory` where the list can't grow, and then it is as it was.
     pub fn write_to(&self, writer: &mut Vec<u8>) -> Result<(), Error>
-        ensures ok { OnOk result (writer.new.items ≡ writer.old.items ++ header_bytes (fields_of self.now)) }
+        ensures ok { OnOk result (writer.new.items
+            ≡ writer.old.items ++ header_bytes (fields_of self.now)) }
         ensures err { OnErr result (writer.new.items ≡ writer.old.items) }
         ensures error { IfErr result (λ e. e ≡ Memory) }
     {
@@ -131,7 +134,8 @@ impl Header {
 
     // Appends the bytes, or a beginning of them.
     fn append_to(&self, out: &mut Vec<u8>) -> Result<(), AllocError>
-        ensures ok { OnOk result (out.new.items ≡ out.old.items ++ header_bytes (fields_of self.now)) }
+        ensures ok { OnOk result (out.new.items ≡ out.old.items
+            ++ header_bytes (fields_of self.now)) }
         ensures kept { Begins out.old.items out.new.items }
     {
         out.extend_from_slice(&MAGIC_NUMBER)?;
@@ -169,7 +173,8 @@ ghost use Rattle.cfb_sectors.specs.HeaderViews.{fields_of};
 pub fn header_again(alloc: Global, header: Header, validation: Validation) -> Result<Header, Error>
     ensures same { IfOk result (λ h. fields_of h ≡ fields_of header) }
     ensures taken { OnOk result (IsTaken validation header.version header.num_dir_sectors) }
-    ensures error { IfErr result (λ e. (e ≡ Memory) ⊎ ((e ≡ InvalidData) × (IsTaken validation header.version header.num_dir_sectors → ⊥))) }
+    ensures error { IfErr result (λ e. (e ≡ Memory)
+        ⊎ ((e ≡ InvalidData) × (IsTaken validation header.version header.num_dir_sectors → ⊥))) }
 {
     header.fits();
     let mut bytes = Vec::new(alloc);

@@ -73,7 +73,8 @@ pub(crate) fn push_zeros(out: &mut Vec<u8>, count: usize) -> Result<(), AllocErr
 
 // Appends numbers of two bytes.
 pub(crate) fn push_u16s(out: &mut Vec<u8>, numbers: &[u16]) -> Result<(), AllocError>
-    ensures ok { OnOk result (out.new.items ≡ out.old.items ++ flat_map (to_le_bytes w16) numbers.now) }
+    ensures ok { OnOk result (out.new.items ≡ out.old.items
+        ++ flat_map (to_le_bytes w16) numbers.now) }
     ensures kept { Begins out.old.items out.new.items }
 {
     for number in numbers {

@@ -36,7 +36,8 @@ pub trait HasSectors {
 
     /// Fills the buffer with the bytes from a place of the file on, and with zeros where there are no more.
     fn read_part(&mut self, place: u64, buffer: &mut [u8]) -> Result<(), Error>
-        ensures read { OnOk result (IsTrue (honest self.old) → buffer.new ≡ filled_part (bytes self.old) place (length buffer.old)) }
+        ensures read { OnOk result (IsTrue (honest self.old)
+            → buffer.new ≡ filled_part (bytes self.old) place (length buffer.old)) }
         ensures rests { rests self.old self.new }
         ensures failed { failed self.old ≡ true → IsErrOf result Failed }
         ensures cause { IfErr result (has_cause self.old self.new) }
@@ -73,16 +74,22 @@ pub trait ChangesSectors: HasSectors {
     /// Writes over the bytes from a place of the file on. `InvalidData` where they may not be written, and then nothing is
     /// changed. After a fault it has failed.
     fn write_part(&mut self, place: u64, bytes: &[u8]) -> Result<(), Error>
-        ensures writes { may_write self.old place (length bytes.now) → writes place bytes.now self.old self.new }
-        ensures rests { (may_write self.old place (length bytes.now) → ⊥) → Self.rests self.old self.new }
+        ensures writes { may_write self.old place (length bytes.now)
+            → writes place bytes.now self.old self.new }
+        ensures rests { (may_write self.old place (length bytes.now) → ⊥)
+            → Self.rests self.old self.new }
         ensures either { writes place bytes.now self.old self.new ⊎ Self.rests self.old self.new }
         ensures there { OnOk result (may_write self.old place (length bytes.now)) }
-        ensures refused { IsErrOf result InvalidData ↔ ((Self.failed self.old ≡ false) × (may_write self.old place (length bytes.now) → ⊥)) }
+        ensures refused { IsErrOf result InvalidData
+            ↔ ((Self.failed self.old ≡ false) × (may_write self.old place (length bytes.now) → ⊥)) }
         ensures still { (at count : ℕ) → may_write self.old at count → may_write self.new at count }
-        ensures live { OnOk result ((Self.failed self.old ≡ false) × (Self.failed self.new ≡ false)) }
-        ensures failed { Self.failed self.old ≡ true → IsErrOf result Failed × Self.rests self.old self.new }
+        ensures live { OnOk result ((Self.failed self.old ≡ false)
+            × (Self.failed self.new ≡ false)) }
+        ensures failed { Self.failed self.old ≡ true
+            → IsErrOf result Failed × Self.rests self.old self.new }
         ensures cause { IfErr result (Self.has_cause self.old self.new) }
-        ensures fault { IfErr result (λ e. (IsFaultUnless ⊥ e × (Self.failed self.new ≡ true)) ⊎ (e ≡ InvalidData)) };
+        ensures fault { IfErr result (λ e. (IsFaultUnless ⊥ e × (Self.failed self.new ≡ true))
+            ⊎ (e ≡ InvalidData)) };
 
     ghost fails_keep: { (a b : Self) → fails a b → (Self.honest b ≡ Self.honest a) × (Self.failed b ≡ true) };
 
@@ -113,9 +120,11 @@ impl Part {
     /// The part of so many bytes from this place of the file on, at this position. `InvalidData` where the position is past
     /// its end, or that end isn't before 2^63.
     pub fn new(start: u64, len: usize, position: usize) -> Result<Part, Error>
-        ensures part { IfOk result (λ it. (part_start it ≡ start) × (part_len it ≡ len) × (part_position it ≡ position)) }
+        ensures part { IfOk result (λ it. (part_start it ≡ start) × (part_len it ≡ len)
+            × (part_position it ≡ position)) }
         ensures there { OnOk result ((position ≤ len) × (start + len < 2 ^ 63)) }
-        ensures none { IfErr result (λ e. (e ≡ InvalidData) × ((position ≤ len) × (start + len < 2 ^ 63) → ⊥)) }
+        ensures none { IfErr result (λ e. (e ≡ InvalidData)
+            × ((position ≤ len) × (start + len < 2 ^ 63) → ⊥)) }
     {
         if position > len || start >= LIMIT || len as u64 >= LIMIT - start {
             return Err(Error::InvalidData);
@@ -130,9 +139,11 @@ impl Part {
     /// The part of so many bytes from this place of it on, at this position. `InvalidData` where it doesn't lie in this part
     /// or the position is past its end.
     pub fn subpart(self, start: usize, len: usize, position: usize) -> Result<Part, Error>
-        ensures part { IfOk result (λ it. (part_start it ≡ part_start self + start) × (part_len it ≡ len) × (part_position it ≡ position)) }
+        ensures part { IfOk result (λ it. (part_start it ≡ part_start self + start)
+            × (part_len it ≡ len) × (part_position it ≡ position)) }
         ensures there { OnOk result ((start + len ≤ part_len self) × (position ≤ len)) }
-        ensures none { IfErr result (λ e. (e ≡ InvalidData) × ((start + len ≤ part_len self) × (position ≤ len) → ⊥)) }
+        ensures none { IfErr result (λ e. (e ≡ InvalidData)
+            × ((start + len ≤ part_len self) × (position ≤ len) → ⊥)) }
     {
         if start > self.len || len > self.len - start {
             return Err(Error::InvalidData);
@@ -155,7 +166,8 @@ impl<'a, H: HasSectors> Sector<'a, H> {
     pub fn new(holder: &'a mut H, part: Part) -> Sector<'a, H>
         ensures same_reference { result.holder.ghost_name ≡ holder.entry.ghost_name }
         ensures holder { holder_of result ≡ holder.old }
-        ensures part { (start_of result ≡ part_start part) × (len_of result ≡ part_len part) × (position_of result ≡ part_position part) }
+        ensures part { (start_of result ≡ part_start part) × (len_of result ≡ part_len part)
+            × (position_of result ≡ part_position part) }
     {
         Sector { holder, part }
     }
@@ -169,9 +181,11 @@ impl<'a, H: HasSectors> Sector<'a, H> {
 
     /// Reads what the buffer takes and the part has from the position on, and moves the position behind it.
     pub fn read(&mut self, buffer: &mut [u8]) -> Result<usize, Error>
-        ensures count { IfOk result (λ n. n ≡ min (length buffer.old) (len_of self.old - position_of self.old)) }
+        ensures count { IfOk result (λ n. n ≡ min (length buffer.old)
+            (len_of self.old - position_of self.old)) }
         ensures read { IfOk result (λ n. IsTrue (H.honest (holder_of self.old))
-            → buffer.new ≡ filled_part (H.bytes (holder_of self.old)) (start_of self.old + position_of self.old) n ++ drop n buffer.old) }
+            → buffer.new ≡ filled_part (H.bytes (holder_of self.old))
+            (start_of self.old + position_of self.old) n ++ drop n buffer.old) }
         ensures moved { IfOk result (λ n. position_of self.new ≡ position_of self.old + n) }
         ensures stays { OnErr result (position_of self.new ≡ position_of self.old) }
         ensures same { IsSame self.old self.new }
@@ -190,9 +204,11 @@ impl<'a, H: HasSectors> Sector<'a, H> {
     /// Moves the position to a place of the part or to its end, and gives it. `InvalidInput` where it is before the part or
     /// behind its end, and `Failed` where the layer has failed; then the position stays.
     pub fn seek(&mut self, from: SeekFrom) -> Result<u64, Error>
-        ensures ok { IfOk result (λ n. Finds from (len_of self.old) (position_of self.old) n × (position_of self.new ≡ n)) }
+        ensures ok { IfOk result (λ n. Finds from (len_of self.old) (position_of self.old) n
+            × (position_of self.new ≡ n)) }
         ensures live { OnOk result (H.failed (holder_of self.old) ≡ false) }
-        ensures error { IfErr result (IsNotFound (H.failed (holder_of self.old)) from (len_of self.old) (position_of self.old)) }
+        ensures error { IfErr result (IsNotFound (H.failed (holder_of self.old)) from
+            (len_of self.old) (position_of self.old)) }
         ensures failed { H.failed (holder_of self.old) ≡ true → IsErrOf result Failed }
         ensures stays { OnErr result (position_of self.new ≡ position_of self.old) }
         ensures same { IsSame self.old self.new }
@@ -210,10 +226,12 @@ impl<'a, H: HasSectors> Sector<'a, H> {
 
     /// A part of this part, with so many bytes from this place of it on; the position stays where it is in the file.
     pub fn subsector(self, start: usize, len: usize) -> Sector<'a, H>
-        requires { (start ≤ position_of self) × (position_of self ≤ start + len) × (start + len ≤ len_of self) }
+        requires { (start ≤ position_of self) × (position_of self ≤ start + len)
+            × (start + len ≤ len_of self) }
         ensures same_reference { result.holder.ghost_name ≡ self.entry.holder.ghost_name }
         ensures holder { holder_of result ≡ holder_of self.entry }
-        ensures part { (start_of result ≡ start_of self.entry + start) × (len_of result ≡ len) × (position_of result + start ≡ position_of self.entry) }
+        ensures part { (start_of result ≡ start_of self.entry + start) × (len_of result ≡ len)
+            × (position_of result + start ≡ position_of self.entry) }
     {
         let Sector { holder, part } = self;
         let part = Part {
@@ -228,7 +246,8 @@ impl<'a, H: HasSectors> Sector<'a, H> {
 /// The place that a seek finds in a part of so many bytes, from this position, if it is one.
 pub fn place_found(from: SeekFrom, len: u64, position: u64) -> Option<u64>
     requires { len < 2 ^ 63 }
-    ensures { MatchOption result ((n : ℕ) → Finds from len position n → ⊥) (λ n. Finds from len position n) }
+    ensures { MatchOption result ((n : ℕ) → Finds from len position n
+        → ⊥) (λ n. Finds from len position n) }
 {
     let (base, by) = match from {
         SeekFrom::Start(place) => (place, 0),
@@ -245,24 +264,33 @@ pub fn place_found(from: SeekFrom, len: u64, position: u64) -> Option<u64>
 }
 
 impl<'a, H: ChangesSectors> Sector<'a, H> {
-    ghost use Rattle.cfb_sectors.specs.SectorViews.{holder_of, len_of, position_of, start_of, IsSame};
+    ghost use Rattle.cfb_sectors.specs.SectorViews.{holder_of, place_of, position_of, rest_of, IsSame, MayTake};
 
     /// Writes what the part takes from the position on, and moves the position behind it. `InvalidData` where the layer may
     /// not write there, and then nothing is changed.
     pub fn write(&mut self, bytes: &[u8]) -> Result<usize, Error>
-        ensures count { IfOk result (λ n. n ≡ min (length bytes.now) (len_of self.old - position_of self.old)) }
-        ensures writes { H.may_write (holder_of self.old) (start_of self.old + position_of self.old) (min (length bytes.now) (len_of self.old - position_of self.old)) → H.writes (start_of self.old + position_of self.old) (take (len_of self.old - position_of self.old) bytes.now) (holder_of self.old) (holder_of self.new) }
-        ensures rests { (H.may_write (holder_of self.old) (start_of self.old + position_of self.old) (min (length bytes.now) (len_of self.old - position_of self.old)) → ⊥) → H.rests (holder_of self.old) (holder_of self.new) }
-        ensures there { OnOk result (H.may_write (holder_of self.old) (start_of self.old + position_of self.old) (min (length bytes.now) (len_of self.old - position_of self.old))) }
-        ensures refused { IsErrOf result InvalidData ↔ ((H.failed (holder_of self.old) ≡ false) × (H.may_write (holder_of self.old) (start_of self.old + position_of self.old) (min (length bytes.now) (len_of self.old - position_of self.old)) → ⊥)) }
-        ensures still { (at count : ℕ) → H.may_write (holder_of self.old) at count → H.may_write (holder_of self.new) at count }
-        ensures moved { IfOk result (λ n. position_of self.new ≡ position_of self.old + n) }
+        ensures advances { IfOk result (λ n. (n ≡ min (length bytes.now) (rest_of self.old))
+            × (position_of self.new ≡ position_of self.old + n)) }
+        ensures writes { MayTake H.may_write bytes.now self.old
+            → H.writes (place_of self.old) (take (rest_of self.old) bytes.now)
+            (holder_of self.old) (holder_of self.new) }
+        ensures rests { (MayTake H.may_write bytes.now self.old → ⊥)
+            → H.rests (holder_of self.old) (holder_of self.new) }
+        ensures there { OnOk result (MayTake H.may_write bytes.now self.old) }
+        ensures refused { IsErrOf result InvalidData
+            ↔ ((H.failed (holder_of self.old) ≡ false)
+            × (MayTake H.may_write bytes.now self.old → ⊥)) }
+        ensures still { (at count : ℕ) → H.may_write (holder_of self.old) at count
+            → H.may_write (holder_of self.new) at count }
         ensures stays { OnErr result (position_of self.new ≡ position_of self.old) }
         ensures same { IsSame self.old self.new }
-        ensures live { OnOk result ((H.failed (holder_of self.old) ≡ false) × (H.failed (holder_of self.new) ≡ false)) }
-        ensures failed { H.failed (holder_of self.old) ≡ true → IsErrOf result Failed × H.rests (holder_of self.old) (holder_of self.new) }
+        ensures live { OnOk result ((H.failed (holder_of self.old) ≡ false)
+            × (H.failed (holder_of self.new) ≡ false)) }
+        ensures failed { H.failed (holder_of self.old) ≡ true
+            → IsErrOf result Failed × H.rests (holder_of self.old) (holder_of self.new) }
         ensures cause { IfErr result (H.has_cause (holder_of self.old) (holder_of self.new)) }
-        ensures fault { IfErr result (λ e. (IsFaultUnless ⊥ e × (H.failed (holder_of self.new) ≡ true)) ⊎ (e ≡ InvalidData)) }
+        ensures fault { IfErr result (λ e. (IsFaultUnless ⊥ e
+            × (H.failed (holder_of self.new) ≡ true)) ⊎ (e ≡ InvalidData)) }
     {
         let count = bytes.len().min(self.part.len - self.part.position);
         let place = self.part.start + self.part.position as u64;

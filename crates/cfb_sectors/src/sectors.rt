@@ -90,7 +90,8 @@ impl<F: ReadMedium> Sectors<F> {
 
     /// The header as a part of the file, at this offset. `InvalidData` where the offset is past its end.
     pub fn seek_within_header(&self, offset: usize) -> Result<Part, Error>
-        ensures part { IfOk result (λ it. (part_start it ≡ 0) × (part_len it ≡ 512) × (part_position it ≡ offset)) }
+        ensures part { IfOk result (λ it. (part_start it ≡ 0) × (part_len it ≡ 512)
+            × (part_position it ≡ offset)) }
         ensures there { OnOk result ((has_failed_here self.now ≡ false) × (offset ≤ 512)) }
         ensures error { IfErr result (IsRefused (has_failed_here self.now) (offset ≤ 512)) }
     {
@@ -102,18 +103,26 @@ impl<F: ReadMedium> Sectors<F> {
 
     /// A sector as a part of the file, at its first byte. `InvalidData` where it isn't there.
     pub fn seek_to_sector(&self, sector_id: u32) -> Result<Part, Error>
-        ensures part { IfOk result (λ it. (part_start it ≡ sector_start (version_of self.now) sector_id) × (part_len it ≡ sector_len (version_of self.now)) × (part_position it ≡ 0)) }
-        ensures there { OnOk result ((has_failed_here self.now ≡ false) × (sector_id < count_of self.now)) }
-        ensures error { IfErr result (IsRefused (has_failed_here self.now) (sector_id < count_of self.now)) }
+        ensures part { IfOk result (λ it. (part_start it
+            ≡ sector_start (version_of self.now) sector_id)
+            × (part_len it ≡ sector_len (version_of self.now)) × (part_position it ≡ 0)) }
+        ensures there { OnOk result ((has_failed_here self.now ≡ false)
+            × (sector_id < count_of self.now)) }
+        ensures error { IfErr result (IsRefused (has_failed_here self.now)
+            (sector_id < count_of self.now)) }
     {
         self.seek_within_sector(sector_id, 0)
     }
 
     /// A sector as a part of the file, at this offset. `InvalidData` where it isn't there or the offset is past its end.
     pub fn seek_within_sector(&self, sector_id: u32, offset: usize) -> Result<Part, Error>
-        ensures part { IfOk result (λ it. (part_start it ≡ sector_start (version_of self.now) sector_id) × (part_len it ≡ sector_len (version_of self.now)) × (part_position it ≡ offset)) }
-        ensures there { OnOk result ((has_failed_here self.now ≡ false) × (sector_id < count_of self.now) × (offset ≤ sector_len (version_of self.now))) }
-        ensures error { IfErr result (IsRefused (has_failed_here self.now) ((sector_id < count_of self.now) × (offset ≤ sector_len (version_of self.now)))) }
+        ensures part { IfOk result (λ it. (part_start it
+            ≡ sector_start (version_of self.now) sector_id)
+            × (part_len it ≡ sector_len (version_of self.now)) × (part_position it ≡ offset)) }
+        ensures there { OnOk result ((has_failed_here self.now ≡ false)
+            × (sector_id < count_of self.now) × (offset ≤ sector_len (version_of self.now))) }
+        ensures error { IfErr result (IsRefused (has_failed_here self.now)
+            ((sector_id < count_of self.now) × (offset ≤ sector_len (version_of self.now)))) }
     {
         if self.failed {
             return Err(Error::Failed);
@@ -149,7 +158,8 @@ impl<F: ReadMedium> Sectors<F> {
     // Where a part of the sectors begins in the file, if it lies in them.
     fn place(&self, sector_id: u32, offset: usize, count: usize) -> Option<u64>
         ensures { MatchOption result (LiesIn self.now sector_id offset count → ⊥)
-            (λ place. LiesIn self.now sector_id offset count × (place ≡ sector_start (version_of self.now) sector_id + offset)) }
+            (λ place. LiesIn self.now sector_id offset count
+            × (place ≡ sector_start (version_of self.now) sector_id + offset)) }
     {
         if sector_id >= self.num_sectors {
             return None;
@@ -172,7 +182,8 @@ impl<F: ReadMedium> Sectors<F> {
 
     // Fills the buffer with the bytes from a place on, and with zeros where there are no more.
     pub(crate) fn read_filled(&mut self, place: u64, buffer: &mut [u8]) -> Result<(), Error>
-        ensures read { OnOk result (IsHonest self.old → buffer.new ≡ filled_part (bytes_of self.old) place (length buffer.old)) }
+        ensures read { OnOk result (IsHonest self.old
+            → buffer.new ≡ filled_part (bytes_of self.old) place (length buffer.old)) }
         ensures rests { Rests self.old self.new }
         ensures cause { IfErr result (HasItsCause self.old self.new) }
         ensures fault { IfErr result (IsFaultUnless ⊥) }
@@ -190,10 +201,15 @@ impl<F: ReadMedium> Sectors<F> {
         offset: usize,
         buffer: &mut [u8],
     ) -> Result<(), Error>
-        ensures read { OnOk result (IsHonest self.old → buffer.new ≡ filled_part (bytes_of self.old) (sector_start (version_of self.old) sector_id + offset) (length buffer.old)) }
-        ensures inside { OnOk result ((has_failed_here self.old ≡ false) × LiesIn self.old sector_id offset (length buffer.old)) }
+        ensures read { OnOk result (IsHonest self.old
+            → buffer.new ≡ filled_part (bytes_of self.old)
+            (sector_start (version_of self.old) sector_id + offset) (length buffer.old)) }
+        ensures inside { OnOk result ((has_failed_here self.old ≡ false)
+            × LiesIn self.old sector_id offset (length buffer.old)) }
         ensures failed { has_failed_here self.old ≡ true → IsErrOf result Failed }
-        ensures refused { IsErrOf result InvalidData ↔ ((has_failed_here self.old ≡ false) × (LiesIn self.old sector_id offset (length buffer.old) → ⊥)) }
+        ensures refused { IsErrOf result InvalidData
+            ↔ ((has_failed_here self.old ≡ false) × (LiesIn self.old sector_id offset
+            (length buffer.old) → ⊥)) }
         ensures rests { Rests self.old self.new }
         ensures cause { IfErr result (HasItsCause self.old self.new) }
         ensures fault { IfErr result (λ e. IsFaultUnless ⊥ e ⊎ (e ≡ InvalidData)) }
@@ -209,7 +225,7 @@ impl<F: ReadMedium> Sectors<F> {
 }
 
 impl<F: Medium> Sectors<F> {
-    ghost use Rattle.cfb_sectors.specs.Held.{bytes_of, count_of, has_failed, has_failed_here, medium_of, version_of, Changes, HasItsCause, IsHonest, LiesIn, Rests};
+    ghost use Rattle.cfb_sectors.specs.Held.{bytes_of, count_of, has_failed, has_failed_here, medium_of, version_of, Changes, HasItsCause, IsHonest, LeavesOldOrBytes, LiesIn, Rests};
 
     /// Whether a fault in a write or a commit has left it, or the medium, in a state in which every call is refused.
     pub fn has_failed(&self) -> bool
@@ -221,7 +237,8 @@ impl<F: Medium> Sectors<F> {
     // Writes, and leaves it failed.
     fn begin_write(&mut self, place: u64, bytes: &[u8]) -> Result<(), Error>
         requires { place + length bytes.now < 2 ^ 63 }
-        ensures written { IsHonest self.old → OnOk result (bytes_of self.new ≡ overwritten (bytes_of self.old) place bytes.now) }
+        ensures written { IsHonest self.old → OnOk result
+            (bytes_of self.new ≡ overwritten (bytes_of self.old) place bytes.now) }
         ensures honest { F.honest (medium_of self.new) ≡ F.honest (medium_of self.old) }
         ensures continues { Extends F.continues (medium_of self.old) (medium_of self.new) }
         ensures version { version_of self.new ≡ version_of self.old }
@@ -236,12 +253,14 @@ impl<F: Medium> Sectors<F> {
 
     // Writes over a part of the header's sector or of those behind it.
     pub(crate) fn write_at(&mut self, place: u64, bytes: &[u8]) -> Result<(), Error>
-        requires { place + length bytes.now ≤ sector_start (version_of self.old) (count_of self.old) }
+        requires { place + length bytes.now ≤ sector_start (version_of self.old)
+            (count_of self.old) }
         ensures changes { Changes (λ b. overwritten b place bytes.now) self.old self.new }
         ensures count { count_of self.new ≡ count_of self.old }
         ensures live { OnOk result (has_failed_here self.new ≡ false) }
         ensures err { OnErr result (has_failed_here self.new ≡ true) }
-        ensures failed { has_failed_here self.old ≡ true → IsErrOf result Failed × Rests self.old self.new }
+        ensures failed { has_failed_here self.old ≡ true
+            → IsErrOf result Failed × Rests self.old self.new }
         ensures cause { IfErr result (HasItsCause self.old self.new) }
         ensures fault { IfErr result (IsFaultUnless ⊥) }
     {
@@ -261,14 +280,21 @@ impl<F: Medium> Sectors<F> {
         offset: usize,
         bytes: &[u8],
     ) -> Result<(), Error>
-        ensures changes { LiesIn self.old sector_id offset (length bytes.now) → Changes (λ b. overwritten b (sector_start (version_of self.old) sector_id + offset) bytes.now) self.old self.new }
-        ensures rests { (LiesIn self.old sector_id offset (length bytes.now) → ⊥) → Rests self.old self.new }
-        ensures refused { IsErrOf result InvalidData ↔ ((has_failed_here self.old ≡ false) × (LiesIn self.old sector_id offset (length bytes.now) → ⊥)) }
+        ensures changes { LiesIn self.old sector_id offset (length bytes.now)
+            → Changes (λ b. overwritten b (sector_start (version_of self.old) sector_id
+            + offset) bytes.now) self.old self.new }
+        ensures rests { (LiesIn self.old sector_id offset (length bytes.now) → ⊥)
+            → Rests self.old self.new }
+        ensures refused { IsErrOf result InvalidData
+            ↔ ((has_failed_here self.old ≡ false) × (LiesIn self.old sector_id offset
+            (length bytes.now) → ⊥)) }
         ensures count { count_of self.new ≡ count_of self.old }
         ensures live { OnOk result (has_failed_here self.new ≡ false) }
-        ensures failed { has_failed_here self.old ≡ true → IsErrOf result Failed × Rests self.old self.new }
+        ensures failed { has_failed_here self.old ≡ true
+            → IsErrOf result Failed × Rests self.old self.new }
         ensures cause { IfErr result (HasItsCause self.old self.new) }
-        ensures fault { IfErr result (λ e. (IsFaultUnless ⊥ e × (has_failed_here self.new ≡ true)) ⊎ (e ≡ InvalidData)) }
+        ensures fault { IfErr result (λ e. (IsFaultUnless ⊥ e × (has_failed_here self.new ≡ true))
+            ⊎ (e ≡ InvalidData)) }
     {
         if self.failed {
             return Err(Error::Failed);
@@ -282,14 +308,20 @@ impl<F: Medium> Sectors<F> {
     /// Appends a sector of zeros, and gives its number. `Full` where no number is left. After a fault it has failed.
     pub fn reserve_sector(&mut self) -> Result<u32, Error>
         ensures number { IfOk result (λ n. n ≡ count_of self.old) }
-        ensures changes { count_of self.old ≤ greatest_regular → Changes (λ b. overwritten b (sector_start (version_of self.old) (count_of self.old)) (replicate (sector_len (version_of self.old)) 0)) self.old self.new }
-        ensures count { has_failed_here self.new ≡ false → count_of self.old ≤ greatest_regular → count_of self.new ≡ count_of self.old + 1 }
+        ensures changes { count_of self.old ≤ greatest_regular
+            → Changes (λ b. overwritten b (sector_start (version_of self.old) (count_of self.old))
+            (replicate (sector_len (version_of self.old)) 0)) self.old self.new }
+        ensures count { has_failed_here self.new ≡ false → count_of self.old ≤ greatest_regular
+            → count_of self.new ≡ count_of self.old + 1 }
         ensures live { OnOk result (has_failed_here self.new ≡ false) }
-        ensures failed { has_failed_here self.old ≡ true → IsErrOf result Failed × Rests self.old self.new }
-        ensures full { IsErrOf result Full ↔ ((has_failed_here self.old ≡ false) × (greatest_regular < count_of self.old)) }
+        ensures failed { has_failed_here self.old ≡ true
+            → IsErrOf result Failed × Rests self.old self.new }
+        ensures full { IsErrOf result Full ↔ ((has_failed_here self.old ≡ false)
+            × (greatest_regular < count_of self.old)) }
         ensures rests { greatest_regular < count_of self.old → Rests self.old self.new }
         ensures cause { IfErr result (HasItsCause self.old self.new) }
-        ensures fault { IfErr result (λ e. (IsFaultUnless ⊥ e × (has_failed_here self.new ≡ true)) ⊎ (e ≡ Full)) }
+        ensures fault { IfErr result (λ e. (IsFaultUnless ⊥ e × (has_failed_here self.new ≡ true))
+            ⊎ (e ≡ Full)) }
     {
         if self.failed {
             return Err(Error::Failed);
@@ -309,14 +341,19 @@ impl<F: Medium> Sectors<F> {
     /// Fills a sector with what it holds when it is taken into use. `InvalidData` where it isn't there, and then nothing is
     /// changed. After a fault it has failed.
     pub fn init_sector(&mut self, sector_id: u32, init: SectorInit) -> Result<(), Error>
-        ensures changes { sector_id < count_of self.old → Changes (λ b. overwritten b (sector_start (version_of self.old) sector_id) (initial init (sector_len (version_of self.old)))) self.old self.new }
+        ensures changes { sector_id < count_of self.old
+            → Changes (λ b. overwritten b (sector_start (version_of self.old) sector_id)
+            (initial init (sector_len (version_of self.old)))) self.old self.new }
         ensures rests { count_of self.old ≤ sector_id → Rests self.old self.new }
-        ensures refused { IsErrOf result InvalidData ↔ ((has_failed_here self.old ≡ false) × (count_of self.old ≤ sector_id)) }
+        ensures refused { IsErrOf result InvalidData
+            ↔ ((has_failed_here self.old ≡ false) × (count_of self.old ≤ sector_id)) }
         ensures count { count_of self.new ≡ count_of self.old }
         ensures live { OnOk result (has_failed_here self.new ≡ false) }
-        ensures failed { has_failed_here self.old ≡ true → IsErrOf result Failed × Rests self.old self.new }
+        ensures failed { has_failed_here self.old ≡ true
+            → IsErrOf result Failed × Rests self.old self.new }
         ensures cause { IfErr result (HasItsCause self.old self.new) }
-        ensures fault { IfErr result (λ e. (IsFaultUnless ⊥ e × (has_failed_here self.new ≡ true)) ⊎ (e ≡ InvalidData)) }
+        ensures fault { IfErr result (λ e. (IsFaultUnless ⊥ e × (has_failed_here self.new ≡ true))
+            ⊎ (e ≡ InvalidData)) }
     {
         if self.failed {
             return Err(Error::Failed);
@@ -345,15 +382,19 @@ impl<F: Medium> Sectors<F> {
 
     /// Publishes the bytes, by a commit of the medium. After a fault it has failed.
     pub fn commit(&mut self) -> Result<(), Error>
-        ensures published { IsHonest self.old → OnOk result (F.has_published (medium_of self.new) (bytes_of self.old)) }
-        ensures bytes { has_failed_here self.new ≡ false → IsHonest self.old → bytes_of self.new ≡ bytes_of self.old }
+        ensures published { IsHonest self.old → OnOk result
+            (F.has_published (medium_of self.new) (bytes_of self.old)) }
+        ensures left { IsHonest self.old → LeavesOldOrBytes self.old self.new }
+        ensures bytes { has_failed_here self.new ≡ false → IsHonest self.old
+            → bytes_of self.new ≡ bytes_of self.old }
         ensures was_live { has_failed_here self.new ≡ false → has_failed_here self.old ≡ false }
         ensures honest { F.honest (medium_of self.new) ≡ F.honest (medium_of self.old) }
-        ensures version { version_of self.new ≡ version_of self.old }
-        ensures count { count_of self.new ≡ count_of self.old }
+        ensures stays { (version_of self.new ≡ version_of self.old)
+            × (count_of self.new ≡ count_of self.old) }
         ensures live { OnOk result (has_failed_here self.new ≡ false) }
         ensures err { OnErr result (has_failed_here self.new ≡ true) }
-        ensures failed { has_failed_here self.old ≡ true → IsErrOf result Failed × Rests self.old self.new }
+        ensures failed { has_failed_here self.old ≡ true
+            → IsErrOf result Failed × Rests self.old self.new }
         ensures cause { IfErr result (HasItsCause self.old self.new) }
         ensures failures { F.failures (medium_of self.old) ≤ F.failures (medium_of self.new) }
         ensures fault { IfErr result (IsFaultUnless ⊥) }

@@ -46,16 +46,16 @@ returns g c = record {
       let one = chain_unique (fat_of s2) n (ext.0 ++ ext.1 ∷ []) (n ∷ []) ext.2 chain2 in
       let chain3 : IsChain (fat_of s3) n (n ∷ m ∷ []) = subst (IsChain (fat_of s3) n) (sym (append_assoc ext.0 (ext.1 ∷ []) (m ∷ [])) ∙ ap (λ l. l ++ m ∷ []) one) ext.3 in
       let chain4 : IsChain (fat_of s4) n (n ∷ m ∷ []) = subst (λ l. IsChain l n (n ∷ m ∷ [])) (sym more.writes.fat) chain3 in
-      let chain5 : IsChain (fat_of s5) n (n ∷ []) = ended (fat_of s4) (fat_of s5) n (m ∷ []) chain4 (cut.frees.2.fat cut.live.2).size cut.frees.1.1 in
+      let chain5 : IsChain (fat_of s5) n (n ∷ []) = ended (fat_of s4) (fat_of s5) n (m ∷ []) chain4 (cut.frees.2.fat cut.changes.live.2).size cut.frees.1.1 in
       let at3 = one_last longer.leaves.0 longer.leaves.1 n (chain_unique (fat_of s2) n (longer.leaves.0 ++ longer.leaves.1 ∷ []) (n ∷ []) longer.leaves.2 chain2) in
       let at5 = chain_unique (fat_of s4) n (n ∷ cut.leaves.0) (n ∷ m ∷ []) cut.leaves.1 chain4 in
       let at6 = chain_unique (fat_of s5) n last.0 (n ∷ []) last.1 chain5 in
       let first = held_first (sector v) (seen_of s0) own owned in
-      let held1 = held_then (sector v) (seen_of s0) own [] (n ∷ []) (n ∷ []) (n ∷ n ∷ []) (seen_of s0) (seen_of s1) first (begun.leaves honest) (among_one n) (begun.takes.free begun.live.2) (spare_of s1 v n v1 begun.writable, tt) begun.chain (among_same (n ∷ []) (n ∷ []) refl) in
+      let held1 = held_then (sector v) (seen_of s0) own [] (n ∷ []) (n ∷ []) (n ∷ n ∷ []) (seen_of s0) (seen_of s1) first (begun.leaves honest) (among_one n) (begun.takes.free begun.changes.live.2) (spare_of s1 v n v1 begun.fresh.writable, tt) begun.chain (among_same (n ∷ []) (n ∷ []) refl) in
       let held2 = held_then (sector v) (seen_of s0) own (n ∷ []) (n ∷ []) [] (n ∷ []) (seen_of s1) (seen_of s2) held1
       (subst (λ u. Leaves (sector u) [] (n ∷ []) (seen_of s1) (seen_of s2)) v1 (wrote.leaves fits1 h1)) (among_same (n ∷ []) (n ∷ []) refl) tt tt chain2 (among_same (n ∷ []) (n ∷ []) refl) in
       let held3 = held_then (sector v) (seen_of s0) own (n ∷ []) (n ∷ m ∷ []) (m ∷ []) (m ∷ longer.leaves.1 ∷ m ∷ []) (seen_of s2) (seen_of s3) held2
-      (subst (λ u. Leaves (sector u) [] (m ∷ longer.leaves.1 ∷ m ∷ []) (seen_of s2) (seen_of s3)) v2 (longer.leaves.3 h2)) (among_two n m longer.leaves.1 at3) (ext.4.free longer.live.2) (spare_of s3 (version_of s2) m ext.4.grows.version longer.writable, tt) chain3 (among_same (n ∷ m ∷ []) (n ∷ m ∷ []) refl) in
+      (subst (λ u. Leaves (sector u) [] (m ∷ longer.leaves.1 ∷ m ∷ []) (seen_of s2) (seen_of s3)) v2 (longer.leaves.3 h2)) (among_two n m longer.leaves.1 at3) (ext.4.free longer.changes.live.2) (spare_of s3 (version_of s2) m ext.4.grows.version longer.fresh.writable, tt) chain3 (among_same (n ∷ m ∷ []) (n ∷ m ∷ []) refl) in
       let held4 = held_then (sector v) (seen_of s0) own (n ∷ m ∷ []) (n ∷ m ∷ []) [] (m ∷ []) (seen_of s3) (seen_of s4) held3
       (subst (λ u. Leaves (sector u) [] (m ∷ []) (seen_of s3) (seen_of s4)) v3 (more.leaves fits3 h3)) (among_back n m) tt tt chain4 (among_same (n ∷ m ∷ []) (n ∷ m ∷ []) refl) in
       let held5 = held_then (sector v) (seen_of s0) own (n ∷ m ∷ []) (n ∷ []) [] (n ∷ cut.leaves.0) (seen_of s4) (seen_of s5) held4

@@ -1,9 +1,11 @@
-use Rattle.std.proofs.Common.{◌≡◌, slice_index, length, ◌++◌, ◌∷◌, [], ◌∙◌, sym, ap, arith, subst}
+use Rattle.std.proofs.Common.{◌≡◌, ℕ, List, ◌+◌, ◌*◌, ◌≤◌, slice_index, length, length-append, ◌++◌, ◌∷◌, [], ◌∙◌, sym, ap, arith, subst}
 use Rattle.std.proofs.lemmas.List.{append-nil}
 use Rattle.cfb_medium.specs.Versions.{sector_len}
+use Rattle.cfb_medium.specs.declared.version.Version.{Version}
+use Rattle.cfb_medium.specs.declared.version.Version.TheVariants.{V3, V4}
 use Rattle.cfb_sectors.specs.Sectors.{sector_start}
 use Rattle.cfb_chains.proofs.ChainGrowing.{sector_behind}
-use Rattle.cfb_chains.specs.ChainViews.{holder_of, sectors_of, version_of}
+use Rattle.cfb_chains.specs.ChainViews.{holder_of, position_of, sectors_of, version_of}
 use Rattle.cfb_chains.specs.Changes.{AreAmong}
 use Rattle.cfb_chains.specs.Grown.{IsLinked}
 use Rattle.cfb_chains.specs.LinkViews.{ids_of}
@@ -18,6 +20,20 @@ pub returns-in-Err-clause-grows : goal.returns-in-Err-clause-grows
 returns-in-Err-clause-grows g c =
     let it = holder_of c.args.self.now in
     ([], [], c.reserve_one.ensures.same.0 ∙ sym (append-nil (sectors_of c.args.self.now)), g.met.H.GrowsChains.grows_rest [] it it (g.met.H.HasSectors.rests_refl it), λ linked n none k below same. absurd (omega (arith, below)))
+
+still_inside : (v w : Version) (p : ℕ) (ids all : List ℕ) (n : ℕ) → p ≤ length ids * sector_len v → all ≡ ids ++ n ∷ [] → w ≡ v → p ≤ length all * sector_len w
+still_inside v w p ids all n inside more same =
+    let size : length all ≡ length ids + 1 = ap length more ∙ length-append ids (n ∷ []) in
+    subst (λ u. p ≤ length all * sector_len u) (sym same) (subst (λ k. p ≤ k * sector_len v) (sym size) (at_most v p (length ids) inside))
+  where
+    at_most : (u : Version) (p k : ℕ) → p ≤ k * sector_len u → p ≤ (k + 1) * sector_len u
+    at_most V3 p k h = omega arith
+    at_most V4 p k h = omega arith
+
+pub invariant_of-self-in-Ok : goal.invariant_of-self-in-Ok
+invariant_of-self-in-Ok g c =
+    let it = c.take_sector.new.self in
+    record { inside = still_inside (version_of it) _ (position_of it) (sectors_of it) _ c.in-Ok.sector_id it.inside c.push_reserved.ensures.0 c.push_reserved.ensures.1 }
 
 pub returns-in-Ok-clause-grows : goal.returns-in-Ok-clause-grows
 returns-in-Ok-clause-grows g c =

@@ -1,4 +1,4 @@
-use Rattle.std.proofs.Common.{◌≡◌, ◌-◌, ◌≤◌, ap, arith, drop, get_or, length, subst, suc, sym, take}
+use Rattle.std.proofs.Common.{◌≡◌, ◌-◌, ◌≤◌, ap, arith, drop, get_or, length, refl, subst, suc, sym, take}
 use Rattle.cfb_sectors.specs.Sectors.{free, joined}
 use Rattle.cfb_chains.specs.ChainViews.{holder_of, sectors_of, version_of}
 use Rattle.cfb_chains.specs.Grown.{AreWritable, IsLinked}
@@ -59,4 +59,4 @@ returns-in-Err-clause-refused g c = λ is.
     let inside : suc m ≤ length s = omega (arith, c.requires.some, c.requires.there) in
     let at = ap (λ l. get_or l m 0) c.sector_ids.ensures in
     let refused = c.in-Err.ensures.refused is in
-    (λ orderly linked. refused.0 orderly (drop (suc m) s) (is_cut _ s m _ inside at linked), refused.1)
+    (λ orderly linked. refused.0 orderly (drop (suc m) s) (is_cut _ s m _ inside at linked), (refused.1, refl))

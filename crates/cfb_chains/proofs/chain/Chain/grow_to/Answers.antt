@@ -1,4 +1,4 @@
-use Rattle.std.proofs.Common.{◌≡◌, ◌++◌, ◌-◌, ◌∙◌, [], append_assoc, ap, arith, length, refl, subst, sym, Err, IsTrue}
+use Rattle.std.proofs.Common.{◌≡◌, ◌++◌, ◌-◌, ◌∙◌, [], append_assoc, ap, arith, length, refl, subst, sym, IsTrue}
 use Rattle.std.proofs.lemmas.List.{append-nil}
 use Rattle.cfb_medium.specs.Versions.{sector_len}
 use Rattle.cfb_sectors.specs.Copies.{copies}
@@ -38,23 +38,22 @@ returns-in-Err-clause-grows g c =
       λ linked. among_both (sectors_of c.append_sector.new.self) was.1 grown.1 (subst (λ s. AreAmong s was.1) (sym grown.2) (among_more (sectors_of c.grow.self) grown.0 was.1 (was.4 linked))) (grown.4 (c.grow.invariant.linked linked)),
     )
 
-pub returns-in-Err-clause-linked : goal.returns-in-Err-clause-linked
-returns-in-Err-clause-linked g c = λ live linked.
-    let rests = rests_yet _ c.in-Err.ensures.fault (λ is. (c.in-Err.ensures.refused (ap Err is)).1) (λ is. (c.in-Err.ensures.full (ap Err is)).1) live in
-    let fat = (g.met.H.FreesChains.rests_keep_tables _ _ rests).0 in
-    subst (λ f. IsLinked f (sectors_of c.append_sector.new.self)) (sym fat) (subst (IsLinked (g.H.FreesChains.fat (holder_of c.grow.self))) (sym c.in-Err.ensures.none) (c.grow.invariant.linked linked))
-
-pub returns-in-Err-clause-writable : goal.returns-in-Err-clause-writable
-returns-in-Err-clause-writable g c = λ live version all.
-    let rests = rests_yet _ c.in-Err.ensures.fault (λ is. (c.in-Err.ensures.refused (ap Err is)).1) (λ is. (c.in-Err.ensures.full (ap Err is)).1) live in
-    let still = (g.met.H.FreesChains.rests_keep_tables _ _ rests).2 in
+pub returns-in-Err-clause-keeps : goal.returns-in-Err-clause-keeps
+returns-in-Err-clause-keeps g c = λ live.
+    let rests = (rests_yet _ c.in-Err.ensures.answers.after live).0 in
+    let kept = g.met.H.FreesChains.rests_keep_tables _ _ rests in
     let v = version_of c.args.self.now in
     let then = g.H.ChangesSectors.may_write (holder_of c.append_sector.new.self) in
-    subst (AreWritable then v) (sym c.in-Err.ensures.none) (writable_still (g.H.ChangesSectors.may_write (holder_of c.grow.self)) then v (sectors_of c.grow.self) still (c.grow.invariant.writable version all))
+    record {
+      linked = λ linked. subst (λ f. IsLinked f (sectors_of c.append_sector.new.self)) (sym kept.0)
+          (subst (IsLinked (g.H.FreesChains.fat (holder_of c.grow.self))) (sym c.in-Err.ensures.none) (c.grow.invariant.linked linked));
+      writable = λ version all. subst (AreWritable then v) (sym c.in-Err.ensures.none)
+          (writable_still (g.H.ChangesSectors.may_write (holder_of c.grow.self)) then v (sectors_of c.grow.self) kept.2 (c.grow.invariant.writable version all));
+    }
 
 pub returns-in-Err-clause-filled : goal.returns-in-Err-clause-filled
 returns-in-Err-clause-filled g c = λ live honest version linked all.
-    let rests = rests_yet _ c.in-Err.ensures.fault (λ is. (c.in-Err.ensures.refused (ap Err is)).1) (λ is. (c.in-Err.ensures.full (ap Err is)).1) live in
+    let rests = (rests_yet _ c.in-Err.ensures.answers.after live).0 in
     let it = c.args.self.now in
     let v = version_of it in
     let kept = g.met.H.GrowsChains.grows_keep _ _ _ _ c.grow.invariant.grows.3 in
@@ -71,7 +70,7 @@ grow-preserved g c =
     let mid = c.grow.self in
     let new = c.append_sector.new.self in
     let same = c.grow.invariant.same in
-    let then = c.append_sector.ensures.same in
+    let then = c.append_sector.ensures.same.same in
     let kept = g.met.H.GrowsChains.grows_keep _ _ _ _ was.3 in
     let here = λ (version : g.H.GrowsChains.version (holder_of it) ≡ version_of it). kept.1 ∙ version ∙ sym same.version in
     let able = λ (version : g.H.GrowsChains.version (holder_of it) ≡ version_of it) (all : AreWritable (g.H.ChangesSectors.may_write (holder_of it)) (version_of it) (sectors_of it)).
@@ -86,13 +85,13 @@ grow-preserved g c =
       );
       most = omega (arith, c.in_default.ensures.longer, c.grow-test.true, c.num_sectors.ensures);
       least = omega (arith, c.in_default.ensures.longer, c.grow.invariant.least);
-      live = c.in_default.ensures.live.2;
-      linked = λ linked. c.in_default.ensures.linked (c.grow.invariant.linked linked);
-      writable = λ version all. subst (λ u. AreWritable (g.H.ChangesSectors.may_write (holder_of new)) u (sectors_of new)) same.version (c.in_default.ensures.writable (here version) (able version all));
+      live = c.in_default.ensures.answers.live.1;
+      linked = λ linked. c.in_default.ensures.keeps.linked (c.grow.invariant.linked linked);
+      writable = λ version all. subst (λ u. AreWritable (g.H.ChangesSectors.may_write (holder_of new)) u (sectors_of new)) same.version (c.in_default.ensures.keeps.writable (here version) (able version all));
       filled = λ honest version linked all.
           filled_step (version_of it) (version_of mid) (init_of it) (init_of mid) _ (g.H.HasSectors.bytes (holder_of mid)) (g.H.HasSectors.bytes (holder_of new)) (sectors_of it) (sectors_of mid) (sectors_of new)
           same.version same.init c.in_default.ensures.longer c.grow.invariant.least (c.grow.invariant.filled honest version linked all)
           (c.in_default.ensures.filled (subst IsTrue (sym kept.0) honest) (here version) (c.grow.invariant.linked linked) (able version all));
       same = record { holder = then.holder ∙ same.holder; links = then.links ∙ same.links; version = then.version ∙ same.version; init = then.init ∙ same.init };
-      position = c.append_sector.ensures.position ∙ c.grow.invariant.position;
+      position = c.append_sector.ensures.same.position ∙ c.grow.invariant.position;
     }

@@ -1,10 +1,9 @@
-use Rattle.std.proofs.Common.{◌≡◌, inr, [], ◌++◌, length, ◌∙◌, sym, ap, arith, subst, ⊎_elim}
+use Rattle.std.proofs.Common.{◌≡◌, inr, [], ◌++◌, ◌∙◌, sym, ap, arith, subst, ⊎_elim}
 use Rattle.std.specs.Prelude.{Err, IsErrOf}
 use Rattle.cfb_medium.specs.declared.error.Error.{Error}
 use Rattle.cfb_medium.specs.declared.error.Error.TheVariants.{Full, Memory}
 use Rattle.std.proofs.lemmas.List.{append-nil}
 use Rattle.cfb_chains.specs.ChainViews.{holder_of, sectors_of}
-use Rattle.cfb_chains.specs.Changes.{AreAmong}
 use Rattle.cfb_chains.specs.Grown.{IsLinked}
 use Rattle.cfb_chains.proofs.chain.Chain.lengthen_to.Goals as goal
 

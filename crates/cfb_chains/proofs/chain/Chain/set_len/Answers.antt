@@ -1,6 +1,11 @@
-use Rattle.std.proofs.Common.{[], arith, sym}
+use Rattle.std.proofs.Common.{[], ap, arith, drop, subst, sym, ◌∙◌, OnOk}
 use Rattle.std.proofs.lemmas.List.{append-nil}
+use Rattle.cfb_sectors.specs.Sectors.{free}
+use Rattle.cfb_chains.specs.ChainCalls.{IsCutTo}
 use Rattle.cfb_chains.specs.ChainViews.{holder_of, sectors_of}
+use Rattle.cfb_chains.specs.Changes.{AreAmong, HaveEntry}
+use Rattle.cfb_chains.specs.Grown.{IsLinked}
+use Rattle.cfb_chains.specs.Positions.{sectors_for}
 use Rattle.cfb_chains.proofs.chain.Chain.set_len.Goals as goal
 
 pub returns-then-is_failed-clause-longer : goal.returns-then-is_failed-clause-longer
@@ -8,3 +13,21 @@ returns-then-is_failed-clause-longer g c = λ more.
     let it = c.args.self.now in
     let h = holder_of it in
     ([], [], sym (append-nil (sectors_of it)), g.met.H.GrowsChains.grows_rest [] h h (g.met.H.HasSectors.rests_refl h), λ linked n none k below same. absurd (omega (arith, below)))
+
+pub returns-then-count-num_sectors-clause-shorter : goal.returns-then-count-num_sectors-clause-shorter
+returns-then-count-num_sectors-clause-shorter g c = λ shorter.
+    let it = c.args.self.now in
+    let new = c.cut_to.new.self in
+    let fat = g.H.FreesChains.fat in
+    let count = c.needed_sectors-count.ensures ∙ ap (λ v. sectors_for v c.args.len) c.version.ensures in
+    let cuts = c.cut_to.ensures.cuts in record {
+      cut = subst (λ n. OnOk c.cut_to.result (IsCutTo n it new)) count cuts.cut;
+      frees = (
+        cuts.frees.0,
+        cuts.frees.1,
+        subst (λ n. OnOk c.cut_to.result (IsLinked (fat (holder_of it)) (sectors_of it) → AreAmong (sectors_of it) cuts.frees.0 × HaveEntry free (fat (holder_of new)) (drop n (sectors_of it)))) count cuts.frees.2,
+      );
+      linked = cuts.linked;
+      writable = cuts.writable;
+      bytes = cuts.bytes;
+    }

@@ -1,4 +1,4 @@
-use Rattle.std.proofs.Common.{◌≡◌, ◌-◌, ◌∷◌, [], ◌∙◌, sym, ap, arith, subst, length, suc, get_or, ℕ, List, ◌++◌, Err}
+use Rattle.std.proofs.Common.{◌≡◌, ◌-◌, ◌∷◌, [], ◌∙◌, sym, ap, arith, refl, subst, length, suc, get_or, ℕ, List, ◌++◌, Err}
 use Rattle.cfb_medium.specs.Versions.{sector_len}
 use Rattle.cfb_sectors.specs.Initial.{initial}
 use Rattle.cfb_sectors.specs.Sectors.{filled_part, sector, sector_start}
@@ -29,7 +29,7 @@ returns-in_err-sector_id-2-clause-refused g c = λ is.
     let size : suc (length ids - 1) ≡ length ids = let same = ap length all in omega (arith, same, some) in
     let at = ap (λ l. get_or l (length c.sector_ids-count.result.now - 1) 0) c.sector_ids.ensures ∙ ap (λ l. get_or ids (length l - 1) 0) all in
     let refused = c.in_err-sector_id-2.ensures.refused (ap Err (err_same _ _ _ c.from_residual-in_err-sector_id-2.ensures.1 is)) in
-    (λ orderly linked. none_to_extend _ ids (length ids - 1) _ size at (λ found last. refused.0 orderly found last) linked, refused.1)
+    (λ orderly linked. none_to_extend _ ids (length ids - 1) _ size at (λ found last. refused.0 orderly found last) linked, (refused.1, refl))
 
 pub returns-clause-grows : goal.returns-clause-grows
 returns-clause-grows g c =
@@ -43,8 +43,8 @@ returns-clause-grows g c =
     let then = keep.2 c.in_ok-sector_id-2.ensures.live.2 in
     (_, ext.4, λ linked. (extended _ _ ids ext.0 (length ids - 1) _ _ ext.1 size at ext.2 ext.3 then.2 then.1.0 linked).1)
 
-pub returns-clause-linked : goal.returns-clause-linked
-returns-clause-linked g c = λ linked.
+pub returns-clause-keeps : goal.returns-clause-keeps
+returns-clause-keeps g c =
     let ids = sectors_of c.args.self.now in
     let all = c.sector_ids-count.ensures in
     let some : length c.sector_ids-count.result.now ≡ 0 → ⊥ = c.if-count-eq0.false in
@@ -53,17 +53,13 @@ returns-clause-linked g c = λ linked.
     let ext = c.in_ok-sector_id-2.ensures.extends in
     let keep = g.met.H.GrowsChains.grows_keep _ _ _ _ ext.4 in
     let then = keep.2 c.in_ok-sector_id-2.ensures.live.2 in
-    (extended _ _ ids ext.0 (length ids - 1) _ _ ext.1 size at ext.2 ext.3 then.2 then.1.0 linked).0
-
-pub returns-clause-writable : goal.returns-clause-writable
-returns-clause-writable g c = λ version all.
-    let ids = sectors_of c.args.self.now in
     let v = version_of c.args.self.now in
     let n = c.in_ok-sector_id-2.sector_id in
-    let ext = c.in_ok-sector_id-2.ensures.extends in
-    let keep = g.met.H.GrowsChains.grows_keep _ _ _ _ ext.4 in
-    let then = keep.2 c.in_ok-sector_id-2.ensures.live.2 in
-    writable_more _ _ v ids n then.3 (subst (λ u. g.H.ChangesSectors.may_write c.extend_chain.new.self (sector_start u n) (sector_len u)) version c.in_ok-sector_id-2.ensures.writable) all
+    record {
+      linked = λ linked. (extended _ _ ids ext.0 (length ids - 1) _ _ ext.1 size at ext.2 ext.3 then.2 then.1.0 linked).0;
+      writable = λ version all.
+          writable_more _ _ v ids n then.3 (subst (λ u. g.H.ChangesSectors.may_write c.extend_chain.new.self (sector_start u n) (sector_len u)) version c.in_ok-sector_id-2.ensures.writable) all;
+    }
 
 pub returns-clause-filled : goal.returns-clause-filled
 returns-clause-filled g c = λ honest version linked all.

@@ -28,17 +28,17 @@ returns-then-self-len-clause-grows g c =
           refl (sym same) refl c.write_inside.ensures.either),
     )
 
-pub returns-then-self-len-clause-linked : goal.returns-then-self-len-clause-linked
-returns-then-self-len-clause-linked g c = on_ok c.write_inside.result _ (λ linked.
+pub returns-then-self-len-clause-keeps : goal.returns-then-self-len-clause-keeps
+returns-then-self-len-clause-keeps g c = on_ok c.write_inside.result _ (
     let fat : g.H.FreesChains.fat (holder_of c.write_inside.new.self) ≡ g.H.FreesChains.fat (holder_of c.args.self.now) =
     ⊎_elim (λ w. (g.met.H.FreesChains.writes_keep_tables _ _ _ _ w).0) (λ r. (g.met.H.FreesChains.rests_keep_tables _ _ r).0) c.write_inside.ensures.either in
-    subst (λ f. IsLinked f (sectors_of c.write_inside.new.self)) (sym fat) (subst (IsLinked (g.H.FreesChains.fat (holder_of c.args.self.now))) (sym c.write_inside.ensures.same.sectors) linked))
-
-pub returns-then-self-len-clause-writable : goal.returns-then-self-len-clause-writable
-returns-then-self-len-clause-writable g c = on_ok c.write_inside.result _ (λ version all.
     let then = g.H.ChangesSectors.may_write (holder_of c.write_inside.new.self) in
     let v = version_of c.args.self.now in
-    subst (AreWritable then v) (sym c.write_inside.ensures.same.sectors) (writable_still (g.H.ChangesSectors.may_write (holder_of c.args.self.now)) then v (sectors_of c.args.self.now) c.write_inside.ensures.still all))
+    record {
+      linked = λ linked. subst (λ f. IsLinked f (sectors_of c.write_inside.new.self)) (sym fat) (subst (IsLinked (g.H.FreesChains.fat (holder_of c.args.self.now))) (sym c.write_inside.ensures.same.sectors) linked);
+      writable = λ version all. subst (AreWritable then v) (sym c.write_inside.ensures.same.sectors)
+          (writable_still (g.H.ChangesSectors.may_write (holder_of c.args.self.now)) then v (sectors_of c.args.self.now) c.write_inside.ensures.still all);
+    })
 
 pub returns-then-not-is_empty-clause-appended : goal.returns-then-not-is_empty-clause-appended
 returns-then-not-is_empty-clause-appended g c = under c.write_behind.result _ _ _ c.write_behind.ensures.written

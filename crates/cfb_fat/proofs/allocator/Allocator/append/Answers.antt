@@ -42,7 +42,7 @@ invariant_of-self-2 g c =
     let index = c.len-index.result in
     let at : index ≡ count_of a = omega (arith, c.len-index.ensures, c.in_ok-reserve.ensures.len, it.fat.ok.0, order.covered) in
     let each : c.sector_len-each.result / 4 ≡ per v = ap (λ n. n / 4) c.sector_len-each.ensures in
-    let fits : index < length fs * per v = omega (arith, at, order.covered, c.requires.room) in
+    let fits : index < length fs * per v = omega (arith, at, order.covered, c.requires.place.room) in
     let parts = split v (length fs) index fits in
     let below : index / (c.sector_len-each.result / 4) < length fs = subst (λ e. index / e < length fs) (sym each) parts.0 in
     let holder = get_or_read fs _ _ below c.index-holder.ensures 0 in
@@ -66,7 +66,7 @@ invariant_of-self-2 g c =
           ∙ ap (λ n. take n (fat_in v (bytes_of b) fs)) (sym counted) ∙ ap (λ u. take (count_of b) (fat_in u (bytes_of b) fs)) (sym version);
       there = λ live k inside. let less = below_fs k inside in omega (arith, less, counted);
       inside = λ live. omega (arith, now.covered);
-      whole = subst (λ u. length c.push_reserved.new.self.items ≤ length fs * (sector_len u / 4)) (sym version) (omega (arith, size, c.requires.room));
+      whole = subst (λ u. length c.push_reserved.new.self.items ≤ length fs * (sector_len u / 4)) (sym version) (omega (arith, size, c.requires.place.room));
       packed = packed_more it.fat.items (end_of_chain ∷ []) c.push_reserved.new.self.items ds fs ds fs index (sym fat) (λ k below. c.requires.crowded k (omega (arith, below, at, order.covered))) (λ n none. none) (λ n none. none)
           (λ k past is no_ds no_fs. let both = behind_one it.fat.items c.push_reserved.new.self.items end_of_chain k (sym fat) past is in omega (arith, both.1));
       orderly = λ holds. now;
@@ -99,7 +99,7 @@ returns-clause-grows g c =
     let index = c.len-index.result in
     let at : index ≡ count_of a = omega (arith, c.len-index.ensures, c.in_ok-reserve.ensures.len, it.fat.ok.0, order.covered) in
     let each : c.sector_len-each.result / 4 ≡ per v = ap (λ n. n / 4) c.sector_len-each.ensures in
-    let parts = split v (length fs) index (omega (arith, at, order.covered, c.requires.room)) in
+    let parts = split v (length fs) index (omega (arith, at, order.covered, c.requires.place.room)) in
     let below : index / (c.sector_len-each.result / 4) < length fs = subst (λ e. index / e < length fs) (sym each) parts.0 in
     let holder = get_or_read fs _ _ below c.index-holder.ensures 0 in
     record {
@@ -131,28 +131,39 @@ returns-clause-grows g c =
           ∙ did.appends.before did.live honest p n fits tt;
     }
 
-pub returns-clause-filled : goal.returns-clause-filled
-returns-clause-filled g c = λ honest.
-    let it = c.args.self.now in
-    let a = it.sectors in
-    let m = c.append_sector.new.sectors in
-    let v = version_of a in
-    let fs = it.fat_sectors.items in
-    let did = c.in_ok-sector_id.ensures in
-    let wrote = c.in_ok-write_number.ensures in
-    let order = it.orderly c.requires.orderly in
-    let index = c.len-index.result in
-    let at : index ≡ count_of a = omega (arith, c.len-index.ensures, c.in_ok-reserve.ensures.len, it.fat.ok.0, order.covered) in
-    let each : c.sector_len-each.result / 4 ≡ per v = ap (λ n. n / 4) c.sector_len-each.ensures in
-    let parts = split v (length fs) index (omega (arith, at, order.covered, c.requires.room)) in
-    let below : index / (c.sector_len-each.result / 4) < length fs = subst (λ e. index / e < length fs) (sym each) parts.0 in
-    let holder = get_or_read fs _ _ below c.index-holder.ensures 0 in
-    let mid = subst IsTrue (sym did.appends.honest) honest in
-    let aside = apart v fs (count_of a) (none_behind (count_of a) fs (it.there c.requires.live)) in
-    ap (λ n. sector v (bytes_of c.write_number.new.sectors) n) did.number
-    ∙ others_stay (version_of m) (bytes_of m) (bytes_of c.write_number.new.sectors) fs index end_of_chain c.index-holder.result.now (c.sector_len-each.result / 4) (each ∙ ap per (sym did.appends.version)) holder below (wrote.changes.bytes wrote.live mid)
-    (sector_start v (count_of a)) (sector_len v) (subst (λ u. IsBeside u fs (sector_start v (count_of a)) (sector_len v)) (sym did.appends.version) aside)
-    ∙ did.content did.live honest
+pub returns-clause-fresh : goal.returns-clause-fresh
+returns-clause-fresh g c = record {
+  filled = λ honest.
+      let it = c.args.self.now in
+      let a = it.sectors in
+      let m = c.append_sector.new.sectors in
+      let v = version_of a in
+      let fs = it.fat_sectors.items in
+      let did = c.in_ok-sector_id.ensures in
+      let wrote = c.in_ok-write_number.ensures in
+      let order = it.orderly c.requires.orderly in
+      let index = c.len-index.result in
+      let at : index ≡ count_of a = omega (arith, c.len-index.ensures, c.in_ok-reserve.ensures.len, it.fat.ok.0, order.covered) in
+      let each : c.sector_len-each.result / 4 ≡ per v = ap (λ n. n / 4) c.sector_len-each.ensures in
+      let parts = split v (length fs) index (omega (arith, at, order.covered, c.requires.place.room)) in
+      let below : index / (c.sector_len-each.result / 4) < length fs = subst (λ e. index / e < length fs) (sym each) parts.0 in
+      let holder = get_or_read fs _ _ below c.index-holder.ensures 0 in
+      let mid = subst IsTrue (sym did.appends.honest) honest in
+      let aside = apart v fs (count_of a) (none_behind (count_of a) fs (it.there c.requires.live)) in
+      ap (λ n. sector v (bytes_of c.write_number.new.sectors) n) did.number
+      ∙ others_stay (version_of m) (bytes_of m) (bytes_of c.write_number.new.sectors) fs index end_of_chain c.index-holder.result.now (c.sector_len-each.result / 4) (each ∙ ap per (sym did.appends.version)) holder below (wrote.changes.bytes wrote.live mid)
+      (sector_start v (count_of a)) (sector_len v) (subst (λ u. IsBeside u fs (sector_start v (count_of a)) (sector_len v)) (sym did.appends.version) aside)
+      ∙ did.content did.live honest;
+  writable =
+      let it = c.args.self.now in
+      let did = c.in_ok-sector_id.ensures in
+      let wrote = c.in_ok-write_number.ensures in
+      let order = it.orderly c.requires.orderly in
+      let more = did.appends.count did.live in
+      whole_writable _ (version_of it.sectors) c.in_ok-sector_id.sector_id (wrote.changes.version ∙ did.appends.version) (omega (arith, wrote.count, more, did.number))
+      (subst (IsNoneOf it.difat_sectors.items) (sym did.number) (none_behind (count_of it.sectors) it.difat_sectors.items order.there))
+      (subst (IsNoneOf it.fat_sectors.items) (sym did.number) (none_behind (count_of it.sectors) it.fat_sectors.items (it.there c.requires.live)));
+}
 
 pub returns-clause-whole : goal.returns-clause-whole
 returns-clause-whole g c = λ honest.
@@ -165,14 +176,3 @@ returns-clause-whole g c = λ honest.
     let second = longer_over (bytes_of c.append_sector.new.sectors) b (to_le_bytes w32 end_of_chain) _ (wrote.changes.bytes wrote.live (subst IsTrue (sym did.appends.honest) honest)) in
     let all : sector_start v (count_of it.sectors) + sector_len v ≤ length b = omega (arith, first, second) in
     (subst (λ u. sector_start u c.in_ok-sector_id.sector_id + sector_len u ≤ length b) (sym (wrote.changes.version ∙ did.appends.version)) (subst (λ n. sector_start v n + sector_len v ≤ length b) (sym did.number) all), tt)
-
-pub returns-clause-writable : goal.returns-clause-writable
-returns-clause-writable g c =
-    let it = c.args.self.now in
-    let did = c.in_ok-sector_id.ensures in
-    let wrote = c.in_ok-write_number.ensures in
-    let order = it.orderly c.requires.orderly in
-    let more = did.appends.count did.live in
-    whole_writable _ (version_of it.sectors) c.in_ok-sector_id.sector_id (wrote.changes.version ∙ did.appends.version) (omega (arith, wrote.count, more, did.number))
-    (subst (IsNoneOf it.difat_sectors.items) (sym did.number) (none_behind (count_of it.sectors) it.difat_sectors.items order.there))
-    (subst (IsNoneOf it.fat_sectors.items) (sym did.number) (none_behind (count_of it.sectors) it.fat_sectors.items (it.there c.requires.live)))

@@ -19,5 +19,5 @@ returns-clause-leaves g c =
     let it = c.args.self.now in
     let now = c.take.new.self in
     ok_five c.take.result (IsFreeIn it.fat.items) (λ n. MarksBehind (n ∷ []) (n ∷ []) it now) (λ n. IsTrue (is_honest it) → HasWhole (n ∷ []) now) (λ n. GrowsFat (n ∷ []) (n ∷ []) it now) _ _
-    c.take.ensures.free c.take.ensures.behind c.take.ensures.whole c.take.ensures.grows c.take.ensures.live
+    c.take.ensures.free c.take.ensures.behind c.take.ensures.whole c.take.ensures.grows c.take.ensures.tries.live
     (λ n loose marked whole grows live honest. takes_leave (n ∷ []) (n ∷ []) it now (takes_begun n it now loose marked whole grows) live honest)

@@ -1,4 +1,4 @@
-use Rattle.std.proofs.Common.{◌<◌, ◌-◌, [], ◌∷◌, ◌++◌, length, take, get_or, refl, ap, sym, subst, ◌∙◌, arith, IsTrue, length-append}
+use Rattle.std.proofs.Common.{rules, ◌<◌, ◌-◌, [], ◌∷◌, ◌++◌, length, take, get_or, refl, ap, sym, subst, ◌∙◌, arith, IsTrue, length-append}
 use Rattle.cfb_medium.specs.Versions.{sector_len}
 use Rattle.cfb_sectors.specs.Sectors.{sector_start}
 use Rattle.cfb_sectors.specs.Held.{HasItsCause}
@@ -32,7 +32,7 @@ set_entry-requires-clause-there g c =
     let some : 0 < length ids = omega (arith, ap length c.sector_ids-count.ensures, c.if-count-eq0.false) in
     let was = opened it.fat.items ids all c.sector_ids.result.now c.args.start c.sector_ids-count.ensures c.sector_ids.ensures some c.in_ok-links.ensures.chain in
     let took = c.in_ok-sector_id.ensures in
-    last_below it.fat.items c.take.new.self.fat.items _ (take (length ids - 1) ids) c.args.start (get_or c.sector_ids.result.now (length all - 1) 0) c.in_ok-sector_id.sector_id was took.free (took.grows.fat took.live) took.chain refl
+    last_below it.fat.items c.take.new.self.fat.items _ (take (length ids - 1) ids) c.args.start (get_or c.sector_ids.result.now (length all - 1) 0) c.in_ok-sector_id.sector_id was took.free (took.grows.fat took.tries.live) took.chain refl
 
 pub returns-in_err-set_entry-clause-none : goal.returns-in_err-set_entry-clause-none
 returns-in_err-set_entry-clause-none g c =
@@ -59,37 +59,38 @@ returns-clause-extends g c =
       front,
       last,
       was,
-      chain_extended it.fat.items mid.fat.items now.fat.items front c.args.start last n was took.free (took.grows.fat took.live) took.chain (set.entry set.live),
-      takes_extended front c.args.start last n it mid now was took.free took.live took.behind took.whole took.grows took.chain set.changes set.entry,
+      chain_extended it.fat.items mid.fat.items now.fat.items front c.args.start last n was took.free (took.grows.fat took.tries.live) took.chain (set.entry set.live),
+      takes_extended front c.args.start last n it mid now was took.free took.tries.live took.behind took.whole took.grows took.chain set.changes set.entry,
     )
 
-pub returns-clause-filled : goal.returns-clause-filled
-returns-clause-filled g c = λ honest.
+pub returns-clause-fresh : goal.returns-clause-fresh
+returns-clause-fresh g c =
     let it = c.args.self.now in
     let mid = c.take.new.self in
+    let now = c.set_entry.new.self in
     let v = it.sectors.version in
     let n = c.in_ok-sector_id.sector_id in
     let took = c.in_ok-sector_id.ensures in
     let set = c.in_ok-set_entry.ensures in
-    set.changes.beside set.live (subst IsTrue (sym took.grows.honest) honest) (sector_start v n) (sector_len v) took.writable.fat ∙ took.filled honest
-
-pub returns-clause-writable : goal.returns-clause-writable
-returns-clause-writable g c =
-    let it = c.args.self.now in
-    let n = c.in_ok-sector_id.sector_id in
-    let took = c.in_ok-sector_id.ensures in
-    let set = c.in_ok-set_entry.ensures.changes in
-    may_still c.take.new.self c.set_entry.new.self set.version set.count set.fat_sectors set.difat_sectors (sector_start it.sectors.version n) (sector_len it.sectors.version) took.writable
+    record {
+      filled = λ honest. set.changes.beside set.live (subst IsTrue (sym took.grows.honest) honest) (sector_start v n) (sector_len v) took.fresh.writable.fat ∙ took.fresh.filled honest;
+      writable = may_still mid now set.changes.version set.changes.count set.changes.fat_sectors set.changes.difat_sectors (sector_start v n) (sector_len v) took.fresh.writable;
+    }
 
 pub returns-in_err-links-clause-none : goal.returns-in_err-links-clause-none
 returns-in_err-links-clause-none g c = let it = c.args.self.now in on_err c.from_residual.result (TakesIn [] [] it it) (takes_rest [] it it (all_rest_refl it))
 
-pub returns-in_err-set_entry-clause-cause : goal.returns-in_err-set_entry-clause-cause
-returns-in_err-set_entry-clause-cause g c =
+pub returns-in_err-set_entry-clause-changes : goal.returns-in_err-set_entry-clause-changes
+returns-in_err-set_entry-clause-changes g c =
     let it = c.args.self.now in
     let took = c.in_ok-sector_id.ensures in
-    passed_on c.from_residual-in_err-set_entry.result c.in_err-set_entry.field-0.0 (HasItsCause it.sectors c.set_entry.new.self.sectors) c.from_residual-in_err-set_entry.ensures.1
-    (cause_since it.sectors c.take.new.self.sectors c.set_entry.new.self.sectors c.in_err-set_entry.field-0.0 took.grows.continues (took.live ∙ sym c.in_ok-links.ensures.live) c.in_err-set_entry.ensures.cause)
+    record {
+      live = search rules;
+      failed = search rules;
+      cause = passed_on c.from_residual-in_err-set_entry.result c.in_err-set_entry.field-0.0 (HasItsCause it.sectors c.set_entry.new.self.sectors) c.from_residual-in_err-set_entry.ensures.1
+          (cause_since it.sectors c.take.new.self.sectors c.set_entry.new.self.sectors c.in_err-set_entry.field-0.0 took.grows.continues (took.tries.live ∙ sym c.in_ok-links.ensures.live) c.in_err-set_entry.ensures.cause);
+      fault = search rules;
+    }
 
 pub returns-clause-leaves : goal.returns-clause-leaves
 returns-clause-leaves g c =

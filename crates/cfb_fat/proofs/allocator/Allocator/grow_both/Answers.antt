@@ -45,7 +45,7 @@ returns-in_err-fat_sector-clause-cause g c =
     let it = c.args.self.now in
     let did = c.in_ok-difat_sector.ensures in
     passed_on c.from_residual-in_err-fat_sector.result c.in_err-fat_sector.field-0.0 (HasItsCause it.sectors c.add_fat_sector.new.sectors) c.from_residual-in_err-fat_sector.ensures.1
-    (cause_since it.sectors c.add_difat_sector.new.sectors c.add_fat_sector.new.sectors c.in_err-fat_sector.field-0.0 did.appends.continues (did.live ∙ sym c.requires.live) c.in_err-fat_sector.ensures.cause)
+    (cause_since it.sectors c.add_difat_sector.new.sectors c.add_fat_sector.new.sectors c.in_err-fat_sector.field-0.0 did.appends.continues (did.live ∙ sym c.requires.live) c.in_err-fat_sector.ensures.attempts.cause)
 
 -- what was appended
 pub record Both (g : Over) (c : goal.After-push_reserved-4 g) : Type 0 where
@@ -111,14 +111,14 @@ invariant_of-self-2 g c =
     let new_fs = c.push_reserved-2.new.self.items in
     let order : IsOrderly (version_of b) (count_of b) c.push_reserved-4.new.self.items new_fs new_ds =
     subst (λ l. IsOrderly (version_of b) (count_of b) c.push_reserved-4.new.self.items new_fs l) all.is_ds (subst (λ l. IsOrderly (version_of b) (count_of b) l new_fs ds) all.is_fat
-    (subst (λ l. IsOrderly (version_of b) (count_of b) fat l ds) all.is_fs (order_grown m b it.fat.items it.fat_sectors.items ds 2 h then.live))) in
+    (subst (λ l. IsOrderly (version_of b) (count_of b) fat l ds) all.is_fs (order_grown m b it.fat.items it.fat_sectors.items ds 2 h then.attempts.live))) in
     record {
       same = λ live honest. sym all.is_fat ∙ same_grown m b it.fat.items it.fat_sectors.items ds 2 h live (subst IsTrue h.appends.honest honest)
           ∙ ap (λ l. take (count_of b) (fat_in (version_of b) (bytes_of b) l)) all.is_fs;
       there = λ live. subst (λ l. (k : ℕ) → k < length l → slice_index l k < count_of b) all.is_fs (there_grown m b it.fat.items it.fat_sectors.items ds 2 h live);
       inside = λ live. omega (arith, order.covered);
       whole = subst (λ l. length l ≤ length new_fs * (sector_len (version_of b) / 4)) all.is_fat
-          (subst (λ l. length fat ≤ length l * (sector_len (version_of b) / 4)) all.is_fs (whole_grown m b it.fat.items it.fat_sectors.items ds 2 h then.live));
+          (subst (λ l. length fat ≤ length l * (sector_len (version_of b) / 4)) all.is_fs (whole_grown m b it.fat.items it.fat_sectors.items ds 2 h then.attempts.live));
       packed = packed_more it.fat.items (free ∷ free ∷ []) c.push_reserved-4.new.self.items it.difat_sectors.items it.fat_sectors.items new_ds new_fs it.first_free (sym all.is_fat) it.packed
           (λ n none. none_first it.difat_sectors.items (count_of a ∷ []) n (subst (λ l. IsNoneOf l n) (sym all.is_ds) none))
           (λ n none. none_first it.fat_sectors.items (count_of m ∷ []) n (subst (λ l. IsNoneOf l n) (sym all.is_fs) none))

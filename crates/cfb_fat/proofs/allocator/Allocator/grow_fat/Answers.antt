@@ -54,14 +54,14 @@ invariant_of-self-2 g c =
     let has_fat : fat ≡ c.push_reserved-2.new.self.items = is_fat g c in
     let order : IsOrderly (version_of b) (count_of b) c.push_reserved-2.new.self.items c.push_reserved.new.self.items ds =
     subst (λ l. IsOrderly (version_of b) (count_of b) l c.push_reserved.new.self.items ds) has_fat
-    (subst (λ l. IsOrderly (version_of b) (count_of b) fat l ds) has_fs (order_grown a b it.fat.items it.fat_sectors.items ds 1 h did.live)) in
+    (subst (λ l. IsOrderly (version_of b) (count_of b) fat l ds) has_fs (order_grown a b it.fat.items it.fat_sectors.items ds 1 h did.attempts.live)) in
     record {
       same = λ live honest. sym has_fat ∙ same_grown a b it.fat.items it.fat_sectors.items ds 1 h live (subst IsTrue did.appends.honest honest)
           ∙ ap (λ l. take (count_of b) (fat_in (version_of b) (bytes_of b) l)) has_fs;
       there = λ live. subst (λ l. (k : ℕ) → k < length l → slice_index l k < count_of b) has_fs (there_grown a b it.fat.items it.fat_sectors.items ds 1 h live);
       inside = λ live. omega (arith, order.covered);
       whole = subst (λ l. length l ≤ length c.push_reserved.new.self.items * (sector_len (version_of b) / 4)) has_fat
-          (subst (λ l. length fat ≤ length l * (sector_len (version_of b) / 4)) has_fs (whole_grown a b it.fat.items it.fat_sectors.items ds 1 h did.live));
+          (subst (λ l. length fat ≤ length l * (sector_len (version_of b) / 4)) has_fs (whole_grown a b it.fat.items it.fat_sectors.items ds 1 h did.attempts.live));
       packed = packed_more it.fat.items (free ∷ []) c.push_reserved-2.new.self.items ds it.fat_sectors.items ds c.push_reserved.new.self.items it.first_free (sym has_fat) it.packed (λ n none. none)
           (λ n none. none_first it.fat_sectors.items (count_of a ∷ []) n (subst (λ l. IsNoneOf l n) (sym has_fs) none))
           (λ k past is no_ds no_fs.

@@ -30,15 +30,20 @@ returns-then-can_name-clause-added g c =
     )
 
 pub returns-then-can_name-clause-room : goal.returns-then-can_name-clause-room
-returns-then-can_name-clause-room g c =
-    let it = c.args.self.now in
-    let did = c.in_ok-set_entry.ensures in
-    let grown = c.in_ok-grow_fat.ensures in
-    let version = did.changes.version ∙ grown.grows.version in
-    let size : length c.set_entry.new.self.fat.items ≡ length it.fat.items + 1 = (did.changes.fat did.live).size ∙ ap length grown.fat ∙ length-append it.fat.items (free ∷ []) in
-    let sectors : length c.set_entry.new.self.fat_sectors.items ≡ length it.fat_sectors.items + 1 = ap length (did.changes.fat_sectors ∙ grown.tables.1) ∙ length-append it.fat_sectors.items (length it.fat.items ∷ []) in
-    subst (λ v. length c.set_entry.new.self.fat.items < length c.set_entry.new.self.fat_sectors.items * (sector_len v / 4)) (sym version)
-    (room_after it.sectors.version (length it.fat.items) (length it.fat_sectors.items) 1 _ _ c.requires.full (omega arith) size sectors)
+returns-then-can_name-clause-room g c = (
+  let it = c.args.self.now in
+      let did = c.in_ok-set_entry.ensures in
+      let size : length c.set_entry.new.self.fat.items ≡ length it.fat.items + 1 = (did.changes.fat did.live).size ∙ ap length c.in_ok-grow_fat.ensures.fat ∙ length-append it.fat.items (free ∷ []) in
+      omega (arith, size),
+  let it = c.args.self.now in
+      let did = c.in_ok-set_entry.ensures in
+      let grown = c.in_ok-grow_fat.ensures in
+      let version = did.changes.version ∙ grown.grows.version in
+      let size : length c.set_entry.new.self.fat.items ≡ length it.fat.items + 1 = (did.changes.fat did.live).size ∙ ap length grown.fat ∙ length-append it.fat.items (free ∷ []) in
+      let sectors : length c.set_entry.new.self.fat_sectors.items ≡ length it.fat_sectors.items + 1 = ap length (did.changes.fat_sectors ∙ grown.tables.1) ∙ length-append it.fat_sectors.items (length it.fat.items ∷ []) in
+      subst (λ v. length c.set_entry.new.self.fat.items < length c.set_entry.new.self.fat_sectors.items * (sector_len v / 4)) (sym version)
+      (room_after it.sectors.version (length it.fat.items) (length it.fat_sectors.items) 1 _ _ c.requires.full (omega arith) size sectors),
+)
 
 pub returns-in_err-set_entry-2-clause-cause : goal.returns-in_err-set_entry-2-clause-cause
 returns-in_err-set_entry-2-clause-cause g c =
@@ -87,32 +92,23 @@ returns-clause-added g c =
     (eqb_tells n (length it.fat.items))
 
 pub returns-clause-room : goal.returns-clause-room
-returns-clause-room g c =
-    let it = c.args.self.now in
-    let first = c.in_ok-set_entry-2.ensures in
-    let second = c.in_ok-set_entry-3.ensures in
-    let grown = c.in_ok-grow_both.ensures in
-    let version = second.changes.version ∙ first.changes.version ∙ grown.grows.version in
-    let size : length c.set_entry-3.new.self.fat.items ≡ length it.fat.items + 2 = (second.changes.fat second.live).size ∙ (first.changes.fat first.live).size ∙ ap length grown.fat ∙ length-append it.fat.items (free ∷ free ∷ []) in
-    let sectors : length c.set_entry-3.new.self.fat_sectors.items ≡ length it.fat_sectors.items + 1 =
-    ap length (second.changes.fat_sectors ∙ first.changes.fat_sectors ∙ grown.tables.1) ∙ length-append it.fat_sectors.items ((length it.fat.items + 1) ∷ []) in
-    subst (λ v. length c.set_entry-3.new.self.fat.items < length c.set_entry-3.new.self.fat_sectors.items * (sector_len v / 4)) (sym version)
-    (room_after it.sectors.version (length it.fat.items) (length it.fat_sectors.items) 2 _ _ c.requires.full (omega arith) size sectors)
-
-pub returns-then-can_name-clause-longer : goal.returns-then-can_name-clause-longer
-returns-then-can_name-clause-longer g c =
-    let it = c.args.self.now in
-    let did = c.in_ok-set_entry.ensures in
-    let size : length c.set_entry.new.self.fat.items ≡ length it.fat.items + 1 = (did.changes.fat did.live).size ∙ ap length c.in_ok-grow_fat.ensures.fat ∙ length-append it.fat.items (free ∷ []) in
-    omega (arith, size)
-
-pub returns-clause-longer : goal.returns-clause-longer
-returns-clause-longer g c =
-    let it = c.args.self.now in
-    let first = c.in_ok-set_entry-2.ensures in
-    let second = c.in_ok-set_entry-3.ensures in
-    let size : length c.set_entry-3.new.self.fat.items ≡ length it.fat.items + 2 = (second.changes.fat second.live).size ∙ (first.changes.fat first.live).size ∙ ap length c.in_ok-grow_both.ensures.fat ∙ length-append it.fat.items (free ∷ free ∷ []) in
-    omega (arith, size)
+returns-clause-room g c = (
+  let it = c.args.self.now in
+      let first = c.in_ok-set_entry-2.ensures in
+      let second = c.in_ok-set_entry-3.ensures in
+      let size : length c.set_entry-3.new.self.fat.items ≡ length it.fat.items + 2 = (second.changes.fat second.live).size ∙ (first.changes.fat first.live).size ∙ ap length c.in_ok-grow_both.ensures.fat ∙ length-append it.fat.items (free ∷ free ∷ []) in
+      omega (arith, size),
+  let it = c.args.self.now in
+      let first = c.in_ok-set_entry-2.ensures in
+      let second = c.in_ok-set_entry-3.ensures in
+      let grown = c.in_ok-grow_both.ensures in
+      let version = second.changes.version ∙ first.changes.version ∙ grown.grows.version in
+      let size : length c.set_entry-3.new.self.fat.items ≡ length it.fat.items + 2 = (second.changes.fat second.live).size ∙ (first.changes.fat first.live).size ∙ ap length grown.fat ∙ length-append it.fat.items (free ∷ free ∷ []) in
+      let sectors : length c.set_entry-3.new.self.fat_sectors.items ≡ length it.fat_sectors.items + 1 =
+      ap length (second.changes.fat_sectors ∙ first.changes.fat_sectors ∙ grown.tables.1) ∙ length-append it.fat_sectors.items ((length it.fat.items + 1) ∷ []) in
+      subst (λ v. length c.set_entry-3.new.self.fat.items < length c.set_entry-3.new.self.fat_sectors.items * (sector_len v / 4)) (sym version)
+      (room_after it.sectors.version (length it.fat.items) (length it.fat_sectors.items) 2 _ _ c.requires.full (omega arith) size sectors),
+)
 
 pub returns-in_err-set_entry-clause-grows : goal.returns-in_err-set_entry-clause-grows
 returns-in_err-set_entry-clause-grows g c =

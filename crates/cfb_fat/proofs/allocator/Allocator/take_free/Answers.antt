@@ -1,6 +1,9 @@
-use Rattle.std.proofs.Common.{◌+◌, ◌<◌, ◌≤◌, [], ◌∷◌, length, ap, sym, subst, ◌∙◌, arith, IsTrue}
+use Rattle.std.proofs.Common.{rules, ◌+◌, ◌<◌, ◌≤◌, [], ◌∷◌, length, ap, sym, subst, ◌∙◌, arith, IsTrue}
 use Rattle.cfb_medium.specs.Versions.{sector_len}
-use Rattle.cfb_sectors.specs.Held.{bytes_of, version_of}
+use Rattle.cfb_medium.specs.Calls.{IsFaultUnless}
+use Rattle.cfb_sectors.proofs.Causes.{passed_on}
+use Rattle.cfb_sectors.specs.Held.{bytes_of, version_of, HasItsCause}
+use Rattle.cfb_fat.proofs.EntryChanges.{cause_since}
 use Rattle.cfb_sectors.specs.Initial.{initial}
 use Rattle.cfb_sectors.specs.Sectors.{filled_part, sector_start}
 use Rattle.cfb_fat.proofs.Taken.{whole_writable}
@@ -21,20 +24,30 @@ returns-clause-grows g c =
     (write_grows n _ it c.init_beside.new.self (it.orderly c.requires.orderly).some (length-initial c.args.init (version_of it.sectors)) c.in_ok-init_beside.ensures.writes)
     (change_grows (n ∷ []) c.init_beside.new.self c.set_entry.new.self c.in_ok-set_entry.ensures.changes)
 
-pub returns-clause-filled : goal.returns-clause-filled
-returns-clause-filled g c = λ honest.
-    let it = c.args.self.now in
-    let v = version_of it.sectors in
-    let n = c.args.sector_id in
-    let first = c.in_ok-init_beside.ensures in
-    let then = c.in_ok-set_entry.ensures in
-    let changes = first.writes.sectors.0 in
-    let fresh = initial c.args.init (sector_len v) in
-    then.changes.beside then.live (subst IsTrue (sym changes.honest) honest) (sector_start v n) (sector_len v)
-    (subst (λ u. IsBeside u c.init_beside.new.self.fat_sectors.items (sector_start v n) (sector_len v)) (sym changes.version)
-    (subst (λ l. IsBeside v l (sector_start v n) (sector_len v)) (sym first.writes.fat_sectors) (apart v it.fat_sectors.items n c.requires.no_fat)))
-    ∙ ap (λ l. filled_part l (sector_start v n) (sector_len v)) (changes.bytes first.live honest)
-    ∙ ap (filled_part _ (sector_start v n)) (sym (length-initial c.args.init v)) ∙ written (bytes_of it.sectors) fresh (sector_start v n)
+pub returns-clause-fresh : goal.returns-clause-fresh
+returns-clause-fresh g c = record {
+  filled = λ honest.
+      let it = c.args.self.now in
+      let v = version_of it.sectors in
+      let n = c.args.sector_id in
+      let first = c.in_ok-init_beside.ensures in
+      let then = c.in_ok-set_entry.ensures in
+      let changes = first.writes.sectors.0 in
+      let fresh = initial c.args.init (sector_len v) in
+      then.changes.beside then.live (subst IsTrue (sym changes.honest) honest) (sector_start v n) (sector_len v)
+      (subst (λ u. IsBeside u c.init_beside.new.self.fat_sectors.items (sector_start v n) (sector_len v)) (sym changes.version)
+      (subst (λ l. IsBeside v l (sector_start v n) (sector_len v)) (sym first.writes.fat_sectors) (apart v it.fat_sectors.items n c.requires.no_fat)))
+      ∙ ap (λ l. filled_part l (sector_start v n) (sector_len v)) (changes.bytes first.live honest)
+      ∙ ap (filled_part _ (sector_start v n)) (sym (length-initial c.args.init v)) ∙ written (bytes_of it.sectors) fresh (sector_start v n);
+  writable =
+      let it = c.args.self.now in
+      let n = c.args.sector_id in
+      let order = it.orderly c.requires.orderly in
+      let first = c.in_ok-init_beside.ensures.writes in
+      let then = c.in_ok-set_entry.ensures.changes in
+      whole_writable c.set_entry.new.self (version_of it.sectors) n (then.version ∙ first.sectors.0.version) (omega (arith, c.requires.there, order.covered, then.count, first.sectors.1))
+      (subst (λ l. IsNoneOf l n) (sym (then.difat_sectors ∙ first.difat_sectors)) c.requires.no_difat) (subst (λ l. IsNoneOf l n) (sym (then.fat_sectors ∙ first.fat_sectors)) c.requires.no_fat);
+}
 
 pub returns-clause-whole : goal.returns-clause-whole
 returns-clause-whole g c = λ honest.
@@ -61,12 +74,18 @@ returns-in_err-set_entry-clause-none g c =
     on_err c.from_residual-in_err-set_entry.result (GrowsFat [] [] it c.set_entry.new.self)
     (grows_failed [] [] it c.set_entry.new.self (set.changes.honest ∙ first.honest) (λ start from. set.changes.continues start (first.continues start from)) (set.changes.version ∙ first.version) set.err)
 
-pub returns-clause-writable : goal.returns-clause-writable
-returns-clause-writable g c =
-    let it = c.args.self.now in
-    let n = c.args.sector_id in
-    let order = it.orderly c.requires.orderly in
-    let first = c.in_ok-init_beside.ensures.writes in
-    let then = c.in_ok-set_entry.ensures.changes in
-    whole_writable c.set_entry.new.self (version_of it.sectors) n (then.version ∙ first.sectors.0.version) (omega (arith, c.requires.there, order.covered, then.count, first.sectors.1))
-    (subst (λ l. IsNoneOf l n) (sym (then.difat_sectors ∙ first.difat_sectors)) c.requires.no_difat) (subst (λ l. IsNoneOf l n) (sym (then.fat_sectors ∙ first.fat_sectors)) c.requires.no_fat)
+pub returns-in_err-set_entry-clause-attempts : goal.returns-in_err-set_entry-clause-attempts
+returns-in_err-set_entry-clause-attempts g c =
+    let a = c.args.self.now.sectors in
+    let mid = c.init_beside.new.self.sectors in
+    let b = c.set_entry.new.self.sectors in
+    let e = c.in_err-set_entry.field-0.0 in
+    let first = c.in_ok-init_beside.ensures in
+    let set = c.in_err-set_entry.ensures in
+    let back = c.from_residual-in_err-set_entry in
+    record {
+      live = search rules;
+      err = on_err back.result _ set.err;
+      cause = passed_on back.result e (HasItsCause a b) back.ensures.1 (cause_since a mid b e first.writes.sectors.0.continues (first.live ∙ sym c.requires.live) set.cause);
+      fault = passed_on back.result e (IsFaultUnless ⊥) back.ensures.1 set.fault;
+    }

@@ -1,0 +1,89 @@
+-- What calls that change the file say of its state and of errors.
+use Rattle.std.specs.Prelude.{◌≡◌, ℕ, ◌-◌, ◌*◌, ◌/◌, ◌<◌, ◌≤◌, ◌⊎◌, false, true, [], ◌∷◌, ◌++◌, length, slice_get, slice_index, Some, IfErr, IsErrOf, IsTrue, OnErr, OnOk, Result}
+use Rattle.cfb_medium.specs.Calls.{IsFaultUnless}
+use Rattle.cfb_medium.specs.Versions.{sector_len}
+use Rattle.cfb_medium.specs.declared.error.Error.{Error}
+use Rattle.cfb_medium.specs.declared.error.Error.TheVariants.{Failed, Full}
+use Rattle.cfb_medium.specs.declared.medium.ReadMedium.{Ghosts}
+use Rattle.cfb_sectors.specs.Held as held
+use Rattle.cfb_sectors.specs.Initial.{initial}
+use Rattle.cfb_sectors.specs.Sectors.{end_of_chain, free, joined, sector, sector_start}
+use Rattle.cfb_sectors.specs.declared.initial.SectorInit.{SectorInit}
+use Rattle.cfb_sectors.specs.declared.sectors.Sectors.{Sectors}
+use Rattle.cfb_sectors.specs.Copies.{copies}
+use Rattle.cfb_chains.specs.Changes.{IsNoneOf}
+use Rattle.cfb_chains.specs.Grown.{AreWritable, IsLinked}
+use Rattle.cfb_chains.specs.LinkViews.{ids_of, links_version}
+use Rattle.cfb_chains.specs.declared.links.Links.{Links}
+use Rattle.cfb_fat.specs.Changing.{MayWrite}
+use Rattle.cfb_fat.specs.Tables.{bytes_of, capacity_of, difat_sectors_of, fat_of, fat_sectors_of, has_failed_here, is_honest, orderly_of, tables_of, version_of, AllRests, HasCauseBelow}
+use Rattle.cfb_fat.specs.declared.allocator.Allocator.{Allocator}
+
+-- a refusal since no sector's number is left
+abbrev pub IsTheLast : Error → Type 0
+IsTheLast e = e ≡ Full
+
+module _ {F : Type 0} {g : Ghosts F} where
+  -- A change by writes alone: done, the sectors have not failed; after an error they have. It is a fault, and has its cause.
+  pub record Attempts {T : Type 0} (result : Result T Error) (old new : Sectors F g) : Type 0 where
+    pub live : OnOk result (held.has_failed_here new ≡ false)
+    pub err : OnErr result (held.has_failed_here new ≡ true)
+    pub cause : IfErr result (held.HasItsCause old new)
+    pub fault : IfErr result (IsFaultUnless ⊥)
+
+  -- A change that may want memory: done, it has not failed; after a fault it has, or nothing but reads happened. Else the error
+  -- is such a refusal. Each has its cause.
+  pub record Tries {T : Type 0} (refuses : Error → Type 0) (result : Result T Error) (old new : Allocator F g) : Type 0 where
+    pub live : OnOk result (has_failed_here new ≡ false)
+    pub cause : IfErr result (HasCauseBelow old new)
+    pub fault : IfErr result (λ e. (IsFaultUnless ⊥ e × ((has_failed_here new ≡ true) ⊎ AllRests old new)) ⊎ refuses e)
+
+  -- A change of tables: done only where it had not failed and its tables could be changed, and then it has not failed. One that
+  -- had failed answers `Failed`, and rests. After a fault it has failed, or nothing but reads happened.
+  pub record ChangesTables {T : Type 0} (refuses : Error → Type 0) (result : Result T Error) (old new : Allocator F g) : Type 0 where
+    pub live : OnOk result ((has_failed_here old ≡ false) × IsTrue (orderly_of old) × (has_failed_here new ≡ false))
+    pub failed : has_failed_here old ≡ true → IsErrOf result Failed × AllRests old new
+    pub cause : IfErr result (HasCauseBelow old new)
+    pub fault : IfErr result (λ e. (IsFaultUnless ⊥ e × ((has_failed_here new ≡ true) ⊎ AllRests old new)) ⊎ refuses e)
+
+  -- A change by several of these: after any error it has failed, or nothing but reads happened.
+  pub record Answers {T : Type 0} (refuses : Error → Type 0) (result : Result T Error) (old new : Allocator F g) : Type 0 where
+    pub live : OnOk result ((has_failed_here old ≡ false) × (has_failed_here new ≡ false))
+    pub failed : has_failed_here old ≡ true → IsErrOf result Failed × AllRests old new
+    pub after : OnErr result ((has_failed_here new ≡ true) ⊎ AllRests old new)
+    pub cause : IfErr result (HasCauseBelow old new)
+    pub fault : IfErr result (λ e. IsFaultUnless ⊥ e ⊎ refuses e)
+
+  -- the sector holds what one of this kind does at first, and may be written whole
+  pub record IsFresh (init : SectorInit) (old new : Allocator F g) (n : ℕ) : Type 0 where
+    pub filled : IsTrue (is_honest old) → sector (version_of old) (bytes_of new) n ≡ initial init (sector_len (version_of old))
+    pub writable : MayWrite new (sector_start (version_of old) n) (sector_len (version_of old))
+
+  -- a sector behind all others is one only where no sector is spare: none is "free" but a table's
+  abbrev pub IsLastResort : Allocator F g → ℕ → Type 0
+  IsLastResort old n = length (fat_of old) ≤ n → (k : ℕ) → slice_get (fat_of old) k ≡ Some free → IsNoneOf (tables_of old) k → ⊥
+
+  -- no sector below this number is spare: "free", and none that holds a table
+  abbrev pub HasNoneBelow : Allocator F g → ℕ → Type 0
+  HasNoneBelow it n = (k : ℕ) → k < n → slice_index (fat_of it) k ≡ free → IsNoneOf (difat_sectors_of it) k → IsNoneOf (fat_sectors_of it) k → ⊥
+
+  -- so many entries the FAT's sectors have
+  abbrev pub places_of : Allocator F g → ℕ
+  places_of it = length (fat_sectors_of it) * (sector_len (version_of it) / 4)
+
+  -- the FAT has a place, and memory, for one sector more
+  pub record HasPlace (it : Allocator F g) : Type 0 where
+    pub room : length (fat_of it) < places_of it
+    pub memory : length (fat_of it) < capacity_of it
+
+  -- the FAT has the end of a chain behind its entries, and the same sectors as the DIFAT had
+  pub record EndsBehind (old new : Allocator F g) : Type 0 where
+    pub fat : fat_of new ≡ fat_of old ++ end_of_chain ∷ []
+    pub tables : (difat_sectors_of new ≡ difat_sectors_of old) × (fat_sectors_of new ≡ fat_sectors_of old)
+
+  -- the bytes of a linked and writable chain of an honest file are longer by those of new sectors of this kind
+  abbrev pub FillsBehind : SectorInit → Links → Links → Allocator F g → Allocator F g → Type 0
+  FillsBehind init before after old new = IsTrue (is_honest old) → version_of old ≡ links_version before → IsLinked (fat_of old) (ids_of before)
+      → AreWritable (MayWrite old) (links_version before) (ids_of before)
+      → joined (links_version before) (bytes_of new) (ids_of after)
+      ≡ joined (links_version before) (bytes_of old) (ids_of before) ++ copies (length (ids_of after) - length (ids_of before)) (initial init (sector_len (links_version before)))
