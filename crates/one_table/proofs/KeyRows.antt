@@ -5,7 +5,7 @@ use Rattle.std.specs.Prelude.{◌&&◌, slice_range, nat_le, bytes_eq, Option, �
 use Rattle.std.specs.List.{list_all}
 use Rattle.std.proofs.lemmas.Bool.Decides.{nat_tests}
 use Rattle.std.proofs.lemmas.Int.{ints}
-use Rattle.msi_texts.specs.Numbers.{le_bytes, le_number}
+use Rattle.msi_texts.specs.Numbers.{le_bytes}
 use Rattle.msi_pool.specs.declared.stringref.ValueRef.TheVariants as cell
 use Rattle.msi_columns.specs.Cell.{cell_value, above}
 use Rattle.msi_tables.specs.Rows.{rows_of, row_at, numbers_from, kinds_of}
