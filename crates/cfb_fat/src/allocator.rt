@@ -242,7 +242,8 @@ impl<F: Medium> Allocator<F> {
         ensures tables { KeepsTables self.old self.new }
         ensures live { OnOk result (has_failed_here self.new ≡ false) }
         ensures err { OnErr result (has_failed_here self.new ≡ true) }
-        ensures failed { has_failed_here self.old ≡ true → IsErrOf result Failed × AllRests self.old self.new }
+        ensures failed { has_failed_here self.old ≡ true
+            → IsErrOf result Failed × AllRests self.old self.new }
         ensures cause { IfErr result (HasCauseBelow self.old self.new) }
         ensures failures { F.failures (medium_of self.old) ≤ F.failures (medium_of self.new) }
         ensures fault { IfErr result (IsFaultUnless ⊥) }

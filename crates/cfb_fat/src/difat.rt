@@ -350,7 +350,8 @@ pub(crate) fn add_fat_sector<F: Medium>(
     requires most { fat_count ≤ count_of sectors.old }
     requires fewer { length difat_sectors.now ≤ count_of sectors.old }
     ensures number { IfOk result (λ n. n ≡ count_of sectors.old) }
-    ensures appends { Appends (IsBesideDifat sectors.old difat_sectors.now) sectors.old sectors.new }
+    ensures appends { Appends (IsBesideDifat sectors.old difat_sectors.now)
+        sectors.old sectors.new }
     ensures content { has_failed_here sectors.new ≡ false → IsHonest sectors.old
         → sector (version_of sectors.old) (bytes_of sectors.new) (count_of sectors.old)
         ≡ initial Fat (sector_len (version_of sectors.old)) }
@@ -381,7 +382,8 @@ pub(crate) fn add_difat_sector<F: Medium>(
     requires some { 0 < count_of sectors.old }
     requires there { AreBelow (count_of sectors.old) difat_sectors.now }
     ensures number { IfOk result (λ n. n ≡ count_of sectors.old) }
-    ensures appends { Appends (IsBesideDifat sectors.old difat_sectors.now) sectors.old sectors.new }
+    ensures appends { Appends (IsBesideDifat sectors.old difat_sectors.now)
+        sectors.old sectors.new }
     ensures listed { has_failed_here sectors.new ≡ false → IsHonest sectors.old
         → AreOnce difat_sectors.now → (fat_sectors : List ℕ)
         → Lists (version_of sectors.old) (bytes_of sectors.old) difat_sectors.now fat_sectors
