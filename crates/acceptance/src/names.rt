@@ -11,11 +11,23 @@ use std::test::Fail;
 #[test]
 fn letter_table_refuses_what_it_cannot_replace(rt: HostRuntime) -> Result<(), Fail> {
     let alloc = rt.alloc();
-    assert_eq!(rt; CaseMapper::new(alloc, &[('a', '\u{10400}')]).err(), Some(Error::InvalidInput));
-    assert_eq!(rt; CaseMapper::new(alloc, &[('\u{10428}', 'A')]).err(), Some(Error::InvalidInput));
-    assert_eq!(rt; CaseMapper::new(alloc, &[('a', 'A'), ('b', 'B'), ('a', 'B')]).err(), Some(Error::InvalidInput));
+    assert_eq!(rt;
+        CaseMapper::new(alloc, &[('a', '\u{10400}')]).err(),
+        Some(Error::InvalidInput)
+    );
+    assert_eq!(rt;
+        CaseMapper::new(alloc, &[('\u{10428}', 'A')]).err(),
+        Some(Error::InvalidInput)
+    );
+    assert_eq!(rt;
+        CaseMapper::new(alloc, &[('a', 'A'), ('b', 'B'), ('a', 'B')]).err(),
+        Some(Error::InvalidInput)
+    );
     let letters = CaseMapper::new(alloc, &[('\u{10428}', '\u{10400}'), ('ß', 'S')])?;
-    assert_eq!(rt; name_key(alloc, &letters, "\u{10428}ßs")?.as_slice(), [0xD801, 0xDC00, 0x53, 0x73].as_slice());
+    assert_eq!(rt;
+        name_key(alloc, &letters, "\u{10428}ßs")?.as_slice(),
+        [0xD801, 0xDC00, 0x53, 0x73].as_slice()
+    );
     Ok(())
 }
 
@@ -28,18 +40,36 @@ fn names_go_by_length_then_by_units(rt: HostRuntime) -> Result<(), Fail> {
     assert_eq!(rt; compare_names(&ascii, "é", "É"), Ordering::Greater);
     assert_eq!(rt; compare_names(&ascii, "", "a"), Ordering::Less);
     // a pair of surrogates comes before U+FFFD with one more unit, and after it by length alone
-    assert_eq!(rt; compare_names(&ascii, "\u{10000}", "\u{FFFD}a"), Ordering::Less);
-    assert_eq!(rt; compare_names(&ascii, "\u{10000}", "\u{FFFD}"), Ordering::Greater);
-    assert_eq!(rt; compare_names(&ascii, "\u{FFFD}a", "\u{D7FF}a"), Ordering::Greater);
-    assert_eq!(rt; name_key(rt.alloc(), &ascii, "aZ\u{1F600}")?.as_slice(), [0x41, 0x5A, 0xD83D, 0xDE00].as_slice());
+    assert_eq!(rt;
+        compare_names(&ascii, "\u{10000}", "\u{FFFD}a"),
+        Ordering::Less
+    );
+    assert_eq!(rt;
+        compare_names(&ascii, "\u{10000}", "\u{FFFD}"),
+        Ordering::Greater
+    );
+    assert_eq!(rt;
+        compare_names(&ascii, "\u{FFFD}a", "\u{D7FF}a"),
+        Ordering::Greater
+    );
+    assert_eq!(rt;
+        name_key(rt.alloc(), &ascii, "aZ\u{1F600}")?.as_slice(),
+        [0x41, 0x5A, 0xD83D, 0xDE00].as_slice()
+    );
     Ok(())
 }
 
 #[test]
 fn new_names_have_31_units_at_most(rt: HostRuntime) -> Result<(), Fail> {
     assert_eq!(rt; validate_name("1234567890123456789012345678901"), Ok(()));
-    assert_eq!(rt; validate_name("12345678901234567890123456789012"), Err(Error::InvalidInput));
-    assert_eq!(rt; validate_name("123456789012345678901234567890\u{1F600}"), Err(Error::InvalidInput));
+    assert_eq!(rt;
+        validate_name("12345678901234567890123456789012"),
+        Err(Error::InvalidInput)
+    );
+    assert_eq!(rt;
+        validate_name("123456789012345678901234567890\u{1F600}"),
+        Err(Error::InvalidInput)
+    );
     assert_eq!(rt; validate_name("\u{5}SummaryInformation"), Ok(()));
     for name in ["", "/", "a\\b", "c:", "!x"] {
         assert_eq!(rt; validate_name(name), Err(Error::InvalidInput));
@@ -50,11 +80,23 @@ fn new_names_have_31_units_at_most(rt: HostRuntime) -> Result<(), Fail> {
 #[test]
 fn paths_are_cut_at_slashes(rt: HostRuntime) -> Result<(), Fail> {
     let alloc = rt.alloc();
-    assert_eq!(rt; name_chain_from_path(alloc, "/a/./b/../c")?.as_slice(), ["a", "c"].as_slice());
-    assert_eq!(rt; name_chain_from_path(alloc, "//é//...")?.as_slice(), ["é", "..."].as_slice());
+    assert_eq!(rt;
+        name_chain_from_path(alloc, "/a/./b/../c")?.as_slice(),
+        ["a", "c"].as_slice()
+    );
+    assert_eq!(rt;
+        name_chain_from_path(alloc, "//é//...")?.as_slice(),
+        ["é", "..."].as_slice()
+    );
     assert_eq!(rt; name_chain_from_path(alloc, "")?.len(), 0);
-    assert_eq!(rt; name_chain_from_path(alloc, "..").err(), Some(Error::InvalidInput));
-    assert_eq!(rt; name_chain_from_path(alloc, "/a/../../b").err(), Some(Error::InvalidInput));
+    assert_eq!(rt;
+        name_chain_from_path(alloc, "..").err(),
+        Some(Error::InvalidInput)
+    );
+    assert_eq!(rt;
+        name_chain_from_path(alloc, "/a/../../b").err(),
+        Some(Error::InvalidInput)
+    );
     assert_eq!(rt; path_from_name_chain(alloc, &["a", "é"])?.as_str(), "/a/é");
     assert_eq!(rt; path_from_name_chain(alloc, &[])?.as_str(), "/");
     Ok(())
@@ -83,11 +125,14 @@ fn root_entry_stands_in_its_bytes(rt: HostRuntime) -> Result<(), Fail> {
 fn entries_are_read_as_they_stand(rt: HostRuntime) -> Result<(), Fail> {
     let alloc = rt.alloc();
     let moment = Timestamp::from_unix(0, 0);
-    let mut stream = DirEntry::new("Foo\u{1F600}", ObjType::Stream, moment);
+    let name = "Foo\u{1F600}";
+    validate_name(name)?;
+    let mut stream = DirEntry::new(name, ObjType::Stream, moment);
     stream.stream_len = 0x1_0000_0007;
     stream.left_sibling = 3;
     let mut bytes = Vec::new(alloc);
     stream.write_to(&mut bytes)?;
+    assert_eq!(rt; bytes.len(), 128);
     let mut reader = bytes.as_slice();
     let read = DirEntry::read_from(&mut reader, Version::V3)?;
     assert_eq!(rt; reader.len(), 0);
@@ -100,11 +145,14 @@ fn entries_are_read_as_they_stand(rt: HostRuntime) -> Result<(), Fail> {
     assert!(rt; read.is_taken_below(Validation::Strict));
     assert!(rt; !read.is_taken_as_root(Validation::Permissive));
     let mut short = &bytes.as_slice()[1..];
-    assert_eq!(rt; DirEntry::read_from(&mut short, Version::V4).err(), Some(Error::UnexpectedEof));
+    assert_eq!(rt;
+        DirEntry::read_from(&mut short, Version::V4).err(),
+        Some(Error::UnexpectedEof)
+    );
     assert_eq!(rt; short.len(), 127);
     let again = entry_again(alloc, stream, Version::V4)?;
     assert_eq!(rt; again.stream_len, 0x1_0000_0007);
-    let storage = DirEntry::new("Bar", ObjType::Storage, moment);
+    let storage = DirEntry::new(name, ObjType::Storage, moment);
     assert!(rt; storage.modified_time == moment);
     assert_eq!(rt; storage.start_sector, 0);
     Ok(())
@@ -114,6 +162,7 @@ fn entries_are_read_as_they_stand(rt: HostRuntime) -> Result<(), Fail> {
 fn bytes_outside_the_tree_stay(rt: HostRuntime) -> Result<(), Fail> {
     let alloc = rt.alloc();
     let mut bytes = vec![in alloc; 0xE7; 128]?;
+    assert_eq!(rt; bytes.len(), 128);
     bytes[64] = 4;
     bytes[65] = 0;
     let mut reader = bytes.as_slice();
@@ -125,9 +174,13 @@ fn bytes_outside_the_tree_stay(rt: HostRuntime) -> Result<(), Fail> {
     entry.write_to(&mut written)?;
     assert_eq!(rt; written.as_slice(), bytes.as_slice());
     assert_eq!(rt; ObjType::from_byte(3), None);
-    assert_eq!(rt; ObjType::from_byte(ObjType::Root.as_byte()), Some(ObjType::Root));
+    assert_eq!(rt;
+        ObjType::from_byte(ObjType::Root.as_byte()),
+        Some(ObjType::Root)
+    );
     assert_eq!(rt; Color::from_byte(Color::Red.as_byte()), Some(Color::Red));
     let mut lone = vec![in alloc; 0; 128]?;
+    assert_eq!(rt; lone.len(), 128);
     lone[1] = 0xD8;
     lone[64] = 4;
     let mut reader = lone.as_slice();
