@@ -125,11 +125,14 @@ fn root_entry_stands_in_its_bytes(rt: HostRuntime) -> Result<(), Fail> {
 fn entries_are_read_as_they_stand(rt: HostRuntime) -> Result<(), Fail> {
     let alloc = rt.alloc();
     let moment = Timestamp::from_unix(0, 0);
-    let mut stream = DirEntry::new("Foo\u{1F600}", ObjType::Stream, moment);
+    let name = "Foo\u{1F600}";
+    validate_name(name)?;
+    let mut stream = DirEntry::new(name, ObjType::Stream, moment);
     stream.stream_len = 0x1_0000_0007;
     stream.left_sibling = 3;
     let mut bytes = Vec::new(alloc);
     stream.write_to(&mut bytes)?;
+    assert_eq!(rt; bytes.len(), 128);
     let mut reader = bytes.as_slice();
     let read = DirEntry::read_from(&mut reader, Version::V3)?;
     assert_eq!(rt; reader.len(), 0);
@@ -149,7 +152,7 @@ fn entries_are_read_as_they_stand(rt: HostRuntime) -> Result<(), Fail> {
     assert_eq!(rt; short.len(), 127);
     let again = entry_again(alloc, stream, Version::V4)?;
     assert_eq!(rt; again.stream_len, 0x1_0000_0007);
-    let storage = DirEntry::new("Bar", ObjType::Storage, moment);
+    let storage = DirEntry::new(name, ObjType::Storage, moment);
     assert!(rt; storage.modified_time == moment);
     assert_eq!(rt; storage.start_sector, 0);
     Ok(())
@@ -159,6 +162,7 @@ fn entries_are_read_as_they_stand(rt: HostRuntime) -> Result<(), Fail> {
 fn bytes_outside_the_tree_stay(rt: HostRuntime) -> Result<(), Fail> {
     let alloc = rt.alloc();
     let mut bytes = vec![in alloc; 0xE7; 128]?;
+    assert_eq!(rt; bytes.len(), 128);
     bytes[64] = 4;
     bytes[65] = 0;
     let mut reader = bytes.as_slice();
@@ -176,6 +180,7 @@ fn bytes_outside_the_tree_stay(rt: HostRuntime) -> Result<(), Fail> {
     );
     assert_eq!(rt; Color::from_byte(Color::Red.as_byte()), Some(Color::Red));
     let mut lone = vec![in alloc; 0; 128]?;
+    assert_eq!(rt; lone.len(), 128);
     lone[1] = 0xD8;
     lone[64] = 4;
     let mut reader = lone.as_slice();
