@@ -110,7 +110,8 @@ fn time_at(bytes: &[u8], place: usize) -> Timestamp
 
 // Appends numbers of two bytes.
 fn push_u16s(out: &mut Vec<u8>, numbers: &[u16]) -> Result<(), AllocError>
-    ensures ok { OnOk result (out.new.items ≡ out.old.items ++ flat_map (to_le_bytes w16) numbers.now) }
+    ensures ok { OnOk result (out.new.items
+        ≡ out.old.items ++ flat_map (to_le_bytes w16) numbers.now) }
     ensures kept { Begins out.old.items out.new.items }
 {
     for number in numbers {
@@ -139,7 +140,8 @@ fn fit_two_bytes(numbers: &[u16])
 
 // The same of fields.
 fn fit_fields(name_len: u16, kind: u8, color: u8, state_bits: u32, start: u32)
-    ensures { (name_len < 2 ^ 16) × (kind < 2 ^ 8) × (color < 2 ^ 8) × (state_bits < 2 ^ 32) × (start < 2 ^ 32) }
+    ensures { (name_len < 2 ^ 16) × (kind < 2 ^ 8) × (color < 2 ^ 8) × (state_bits < 2 ^ 32)
+        × (start < 2 ^ 32) }
 {}
 
 // The same of numbers of entries.
@@ -161,7 +163,8 @@ impl DirEntry {
     /// times and begins nowhere; any other has no times. It takes no memory.
     pub fn new(name: &str, obj_type: ObjType, moment: Timestamp) -> DirEntry
         requires { IsTrue (is_name (chars name.now)) }
-        ensures { entry_in result ≡ new_entry (chars name.now) (kind_of obj_type) (units_of moment) }
+        ensures { entry_in result
+            ≡ new_entry (chars name.now) (kind_of obj_type) (units_of moment) }
     {
         let (name_units, len) = field_of(name);
         let is_storage = obj_type == ObjType::Storage;
@@ -258,14 +261,17 @@ impl DirEntry {
 
     /// What the entry is, where its byte has a kind.
     pub fn obj_type(&self) -> Option<ObjType>
-        ensures { MatchOption result ((k : Kind) → (entry_in self.now).kind ≢ kind_of k) (λ k. (entry_in self.now).kind ≡ kind_of k) }
+        ensures { MatchOption result ((k : Kind)
+            → (entry_in self.now).kind ≢ kind_of k) (λ k. (entry_in self.now).kind ≡ kind_of k) }
     {
         ObjType::from_byte(self.kind)
     }
 
     /// Its colour, where its byte has one.
     pub fn color(&self) -> Option<Color>
-        ensures { MatchOption result ((k : Hue) → (entry_in self.now).color ≢ color_of k) (λ k. (entry_in self.now).color ≡ color_of k) }
+        ensures { MatchOption result ((k : Hue)
+            → (entry_in self.now).color ≢ color_of k)
+            (λ k. (entry_in self.now).color ≡ color_of k) }
     {
         Color::from_byte(self.color)
     }
@@ -273,8 +279,10 @@ impl DirEntry {
     /// Its name. `InvalidData` where it has none: its length in bytes is odd or above 64, or the units are no UTF-16. The one
     /// other error is `Memory`.
     pub fn name(&self, alloc: Global) -> Result<String, Error>
-        ensures named { IfOk result (λ name. HasName (entry_in self.now) (chars (string_bytes name))) }
-        ensures error { IfErr result (λ e. (e ≡ Memory) ⊎ ((e ≡ InvalidData) × ((name : List ℕ) → HasName (entry_in self.now) name → ⊥))) }
+        ensures named { IfOk result (λ name. HasName (entry_in self.now)
+            (chars (string_bytes name))) }
+        ensures error { IfErr result (λ e. (e ≡ Memory)
+            ⊎ ((e ≡ InvalidData) × ((name : List ℕ) → HasName (entry_in self.now) name → ⊥))) }
     {
         if self.name_len % 2 != 0 {
             return Err(Error::InvalidData);
@@ -331,8 +339,10 @@ impl DirEntry {
 
     // Appends what stands before the class identifier, or a beginning of it.
     fn append_head(&self, out: &mut Vec<u8>) -> Result<(), AllocError>
-        ensures ok { OnOk result (out.new.items ≡ out.old.items ++ (flat_map (to_le_bytes w16) self.now.name_units
-            ++ (to_le_bytes w16 self.now.name_len ++ self.now.kind ∷ self.now.color ∷ to_le_bytes w32 self.now.left_sibling
+        ensures ok { OnOk result (out.new.items
+            ≡ out.old.items ++ (flat_map (to_le_bytes w16) self.now.name_units
+            ++ (to_le_bytes w16 self.now.name_len
+            ++ self.now.kind ∷ self.now.color ∷ to_le_bytes w32 self.now.left_sibling
             ++ to_le_bytes w32 self.now.right_sibling ++ to_le_bytes w32 self.now.child))) }
         ensures kept { Begins out.old.items out.new.items }
     {
@@ -344,8 +354,11 @@ impl DirEntry {
 
     // Appends what stands behind the class identifier, or a beginning of it.
     fn append_tail(&self, out: &mut Vec<u8>) -> Result<(), Error>
-        ensures ok { OnOk result (out.new.items ≡ out.old.items ++ (to_le_bytes w32 self.now.state_bits ++ to_le_bytes w64 (units_of self.now.creation_time)
-            ++ to_le_bytes w64 (units_of self.now.modified_time) ++ to_le_bytes w32 self.now.start_sector ++ to_le_bytes w64 self.now.stream_len)) }
+        ensures ok { OnOk result (out.new.items
+            ≡ out.old.items ++ (to_le_bytes w32 self.now.state_bits
+            ++ to_le_bytes w64 (units_of self.now.creation_time)
+            ++ to_le_bytes w64 (units_of self.now.modified_time)
+            ++ to_le_bytes w32 self.now.start_sector ++ to_le_bytes w64 self.now.stream_len)) }
         ensures kept { Begins out.old.items out.new.items }
     {
         out.extend_from_slice(&self.state_bits.to_le_bytes())?;
@@ -358,7 +371,8 @@ impl DirEntry {
 
     // Appends the bytes, or a beginning of them.
     fn append_to(&self, out: &mut Vec<u8>) -> Result<(), Error>
-        ensures ok { OnOk result (out.new.items ≡ out.old.items ++ entry_bytes (entry_in self.now)) }
+        ensures ok { OnOk result (out.new.items
+            ≡ out.old.items ++ entry_bytes (entry_in self.now)) }
         ensures kept { Begins out.old.items out.new.items }
     {
         self.append_head(out)?;
@@ -368,7 +382,8 @@ impl DirEntry {
 
     /// Appends the 128 bytes. `Memory` where the list can't grow, and then it is as it was.
     pub fn write_to(&self, writer: &mut Vec<u8>) -> Result<(), Error>
-        ensures ok { OnOk result (writer.new.items ≡ writer.old.items ++ entry_bytes (entry_in self.now)) }
+        ensures ok { OnOk result (writer.new.items
+            ≡ writer.old.items ++ entry_bytes (entry_in self.now)) }
         ensures err { OnErr result (writer.new.items ≡ writer.old.items) }
         ensures error { IfErr result (λ e. e ≡ Memory) }
     {

@@ -53,7 +53,8 @@ impl CaseMapper {
     pub fn new(alloc: Global, pairs: &[(char, char)]) -> Result<CaseMapper, Error>
         ensures replaces { IfOk result (λ m. ReplaceAlike (letters_of m) pairs.now) }
         ensures taken { OnOk result (AreLetters pairs.now) }
-        ensures error { IfErr result (λ e. (e ≡ Memory) ⊎ ((e ≡ InvalidInput) × (AreLetters pairs.now → ⊥))) }
+        ensures error { IfErr result (λ e. (e ≡ Memory)
+            ⊎ ((e ≡ InvalidInput) × (AreLetters pairs.now → ⊥))) }
     {
         let mut letters = BTreeMap::new(alloc);
         for (from, to) in pairs {

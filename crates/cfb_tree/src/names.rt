@@ -18,7 +18,8 @@ const MOST_UNITS: usize = 31;
 /// to a storage where their keys are equal ([MS-CFB] 2.6.4). The one error is `Memory`.
 #[tactic(auto, unfolding(crate::specs::Names::name_key))]
 pub fn name_key(alloc: Global, letters: &CaseMapper, name: &str) -> Result<Vec<u16>, Error>
-    ensures key { IfOk result (λ key. key.items ≡ name_key (letters_of letters.now) (chars name.now)) }
+    ensures key { IfOk result (λ key. key.items
+        ≡ name_key (letters_of letters.now) (chars name.now)) }
     ensures error { IfErr result (λ e. e ≡ Memory) }
 {
     let mut key = Vec::new(alloc);
@@ -53,7 +54,9 @@ fn rank(ch: char) -> u32
 
 // The order of two names' keys, unit by unit.
 fn compare_units(letters: &CaseMapper, one: &str, other: &str) -> Ordering
-    ensures { result ≡ slice_cmp nat_cmp (name_key (letters_of letters.now) (chars one.now)) (name_key (letters_of letters.now) (chars other.now)) }
+    ensures { result
+        ≡ slice_cmp nat_cmp (name_key (letters_of letters.now) (chars one.now))
+        (name_key (letters_of letters.now) (chars other.now)) }
 {
     let ranks = one.chars().map(|ch| rank(letters.letter(ch)));
     ranks.cmp(other.chars().map(|ch| rank(letters.letter(ch))))

@@ -24,8 +24,10 @@ fn is_back(part: &str) -> bool
 /// one name back. `InvalidInput` where it leads above the root. It doesn't ask whether new names may be such. The one other
 /// error is `Memory`.
 pub fn name_chain_from_path(alloc: Global, path: &str) -> Result<Vec<&str>, Error>
-    ensures names { IfOk result (λ names. path_names path.now ≡ Some (map (λ name. name.now) names.items)) }
-    ensures error { IfErr result (λ e. (e ≡ Memory) ⊎ ((e ≡ InvalidInput) × (path_names path.now ≡ None))) }
+    ensures names { IfOk result (λ names. path_names path.now
+        ≡ Some (map (λ name. name.now) names.items)) }
+    ensures error { IfErr result (λ e. (e ≡ Memory)
+        ⊎ ((e ≡ InvalidInput) × (path_names path.now ≡ None))) }
 {
     let mut names = Vec::new(alloc);
     for part in path.split('/') {
@@ -45,7 +47,8 @@ pub fn name_chain_from_path(alloc: Global, path: &str) -> Result<Vec<&str>, Erro
 
 /// The path of names from the root on: each behind a slash, and a slash for the root. The one error is `Memory`.
 pub fn path_from_name_chain(alloc: Global, names: &[&str]) -> Result<String, Error>
-    ensures path { IfOk result (λ path. string_bytes path ≡ path_text (map (λ name. name.now) names.now)) }
+    ensures path { IfOk result (λ path. string_bytes path
+        ≡ path_text (map (λ name. name.now) names.now)) }
     ensures error { IfErr result (λ e. e ≡ Memory) }
 {
     if names.is_empty() {

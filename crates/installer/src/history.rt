@@ -27,5 +27,7 @@ pub fn committed_packages_survive<D: Device>()
 /// A recovery is an event of that law, whatever it answers: what its contract says of honesty, failures and stops is all that it takes.
 pub fn recoveries_survive<D: Device>()
     ensures { (old new : D) → D.honest new ≡ D.honest old → D.failures old ≤ D.failures new
-        → (IsTrue (D.honest old) → LeavesOnly D.moment D.left_since old new (GivesAlike (D.may_leave old))) → Survives D.Device old new [] }
+        → (IsTrue (D.honest old)
+        → LeavesOnly D.moment D.left_since old new (GivesAlike (D.may_leave old)))
+        → Survives D.Device old new [] }
 {}
