@@ -105,14 +105,26 @@ impl Pair {
     }
 }
 
-// Whether these files are among the pairs.
-fn holds(all: &[Pair], home: &[u8], log: &[u8]) -> bool {
-    for pair in all {
-        if pair.home.as_slice() == home && pair.log.as_slice() == log {
+// Whether these bytes are among the files.
+fn holds(all: &[Vec<u8>], bytes: &[u8]) -> bool {
+    for file in all {
+        if file.as_slice() == bytes {
             return true;
         }
     }
     false
+}
+
+// What is tried of a file, each once.
+fn files(alloc: Global, tears: &[Tear], before: &[u8], shown: &[u8]) -> Result<Vec<Vec<u8>>, Fail> {
+    let mut all = Vec::new(alloc);
+    for tear in tears {
+        let bytes = tear.of(alloc, before, shown)?;
+        if !holds(&all, &bytes) {
+            all.push(bytes)?;
+        }
+    }
+    Ok(all)
 }
 
 // Adds the pairs with this home file that a stop may leave.
@@ -120,13 +132,12 @@ fn push_left(
     alloc: Global,
     device: &MemoryDevice,
     home: &[u8],
-    before: &Pair,
+    logs: &[Vec<u8>],
     all: &mut Vec<Pair>,
 ) -> Result<(), Fail> {
-    for tear in LOGS {
-        let log = tear.of(alloc, &before.log, device.bytes(Which::Log))?;
-        if !holds(all, home, &log) && device.cut(home, &log)?.is_some() {
-            all.push(Pair::new(alloc, home, &log)?)?;
+    for log in logs {
+        if device.cut(home, log)?.is_some() {
+            all.push(Pair::new(alloc, home, log)?)?;
         }
     }
     Ok(())
@@ -134,10 +145,11 @@ fn push_left(
 
 /// Pairs that a stop may leave of a device that had these files before, each once.
 pub fn left(alloc: Global, device: &MemoryDevice, before: &Pair) -> Result<Vec<Pair>, Fail> {
+    let homes = files(alloc, &HOMES, &before.home, device.bytes(Which::Home))?;
+    let logs = files(alloc, &LOGS, &before.log, device.bytes(Which::Log))?;
     let mut all = Vec::new(alloc);
-    for tear in HOMES {
-        let home = tear.of(alloc, &before.home, device.bytes(Which::Home))?;
-        push_left(alloc, device, &home, before, &mut all)?;
+    for home in &homes {
+        push_left(alloc, device, home, &logs, &mut all)?;
     }
     Ok(all)
 }
