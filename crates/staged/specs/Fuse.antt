@@ -1,9 +1,8 @@
 -- A device of tests, some of whose calls fail.
 use Rattle.std.specs.Prelude.{◌≡◌, ℕ, ◌-◌, ◌<◌, ◌≤◌, ◌^◌, Bool, true}
 use Rattle.staged.specs.declared.device.Which.{Which}
-use Rattle.staged.specs.declared.device.Which.TheVariants.{Home, Log}
+use Rattle.staged.specs.Counts.{counted_failures, counted_writes}
 use Rattle.staged.specs.declared.fuse.Fuse.{Fuse}
-use Rattle.staged.specs.declared.fuse.Counts.{Counts}
 use Rattle.staged.specs.declared.fuse.FuseDevice.{FuseDevice}
 
 -- the next call fails: none is left to pass on, and some are to fail
@@ -15,10 +14,6 @@ pub record Burns (old new : Fuse) : Type 0 where
   pub passed : 0 < old.pass → new ≡ record old { pass = old.pass - 1 }
   pub failed : old.pass ≡ 0 → new ≡ record old { fail = old.fail - 1 }
 
-abbrev pub counted_writes : Counts → Which → ℕ
-counted_writes counts Home = counts.home_writes
-counted_writes counts Log = counts.log_writes
-
 abbrev pub inner_of : {D : Type 0} → FuseDevice D → D
 inner_of d = d.inner
 
@@ -26,7 +21,7 @@ abbrev pub fuse_of : {D : Type 0} → FuseDevice D → Fuse
 fuse_of d = d.fuse
 
 abbrev pub fuse_failures : {D : Type 0} → FuseDevice D → ℕ
-fuse_failures d = d.counts.failures
+fuse_failures d = counted_failures d.counts
 
 abbrev pub fuse_writes : {D : Type 0} → FuseDevice D → Which → ℕ
 fuse_writes d which = counted_writes d.counts which

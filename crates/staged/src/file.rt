@@ -97,7 +97,8 @@ impl MemoryFile {
 
     fn write_at(&mut self, at: u64, bytes: &[u8]) -> Result<(), AllocError>
         requires { at ≤ vec_len self.old.contents }
-        ensures ok { OnOk result (standing_of self.new ≡ after_write (standing_of self.old) at bytes.now) }
+        ensures ok { OnOk result (standing_of self.new
+            ≡ after_write (standing_of self.old) at bytes.now) }
         ensures err { OnErr result (standing_of self.new ≡ standing_of self.old) }
         ensures first { first_of self.new ≡ first_of self.old }
         ensures writes { self.new.writes ≡ self.old.writes }
@@ -133,7 +134,8 @@ impl MemoryFile {
 
     // Whether no write since its last sync touched this place.
     fn is_apart(&self, place: u64) -> bool
-        ensures { IsTrue result ↔ All (λ r. (place < r.0) ⊎ (r.0 + r.1 ≤ place)) (standing_of self.now).ranges }
+        ensures { IsTrue result ↔ All (λ r. (place < r.0)
+            ⊎ (r.0 + r.1 ≤ place)) (standing_of self.now).ranges }
     {
         for range in &self.ranges {
             if place >= range.at && place - range.at < range.len {
@@ -169,8 +171,10 @@ impl MemoryFile {
 pub fn count(home: &mut MemoryFile, log: &mut MemoryFile, which: Which)
     ensures home { home.new ≡ record home.old { writes = home.new.writes } }
     ensures log { log.new ≡ record log.old { writes = log.new.writes } }
-    ensures count { writes_of home.new log.new which ≡ counted_up (writes_of home.old log.old which) }
-    ensures others { (other : Which) → other ≢ which → writes_of home.new log.new other ≡ writes_of home.old log.old other }
+    ensures count { writes_of home.new log.new which
+        ≡ counted_up (writes_of home.old log.old which) }
+    ensures others { (other : Which) → other ≢ which
+        → writes_of home.new log.new other ≡ writes_of home.old log.old other }
 {
     match which {
         Which::Home => home.count(),
@@ -187,10 +191,14 @@ pub fn write_file(
     bytes: &[u8],
 ) -> Result<(), AllocError>
     requires { at ≤ length (file_of (contents_of home.old log.old) which) }
-    ensures ok { OnOk result (contents_of home.new log.new ≡ with_file (contents_of home.old log.old) which (overwritten (file_of (contents_of home.old log.old) which) at bytes.now)) }
+    ensures ok { OnOk result (contents_of home.new log.new
+        ≡ with_file (contents_of home.old log.old) which
+        (overwritten (file_of (contents_of home.old log.old) which) at bytes.now)) }
     ensures err { OnErr result (contents_of home.new log.new ≡ contents_of home.old log.old) }
-    ensures home { OnOk result (standing_of home.new ≡ after_call Home (standing_of home.old) (wrote which at bytes.now)) }
-    ensures log { OnOk result (standing_of log.new ≡ after_call Log (standing_of log.old) (wrote which at bytes.now)) }
+    ensures home { OnOk result (standing_of home.new
+        ≡ after_call Home (standing_of home.old) (wrote which at bytes.now)) }
+    ensures log { OnOk result (standing_of log.new
+        ≡ after_call Log (standing_of log.old) (wrote which at bytes.now)) }
     ensures home_stays { OnErr result (standing_of home.new ≡ standing_of home.old) }
     ensures log_stays { OnErr result (standing_of log.new ≡ standing_of log.old) }
     ensures first_home { first_of home.new ≡ first_of home.old }

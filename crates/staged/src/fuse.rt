@@ -9,6 +9,7 @@ ghost use Rattle.staged.specs.Device.{Rests, IsDeviceFault, TornFile, counted_up
 ghost use Rattle.staged.specs.Stops.{IsCutFrom, IsKept, Remembers};
 ghost use Rattle.staged.specs.declared.device.Which.{Which};
 
+use crate::counts::Counts;
 use crate::{Device, Which};
 use cfb_medium::Error;
 
@@ -39,40 +40,6 @@ impl Fuse {
     }
 }
 
-// How many calls have failed, and how often each file was written.
-#[derive(Clone, Copy)]
-pub struct Counts {
-    failures: u64,
-    home_writes: u64,
-    log_writes: u64,
-}
-
-impl Counts {
-    ghost use Rattle.staged.specs.Fuse.{counted_writes};
-
-    // Counts a failure.
-    fn fault(&mut self) -> Error
-        ensures error { result ≡ Error.Device }
-        ensures counted { self.new ≡ record self.old { failures = counted_up self.old.failures } }
-        ensures risen { self.old.failures ≤ self.new.failures }
-    {
-        self.failures = self.failures.saturating_add(1);
-        Error::Device
-    }
-
-    // Counts a write.
-    fn write(&mut self, which: Which)
-        ensures count { counted_writes self.new which ≡ counted_up (counted_writes self.old which) }
-        ensures others { (other : Which) → other ≢ which → counted_writes self.new other ≡ counted_writes self.old other }
-        ensures failures { self.new.failures ≡ self.old.failures }
-    {
-        match which {
-            Which::Home => self.home_writes = self.home_writes.saturating_add(1),
-            Which::Log => self.log_writes = self.log_writes.saturating_add(1),
-        }
-    }
-}
-
 /// A device that passes calls on to another, but for some that fail and don't reach it. It counts failures and writes itself; a
 /// write that fails is counted too.
 #[derive(Drop)]
@@ -92,15 +59,10 @@ impl<D: Device> FuseDevice<D> {
         ensures writes { (which : Which) → fuse_writes result which ≡ 0 }
         ensures failures { fuse_failures result ≡ 0 }
     {
-        let counts = Counts {
-            failures: 0,
-            home_writes: 0,
-            log_writes: 0,
-        };
         FuseDevice {
             inner: device,
             fuse: Fuse { pass, fail },
-            counts,
+            counts: Counts::new(),
         }
     }
 
@@ -132,8 +94,11 @@ impl<D: Device> Device for FuseDevice<D> {
     ghost left_since = { λ d moment left. D.left_since d.inner moment left };
 
     fn len(&mut self, which: Which) -> Result<u64, Error>
-        ensures length { IsTrue (D.honest (inner_of self.old)) → IfOk result (λ count. count ≡ length (file_of (D.content (inner_of self.old)) which)) }
-        ensures same { IsTrue (D.honest (inner_of self.old)) → D.content (inner_of self.new) ≡ D.content (inner_of self.old) }
+        ensures length { IsTrue (D.honest (inner_of self.old))
+            → IfOk result (λ count. count
+            ≡ length (file_of (D.content (inner_of self.old)) which)) }
+        ensures same { IsTrue (D.honest (inner_of self.old))
+            → D.content (inner_of self.new) ≡ D.content (inner_of self.old) }
         ensures honest { D.honest (inner_of self.new) ≡ D.honest (inner_of self.old) }
         ensures failures { fuse_failures self.old ≤ fuse_failures self.new }
         ensures rests { Extends (λ a b. FuseRests D.rests a b) self.old self.new }
@@ -151,8 +116,11 @@ impl<D: Device> Device for FuseDevice<D> {
 
     fn read_at(&mut self, which: Which, at: u64, buffer: &mut [u8]) -> Result<usize, Error>
         ensures within { IfOk result (λ count. count ≤ length buffer.old) }
-        ensures serves { IsTrue (D.honest (inner_of self.old)) → IfOk result (Serves (file_of (D.content (inner_of self.old)) which) at buffer.old buffer.new) }
-        ensures same { IsTrue (D.honest (inner_of self.old)) → D.content (inner_of self.new) ≡ D.content (inner_of self.old) }
+        ensures serves { IsTrue (D.honest (inner_of self.old))
+            → IfOk result
+            (Serves (file_of (D.content (inner_of self.old)) which) at buffer.old buffer.new) }
+        ensures same { IsTrue (D.honest (inner_of self.old))
+            → D.content (inner_of self.new) ≡ D.content (inner_of self.old) }
         ensures honest { D.honest (inner_of self.new) ≡ D.honest (inner_of self.old) }
         ensures failures { fuse_failures self.old ≤ fuse_failures self.new }
         ensures rests { Extends (λ a b. FuseRests D.rests a b) self.old self.new }
@@ -169,14 +137,26 @@ impl<D: Device> Device for FuseDevice<D> {
     }
 
     fn write_at(&mut self, which: Which, at: u64, bytes: &[u8]) -> Result<(), Error>
-        requires { IsTrue (D.honest (inner_of self.old)) → at ≤ length (file_of (D.content (inner_of self.old)) which) }
-        ensures written { IsTrue (D.honest (inner_of self.old)) → OnOk result (D.content (inner_of self.new) ≡ with_file (D.content (inner_of self.old)) which (overwritten (file_of (D.content (inner_of self.old)) which) at bytes.now)) }
-        ensures torn { IsTrue (D.honest (inner_of self.old)) → OnErr result (TornFile which at (length bytes.now) (D.content (inner_of self.old)) (D.content (inner_of self.new))) }
+        requires { IsTrue (D.honest (inner_of self.old))
+            → at ≤ length (file_of (D.content (inner_of self.old)) which) }
+        ensures written { IsTrue (D.honest (inner_of self.old))
+            → OnOk result (D.content (inner_of self.new)
+            ≡ with_file (D.content (inner_of self.old)) which
+            (overwritten (file_of (D.content (inner_of self.old)) which) at bytes.now)) }
+        ensures torn { IsTrue (D.honest (inner_of self.old))
+            → OnErr result
+            (TornFile which at (length bytes.now) (D.content (inner_of self.old))
+            (D.content (inner_of self.new))) }
         ensures honest { D.honest (inner_of self.new) ≡ D.honest (inner_of self.old) }
         ensures count { fuse_writes self.new which ≡ counted_up (fuse_writes self.old which) }
-        ensures others { (other : Which) → other ≢ which → fuse_writes self.new other ≡ fuse_writes self.old other }
-        ensures leaves { IsTrue (D.honest (inner_of self.old)) → LeavesOnly (λ d. D.moment (inner_of d)) (λ d moment left. D.left_since (inner_of d) moment left) self.old self.new (IsCutFrom which at (length bytes.now) (D.may_leave (inner_of self.old))) }
-        ensures remembers { Remembers (λ d. D.moment (inner_of d)) (λ d moment left. D.left_since (inner_of d) moment left) self.old self.new }
+        ensures others { (other : Which) → other ≢ which
+            → fuse_writes self.new other ≡ fuse_writes self.old other }
+        ensures leaves { IsTrue (D.honest (inner_of self.old))
+            → LeavesOnly (λ d. D.moment (inner_of d))
+            (λ d moment left. D.left_since (inner_of d) moment left) self.old self.new
+            (IsCutFrom which at (length bytes.now) (D.may_leave (inner_of self.old))) }
+        ensures remembers { Remembers (λ d. D.moment (inner_of d))
+            (λ d moment left. D.left_since (inner_of d) moment left) self.old self.new }
         ensures failures { fuse_failures self.old ≤ fuse_failures self.new }
         ensures fault { IfErr result (IsDeviceFault (λ d. fuse_failures d) self.old self.new) }
         ensures fuse { GoesByFuse D.failures self.old self.new (is_err result) }
@@ -192,8 +172,11 @@ impl<D: Device> Device for FuseDevice<D> {
     }
 
     fn sync(&mut self, which: Which) -> Result<(), Error>
-        ensures same { IsTrue (D.honest (inner_of self.old)) → D.content (inner_of self.new) ≡ D.content (inner_of self.old) }
-        ensures durable { IsTrue (D.honest (inner_of self.old)) → OnOk result (IsKept which (D.content (inner_of self.new)) (D.may_leave (inner_of self.new))) }
+        ensures same { IsTrue (D.honest (inner_of self.old))
+            → D.content (inner_of self.new) ≡ D.content (inner_of self.old) }
+        ensures durable { IsTrue (D.honest (inner_of self.old))
+            → OnOk result
+            (IsKept which (D.content (inner_of self.new)) (D.may_leave (inner_of self.new))) }
         ensures honest { D.honest (inner_of self.new) ≡ D.honest (inner_of self.old) }
         ensures failures { fuse_failures self.old ≤ fuse_failures self.new }
         ensures rests { Extends (λ a b. FuseRests D.rests a b) self.old self.new }

@@ -1,0 +1,103 @@
+//! An open file of a device.
+ghost use Rattle.std.specs.Prelude.{◌≡◌, ◌≤◌, true, is_err, length, IfOk};
+
+use std::fs::{File, OpenOptions};
+use std::io;
+use std::os::unix::fs::FileExt;
+use std::path::Path;
+use std::rt::Files;
+
+// An open file, locked against other programs until it is dropped.
+#[derive(Drop)]
+pub struct DiskFile {
+    file: File,
+    // A sync has failed, so what the system still shows may be missing on the disk.
+    is_lost: bool,
+}
+
+// The furthest place that the system takes.
+const FURTHEST: u64 = (1 << 63) - 1;
+
+impl DiskFile {
+    // Opens a regular file, or makes it, and locks it. A file that was made is on the disk with its folder.
+    pub fn open<R: Files<File = File>>(rt: &R, path: &str, is_made: bool) -> io::Result<DiskFile> {
+        let mut options = OpenOptions::new();
+        let _ = options.read(true).write(true);
+        let (file, is_new) = match options.open(rt, path) {
+            Ok(file) => (file, false),
+            Err(error) if is_made && error.kind() == io::ErrorKind::NotFound => {
+                (options.create_new(true).open(rt, path)?, true)
+            }
+            Err(error) => return Err(error),
+        };
+        file.try_lock()?;
+        if !file.metadata()?.is_file() {
+            return Err(io::ErrorKind::Unsupported.into());
+        }
+        if is_new {
+            file.sync_all()?;
+            sync_folder(rt, path)?;
+        }
+        Ok(DiskFile {
+            file,
+            is_lost: false,
+        })
+    }
+
+    // The number of bytes, where what is shown can be trusted.
+    pub fn len(&self) -> io::Result<u64>
+        ensures refused { self.now.is_lost ≡ true → is_err result ≡ true }
+    {
+        if self.is_lost {
+            return Err(io::ErrorKind::Other.into());
+        }
+        Ok(self.file.metadata()?.len())
+    }
+
+    // Reads the smaller of the buffer and what there is from this place on.
+    pub fn read_at(&self, at: u64, buffer: &mut [u8]) -> io::Result<usize>
+        ensures within { IfOk result (λ count. count ≤ length buffer.old) }
+        ensures refused { self.now.is_lost ≡ true → is_err result ≡ true }
+    {
+        let left = self.len()?.saturating_sub(at);
+        let count = if left < buffer.len() as u64 {
+            left as usize
+        } else {
+            buffer.len()
+        };
+        self.file.read_exact_at(&mut buffer[..count], at)?;
+        Ok(count)
+    }
+
+    // Writes all of it.
+    pub fn write_at(&self, at: u64, bytes: &[u8]) -> io::Result<()>
+        ensures refused { self.now.is_lost ≡ true → is_err result ≡ true }
+    {
+        if self.is_lost || at > FURTHEST || bytes.len() as u64 > FURTHEST - at {
+            return Err(io::ErrorKind::InvalidInput.into());
+        }
+        self.file.write_all_at(bytes, at)
+    }
+
+    // Makes what was written last. After a failure no later call pretends that it did.
+    pub fn sync(&mut self) -> io::Result<()>
+        ensures lost { self.new.is_lost ≡ is_err result }
+        ensures refused { self.old.is_lost ≡ true → is_err result ≡ true }
+    {
+        if self.is_lost {
+            return Err(io::ErrorKind::Other.into());
+        }
+        let synced = self.file.sync_all();
+        self.is_lost = synced.is_err();
+        synced
+    }
+}
+
+// Syncs the folder in which the file of this path stands.
+fn sync_folder<R: Files<File = File>>(rt: &R, path: &str) -> io::Result<()> {
+    let folder = match Path::new(path).parent() {
+        Some(folder) if !folder.as_str().is_empty() => folder.as_str(),
+        _ => ".",
+    };
+    File::open(rt, folder)?.sync_all()
+}
