@@ -1,12 +1,13 @@
 //! A device that counts its calls, and fails one of them.
 ghost use Rattle.std.specs.Prelude.{◌≡◌, ◌≤◌, ⊤, false, refl};
-ghost use Rattle.std.proofs.Common.{arith, inl, sym};
+ghost use Rattle.std.proofs.Common.{arith, inl};
 ghost use Rattle.staged.specs.Memory.{memory_files};
-ghost use Rattle.staged.specs.Device.{Rests, counted_up};
-ghost use Rattle.staged.specs.declared.device.Which.TheVariants.{Home, Log};
+ghost use Rattle.staged.specs.Device.{Rests};
+ghost use Rattle.staged.specs.Counts.{counted_failures, counted_writes};
+ghost use Rattle.staged.specs.declared.device.Which.{Which};
 
 use cfb_medium::Error;
-use staged::{Device, MemoryDevice, Which};
+use staged::{Counts, Device, MemoryDevice, Which};
 
 // Counts calls, and tells the one that is to fail.
 #[derive(Drop)]
@@ -28,9 +29,7 @@ impl Fuse {
 pub struct FaultyDevice {
     device: MemoryDevice,
     fuse: Fuse,
-    failures: u64,
-    home_writes: u64,
-    log_writes: u64,
+    counts: Counts,
 }
 
 impl FaultyDevice {
@@ -39,9 +38,7 @@ impl FaultyDevice {
         FaultyDevice {
             device,
             fuse: Fuse { calls: 0, failing },
-            failures: 0,
-            home_writes: 0,
-            log_writes: 0,
+            counts: Counts::new(),
         }
     }
 
@@ -52,30 +49,17 @@ impl FaultyDevice {
 
     /// How many of them have failed.
     pub fn failures(&self) -> u64 {
-        self.failures
+        self.counts.failures()
     }
 
     /// How often a file was written.
     pub fn writes(&self, which: Which) -> u64 {
-        match which {
-            Which::Home => self.home_writes,
-            Which::Log => self.log_writes,
-        }
+        self.counts.writes(which)
     }
 
     /// The bytes of a file.
     pub fn bytes(&self, which: Which) -> &[u8] {
         self.device.bytes(which)
-    }
-
-    // Counts a failure.
-    fn fault(&mut self) -> Error
-        ensures error { result ≡ Error.Device }
-        ensures counted { self.new ≡ record self.old { failures = counted_up self.old.failures } }
-        ensures risen { self.old.failures ≤ self.new.failures }
-    {
-        self.failures = self.failures.saturating_add(1);
-        Error::Device
     }
 }
 
@@ -85,11 +69,12 @@ impl Device for FaultyDevice {
     // A test sees what is served: no proof rests on it.
     ghost honest = { λ _. false };
 
-    ghost writes = { λ d which. elim which [ Home ↦ d.home_writes | Log ↦ d.log_writes ] };
+    ghost writes = { λ d which. counted_writes d.counts which };
 
-    ghost failures = { λ d. d.failures };
+    ghost failures = { λ d. counted_failures d.counts };
 
-    ghost rests = { λ a b. (a.home_writes ≡ b.home_writes) × (a.log_writes ≡ b.log_writes) × (a.failures ≤ b.failures) };
+    ghost rests = { λ a b. ((which : Which) → counted_writes b.counts which ≡ counted_writes a.counts which)
+        × (counted_failures a.counts ≤ counted_failures b.counts) };
 
     ghost moment = { λ _. 0 };
 
@@ -99,48 +84,45 @@ impl Device for FaultyDevice {
 
     fn len(&mut self, which: Which) -> Result<u64, Error> {
         if self.fuse.blows() {
-            return Err(self.fault());
+            return Err(self.counts.fault());
         }
         Ok(self.device.bytes(which).len() as u64)
     }
 
     fn read_at(&mut self, which: Which, at: u64, buffer: &mut [u8]) -> Result<usize, Error> {
         if self.fuse.blows() {
-            return Err(self.fault());
+            return Err(self.counts.fault());
         }
         match self.device.read_at(which, at, buffer) {
             Ok(count) => Ok(count),
-            Err(_) => Err(self.fault()),
+            Err(_) => Err(self.counts.fault()),
         }
     }
 
     fn write_at(&mut self, which: Which, at: u64, bytes: &[u8]) -> Result<(), Error> {
-        match which {
-            Which::Home => self.home_writes = self.home_writes.saturating_add(1),
-            Which::Log => self.log_writes = self.log_writes.saturating_add(1),
-        }
+        self.counts.write(which);
         if self.fuse.blows() || at > self.device.bytes(which).len() as u64 {
-            return Err(self.fault());
+            return Err(self.counts.fault());
         }
         match self.device.write_at(which, at, bytes) {
             Ok(()) => Ok(()),
-            Err(_) => Err(self.fault()),
+            Err(_) => Err(self.counts.fault()),
         }
     }
 
     fn sync(&mut self, which: Which) -> Result<(), Error> {
         if self.fuse.blows() {
-            return Err(self.fault());
+            return Err(self.counts.fault());
         }
         match self.device.sync(which) {
             Ok(()) => Ok(()),
-            Err(_) => Err(self.fault()),
+            Err(_) => Err(self.counts.fault()),
         }
     }
 
-    ghost rests_refl = { λ d. (refl, refl, Prim.omega arith) };
+    ghost rests_refl = { λ d. ((λ _. refl), Prim.omega arith) };
 
-    ghost rests_keeps = { λ a b rests. record { as_honest = refl; same = λ never. absurd (Prim.cc never); unwritten = elim [ Home ↦ sym rests.0 | Log ↦ sym rests.1 ]; counted = rests.2 } };
+    ghost rests_keeps = { λ a b rests. record { as_honest = refl; same = λ never. absurd (Prim.cc never); unwritten = rests.0; counted = rests.1 } };
 
     ghost counts_now = { λ _ _ _ _ _. tt };
 
