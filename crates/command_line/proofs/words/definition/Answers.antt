@@ -1,0 +1,12 @@
+use Rattle.std.proofs.Common.{ap₂, ◌∙◌}
+use Rattle.std.proofs.lemmas.Result.{IfOk-weaker}
+use Rattle.clap.specs.Words.{App, with_subcommand}
+use Rattle.command_line.proofs.words.definition.Goals as goal
+
+abbrev joined : App → App → App
+joined a b = with_subcommand a b.top
+
+pub returns : goal.returns
+returns c =
+    let one = c.in_ok-command.ensures.app ∙ ap₂ joined c.root.ensures.app c.in_ok-create.ensures.app in
+    IfOk-weaker c.with-2.result _ _ (λ r h. h ∙ ap₂ joined one c.in_ok-recover.ensures.app) c.with-2.ensures.app

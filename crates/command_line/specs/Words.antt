@@ -1,0 +1,18 @@
+-- The command line: a word for what is to be done, and its paths.
+use Rattle.std.specs.Prelude.{true, codes}
+use Rattle.clap.specs.Words.{App, Rule, Text, new_app, new_rule, with_rule, with_subcommand}
+
+-- a path, which must be there
+abbrev pub path : Text → Rule
+path id = record (new_rule id) { required = true }
+
+-- a word with the paths of a home file and a log
+abbrev pub two_paths : Text → App
+two_paths name = with_rule (with_rule (new_app name) (path (codes "HOME"))) (path (codes "LOG"))
+
+-- no word yet: one must be there, and the program's own name isn't among the words
+abbrev pub bare : App
+bare = let app = new_app (codes "msidb") in record app { top = record app.top { no_binary_name = true; subcommand_required = true } }
+
+abbrev pub msidb : App
+msidb = with_subcommand (with_subcommand bare (two_paths (codes "create")).top) (two_paths (codes "recover")).top

@@ -1,0 +1,9 @@
+//! The command line of `msidb`: what its words ask for, and what is done about it.
+#![tactic(auto)]
+
+mod line;
+mod run;
+mod words;
+
+pub use line::{Line, read_words};
+pub use run::msidb;

@@ -1,0 +1,60 @@
+//! A line of words.
+ghost use Rattle.std.specs.Prelude.{◌≡◌, [], ◌∷◌, codes, IfOk, IfErr, IfSome, option_map, map, string_bytes, true};
+ghost use Rattle.clap.specs.Words.{first_of, found_of, kind_of, rows_of, subcommand_rows_of, takes};
+ghost use Rattle.command_line.specs.Words.{msidb};
+ghost use Rattle.command_line.specs.Lines.{said, paths_in, SaidIn, HasSaid};
+
+use crate::words::matches;
+use clap::error::ErrorKind;
+use clap::{ArgMatches, Error};
+use std::alloc::{AllocError, Global};
+
+/// What the program is asked for: the paths of a home file and of its log.
+#[derive(Clone, Copy, Debug, PartialEq, Eq)]
+pub enum Line<'a> {
+    /// Make a new package.
+    Create(&'a str, &'a str),
+    /// Finish a commit.
+    Recover(&'a str, &'a str),
+}
+
+/// Reads the words after the program's name. Words that ask for nothing are refused, with a text that says why; so is a wish for help,
+/// whose text is the help.
+pub fn read_words<'a>(alloc: Global, words: &'a [String]) -> Result<Line<'a>, Error>
+    ensures ok { IfOk result (λ line. HasSaid line (map string_bytes words.entry.now)) }
+    ensures err { IfErr result (λ e. takes msidb (map string_bytes words.entry.now) ≡ true
+        → kind_of e ≡ ErrorKind.OutOfMemory) }
+{
+    let found = matches(alloc, words)?;
+    match line_in(&found) {
+        Some(line) => Ok(line),
+        None => Err(Error::from(AllocError)),
+    }
+}
+
+fn line_in<'a>(found: &ArgMatches<'a>) -> Option<Line<'a>>
+    ensures { IfSome result (λ line. SaidIn line (subcommand_rows_of found.now)) }
+{
+    let (name, paths) = found.subcommand()?;
+    line_of(name, paths)
+}
+
+fn line_of<'a>(name: &str, paths: &ArgMatches<'a>) -> Option<Line<'a>>
+    ensures { IfSome result (λ line. ((said line).0 ≡ name.now)
+        × paths_in (codes "HOME" ∷ codes "LOG" ∷ []) (said line).1 (rows_of (found_of paths.now))) }
+{
+    let home = path(paths, "HOME")?;
+    let log = path(paths, "LOG")?;
+    match name {
+        "create" => Some(Line::Create(home, log)),
+        "recover" => Some(Line::Recover(home, log)),
+        _ => None,
+    }
+}
+
+#[tactic(auto, using(crate::proofs::Firsts::first_is))]
+fn path<'a>(paths: &ArgMatches<'a>, id: &str) -> Option<&'a str>
+    ensures { option_map (λ s. s.now) result ≡ first_of id.now (rows_of (found_of paths.now)) }
+{
+    paths.get_str(id)
+}

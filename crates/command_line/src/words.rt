@@ -1,0 +1,84 @@
+//! The words that the program takes.
+ghost use Rattle.std.specs.Prelude.{◌≡◌, codes, true, false, IfOk, IfErr, map, string_bytes};
+ghost use Rattle.clap.specs.Words.{app_of, kind_of, takes, with_subcommand, HasMatchesOf};
+ghost use Rattle.clap.specs.declared.Command.TheViews.{out-Command as fields_of};
+ghost use Rattle.command_line.specs.Words.{two_paths, bare, msidb};
+
+use clap::error::ErrorKind;
+use clap::{Arg, ArgMatches, Command, Error};
+use std::alloc::{AllocError, Global};
+
+// What stands behind each help.
+const STATUSES: &str =
+    "Status: 0 done, 1 refused by a rule, 2 words that can't be read, 3 a fault, or files that were refused.";
+
+// A word with the paths of a home file and a log.
+fn with_paths<'a>(
+    alloc: Global,
+    name: &'a str,
+    about: &'a str,
+    example: &'a str,
+) -> Result<Command<'a>, AllocError>
+    ensures app { IfOk result (λ c. app_of c ≡ two_paths name.entry.now) }
+    ensures local { IfOk result (λ c. (fields_of c).has_globals ≡ false) }
+{
+    let home = Arg::new(alloc, "HOME").required(true).help("The package");
+    let log = Arg::new(alloc, "LOG")
+        .required(true)
+        .help("The log beside it, by which a commit survives a stop");
+    Command::new(alloc, name)
+        .about(about)
+        .after_help(example)
+        .arg(home)?
+        .arg(log)
+}
+
+fn root<'a>(alloc: Global) -> Command<'a>
+    ensures app { app_of result ≡ bare }
+    ensures local { (fields_of result).has_globals ≡ false }
+{
+    Command::new(alloc, "msidb")
+        .about("Windows Installer databases that survive a stop at any moment")
+        .after_help(STATUSES)
+        .no_binary_name(true)
+        .subcommand_required(true)
+}
+
+fn with<'a>(command: Command<'a>, part: Command<'a>) -> Result<Command<'a>, AllocError>
+    requires whole { (fields_of command).has_globals ≡ false }
+    requires part { (fields_of part).has_globals ≡ false }
+    ensures app { IfOk result (λ c. app_of c
+        ≡ with_subcommand (app_of command.entry) (app_of part.entry).top) }
+    ensures local { IfOk result (λ c. (fields_of c).has_globals ≡ false) }
+{
+    command.subcommand(part)
+}
+
+// The program's words.
+fn definition<'a>(alloc: Global) -> Result<Command<'a>, AllocError>
+    ensures { IfOk result (λ c. app_of c ≡ msidb) }
+{
+    let create = with_paths(
+        alloc,
+        "create",
+        "Makes a new package and commits it",
+        "Example: msidb create setup.msi setup.log\nMakes both files. Where the package is there already it is left, with status 3.",
+    )?;
+    let recover = with_paths(
+        alloc,
+        "recover",
+        "Finishes a commit that a stop cut short",
+        "Example: msidb recover setup.msi setup.log\nPrints `closed` where there was nothing to do, else `applied` and how many pages were written.",
+    )?;
+    let command = with(root(alloc), create)?;
+    with(command, recover)
+}
+
+// What was found among the words.
+pub fn matches<'a>(alloc: Global, words: &'a [String]) -> Result<ArgMatches<'a>, Error>
+    ensures ok { IfOk result (HasMatchesOf msidb (map string_bytes words.entry.now)) }
+    ensures err { IfErr result (λ e. takes msidb (map string_bytes words.entry.now) ≡ true
+        → kind_of e ≡ ErrorKind.OutOfMemory) }
+{
+    definition(alloc)?.try_get_matches_from(words)
+}
