@@ -2,7 +2,7 @@
 use crate::faulty::FaultyDevice;
 use crate::logs::device;
 use cfb_medium::Error;
-use installer::{Answer, Command, Session};
+use installer::{Answer, Command, Session, answer_text};
 use msi_texts::decode;
 use msi_values::Value;
 use one_table::{Column, Insert, Select};
@@ -423,4 +423,28 @@ fn a_session_with_each_call_of_the_device_failing(rt: HostRuntime) -> Result<(),
         }
     }
     Err(Fail::new(Error::Full))
+}
+
+// The text of an answer.
+fn text_of(alloc: Global, answer: Answer) -> Result<String, Fail> {
+    Ok(answer_text(alloc, &answer)?)
+}
+
+#[test]
+fn answers_are_compact_json(rt: HostRuntime) -> Result<(), Fail> {
+    let alloc = rt.alloc();
+    assert_eq!(rt; text_of(alloc, Answer::Done)?.as_str(), "\"ok\"");
+    let refused = text_of(alloc, Answer::Refused(Error::AlreadyExists))?;
+    assert_eq!(rt; refused.as_str(), "{\"refused\":\"AlreadyExists\"}");
+    let names = vec![in alloc; String::from_str(alloc, "Id")?]?;
+    let first = vec![in alloc; Value::Int(1)]?;
+    let second = vec![in alloc; Value::Str(String::from_str(alloc, "a\"b\n")?)]?;
+    let rows = text_of(alloc, Answer::Rows(names, vec![in alloc; first, second]?))?;
+    assert_eq!(rt;
+        rows.as_str(),
+        "{\"columns\":[\"Id\"],\"rows\":[[1],[\"a\\\"b\\n\"]]}"
+    );
+    let bytes = text_of(alloc, Answer::Bytes(vec![in alloc; 0x0A, 0xF0]?))?;
+    assert_eq!(rt; bytes.as_str(), "{\"hex\":\"0af0\"}");
+    Ok(())
 }

@@ -1,9 +1,9 @@
 -- Writing a whole medium over.
-use Rattle.std.proofs.Common.{◌≡◌, ◌≢◌, ◌≤◌, ◌+◌, ◌-◌, ℕ, List, [], ◌∷◌, ◌++◌, length, drop, replicate, ◌⊎◌, refl, sym, ap, ◌∙◌, arith, ⊎_elim, inl, inr, rules, Bool, true, false}
+use Rattle.std.proofs.Common.{◌≡◌, ◌≢◌, ◌≤◌, ◌+◌, ◌-◌, ℕ, List, [], ◌∷◌, ◌++◌, length, drop, replicate, ◌⊎◌, refl, ap, arith, ⊎_elim, inl, inr, rules, Bool, true, false}
 use Rattle.std.proofs.lemmas.Bool.{both_ways}
-use Rattle.std.proofs.lemmas.List.{drop_all, take_all, nil_from_length, append-nil}
+use Rattle.std.proofs.lemmas.List.{drop_all, nil_from_length, append-nil}
 use Rattle.std.specs.Prelude.{Result, Err}
-use Rattle.cfb_medium.specs.Bytes.{overwritten, Serves}
+use Rattle.cfb_medium.specs.Bytes.{overwritten}
 use Rattle.cfb_medium.specs.Calls.{IsFaultUnless}
 use Rattle.cfb_medium.specs.declared.error.Error.{Error}
 use Rattle.cfb_medium.specs.declared.error.Error.TheVariants.{InvalidData, InvalidInput, NotFound, AlreadyExists, UnexpectedEof, Full, Memory, Device, Failed}
