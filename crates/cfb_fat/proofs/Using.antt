@@ -63,11 +63,7 @@ module _ (S : List ℕ → ℕ → List ℕ) (old : Seen) (own : ℕ → List �
   unfolding with_first
   held_then ids later more touched a b h leaves less loose spare linked among =
       let moves : Moves S [] 0 later more a b (with_first ids own) (with_first later own) = record {
-        leaves = leaves_more S [] touched (ids ++ more) a b less leaves;
-        were_free = loose;
-        spare = spare;
-        linked = linked;
-        among = among;
+        becomes = record { leaves = leaves_more S [] touched (ids ++ more) a b less leaves; were_free = loose; spare = spare; linked = linked; among = among };
         mine = refl;
         others = others;
       } in
