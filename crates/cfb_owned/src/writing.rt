@@ -16,7 +16,7 @@ use cfb_medium::{Error, Medium};
 use cfb_sectors::{HasSectors, SectorInit};
 
 /// Writes over a chain's bytes from a place on. `InvalidInput` where they don't lie in the chain, and then nothing is changed;
-/// `InvalidData` where one of its sectors isn't in the file or holds a table. After any other error it has failed
+/// `InvalidData` where one of its sectors isn't in the file or holds a table. After each error but `InvalidInput` it has failed
 /// ([MS-CFB] 2.3).
 pub fn overwrite_chain<F: Medium>(
     allocator: &mut Allocator<F>,
