@@ -1,10 +1,11 @@
 -- Whatever was done to the file, it goes on.
-use Rattle.std.proofs.Common.{◌≡◌, ℕ, ◌+◌, ◌<◌, ◌||◌, ◌⊎◌, ⊎_elim, false, List, inl, ap, sym, subst, ◌∙◌, arith, IsTrue}
+use Rattle.std.proofs.Common.{◌≡◌, ℕ, ◌+◌, ◌<◌, ◌≤◌, inr, ◌||◌, ◌⊎◌, ⊎_elim, false, length, List, inl, ap, sym, subst, ◌∙◌, arith, IsTrue}
 use Rattle.cfb_medium.specs.Calls.{HasCause}
 use Rattle.cfb_medium.specs.declared.error.Error.{Error}
 use Rattle.cfb_medium.specs.declared.medium.ReadMedium.{Ghosts}
 use Rattle.cfb_sectors.specs.Held.{count_of}
-use Rattle.cfb_sectors.specs.Sectors.{sector_start}
+use Rattle.cfb_sectors.specs.Sectors.{filled_part, sector_start}
+use Rattle.cfb_chains.proofs.Overwriting.{beside}
 use Rattle.cfb_chains.proofs.LongerTables.{never}
 use Rattle.cfb_fat.specs.declared.allocator.Allocator.{Allocator}
 use Rattle.cfb_fat.specs.Changing.{ChangesFat, WritesBeside}
@@ -13,7 +14,7 @@ use Rattle.cfb_fat.specs.Keeping.{told_same}
 use Rattle.cfb_fat.specs.Listed.{Counts}
 use Rattle.cfb_fat.specs.Tables.{bytes_of, difat_sectors_of, fat_sectors_of, has_failed_here, medium_of, sectors_of, version_of, AllFails, AllRests, HasCauseBelow}
 use Rattle.cfb_fat.proofs.Listing.{header_whole}
-use Rattle.cfb_fat.proofs.ListedStays.{told_in}
+use Rattle.cfb_fat.proofs.ListedStays.{longer_over, told_in, told_kept}
 use Rattle.cfb_owned.specs.Chains.{GoesOn}
 
 module _ {F : Type 0} {g : Ghosts F} where
@@ -24,7 +25,7 @@ module _ {F : Type 0} {g : Ghosts F} where
     version = h.sectors.version;
     live = λ live. sym h.sectors.failed ∙ live;
     orderly = λ live. h.orderly;
-    told = λ live honest told. told_same a b (h.sectors.bytes honest) h.difat_sectors h.fat_sectors told;
+    told = λ live honest orderly told. told_same a b (h.sectors.bytes honest) h.difat_sectors h.fat_sectors told;
   }
 
   pub takes_go_on : (taken entries : List ℕ) (a b : Allocator F g) → TakesIn taken entries a b → GoesOn a b
@@ -34,7 +35,7 @@ module _ {F : Type 0} {g : Ghosts F} where
     version = h.grows.version;
     live = h.grows.live;
     orderly = h.grows.orderly;
-    told = λ live honest told. h.grows.told live honest (inl told);
+    told = λ live honest orderly told. h.grows.told live honest (inl told);
   }
 
   pub changes_go_on : (entries : List ℕ) (a b : Allocator F g) → ChangesFat entries a b → GoesOn a b
@@ -44,7 +45,7 @@ module _ {F : Type 0} {g : Ghosts F} where
     version = h.version;
     live = h.live;
     orderly = λ live. h.orderly;
-    told = h.told;
+    told = λ live honest orderly told. h.told live honest told;
   }
 
   -- a write in a sector that is there
@@ -55,10 +56,29 @@ module _ {F : Type 0} {g : Ghosts F} where
     version = h.sectors.0.version;
     live = h.sectors.0.live;
     orderly = λ live. h.orderly;
-    told = λ live honest told.
+    told = λ live honest orderly told.
         subst (λ l. Counts (bytes_of b) l (fat_sectors_of b)) (sym h.difat_sectors) (subst (Counts (bytes_of b) (difat_sectors_of a)) (sym h.fat_sectors)
         (told_in (version_of a) (bytes_of a) (bytes_of b) xs (difat_sectors_of a) (fat_sectors_of a) n offset (h.sectors.0.bytes live honest)
         (header_whole (version_of a) (bytes_of a) (count_of (sectors_of a)) (a.sectors.counted (h.sectors.0.live live) honest) (omega (arith, there))) told));
+  }
+
+  -- a number of the header that is none of the tables'
+  pub word_goes_on : (place : ℕ) (xs : List ℕ) (a b : Allocator F g) → length xs ≡ 4 → (place + 4 ≤ 44) ⊎ ((48 ≤ place) × (place + 4 ≤ 68)) → WritesBeside place xs a b → GoesOn a b
+  word_goes_on place xs a b four at h = record {
+    honest = h.sectors.0.honest;
+    continues = h.sectors.0.continues;
+    version = h.sectors.0.version;
+    live = h.sectors.0.live;
+    orderly = λ live. h.orderly;
+    told = λ live honest orderly told.
+        let is = h.sectors.0.bytes live honest in
+        let old = bytes_of a in
+        let whole = header_whole (version_of a) old (count_of (sectors_of a)) (a.sectors.counted (h.sectors.0.live live) honest) (a.orderly orderly).some in
+        let longer = longer_over old (bytes_of b) xs place is in
+        let first : filled_part (bytes_of b) 44 4 ≡ filled_part old 44 4 = ap (λ l. filled_part l 44 4) is ∙ beside old xs place 44 4 (⊎_elim (λ before. inr (omega (arith, before, four))) (λ after. inl (omega (arith, after))) at) in
+        let second : filled_part (bytes_of b) 72 4 ≡ filled_part old 72 4 = ap (λ l. filled_part l 72 4) is ∙ beside old xs place 72 4 (inr (⊎_elim (λ before. omega (arith, before, four)) (λ after. omega (arith, after, four)) at)) in
+        subst (λ l. Counts (bytes_of b) l (fat_sectors_of b)) (sym h.difat_sectors) (subst (Counts (bytes_of b) (difat_sectors_of a)) (sym h.fat_sectors)
+        (told_kept old (bytes_of b) (difat_sectors_of a) (fat_sectors_of a) whole (omega (arith, whole, longer)) first second told));
   }
 
   -- a write somewhere, or reads, after which it was made to fail
@@ -79,7 +99,7 @@ module _ {F : Type 0} {g : Ghosts F} where
     version = k.version ∙ h.version;
     live = λ live. h.live (k.live live);
     orderly = λ live. k.orderly live ∙ h.orderly (k.live live);
-    told = λ live honest told. k.told live (subst IsTrue (sym h.honest) honest) (h.told (k.live live) honest told);
+    told = λ live honest orderly told. k.told live (subst IsTrue (sym h.honest) honest) (subst IsTrue (sym (h.orderly (k.live live))) orderly) (h.told (k.live live) honest orderly told);
   }
 
   -- a cause since a later state is one since the earlier

@@ -30,15 +30,15 @@ abbrev pub len_of : Links → ℕ
 len_of it = length (ids_of it) * sector_len (links_version it)
 
 module _ {F : Type 0} {g : Ghosts F} where
-  -- the same file of the same version; where it has not failed its tables can be changed if they could, and the header's numbers
-  -- of their sectors are right if they were. Nothing was published
+  -- the same file of the same version; where it has not failed its tables can be changed if they could, and then the header's
+  -- numbers of their sectors are right if they were. Nothing was published
   pub record GoesOn (old new : Allocator F g) : Type 0 where
     pub honest : g.honest (medium_of new) ≡ g.honest (medium_of old)
     pub continues : Extends g.continues (medium_of old) (medium_of new)
     pub version : version_of new ≡ version_of old
     pub live : has_failed_here new ≡ false → has_failed_here old ≡ false
     pub orderly : has_failed_here new ≡ false → orderly_of new ≡ orderly_of old
-    pub told : has_failed_here new ≡ false → IsTrue (is_honest old) → IsTold old → IsTold new
+    pub told : has_failed_here new ≡ false → IsTrue (is_honest old) → IsTrue (orderly_of old) → IsTold old → IsTold new
 
   -- an honest file whose FAT has this chain
   pub record HasLinks (it : Allocator F g) (links : Links) : Type 0 where
