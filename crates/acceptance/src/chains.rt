@@ -2,9 +2,9 @@
 ghost use Rattle.std.specs.Prelude.{length, ◌+◌, ◌≡◌, ◌≤◌};
 
 use cfb_chains::Chain;
-use cfb_fat::{Allocator, read_difat};
+use cfb_fat::{Allocator, HeaderWord, read_difat};
 use cfb_medium::{Error, MemoryMedium, Version};
-use cfb_owned::{free_chain, overwrite_chain, read_chain, set_chain_len, write_chain};
+use cfb_owned::{free_chain, overwrite_chain, read_chain, set_chain_len, write_chain, write_word};
 use cfb_sectors::{
     DIFAT_SECTOR, END_OF_CHAIN, FAT_SECTOR, FREE_SECTOR, Sector, SectorInit, Sectors,
 };
@@ -199,6 +199,7 @@ fn chain_is_a_list_of_bytes(rt: HostRuntime) -> Result<(), Fail> {
     free_chain(&mut allocator, &mut links)?;
     assert_eq!(rt; allocator.next(1)?, FREE_SECTOR);
     assert_eq!(rt; links.sector_ids().len(), 0);
+    write_word(&mut allocator, HeaderWord::FirstMiniFatSector, END_OF_CHAIN)?;
     Ok(())
 }
 
