@@ -2,8 +2,9 @@
 ghost use Rattle.std.specs.Prelude.{length, ◌+◌, ◌≡◌, ◌≤◌};
 
 use cfb_chains::Chain;
-use cfb_fat::{Allocator, read_difat};
+use cfb_fat::{Allocator, HeaderWord, read_difat};
 use cfb_medium::{Error, MemoryMedium, Version};
+use cfb_owned::{free_chain, overwrite_chain, read_chain, set_chain_len, write_chain, write_word};
 use cfb_sectors::{
     DIFAT_SECTOR, END_OF_CHAIN, FAT_SECTOR, FREE_SECTOR, Sector, SectorInit, Sectors,
 };
@@ -180,6 +181,25 @@ fn chain_is_written(rt: HostRuntime) -> Result<(), Fail> {
     assert_eq!(rt; read, [109, 0, 0, 0]);
     drop(chain);
     assert_eq!(rt; allocator.next(1)?, 2);
+    Ok(())
+}
+
+#[test]
+fn chain_is_a_list_of_bytes(rt: HostRuntime) -> Result<(), Fail> {
+    let mut allocator = file_with(rt.alloc(), &[FAT_SECTOR, END_OF_CHAIN])?;
+    let mut links = allocator.open_chain(1)?;
+    write_chain(&mut allocator, &mut links, 510, b"some", SectorInit::Zero)?;
+    assert_eq!(rt; links.sector_ids(), [1, 2].as_slice());
+    overwrite_chain(&mut allocator, &links, 511, b"am")?;
+    let mut read = [9; 6];
+    read_chain(&mut allocator, &links, 509, &mut read)?;
+    assert_eq!(rt; read, [7, 115, 97, 109, 101, 0]);
+    set_chain_len(&mut allocator, &mut links, 512, SectorInit::Zero)?;
+    assert_eq!(rt; allocator.next(2)?, FREE_SECTOR);
+    free_chain(&mut allocator, &mut links)?;
+    assert_eq!(rt; allocator.next(1)?, FREE_SECTOR);
+    assert_eq!(rt; links.sector_ids().len(), 0);
+    write_word(&mut allocator, HeaderWord::FirstMiniFatSector, END_OF_CHAIN)?;
     Ok(())
 }
 

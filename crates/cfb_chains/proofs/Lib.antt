@@ -5,6 +5,7 @@ pub mod ChainGrowing
 pub mod ChainParts
 pub mod ChainWriting
 pub mod Extending
+pub mod Lending
 pub mod LongerTables
 pub mod Overwriting
 pub mod Owners

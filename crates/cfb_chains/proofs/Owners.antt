@@ -112,15 +112,40 @@ is_among (x ∷ xs) n =
     not_here differ none zero below same = differ same
     not_here differ none (suc k) below same = none k (omega (arith, below)) same
 
+pub none_of_nothing : (xs : List ℕ) → AreNoneOf [] xs
+none_of_nothing [] = tt
+none_of_nothing (x ∷ xs) = ((λ k below same. absurd (omega (arith, below))), none_of_nothing xs)
+
+-- no sector was touched: all owners have what they had
+module _ (S : List ℕ → ℕ → List ℕ) (s t : Seen) (own : ℕ → List ℕ) (ws : List ℕ) (owned : Owned s.table s.tables own) (h : Leaves S ws [] s t) where
+  pub each_left : (k : ℕ) → Stays S s t (own k)
+  each_left k =
+      let left = chain_left S ws [] s t h (slice_index_or (own k) 0 end_of_chain) (own k) (owned.linked k) (none_of_nothing (own k)) (owned.beside k) in
+      record { linked = left.0; beside = left.1; bytes = left.2 }
+
+  pub owned_still : Owned t.table t.tables own
+  owned_still = record {
+    linked = λ k. (each_left k).linked;
+    apart = owned.apart;
+    beside = λ k. (each_left k).beside;
+    marked = λ n freed.
+        let below = slice_get_within t.table n free freed in
+        let is = get_or_from_slice_get t.table n free 0 freed in
+        ⊎_elim
+        (λ past. absurd ((h.behind n past.1 below (none_of_nothing (n ∷ [])).0).1 is))
+        (λ before. h.apart n before.1 (owned.marked n (slice_get-get_or s.table n 0 before.1 ∙ ap Some (sym (h.entries n before.1 (none_of_nothing (n ∷ [])).0) ∙ is))))
+        (leb_tells (length s.table) n);
+  }
+
 -- one owner's chain became another list of what it had and what was free: all others stay, with their bytes
 module _ (S : List ℕ → ℕ → List ℕ) (s t : Seen) (own own' : ℕ → List ℕ) (key : ℕ) (ws ids more : List ℕ) (owned : Owned s.table s.tables own) (m : Moves S ws key ids more s t own own') where
   h : Leaves S ws (own key ++ more) s t
-  h = m.leaves
+  h = m.becomes.leaves
 
   untouched : (k : ℕ) → (k ≡ key → ⊥) → AreNoneOf (own key ++ more) (own k)
   untouched k other =
       none_then (own key) more (own k) (owned.apart key k (λ same. other (sym same)))
-      (none_sym (own k) more (free_none s.table (slice_index_or (own k) 0 end_of_chain) (own k) more (owned.linked k) m.were_free))
+      (none_sym (own k) more (free_none s.table (slice_index_or (own k) 0 end_of_chain) (own k) more (owned.linked k) m.becomes.were_free))
 
   pub other_left : (k : ℕ) → (k ≡ key → ⊥) → Stays S s t (own k)
   other_left k other =
@@ -138,17 +163,17 @@ module _ (S : List ℕ → ℕ → List ℕ) (s t : Seen) (own own' : ℕ → Li
   all_beside (x ∷ xs) ys first second = (first.0, all_beside xs ys first.1 second)
 
   touched_beside : AreNoneOf t.tables (own key ++ more)
-  touched_beside = all_beside (own key) more (still_beside (slice_index_or (own key) 0 end_of_chain) (own key) (owned.linked key) (owned.beside key)) m.spare
+  touched_beside = all_beside (own key) more (still_beside (slice_index_or (own key) 0 end_of_chain) (own key) (owned.linked key) (owned.beside key)) m.becomes.spare
 
   mine_beside : AreNoneOf t.tables ids
-  mine_beside = none_sym ids t.tables (among_then (own key ++ more) ids t.tables m.among (none_sym t.tables (own key ++ more) touched_beside))
+  mine_beside = none_sym ids t.tables (among_then (own key ++ more) ids t.tables m.becomes.among (none_sym t.tables (own key ++ more) touched_beside))
 
   mine_apart : (k : ℕ) → (k ≡ key → ⊥) → AreNoneOf ids (own k)
-  mine_apart k other = among_then (own key ++ more) ids (own k) m.among (untouched k other)
+  mine_apart k other = among_then (own key ++ more) ids (own k) m.becomes.among (untouched k other)
 
   pub owned_changed : Owned t.table t.tables own'
   owned_changed = record {
-    linked = λ k. ⊎_elim (λ same. subst (IsLinked t.table) (sym (ap own' same.1 ∙ m.mine)) m.linked) (λ differ. subst (IsLinked t.table) (sym (m.others k differ.1)) (other_left k differ.1).linked) (eqb_tells k key);
+    linked = λ k. ⊎_elim (λ same. subst (IsLinked t.table) (sym (ap own' same.1 ∙ m.mine)) m.becomes.linked) (λ differ. subst (IsLinked t.table) (sym (m.others k differ.1)) (other_left k differ.1).linked) (eqb_tells k key);
     apart = λ k l differ.
         ⊎_elim
         (λ first. ⊎_elim

@@ -38,13 +38,17 @@ module _ (sector_of : List ℕ → ℕ → List ℕ) where
     pub behind : (n : ℕ) → length old.table ≤ n → n < length new.table → IsNoneOf touched n → (IsNoneOf new.tables n → ⊥) × (slice_index new.table n ≡ free → ⊥)
     pub header : (place count : ℕ) → place + count ≤ 68 → AreBesideWords (44 ∷ words) place count → filled_part new.bytes place count ≡ filled_part old.bytes place count
 
-  -- a change that made one owner's chain another list, of what it had and of what was free
-  pub record Moves (words : List ℕ) (key : ℕ) (ids more : List ℕ) (old new : Seen) (own later : ℕ → List ℕ) : Type 0 where
-    pub leaves : Leaves words (own key ++ more) old new
+  -- a change that made the chain of these sectors another one, of what it had and of what was free
+  pub record Becomes (words ids more later : List ℕ) (old new : Seen) : Type 0 where
+    pub leaves : Leaves words (ids ++ more) old new
     pub were_free : AllByRecursion (IsFreeIn old.table) more
     pub spare : AreNoneOf new.tables more
-    pub linked : IsLinked new.table ids
-    pub among : AreAmong (own key ++ more) ids
+    pub linked : IsLinked new.table later
+    pub among : AreAmong (ids ++ more) later
+
+  -- such a change of one owner's chain; the others own what they owned
+  pub record Moves (words : List ℕ) (key : ℕ) (ids more : List ℕ) (old new : Seen) (own later : ℕ → List ℕ) : Type 0 where
+    pub becomes : Becomes words (own key) more ids old new
     pub mine : later key ≡ ids
     pub others : (k : ℕ) → (k ≡ key → ⊥) → later k ≡ own k
 

@@ -143,7 +143,7 @@ impl<'a, H: GrowsChains> Chain<'a, H> {
             return Ok(());
         }
         let last = self.last_sector_id();
-        if let Err(error) = self.holder.check_growth(last, wanted) {
+        if let Err(error) = self.holder.prepare_growth(last, wanted) {
             return Err(error);
         }
         if let Err(error) = self.links.reserve(wanted) {

@@ -89,15 +89,17 @@ pub trait GrowsChains: FreesChains {
             × ((Self.failed self.new ≡ true) ⊎ Self.rests self.old self.new)) ⊎ (e ≡ InvalidData)
             ⊎ (e ≡ Full)) };
 
-    /// Sees whether the chain from a start can take in so many sectors: `InvalidData` where the FAT has no such chain or the
-    /// tables can't be changed, and then `Full` where fewer numbers are left. Nothing is changed.
-    fn check_growth(&self, start: u32, count: usize) -> Result<(), Error>
-        ensures ready { OnOk result (IsTrue (Self.orderly self.now)) }
-        ensures refused { IsErrOf result InvalidData → IsTrue (Self.orderly self.now)
-            → (ids : List ℕ) → IsChain (Self.fat self.now) start ids → ⊥ }
-        ensures full { IsErrOf result Full → IsTrue (Self.orderly self.now) × lacks self.now count }
-        ensures failed { Self.failed self.now ≡ true → IsErrOf result Failed }
-        ensures cause { IfErr result (Self.has_cause self.now self.now) }
+    /// Readies the chain from a start to take in so many sectors, and asks for the memory that this may take. `InvalidData`
+    /// where the FAT has no such chain or the tables can't be changed, and then `Full` where fewer numbers are left. Nothing is
+    /// changed.
+    fn prepare_growth(&mut self, start: u32, count: usize) -> Result<(), Error>
+        ensures ready { OnOk result (IsTrue (Self.orderly self.old)) }
+        ensures rests { Self.rests self.old self.new }
+        ensures refused { IsErrOf result InvalidData → IsTrue (Self.orderly self.old)
+            → (ids : List ℕ) → IsChain (Self.fat self.old) start ids → ⊥ }
+        ensures full { IsErrOf result Full → IsTrue (Self.orderly self.old) × lacks self.old count }
+        ensures failed { Self.failed self.old ≡ true → IsErrOf result Failed }
+        ensures cause { IfErr result (Self.has_cause self.old self.new) }
         ensures fault { IfErr result (λ e. IsFaultUnless ⊥ e ⊎ (e ≡ InvalidData) ⊎ (e ≡ Full)) };
 
     // what stands in the FAT and may be written stays

@@ -1,12 +1,12 @@
 //! Laws of changed tables, each of a function that does nothing.
 ghost use Rattle.cfb_chains.specs.Behind.{IsMarkedBehind};
 ghost use Rattle.cfb_chains.specs.Changes.{AreAmong, AreNoneOf, DifferAt, HaveEntry, IsBeside, IsFreeIn, StayBut};
-ghost use Rattle.cfb_chains.specs.Owned.{Moves, Owned, Seen, Stays};
+ghost use Rattle.cfb_chains.specs.Owned.{Leaves, Moves, Owned, Seen, Stays};
 ghost use Rattle.cfb_medium.specs.Versions.{sector_len};
 ghost use Rattle.cfb_medium.specs.declared.version.Version.{Version};
 ghost use Rattle.cfb_sectors.specs.Sectors.{filled_part, free, joined, Chain as IsChain};
 ghost use Rattle.std.specs.List.{AllByRecursion};
-ghost use Rattle.std.specs.Prelude.{List, ℕ, ◌++◌, ◌≡◌};
+ghost use Rattle.std.specs.Prelude.{List, ℕ, [], ◌++◌, ◌≡◌};
 
 /// Chains without a changed entry stay, and so do the bytes of sectors beside the FAT's, where all beside those is as it was.
 pub fn other_chains_stay()
@@ -46,8 +46,8 @@ pub fn longer_chains_stay_apart()
 {}
 
 /// A change that makes one owner's chain another one, of sectors that it had or that were free, leaves each other owner its
-/// chain with its bytes, and each sector one owner at most. What a sector holds is given, so that this is said of sectors and
-/// of mini sectors.
+/// chain with its bytes, and each sector one owner at most; one that touches no sector leaves all. What a sector holds is
+/// given, so that this is said of sectors and of mini sectors.
 pub fn other_owners_stay()
     ensures owned { (sector_of : List ℕ → ℕ → List ℕ) (words : List ℕ) (key : ℕ)
         (ids more : List ℕ) (old new : Seen) (own later : ℕ → List ℕ)
@@ -57,4 +57,7 @@ pub fn other_owners_stay()
         (old new : Seen) (own later : ℕ → List ℕ)
         → Owned old.table old.tables own → Moves sector_of words key ids more old new own later
         → (k : ℕ) → (k ≡ key → ⊥) → Stays sector_of old new (own k) }
+    ensures untouched { (sector_of : List ℕ → ℕ → List ℕ) (words : List ℕ) (old new : Seen)
+        (own : ℕ → List ℕ) → Owned old.table old.tables own → Leaves sector_of words [] old new
+        → Owned new.table new.tables own × ((k : ℕ) → Stays sector_of old new (own k)) }
 {}

@@ -11,7 +11,7 @@ use Rattle.cfb_medium.specs.declared.version.Version.TheVariants.{V3, V4}
 use Rattle.cfb_sectors.specs.Sectors.{fat_in, filled_part, sector_start}
 use Rattle.cfb_chains.specs.Changes.{AreOnce, DifferAt, IsBeside}
 use Rattle.cfb_fat.specs.Orderly.{named_at_most, AreBelow, IsOrderly}
-use Rattle.cfb_fat.proofs.FatEntries.{entries_stay, entry_written, per, split}
+use Rattle.cfb_fat.proofs.FatEntries.{entries_stay, entry_fits, entry_written, per, split}
 use Rattle.cfb_chains.proofs.Overwriting.{beside}
 
 -- what stands once in both lists does so in the second
@@ -44,10 +44,6 @@ differ_at fat index entry = record {
   others = λ n none. get_or-set_other fat index n entry 0 (λ same. none 0 (omega arith) (sym same));
 }
 
-pub aligned : (v : Version) (j : ℕ) → j < per v → 4 * j + 4 ≤ sector_len v
-aligned V3 j below = omega arith
-aligned V4 j below = omega arith
-
 pub rest_below : (v : Version) (index : ℕ) → index % per v < per v
 rest_below V3 index = omega arith
 rest_below V4 index = omega arith
@@ -58,11 +54,11 @@ pub others_stay : (v : Version) (b after fs : List ℕ) (index entry holder each
     → (place count : ℕ) → IsBeside v fs place count → filled_part after place count ≡ filled_part b place count
 others_stay v b after fs index entry holder each is_each is_holder below written place count apart =
     let offset : index % each < per v = subst (λ e. index % e < per v) (sym is_each) (rest_below v index) in
-    let fits = aligned v (index % each) offset in
+    let inside = entry_fits v (index % each) offset in
     let start = sector_start v holder + 4 * (index % each) in
     ap (λ a. filled_part a place count) written
     ∙ beside b (to_le_bytes w32 entry) start place count
-    (⊎_elim (λ before. inr (omega (arith, before, is_holder, fits))) (λ behind. inl (omega (arith, behind, is_holder))) (subst (λ h. (sector_start v h + sector_len v ≤ place) ⊎ (place + count ≤ sector_start v h)) (sym is_holder) (apart (index / each) below)))
+    (⊎_elim (λ before. inr (omega (arith, before, is_holder, inside))) (λ behind. inl (omega (arith, behind, is_holder))) (subst (λ h. (sector_start v h + sector_len v ≤ place) ⊎ (place + count ≤ sector_start v h)) (sym is_holder) (apart (index / each) below)))
 
 pub index_in : (v : Version) (fat fs : List ℕ) (index each : ℕ) → each ≡ per v → index < length fat → length fat ≤ length fs * per v → index / each < length fs
 index_in v fat fs index each is inside whole = subst (λ e. index / e < length fs) (sym is) (split v (length fs) index (omega (arith, inside, whole))).0

@@ -46,9 +46,9 @@ length-fat_in v b fs = length-numbers (joined v b fs) ∙ ap (λ n. n / 4) (leng
 abbrev pub entry_place : Version → ℕ → ℕ → ℕ
 entry_place v n j = sector_start v n + 4 * j
 
-fits : (v : Version) (j : ℕ) → j < per v → 4 * j + 4 ≤ sector_len v
-fits V3 j below = omega arith
-fits V4 j below = omega arith
+pub entry_fits : (v : Version) (j : ℕ) → j < per v → 4 * j + 4 ≤ sector_len v
+entry_fits V3 j below = omega arith
+entry_fits V4 j below = omega arith
 
 index_fits : (v : Version) (n i j : ℕ) → i < n → j < per v → i * per v + j < n * per v
 index_fits V3 n i j inside below = omega arith
@@ -65,7 +65,7 @@ entry_is v b fs i j inside below =
     let most : m < length (joined v b fs) / 4 = subst (λ n. m < n) (sym (length-fat_in v b fs) ∙ length-numbers (joined v b fs)) (index_fits v (length fs) i j inside below) in
     get_number (joined v b fs) m most
     ∙ ap (λ n. from_le_bytes w32 (take 4 (drop n (joined v b fs)))) (moved v i j)
-    ∙ ap (from_le_bytes w32) (sym (chain_part v b fs i (4 * j) 4 inside (fits v j below)))
+    ∙ ap (from_le_bytes w32) (sym (chain_part v b fs i (4 * j) 4 inside (entry_fits v j below)))
 
 -- each entry has its sector and its place there
 pub split : (v : Version) (n m : ℕ) → m < n * per v → (m / per v < n) × (m % per v < per v) × (m ≡ m / per v * per v + m % per v)
@@ -121,7 +121,7 @@ entries_stay v b fs xs at apart = ext_get_or 0 _ _ (length-fat_in v (overwritten
     let i = m / per v in
     let j = m % per v in
     let id = get_or fs i 0 in
-    let room = fits v j parts.1 in
+    let room = entry_fits v j parts.1 in
     ap (λ k. get_or (fat_in v (overwritten b at xs) fs) k 0) parts.2 ∙ entry_is v (overwritten b at xs) fs i j parts.0 parts.1
     ∙ ap (from_le_bytes w32) (beside b xs at (entry_place v id j) 4
     (⊎_elim (λ before. inl (omega (arith, before, room))) (λ behind. inr (omega (arith, behind))) (apart i parts.0)))

@@ -14,6 +14,9 @@ use Rattle.cfb_chains.proofs.Staying.{apart}
 use Rattle.cfb_fat.specs.declared.allocator.Allocator.{Allocator}
 use Rattle.cfb_fat.specs.Changing.{ChangesFat, MayWrite, WritesBeside}
 use Rattle.cfb_fat.specs.Growing.{TakesIn}
+use Rattle.cfb_fat.specs.HeaderWords.{word_place}
+use Rattle.cfb_fat.specs.declared.header.HeaderWord.{HeaderWord}
+use Rattle.cfb_fat.specs.declared.header.HeaderWord.TheVariants.{DirectorySectors, FirstDirectorySector, FirstMiniFatSector, MiniFatSectors}
 use Rattle.cfb_fat.specs.Keeping.{tables_same}
 use Rattle.cfb_fat.specs.Seeing.{seen_of}
 use Rattle.cfb_fat.specs.Tables.{bytes_of, difat_sectors_of, fat_of, fat_sectors_of, has_failed_here, is_honest, sectors_of, tables_of, version_of}
@@ -28,6 +31,13 @@ header_aside v sectors place count front k below = inr (let far = behind_header 
 pub none_there : (v : Version) (sectors : List ℕ) (n : ℕ) → IsBeside v sectors (sector_start v n) (sector_len v) → IsNoneOf sectors n
 none_there V3 sectors n aside k below same = ⊎_elim (λ before. omega (arith, before, same)) (λ behind. omega (arith, behind, same)) (aside k below)
 none_there V4 sectors n aside k below same = ⊎_elim (λ before. omega (arith, before, same)) (λ behind. omega (arith, behind, same)) (aside k below)
+
+-- a number of the header that layers above may change is none of the tables'
+pub beside_words : (word : HeaderWord) → (word_place word + 4 ≤ 44) ⊎ ((48 ≤ word_place word) × (word_place word + 4 ≤ 68))
+beside_words DirectorySectors = inl (omega arith)
+beside_words FirstDirectorySector = inr (omega arith, omega arith)
+beside_words FirstMiniFatSector = inr (omega arith, omega arith)
+beside_words MiniFatSectors = inr (omega arith, omega arith)
 
 module _ {F : Type 0} {g : Ghosts F} where
   pub takes_leave : (taken entries : List ℕ) (a b : Allocator F g) → TakesIn taken entries a b → has_failed_here b ≡ false → IsTrue (is_honest a) → Leaves (sector (version_of a)) [] (taken ++ entries) (seen_of a) (seen_of b)

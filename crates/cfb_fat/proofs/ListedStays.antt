@@ -15,8 +15,8 @@ use Rattle.cfb_fat.specs.Listed.{Counts, Lists}
 use Rattle.cfb_chains.specs.Changes.{AreOnce, IsBeside, IsNoneOf}
 use Rattle.cfb_fat.specs.Orderly.{IsBesideWords}
 use Rattle.cfb_fat.proofs.DifatChains.{below_in_file, in_file_below}
-use Rattle.cfb_fat.proofs.Entering.{aligned, rest_below}
-use Rattle.cfb_fat.proofs.FatEntries.{per}
+use Rattle.cfb_fat.proofs.Entering.{rest_below}
+use Rattle.cfb_fat.proofs.FatEntries.{entry_fits, per}
 use Rattle.cfb_fat.proofs.Listing.{header_whole}
 use Rattle.cfb_chains.proofs.Overwriting.{beside, over_longer}
 use Rattle.cfb_chains.proofs.Staying.{apart}
@@ -141,6 +141,6 @@ pub entry_aside : (v : Version) (ds fs xs : List ℕ) (index holder each : ℕ) 
     → IsBesideWords (sector_start v holder + 4 * (index % each)) (length xs) × IsBeside v ds (sector_start v holder + 4 * (index % each)) (length xs)
 entry_aside v ds fs xs index holder each four is_each below is_holder once =
     let offset : index % each < per v = subst (λ e. index % e < per v) (sym is_each) (rest_below v index) in
-    let fits = aligned v (index % each) offset in
+    let fits = entry_fits v (index % each) offset in
     let start = behind_header v holder in
     (inr (inr (omega (arith, start))), part_aside v ds holder (4 * (index % each)) (length xs) (none_of_difat ds fs (index / each) holder once below is_holder) (omega (arith, four, fits)))

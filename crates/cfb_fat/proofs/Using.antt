@@ -11,7 +11,7 @@ use Rattle.cfb_chains.specs.Changes.{AreAmong, AreNoneOf, IsFreeIn, IsNoneOf}
 use Rattle.cfb_chains.specs.Grown.{IsLinked}
 use Rattle.cfb_chains.specs.Owned.{Leaves, Moves, Owned, Seen, Stays}
 use Rattle.cfb_chains.proofs.Beside.{none_both}
-use Rattle.cfb_chains.proofs.Owners.{leaves_more, other_left, owned_changed}
+use Rattle.cfb_chains.proofs.Owners.{leaves_more, none_of_nothing, other_left, owned_changed}
 use Rattle.cfb_fat.specs.declared.allocator.Allocator.{Allocator}
 use Rattle.cfb_fat.specs.Changing.{MayWrite}
 use Rattle.cfb_fat.specs.Tables.{difat_sectors_of, fat_sectors_of, tables_of, version_of}
@@ -21,10 +21,6 @@ use Rattle.cfb_fat.proofs.Leaving.{none_there}
 pub with_first : List ℕ → (ℕ → List ℕ) → ℕ → List ℕ
 with_first ids own zero = ids
 with_first ids own (suc k) = own k
-
-none_of_nothing : (xs : List ℕ) → AreNoneOf [] xs
-none_of_nothing [] = tt
-none_of_nothing (x ∷ xs) = ((λ k below same. absurd (omega (arith, below))), none_of_nothing xs)
 
 module _ (S : List ℕ → ℕ → List ℕ) (old : Seen) (own : ℕ → List ℕ) where
   -- one owner has these, and all others what they had, with their bytes
@@ -63,11 +59,7 @@ module _ (S : List ℕ → ℕ → List ℕ) (old : Seen) (own : ℕ → List �
   unfolding with_first
   held_then ids later more touched a b h leaves less loose spare linked among =
       let moves : Moves S [] 0 later more a b (with_first ids own) (with_first later own) = record {
-        leaves = leaves_more S [] touched (ids ++ more) a b less leaves;
-        were_free = loose;
-        spare = spare;
-        linked = linked;
-        among = among;
+        becomes = record { leaves = leaves_more S [] touched (ids ++ more) a b less leaves; were_free = loose; spare = spare; linked = linked; among = among };
         mine = refl;
         others = others;
       } in

@@ -1,5 +1,6 @@
 -- What growing calls do: a sector is appended, or taken from the free ones, and tables become longer.
-use Rattle.std.specs.Prelude.{◌≡◌, ℕ, ◌+◌, ◌<◌, ◌≤◌, ◌⊎◌, false, List, length, nat_eq, IsTrue}
+use Rattle.std.specs.Prelude.{◌≡◌, ℕ, ◌+◌, ◌*◌, ◌<◌, ◌≤◌, ◌⊎◌, false, true, List, length, nat_eq, vec_capacity, IfErr, IsTrue, OnOk, Result}
+use Rattle.cfb_medium.specs.declared.error.Error.{Error}
 use Rattle.std.specs.List.{count_by, AllByRecursion}
 use Rattle.cfb_medium.specs.Calls.{Extends}
 use Rattle.cfb_medium.specs.declared.medium.ReadMedium.{Ghosts}
@@ -10,7 +11,7 @@ use Rattle.cfb_fat.specs.declared.allocator.Allocator.{Allocator}
 use Rattle.cfb_chains.specs.Behind.{AreWhole, IsMarkedBehind}
 use Rattle.cfb_chains.specs.Changes.{IsBeside, IsFreeIn, IsNoneOf, StayBut}
 use Rattle.cfb_fat.specs.Orderly.{IsBesideWords}
-use Rattle.cfb_fat.specs.Tables.{bytes_of, difat_sectors_of, fat_of, fat_sectors_of, has_failed_here, is_honest, medium_of, orderly_of, sectors_of, tables_of, version_of, IsTold}
+use Rattle.cfb_fat.specs.Tables.{bytes_of, capacity_of, difat_sectors_of, fat_of, fat_sectors_of, has_failed_here, is_honest, medium_of, orderly_of, sectors_of, tables_of, version_of, IsTold}
 
 module _ {F : Type 0} {g : Ghosts F} where
   -- where it has not failed one sector was appended, and what lies before it stays but where this says so; nothing was published
@@ -62,6 +63,21 @@ module _ {F : Type 0} {g : Ghosts F} where
     pub used : has_failed_here new ≡ false → (n : ℕ) → IsFreeIn (fat_of new) n → IsFreeIn (fat_of old) n
     pub behind : has_failed_here new ≡ false → MarksBehind taken entries old new
     pub whole : has_failed_here new ≡ false → IsTrue (is_honest old) → HasWhole taken new
+
+  -- there is memory for so many entries of the FAT, and then for so many sectors more: with each the tables may need a sector of
+  -- the FAT and one of the DIFAT
+  pub record HasMemory (it : Allocator F g) (entries sectors : ℕ) : Type 0 where
+    pub fat : length (fat_of it) + (entries + 3 * sectors) ≤ capacity_of it
+    pub fat_sectors : length (fat_sectors_of it) + sectors ≤ vec_capacity it.fat_sectors
+    pub difat_sectors : length (difat_sectors_of it) + sectors ≤ vec_capacity it.difat_sectors
+
+  -- it takes so many entries from what there is memory for; then an error is one of these, or a write has failed
+  abbrev pub Spends : {T : Type 0} → ℕ → (Error → Type 0) → Result T Error → Allocator F g → Allocator F g → Type 0
+  Spends left refuses result old new = (n : ℕ) → HasMemory old 0 (n + 1) → OnOk result (HasMemory new left n) × IfErr result (λ e. (has_failed_here new ≡ true) ⊎ refuses e)
+
+  -- what there is memory for stays
+  abbrev pub KeepsMemory : Allocator F g → Allocator F g → Type 0
+  KeepsMemory old new = (entries n : ℕ) → HasMemory old entries n → HasMemory new entries n
 
   -- fewer numbers of sectors are left than this: those of "free" entries, and those behind the FAT
   abbrev pub LacksNumbers : Allocator F g → ℕ → Type 0

@@ -186,6 +186,8 @@ impl<F: Medium> Allocator<F> {
     ) -> Result<(), Error>
         ensures writes { OnOk result (WritesBeside
             (sector_start (version_of self.old) sector_id + offset) bytes.now self.old self.new) }
+        ensures either { WritesBeside (sector_start (version_of self.old) sector_id + offset)
+            bytes.now self.old self.new ⊎ AllRests self.old self.new }
         ensures leaves { OnOk result (offset + length bytes.now ≤ sector_len (version_of self.old)
             → IsTrue (is_honest self.old) → Leaves (sector (version_of self.old)) []
             (sector_id ∷ []) (seen_of self.old) (seen_of self.new)) }

@@ -4,6 +4,7 @@ ghost use Rattle.cfb_chains.specs.ChainCalls.{IsInvalid};
 ghost use Rattle.cfb_chains.specs.Changes.{HaveEntry};
 ghost use Rattle.cfb_chains.specs.Owned.{Leaves};
 ghost use Rattle.cfb_fat.specs.Changing.{ChangesFat};
+ghost use Rattle.cfb_fat.specs.Growing.{KeepsMemory};
 ghost use Rattle.cfb_fat.specs.Keeping.{changes_keep, rests_keep_tables, writes_keep_tables};
 ghost use Rattle.cfb_fat.specs.Orderly.{AreBelow};
 ghost use Rattle.cfb_medium.specs.Calls.{IsFaultUnless};
@@ -42,6 +43,7 @@ impl<F: Medium> Allocator<F> {
         ensures entry { has_failed_here self.new ≡ false
             → fat_of self.new ≡ slice_set (fat_of self.old) sector_id entry }
         ensures capacity { capacity_of self.new ≡ capacity_of self.old }
+        ensures memory { KeepsMemory self.old self.new }
         ensures live { OnOk result (has_failed_here self.new ≡ false) }
         ensures err { OnErr result (has_failed_here self.new ≡ true) }
         ensures cause { IfErr result (HasCauseBelow self.old self.new) }

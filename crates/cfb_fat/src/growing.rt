@@ -1,13 +1,13 @@
 //! Tables that become longer, and the file with them.
 ghost use Rattle.cfb_fat.specs.Calls.{places_of, Attempts, EndsBehind, HasNoneBelow, HasPlace, IsFresh};
-ghost use Rattle.cfb_fat.specs.Growing.{GrowsFat, HasWhole, IsFull, MarksBehind};
+ghost use Rattle.cfb_fat.specs.Growing.{GrowsFat, HasMemory, HasWhole, IsFull, MarksBehind, Spends};
 ghost use Rattle.cfb_fat.specs.Orderly.{named_at_most};
 ghost use Rattle.cfb_medium.specs.Calls.{IsFaultUnless};
 ghost use Rattle.cfb_medium.specs.Versions.{sector_len};
 ghost use Rattle.cfb_medium.specs.declared.error.Error.TheVariants.{Full};
 ghost use Rattle.cfb_sectors.specs.Held.{count_of};
 ghost use Rattle.cfb_sectors.specs.Sectors.{free, greatest_regular};
-ghost use Rattle.std.specs.Prelude.{false, length, true, IfErr, IfOk, IsErrOf, IsTrue, OnErr, OnOk, [], ◌*◌, ◌++◌, ◌+◌, ◌/◌, ◌<◌, ◌∷◌, ◌≡◌, ◌≤◌, ◌⊎◌};
+ghost use Rattle.std.specs.Prelude.{false, length, true, IfErr, IfOk, IsErrOf, IsTrue, OnErr, OnOk, ℕ, [], ◌*◌, ◌++◌, ◌+◌, ◌/◌, ◌<◌, ◌∷◌, ◌≡◌, ◌≤◌, ◌⊎◌};
 
 use crate::Allocator;
 use crate::difat::{add_difat_sector, add_fat_sector, append_sector, can_name};
@@ -36,6 +36,7 @@ impl<F: Medium> Allocator<F> {
             × (fat_sectors_of self.new ≡ fat_sectors_of self.old
             ++ length (fat_of self.old) ∷ [])) }
         ensures memory { capacity_of self.old ≤ capacity_of self.new }
+        ensures spends { Spends 1 (λ _. ⊥) result self.old self.new }
         ensures live { OnOk result (has_failed_here self.new ≡ false) }
         ensures cause { IfErr result (HasCauseBelow self.old self.new) }
         ensures fault { IfErr result (λ e. IsFaultUnless ⊥ e
@@ -72,6 +73,7 @@ impl<F: Medium> Allocator<F> {
             × (fat_sectors_of self.new ≡ fat_sectors_of self.old
             ++ (length (fat_of self.old) + 1) ∷ [])) }
         ensures memory { capacity_of self.old ≤ capacity_of self.new }
+        ensures spends { Spends 1 (λ _. ⊥) result self.old self.new }
         ensures live { OnOk result (has_failed_here self.new ≡ false) }
         ensures cause { IfErr result (HasCauseBelow self.old self.new) }
         ensures fault { IfErr result (λ e. IsFaultUnless ⊥ e
@@ -106,6 +108,7 @@ impl<F: Medium> Allocator<F> {
         ensures grows { GrowsFat [] [] self.old self.new }
         ensures added { OnOk result (MarksBehind [] [] self.old self.new) }
         ensures memory { capacity_of self.old ≤ capacity_of self.new }
+        ensures spends { Spends 1 (λ _. ⊥) result self.old self.new }
         ensures room { OnOk result ((length (fat_of self.new) ≤ length (fat_of self.old) + 2)
             × (length (fat_of self.new) < places_of self.new)) }
         ensures live { OnOk result (has_failed_here self.new ≡ false) }
@@ -141,6 +144,7 @@ impl<F: Medium> Allocator<F> {
             < length (fat_sectors_of self.new) * (sector_len (version_of self.new) / 4)) }
         ensures few { OnOk result (length (fat_of self.new) ≤ greatest_regular) }
         ensures added { OnOk result (MarksBehind [] [] self.old self.new) }
+        ensures spends { Spends 1 (λ e. e ≡ Full) result self.old self.new }
         ensures live { OnOk result (has_failed_here self.new ≡ false) }
         ensures full { IsErrOf result Full → IsFull self.old × AllRests self.old self.new }
         ensures cause { IfErr result (HasCauseBelow self.old self.new) }
@@ -175,6 +179,8 @@ impl<F: Medium> Allocator<F> {
         ensures whole { IfOk result (λ n. IsTrue (is_honest self.old)
             → HasWhole (n ∷ []) self.new) }
         ensures none { OnErr result (GrowsFat [] [] self.old self.new) }
+        ensures spends { (n : ℕ) → HasMemory self.old 1 n
+            → OnOk result (HasMemory self.new 0 n) }
         ensures attempts { Attempts result (sectors_of self.old) (sectors_of self.new) }
     {
         self.fat.reserve(1)?;

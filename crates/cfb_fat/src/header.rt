@@ -46,6 +46,8 @@ impl<F: Medium> Allocator<F> {
     pub fn write_header_word(&mut self, word: HeaderWord, number: u32) -> Result<(), Error>
         ensures writes { OnOk result (WritesBeside (word_place word)
             (to_le_bytes w32 number) self.old self.new) }
+        ensures either { WritesBeside (word_place word) (to_le_bytes w32 number) self.old self.new
+            ⊎ AllRests self.old self.new }
         ensures leaves { OnOk result (IsTrue (is_honest self.old)
             → Leaves (sector (version_of self.old)) (word_place word ∷ []) [] (seen_of self.old)
             (seen_of self.new)) }

@@ -7,7 +7,7 @@ ghost use Rattle.cfb_chains.specs.LinkViews.{ids_of, links_version};
 ghost use Rattle.cfb_chains.specs.Owned.{Leaves};
 ghost use Rattle.cfb_chains.specs.Positions.{sectors_for};
 ghost use Rattle.cfb_fat.specs.Changing.{MayWrite, WritesBeside};
-ghost use Rattle.cfb_fat.specs.Growing.{GrowsFat, HasWhole, IsFull, LacksNumbers, MarksBehind, TakesIn};
+ghost use Rattle.cfb_fat.specs.Growing.{GrowsFat, HasMemory, HasWhole, IsFull, KeepsMemory, LacksNumbers, MarksBehind, Spends, TakesIn};
 ghost use Rattle.cfb_fat.specs.Keeping.{takes_cause, takes_fails, takes_keep, takes_rest, takes_then};
 ghost use Rattle.cfb_fat.specs.Seeing.{seen_of};
 ghost use Rattle.cfb_medium.specs.Calls.{IsFaultUnless};
@@ -42,9 +42,34 @@ fn count_free(table: &[u32]) -> usize
 impl<F: Medium> Allocator<F> {
     ghost use Rattle.cfb_fat.specs.Tables.{bytes_of, difat_sectors_of, fat_of, fat_sectors_of, has_failed_here, is_honest, orderly_of, sectors_of, tables_of, version_of, AllRests, HasCauseBelow};
 
-    /// Sees whether the chain from a start can take in so many sectors: `InvalidData` where the FAT has no such chain or the
-    /// tables can't be changed, and then `Full` where fewer numbers are left.
-    pub fn check_growth(&self, start: u32, count: usize) -> Result<(), Error>
+    /// Readies the chain from a start to take in so many sectors: the memory that the tables may need for them is asked for.
+    /// `InvalidData` where the FAT has no such chain or the tables can't be changed, and then `Full` where fewer numbers are
+    /// left, or `Memory`. Nothing is changed.
+    pub fn prepare_growth(&mut self, start: u32, count: usize) -> Result<(), Error>
+        ensures ready { OnOk result (IsTrue (orderly_of self.old)) }
+        ensures memory { OnOk result (HasMemory self.new 0 count) }
+        ensures rests { AllRests self.old self.new }
+        ensures refused { IsErrOf result InvalidData → IsTrue (orderly_of self.old)
+            → (ids : List ℕ) → IsChain (fat_of self.old) start ids → ⊥ }
+        ensures full { IsErrOf result Full → IsTrue (orderly_of self.old)
+            × LacksNumbers self.old count }
+        ensures failed { has_failed_here self.old ≡ true → IsErrOf result Failed }
+        ensures error { IfErr result (λ e. ((e ≡ Failed) × (has_failed_here self.old ≡ true))
+            ⊎ (e ≡ InvalidData) ⊎ (e ≡ Memory) ⊎ (e ≡ Full)) }
+    {
+        self.check_growth(start, count)?;
+        let Some(entries) = count.checked_mul(3) else {
+            return Err(Error::Memory);
+        };
+        self.fat.reserve(entries)?;
+        self.fat_sectors.reserve(count)?;
+        self.difat_sectors.reserve(count)?;
+        Ok(())
+    }
+
+    // Sees whether the chain from a start can take in so many sectors: `InvalidData` where the FAT has no such chain or the
+    // tables can't be changed, and then `Full` where fewer numbers are left.
+    fn check_growth(&self, start: u32, count: usize) -> Result<(), Error>
         ensures ready { OnOk result (IsTrue (orderly_of self.now)) }
         ensures refused { IsErrOf result InvalidData → IsTrue (orderly_of self.now)
             → (ids : List ℕ) → IsChain (fat_of self.now) start ids → ⊥ }
@@ -109,6 +134,7 @@ impl<F: Medium> Allocator<F> {
             → IsNoneOf (difat_sectors_of self.old) k → IsNoneOf (fat_sectors_of self.old) k → ⊥ }
         ensures writes { WritesBeside (sector_start (version_of self.old) sector_id)
             (initial init (sector_len (version_of self.old))) self.old self.new }
+        ensures memory { KeepsMemory self.old self.new }
         ensures live { OnOk result (has_failed_here self.new ≡ false) }
         ensures err { OnErr result (has_failed_here self.new ≡ true) }
         ensures cause { IfErr result (HasCauseBelow self.old self.new) }
@@ -133,6 +159,7 @@ impl<F: Medium> Allocator<F> {
             → HasWhole (sector_id ∷ []) self.new) }
         ensures fresh { OnOk result (IsFresh init self.old self.new sector_id) }
         ensures none { OnErr result (GrowsFat [] [] self.old self.new) }
+        ensures memory { OnOk result (KeepsMemory self.old self.new) }
         ensures attempts { Attempts result (sectors_of self.old) (sectors_of self.new) }
     {
         self.init_beside(sector_id, init)?;
@@ -155,6 +182,7 @@ impl<F: Medium> Allocator<F> {
         ensures behind { IfOk result (λ n. MarksBehind (n ∷ []) (n ∷ []) self.old self.new) }
         ensures full { IsErrOf result Full → IsFull self.old × AllRests self.old self.new }
         ensures none { OnErr result (GrowsFat [] [] self.old self.new) }
+        ensures spends { Spends 0 (λ e. e ≡ Full) result self.old self.new }
         ensures tries { Tries IsTheLast result self.old self.new }
     {
         if let Some(sector_id) = self.find_free() {
@@ -180,6 +208,7 @@ impl<F: Medium> Allocator<F> {
             → (IsTrue (orderly_of self.old) → ⊥) × AllRests self.old self.new }
         ensures full { IsErrOf result Full → IsFull self.old × AllRests self.old self.new }
         ensures none { OnErr result (TakesIn [] [] self.old self.new) }
+        ensures spends { Spends 0 IsInvalidOrFull result self.old self.new }
         ensures changes { ChangesTables IsInvalidOrFull result self.old self.new }
     {
         if self.sectors.is_failed() {
@@ -189,6 +218,30 @@ impl<F: Medium> Allocator<F> {
             return Err(Error::InvalidData);
         }
         self.take(init)
+    }
+
+    // The last sector of the chain from a start. Where this is the last itself, it takes no memory.
+    fn last_of(&self, start: u32) -> Result<u32, Error>
+        ensures chain { IfOk result (λ last. (ids : List ℕ)
+            × IsChain (fat_of self.now) start (ids ++ last ∷ [])) }
+        ensures live { OnOk result (has_failed_here self.now ≡ false) }
+        ensures failed { has_failed_here self.now ≡ true → IsErrOf result Failed }
+        ensures none { IsErrOf result InvalidData → (ids : List ℕ) (last : ℕ)
+            → IsChain (fat_of self.now) start (ids ++ last ∷ []) → ⊥ }
+        ensures memory { slice_get (fat_of self.now) start ≡ Some end_of_chain
+            → IsErrOf result Memory → ⊥ }
+        ensures error { IfErr result (λ e. ((e ≡ Failed) × (has_failed_here self.now ≡ true))
+            ⊎ (e ≡ InvalidData) ⊎ (e ≡ Memory)) }
+    {
+        if self.next(start)? == END_OF_CHAIN {
+            return Ok(start);
+        }
+        let links = self.open_chain(start)?;
+        let count = links.sector_ids().len();
+        if count == 0 {
+            return Err(Error::InvalidData);
+        }
+        Ok(links.sector_ids()[count - 1])
     }
 
     /// Extends the chain from a start by one sector behind its last, and gives its number: a free one, or where there is none
@@ -212,17 +265,14 @@ impl<F: Medium> Allocator<F> {
             → (IsTrue (orderly_of self.old) → (ids : List ℕ) (last : ℕ)
             → IsChain (fat_of self.old) start (ids ++ last ∷ []) → ⊥) × AllRests self.old self.new }
         ensures full { IsErrOf result Full → IsFull self.old × AllRests self.old self.new }
+        ensures spends { slice_get (fat_of self.old) start ≡ Some end_of_chain
+            → Spends 0 IsInvalidOrFull result self.old self.new }
         ensures changes { ChangesTables IsInvalidOrFull result self.old self.new }
     {
-        let links = self.open_chain(start)?;
-        let count = links.sector_ids().len();
-        if count == 0 {
-            return Err(Error::InvalidData);
-        }
+        let last = self.last_of(start)?;
         if !self.is_orderly {
             return Err(Error::InvalidData);
         }
-        let last = links.sector_ids()[count - 1];
         let sector_id = self.take(init)?;
         self.set_entry(last, sector_id)?;
         Ok(sector_id)
@@ -318,8 +368,8 @@ impl<F: Medium> GrowsChains for Allocator<F> {
         Allocator::extend_chain(self, start, init)
     }
 
-    fn check_growth(&self, start: u32, count: usize) -> Result<(), Error> {
-        Allocator::check_growth(self, start, count)
+    fn prepare_growth(&mut self, start: u32, count: usize) -> Result<(), Error> {
+        Allocator::prepare_growth(self, start, count)
     }
 
     ghost grows_keep = { takes_keep };

@@ -18,15 +18,18 @@ Begins-then a b c h k =
     let short : length a ≤ length b = omega (arith, ap length h.same, length-take (length a) b) in
     record { same = sym (take-take (length a) (length b) c short) ∙ ap (λ l. take (length a) l) k.same ∙ h.same }
 
-appended_2 : (a b c x y : List ℕ) → b ≡ a ++ x → c ≡ b ++ y → c ≡ a ++ (x ++ y)
+-- what was appended in parts was appended
+pub appended_2 : (a b c x y : List ℕ) → b ≡ a ++ x → c ≡ b ++ y → c ≡ a ++ (x ++ y)
 appended_2 a b c x y e f = f ∙ ap (λ xs. xs ++ y) e ∙ append_assoc a x y
 
+pub appended_3 : (a b c d x y z : List ℕ) → b ≡ a ++ x → c ≡ b ++ y → d ≡ c ++ z → d ≡ a ++ (x ++ y ++ z)
+appended_3 a b c d x y z e f g = appended_2 a c d (x ++ y) z (appended_2 a b c x y e f) g
+
+pub appended_4 : (a b c d e w x y z : List ℕ) → b ≡ a ++ w → c ≡ b ++ x → d ≡ c ++ y → e ≡ d ++ z → e ≡ a ++ (w ++ x ++ y ++ z)
+appended_4 a b c d e w x y z i j k l = appended_2 a d e (w ++ x ++ y) z (appended_3 a b c d w x y i j k) l
+
 pub appended_5 : (a b c d e f v w x y z : List ℕ) → b ≡ a ++ v → c ≡ b ++ w → d ≡ c ++ x → e ≡ d ++ y → f ≡ e ++ z → f ≡ a ++ (v ++ w ++ x ++ y ++ z)
-appended_5 a b c d e f v w x y z i j k l m =
-    let two = appended_2 a b c v w i j in
-    let three = appended_2 a c d (v ++ w) x two k in
-    let four = appended_2 a d e (v ++ w ++ x) y three l in
-    appended_2 a e f (v ++ w ++ x ++ y) z four m
+appended_5 a b c d e f v w x y z i j k l m = appended_2 a e f (v ++ w ++ x ++ y) z (appended_4 a b c d e v w x y i j k l) m
 
 -- the parts of a header, as they are written
 pub header_parts : (h : HeaderFields) → header_bytes h ≡

@@ -47,14 +47,5 @@ pub entry_parts : (e : Entry) → entry_bytes e ≡
 unfolding entry_bytes
 entry_parts e = refl
 
-pub appended_2 : (a b c x y : List ℕ) → b ≡ a ++ x → c ≡ b ++ y → c ≡ a ++ (x ++ y)
-appended_2 a b c x y e f = f ∙ ap (λ xs. xs ++ y) e ∙ append_assoc a x y
-
-pub appended_3 : (a b c d x y z : List ℕ) → b ≡ a ++ x → c ≡ b ++ y → d ≡ c ++ z → d ≡ a ++ (x ++ y ++ z)
-appended_3 a b c d x y z e f g = appended_2 a c d (x ++ y) z (appended_2 a b c x y e f) g
-
-pub appended_4 : (a b c d e w x y z : List ℕ) → b ≡ a ++ w → c ≡ b ++ x → d ≡ c ++ y → e ≡ d ++ z → e ≡ a ++ (w ++ x ++ y ++ z)
-appended_4 a b c d e w x y z i j k l = appended_2 a d e (w ++ x ++ y) z (appended_3 a b c d w x y i j k) l
-
 pub regrouped : (w x y z : List ℕ) → w ++ x ++ y ++ z ≡ w ++ (x ++ y ++ z)
 regrouped w x y z = ap (λ xs. xs ++ z) (append_assoc w x y) ∙ append_assoc w (x ++ y) z

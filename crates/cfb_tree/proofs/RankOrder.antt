@@ -27,9 +27,6 @@ data Ranked (c : ℕ) : Type 0 where
   high : 0xE000 ≤ c → c < 0x1_0000 → rank c ≡ c + 0x10_0000 → Ranked c
   pair : 0x1_0000 ≤ c → c < 0x11_0000 → rank c ≡ c - 0x2800 → Ranked c
 
-from_one : (c : ℕ) → 0xE000 ≤ c → c < 0x1_0000 → Ranked c
-from_one c from small = high from small (grind (arith, nat_tests))
-
 ranked : (c : ℕ) → IsScalar c → Ranked c
 ranked c h = elim (scalar_cases c h) [
   | inl under ↦ low under (grind (arith, nat_tests))

@@ -1,6 +1,5 @@
 -- What is written, one step at a time: what stands there and what is still to come are all that is to stand there.
 use Rattle.std.proofs.Common.{◌≡◌, ℕ, ◌+◌, ◌-◌, ◌<◌, ◌≤◌, List, [], ◌∷◌, ◌++◌, ap, sym, ◌∙◌, arith, zero, suc, append_assoc, add-zero}
-use Rattle.std.specs.Prelude.{Result, Ok, Err, OnOk}
 use Rattle.std.specs.Int.{w32, to_le_bytes}
 use Rattle.std.specs.List.{flat_map, range_with_len}
 use Rattle.std.proofs.lemmas.Grind.{flat_map-append}
@@ -41,18 +40,3 @@ parts_from_zero_more part out new first n before is =
   where
     more : range_with_len 0 (n + 1) ≡ range_with_len 0 n ++ n ∷ []
     more = let next : n + 1 ≡ suc n = omega arith in ap (λ k. range_with_len 0 k) next ∙ range_more 0 n ∙ ap (λ k. range_with_len 0 n ++ k ∷ []) (omega arith)
-
--- what was appended in parts was appended
-pub appended_2 : (a b c x y : List ℕ) → b ≡ a ++ x → c ≡ b ++ y → c ≡ a ++ (x ++ y)
-appended_2 a b c x y e f = f ∙ ap (λ xs. xs ++ y) e ∙ append_assoc a x y
-
-pub appended_3 : (a b c d x y z : List ℕ) → b ≡ a ++ x → c ≡ b ++ y → d ≡ c ++ z → d ≡ a ++ (x ++ y ++ z)
-appended_3 a b c d x y z e f g = appended_2 a c d (x ++ y) z (appended_2 a b c x y e f) g
-
-pub appended_4 : (a b c d e w x y z : List ℕ) → b ≡ a ++ w → c ≡ b ++ x → d ≡ c ++ y → e ≡ d ++ z → e ≡ a ++ (w ++ x ++ y ++ z)
-appended_4 a b c d e w x y z i j k l = appended_2 a d e (w ++ x ++ y) z (appended_3 a b c d w x y i j k) l
-
--- what follows where a call succeeds
-pub on_ok : {A E : Type 0} (r : Result A E) (P Q : Type 0) → (P → Q) → OnOk r P → OnOk r Q
-on_ok (Ok x) P Q f h = f h
-on_ok (Err e) P Q f h = h

@@ -3,7 +3,7 @@ use Rattle.std.specs.Int.{w16, w32, w64, to_le_bytes}
 use Rattle.std.specs.List.{flat_map}
 use Rattle.cfb_tree.specs.Directory.{clsid_of, entry_bytes}
 use Rattle.plain.specs.Views.{entry_view}
-use Rattle.plain.proofs.AppendSteps.{appended_4, on_ok}
+use Rattle.cfb_sectors.proofs.Appending.{appended_4, on_ok}
 use Rattle.plain.proofs.entries.push_entry.Goals as goal
 
 pub returns : goal.returns

@@ -6,7 +6,7 @@ use Rattle.cfb_sectors.specs.Sectors.{free}
 use Rattle.plain.specs.Runs.{run, runs}
 use Rattle.plain.specs.Views.{stream_views}
 use Rattle.plain.specs.WholeImage.{counts, fat_of, filled, is_short, plan_of}
-use Rattle.plain.proofs.AppendSteps.{on_ok}
+use Rattle.cfb_sectors.proofs.Appending.{on_ok}
 use Rattle.plain.proofs.ImageSteps.{fat_made, fat_wanting, fat_written, longs_made, table_written}
 use Rattle.plain.proofs.image.push_fat.Goals as goal
 

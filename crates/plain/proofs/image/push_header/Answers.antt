@@ -1,7 +1,7 @@
 use Rattle.std.proofs.Common.{◌≡◌, ◌++◌, replicate}
 use Rattle.cfb_sectors.specs.Header.{header_bytes}
 use Rattle.plain.specs.WholeImage.{header_of}
-use Rattle.plain.proofs.AppendSteps.{on_ok}
+use Rattle.cfb_sectors.proofs.Appending.{on_ok}
 use Rattle.plain.proofs.ImageSteps.{header_written}
 use Rattle.plain.proofs.image.push_header.Goals as goal
 

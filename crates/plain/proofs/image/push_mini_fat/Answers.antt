@@ -3,7 +3,7 @@ use Rattle.cfb_medium.specs.Numbers.{number_bytes}
 use Rattle.cfb_sectors.specs.Sectors.{free}
 use Rattle.plain.specs.Views.{stream_views}
 use Rattle.plain.specs.WholeImage.{filled, plan_of}
-use Rattle.plain.proofs.AppendSteps.{on_ok}
+use Rattle.cfb_sectors.proofs.Appending.{on_ok}
 use Rattle.plain.proofs.ImageSteps.{mini_fat_wanting, minis_made, table_written}
 use Rattle.plain.proofs.Plans.{mini_fat_is}
 use Rattle.plain.proofs.image.push_mini_fat.Goals as goal

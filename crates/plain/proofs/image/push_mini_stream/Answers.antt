@@ -1,7 +1,7 @@
 use Rattle.std.proofs.Common.{◌≡◌, ◌-◌, ◌*◌, ◌++◌, ℕ, replicate, ap, sym, ◌∙◌}
 use Rattle.plain.specs.Views.{stream_views}
 use Rattle.plain.specs.WholeImage.{filled, plan_of}
-use Rattle.plain.proofs.AppendSteps.{on_ok}
+use Rattle.cfb_sectors.proofs.Appending.{on_ok}
 use Rattle.plain.proofs.ImageSteps.{bytes_written, mini_stream_wanting}
 use Rattle.plain.proofs.Plans.{mini_stream_is}
 use Rattle.plain.proofs.image.push_mini_stream.Goals as goal

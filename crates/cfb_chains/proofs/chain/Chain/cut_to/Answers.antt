@@ -1,15 +1,12 @@
-use Rattle.std.proofs.Common.{rules, drop, subst, sym, Result, Ok, Err, OnOk}
+use Rattle.std.proofs.Common.{rules, drop, subst, sym}
 use Rattle.std.specs.Prelude.{slice_index_or}
 use Rattle.cfb_sectors.specs.Sectors.{end_of_chain, free}
+use Rattle.cfb_sectors.proofs.Appending.{on_ok}
 use Rattle.cfb_sectors.proofs.OneChain.{chain_unique}
 use Rattle.cfb_chains.specs.ChainViews.{holder_of, sectors_of}
 use Rattle.cfb_chains.specs.Changes.{AreAmong}
 use Rattle.cfb_chains.specs.Changes.{HaveEntry}
 use Rattle.cfb_chains.proofs.chain.Chain.cut_to.Goals as goal
-
-on_ok_then : {T E : Type 0} (r : Result T E) (P Q : Type 0) → (P → Q) → OnOk r P → OnOk r Q
-on_ok_then (Ok x) P Q f p = f p
-on_ok_then (Err e) P Q f p = tt
 
 pub returns-then-count-eq0-clause-cuts : goal.returns-then-count-eq0-clause-cuts
 returns-then-count-eq0-clause-cuts g c =
@@ -21,7 +18,7 @@ returns-then-count-eq0-clause-cuts g c =
       frees = (
         freed.0,
         freed.2,
-        on_ok_then c.free.result _ _ (λ did linked.
+        on_ok c.free.result _ _ (λ did linked.
             let same = chain_unique old (slice_index_or s 0 end_of_chain) freed.0 s did.0 linked in
             (subst (AreAmong s) (sym same) (λ n none. none), subst (λ k. HaveEntry free new (drop k s)) (sym c.if-count-eq0.true) (subst (HaveEntry free new) same did.1))) freed.1,
       );

@@ -7,6 +7,7 @@ use Rattle.cfb_sectors.proofs.Causes.{passed_on}
 use Rattle.cfb_fat.proofs.EntryChanges.{cause_since}
 use Rattle.std.proofs.lemmas.Bool.Decides.{eqb_tells}
 use Rattle.cfb_fat.proofs.GrowthSteps.{grows_failed, grows_marked, marked_one, marked_two, named_last, room_after}
+use Rattle.cfb_fat.proofs.Sparing.{exit_spends}
 use Rattle.cfb_fat.proofs.allocator.Allocator.lengthen.Goals as goal
 
 pub returns-then-can_name-clause-grows : goal.returns-then-can_name-clause-grows
@@ -136,3 +137,15 @@ returns-in_err-set_entry-3-clause-grows g c =
     let first = c.in_ok-set_entry-2.ensures.changes in
     let set = c.in_err-set_entry-3.ensures in
     grows_failed [] [] c.args.self.now c.set_entry-3.new.self (set.changes.honest ∙ first.honest ∙ grown.honest) (λ start from. set.changes.continues start (first.continues start (grown.continues start from))) (set.changes.version ∙ first.version ∙ grown.version) set.err
+
+pub returns-in_err-grow_fat-clause-spends : goal.returns-in_err-grow_fat-clause-spends
+returns-in_err-grow_fat-clause-spends g c = λ n memory. exit_spends c.from_residual.result c.in_err-grow_fat.field-0.0 _ _ c.from_residual.ensures.1 (c.in_err-grow_fat.ensures.spends n memory).1
+
+pub returns-then-can_name-clause-spends : goal.returns-then-can_name-clause-spends
+returns-then-can_name-clause-spends g c = λ n memory. (c.in_ok-set_entry.ensures.memory 1 n (c.in_ok-grow_fat.ensures.spends n memory).0, tt)
+
+pub returns-in_err-grow_both-clause-spends : goal.returns-in_err-grow_both-clause-spends
+returns-in_err-grow_both-clause-spends g c = λ n memory. exit_spends c.from_residual-in_err-grow_both.result c.in_err-grow_both.field-0.0 _ _ c.from_residual-in_err-grow_both.ensures.1 (c.in_err-grow_both.ensures.spends n memory).1
+
+pub returns-clause-spends : goal.returns-clause-spends
+returns-clause-spends g c = λ n memory. (c.in_ok-set_entry-3.ensures.memory 1 n (c.in_ok-set_entry-2.ensures.memory 1 n (c.in_ok-grow_both.ensures.spends n memory).0), tt)

@@ -10,6 +10,7 @@ use Rattle.cfb_chains.specs.Changes.{AreAmong}
 use Rattle.cfb_chains.specs.Grown.{AreWritable, IsLinked}
 use Rattle.cfb_chains.specs.LinkViews.{ids_of}
 use Rattle.cfb_chains.specs.Positions.{sectors_for}
+use Rattle.cfb_chains.proofs.Lending.{told_of_lent}
 use Rattle.cfb_fat.specs.declared.allocator.Allocator.{Allocator}
 use Rattle.cfb_fat.specs.Changing.{MayWrite}
 use Rattle.cfb_fat.specs.Growing.{TakesIn}
@@ -23,18 +24,13 @@ module _ {F : Type 0} {g : Ghosts F} where
   Filled init a v s b t = IsTrue (is_honest a) → version_of a ≡ v → IsLinked (fat_of a) s → AreWritable (MayWrite a) v s
       → joined v (bytes_of b) t ≡ joined v (bytes_of a) s ++ copies (length t - length s) (initial init (sector_len v))
 
--- what is said of the chain as it was made and left holds of the layer and the links that it borrowed
-told : {H : Type 0} (P : H → Version → List ℕ → H → List ℕ → Type 0) (a b c d : H) (v w : Version) (s t x y : List ℕ) → a ≡ b → v ≡ w → s ≡ t → d ≡ c → y ≡ x → P a v s c x → P b w t d y
-told P a b c d v w s t x y same_old same_version same_ids same_new same_more h =
-    subst (λ l. P b w t d l) (sym same_more) (subst (λ e. P b w t e x) (sym same_new) (subst (λ l. P b w l c x) same_ids (subst (λ u. P b u s c x) same_version (subst (λ e. P e v s c x) same_old h))))
-
 pub returns-clause-longer : goal.returns-clause-longer
 returns-clause-longer g c =
     let it = c.args.self.now in
     let made = c.new-chain.ensures in
     let self_is = c.self-1.given.1 (sym (c.set_len.ensures.same.holder ∙ made.same_reference)) in
     let links_is = c.links-1.given.1 (sym (c.set_len.ensures.same.links ∙ made.same_links)) in
-    told (λ a v s b t. length s ≤ sectors_for v c.args.len → (more : List ℕ) × (changed : List ℕ) × (t ≡ s ++ more) × TakesIn {g = g.F.ReadMedium} more changed a b × (IsLinked (fat_of a) s → AreAmong t changed))
+    told_of_lent (λ a v s b t. length s ≤ sectors_for v c.args.len → (more : List ℕ) × (changed : List ℕ) × (t ≡ s ++ more) × TakesIn {g = g.F.ReadMedium} more changed a b × (IsLinked (fat_of a) s → AreAmong t changed))
     _ it _ _ _ _ _ _ _ _ made.holder made.chain.0 made.chain.1 self_is (ap ids_of links_is) c.set_len.ensures.longer c.requires.more
 
 pub returns-clause-filled : goal.returns-clause-filled
@@ -46,5 +42,5 @@ returns-clause-filled g c =
     let links_is = c.links-1.given.1 (sym (c.set_len.ensures.same.links ∙ made.same_links)) in
     let filled = subst (λ i. (length (ids_of c.new-chain.result.links.now) ≤ sectors_for (c.new-chain.result.links.now.version) c.args.len → OnOk c.set_len.result (Filled {g = g.F.ReadMedium} i c.new-chain.result.holder.now c.new-chain.result.links.now.version (ids_of c.new-chain.result.links.now) new.holder.now (ids_of new.links.now))))
     made.chain.3 c.set_len.ensures.filled in
-    told (λ a v s b t. length s ≤ sectors_for v c.args.len → OnOk c.set_len.result (Filled {g = g.F.ReadMedium} c.args.init a v s b t))
+    told_of_lent (λ a v s b t. length s ≤ sectors_for v c.args.len → OnOk c.set_len.result (Filled {g = g.F.ReadMedium} c.args.init a v s b t))
     _ it _ _ _ _ _ _ _ _ made.holder made.chain.0 made.chain.1 self_is (ap ids_of links_is) filled c.requires.more

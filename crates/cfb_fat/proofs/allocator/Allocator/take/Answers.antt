@@ -1,4 +1,4 @@
-use Rattle.std.proofs.Common.{◌≡◌, [], ◌∷◌, ◌++◌, length, get_or, refl, ap, inl, sym, subst, ◌∙◌, arith, ⊎_elim, IsTrue}
+use Rattle.std.proofs.Common.{◌≡◌, ◌+◌, [], ◌∷◌, ◌++◌, length, get_or, refl, ap, inl, sym, subst, ◌∙◌, arith, ⊎_elim, IsTrue}
 use Rattle.cfb_sectors.specs.Held.{HasItsCause}
 use Rattle.cfb_sectors.specs.Sectors.{end_of_chain, free, sector, sector_start, Chain as IsChain}
 use Rattle.std.proofs.lemmas.Option.{slice_get-get_or, slice_get_within, get_or_from_slice_get}
@@ -14,6 +14,8 @@ use Rattle.cfb_chains.specs.Changes.{IsNoneOf}
 use Rattle.std.proofs.lemmas.Bool.Decides.{leb_tells}
 use Rattle.cfb_fat.proofs.EntryChanges.{cause_since}
 use Rattle.cfb_fat.proofs.GrowthSteps.{chain_one, err_both, err_map, grows_again, grows_taken, marked_appended, ok_both, ok_map, ok_three, on_err_map, on_ok_map}
+use Rattle.cfb_fat.proofs.Sparing.{exit_spends, less_memory}
+use Rattle.std.proofs.lemmas.Result.{IfErr-weaker}
 use Rattle.cfb_fat.proofs.allocator.Allocator.take.Goals as goal
 
 pub returns-clause-grows : goal.returns-clause-grows
@@ -92,3 +94,12 @@ returns-clause-fresh g c =
       filled = λ honest. subst (λ v. sector v (bytes_of c.append.new.self) n ≡ initial c.args.init (sector_len v)) room.version (fresh.filled (subst IsTrue (sym room.honest) honest));
       writable = subst (λ v. MayWrite c.append.new.self (sector_start v n) (sector_len v)) room.version fresh.writable;
     })
+
+pub returns-in-Some-clause-spends : goal.returns-in-Some-clause-spends
+returns-in-Some-clause-spends g c = λ n memory. (less_memory c.take_free.new.self n (c.in_ok-take_free.ensures.memory 0 (n + 1) memory), tt)
+
+pub returns-in_err-make_room-clause-spends : goal.returns-in_err-make_room-clause-spends
+returns-in_err-make_room-clause-spends g c = λ n memory. exit_spends c.from_residual-in_err-make_room.result c.in_err-make_room.field-0.0 _ _ c.from_residual-in_err-make_room.ensures.1 (c.in_err-make_room.ensures.spends n memory).1
+
+pub returns-clause-spends : goal.returns-clause-spends
+returns-clause-spends g c = λ n memory. (c.append.ensures.spends n (c.in_ok-make_room.ensures.spends n memory).0, IfErr-weaker c.append.result _ _ (λ e failed. inl failed) c.append.ensures.attempts.err)

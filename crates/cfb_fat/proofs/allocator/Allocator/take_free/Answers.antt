@@ -89,3 +89,6 @@ returns-in_err-set_entry-clause-attempts g c =
       cause = passed_on back.result e (HasItsCause a b) back.ensures.1 (cause_since a mid b e first.writes.sectors.0.continues (first.live ∙ sym c.requires.live) set.cause);
       fault = passed_on back.result e (IsFaultUnless ⊥) back.ensures.1 set.fault;
     }
+
+pub returns-clause-memory : goal.returns-clause-memory
+returns-clause-memory g c = λ entries n memory. c.in_ok-set_entry.ensures.memory entries n (c.in_ok-init_beside.ensures.memory entries n memory)

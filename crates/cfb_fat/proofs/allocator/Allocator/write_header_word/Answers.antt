@@ -3,16 +3,8 @@ use Rattle.std.specs.Int.{to_le_bytes, w32}
 use Rattle.cfb_fat.specs.Changing.{MayWrite, WritesBeside}
 use Rattle.cfb_fat.proofs.GrowthSteps.{on_ok_map}
 use Rattle.cfb_fat.specs.HeaderWords.{word_place}
-use Rattle.cfb_fat.specs.declared.header.HeaderWord.{HeaderWord}
-use Rattle.cfb_fat.specs.declared.header.HeaderWord.TheVariants.{DirectorySectors, FirstDirectorySector, FirstMiniFatSector, MiniFatSectors}
-use Rattle.cfb_fat.proofs.Leaving.{word_leave, word_writable}
+use Rattle.cfb_fat.proofs.Leaving.{beside_words, word_leave, word_writable}
 use Rattle.cfb_fat.proofs.allocator.Allocator.write_header_word.Goals as goal
-
-beside_words : (word : HeaderWord) → (word_place word + 4 ≤ 44) ⊎ ((48 ≤ word_place word) × (word_place word + 4 ≤ 68))
-beside_words DirectorySectors = inl (omega arith)
-beside_words FirstDirectorySector = inr (omega arith, omega arith)
-beside_words FirstMiniFatSector = inr (omega arith, omega arith)
-beside_words MiniFatSectors = inr (omega arith, omega arith)
 
 pub write_beside-requires : goal.write_beside-requires
 write_beside-requires g c =

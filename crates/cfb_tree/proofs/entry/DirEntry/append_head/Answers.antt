@@ -2,8 +2,8 @@ use Rattle.std.proofs.Common.{◌≡◌, ◌++◌, ◌∷◌, [], ap, ◌∙◌}
 use Rattle.std.specs.Int.{w16, w32, to_le_bytes}
 use Rattle.std.specs.List.{flat_map}
 use Rattle.cfb_medium.specs.Numbers.{number_bytes}
-use Rattle.cfb_sectors.proofs.Appending.{on_ok, Begins-append, Begins-then}
-use Rattle.cfb_tree.proofs.FieldSteps.{appended_3, appended_4, regrouped}
+use Rattle.cfb_sectors.proofs.Appending.{appended_3, appended_4, on_ok, Begins-append, Begins-then}
+use Rattle.cfb_tree.proofs.FieldSteps.{regrouped}
 use Rattle.cfb_tree.proofs.entry.DirEntry.append_head.Goals as goal
 
 pub returns-clause-ok : goal.returns-clause-ok

@@ -1,9 +1,9 @@
 use Rattle.std.proofs.Common.{◌≡◌, ◌++◌, ap, sym, ◌∙◌}
 use Rattle.std.specs.Int.{w32, w64, to_le_bytes}
-use Rattle.cfb_sectors.proofs.Appending.{on_ok, Begins-append, Begins-then}
+use Rattle.cfb_sectors.proofs.Appending.{appended_2, appended_3, on_ok, Begins-append, Begins-then}
 use Rattle.cfb_tree.specs.Directory.{entry_bytes}
 use Rattle.cfb_tree.specs.EntryViews.{entry_in}
-use Rattle.cfb_tree.proofs.FieldSteps.{appended_2, appended_3, entry_parts}
+use Rattle.cfb_tree.proofs.FieldSteps.{entry_parts}
 use Rattle.cfb_tree.proofs.entry.DirEntry.append_to.Goals as goal
 
 pub returns-clause-ok : goal.returns-clause-ok

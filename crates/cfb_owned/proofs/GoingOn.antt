@@ -1,0 +1,108 @@
+-- Whatever was done to the file, it goes on.
+use Rattle.std.proofs.Common.{◌≡◌, ℕ, ◌+◌, ◌<◌, ◌≤◌, inr, ◌||◌, ◌⊎◌, ⊎_elim, false, length, List, inl, ap, sym, subst, ◌∙◌, arith, IsTrue}
+use Rattle.cfb_medium.specs.Calls.{HasCause}
+use Rattle.cfb_medium.specs.declared.error.Error.{Error}
+use Rattle.cfb_medium.specs.declared.medium.ReadMedium.{Ghosts}
+use Rattle.cfb_sectors.specs.Held.{count_of}
+use Rattle.cfb_sectors.specs.Sectors.{filled_part, sector_start}
+use Rattle.cfb_chains.proofs.Overwriting.{beside}
+use Rattle.cfb_chains.proofs.LongerTables.{never}
+use Rattle.cfb_fat.specs.declared.allocator.Allocator.{Allocator}
+use Rattle.cfb_fat.specs.Changing.{ChangesFat, WritesBeside}
+use Rattle.cfb_fat.specs.Growing.{TakesIn}
+use Rattle.cfb_fat.specs.Keeping.{told_same}
+use Rattle.cfb_fat.specs.Listed.{Counts}
+use Rattle.cfb_fat.specs.Tables.{bytes_of, difat_sectors_of, fat_sectors_of, has_failed_here, medium_of, sectors_of, version_of, AllFails, AllRests, HasCauseBelow}
+use Rattle.cfb_fat.proofs.Listing.{header_whole}
+use Rattle.cfb_fat.proofs.ListedStays.{longer_over, told_in, told_kept}
+use Rattle.cfb_owned.specs.Chains.{GoesOn}
+
+module _ {F : Type 0} {g : Ghosts F} where
+  pub rests_go_on : (a b : Allocator F g) → AllRests a b → GoesOn a b
+  rests_go_on a b h = record {
+    honest = h.sectors.honest;
+    continues = h.sectors.continues;
+    version = h.sectors.version;
+    live = λ live. sym h.sectors.failed ∙ live;
+    orderly = λ live. h.orderly;
+    told = λ live honest orderly told. told_same a b (h.sectors.bytes honest) h.difat_sectors h.fat_sectors told;
+  }
+
+  pub takes_go_on : (taken entries : List ℕ) (a b : Allocator F g) → TakesIn taken entries a b → GoesOn a b
+  takes_go_on taken entries a b h = record {
+    honest = h.grows.honest;
+    continues = h.grows.continues;
+    version = h.grows.version;
+    live = h.grows.live;
+    orderly = h.grows.orderly;
+    told = λ live honest orderly told. h.grows.told live honest (inl told);
+  }
+
+  pub changes_go_on : (entries : List ℕ) (a b : Allocator F g) → ChangesFat entries a b → GoesOn a b
+  changes_go_on entries a b h = record {
+    honest = h.honest;
+    continues = h.continues;
+    version = h.version;
+    live = h.live;
+    orderly = λ live. h.orderly;
+    told = λ live honest orderly told. h.told live honest told;
+  }
+
+  -- a write in a sector that is there
+  pub writes_go_on : (n offset : ℕ) (xs : List ℕ) (a b : Allocator F g) → n < count_of (sectors_of a) → WritesBeside (sector_start (version_of a) n + offset) xs a b → GoesOn a b
+  writes_go_on n offset xs a b there h = record {
+    honest = h.sectors.0.honest;
+    continues = h.sectors.0.continues;
+    version = h.sectors.0.version;
+    live = h.sectors.0.live;
+    orderly = λ live. h.orderly;
+    told = λ live honest orderly told.
+        subst (λ l. Counts (bytes_of b) l (fat_sectors_of b)) (sym h.difat_sectors) (subst (Counts (bytes_of b) (difat_sectors_of a)) (sym h.fat_sectors)
+        (told_in (version_of a) (bytes_of a) (bytes_of b) xs (difat_sectors_of a) (fat_sectors_of a) n offset (h.sectors.0.bytes live honest)
+        (header_whole (version_of a) (bytes_of a) (count_of (sectors_of a)) (a.sectors.counted (h.sectors.0.live live) honest) (omega (arith, there))) told));
+  }
+
+  -- a number of the header that is none of the tables'
+  pub word_goes_on : (place : ℕ) (xs : List ℕ) (a b : Allocator F g) → length xs ≡ 4 → (place + 4 ≤ 44) ⊎ ((48 ≤ place) × (place + 4 ≤ 68)) → WritesBeside place xs a b → GoesOn a b
+  word_goes_on place xs a b four at h = record {
+    honest = h.sectors.0.honest;
+    continues = h.sectors.0.continues;
+    version = h.sectors.0.version;
+    live = h.sectors.0.live;
+    orderly = λ live. h.orderly;
+    told = λ live honest orderly told.
+        let is = h.sectors.0.bytes live honest in
+        let old = bytes_of a in
+        let whole = header_whole (version_of a) old (count_of (sectors_of a)) (a.sectors.counted (h.sectors.0.live live) honest) (a.orderly orderly).some in
+        let longer = longer_over old (bytes_of b) xs place is in
+        let first : filled_part (bytes_of b) 44 4 ≡ filled_part old 44 4 = ap (λ l. filled_part l 44 4) is ∙ beside old xs place 44 4 (⊎_elim (λ before. inr (omega (arith, before, four))) (λ after. inl (omega (arith, after))) at) in
+        let second : filled_part (bytes_of b) 72 4 ≡ filled_part old 72 4 = ap (λ l. filled_part l 72 4) is ∙ beside old xs place 72 4 (inr (⊎_elim (λ before. omega (arith, before, four)) (λ after. omega (arith, after, four)) at)) in
+        subst (λ l. Counts (bytes_of b) l (fat_sectors_of b)) (sym h.difat_sectors) (subst (Counts (bytes_of b) (difat_sectors_of a)) (sym h.fat_sectors)
+        (told_kept old (bytes_of b) (difat_sectors_of a) (fat_sectors_of a) whole (omega (arith, whole, longer)) first second told));
+  }
+
+  -- a write somewhere, or reads, after which it was made to fail
+  pub fails_go_on : (place : ℕ) (xs : List ℕ) (a m b c : Allocator F g) → GoesOn a m → WritesBeside place xs m b ⊎ AllRests m b → AllFails b c → GoesOn a c
+  fails_go_on place xs a m b c h either k = record {
+    honest = ap g.honest k.sectors.medium ∙ ⊎_elim (λ wrote. wrote.sectors.0.honest) (λ rests. rests.sectors.honest) either ∙ h.honest;
+    continues = λ start from. subst (g.continues start) (sym k.sectors.medium) (⊎_elim (λ wrote. wrote.sectors.0.continues start (h.continues start from)) (λ rests. rests.sectors.continues start (h.continues start from)) either);
+    version = k.sectors.version ∙ ⊎_elim (λ wrote. wrote.sectors.0.version) (λ rests. rests.sectors.version) either ∙ h.version;
+    live = never (has_failed_here c) k.sectors.failed;
+    orderly = never (has_failed_here c) k.sectors.failed;
+    told = never (has_failed_here c) k.sectors.failed;
+  }
+
+  pub goes_then : (a b c : Allocator F g) → GoesOn a b → GoesOn b c → GoesOn a c
+  goes_then a b c h k = record {
+    honest = k.honest ∙ h.honest;
+    continues = λ start from. k.continues start (h.continues start from);
+    version = k.version ∙ h.version;
+    live = λ live. h.live (k.live live);
+    orderly = λ live. k.orderly live ∙ h.orderly (k.live live);
+    told = λ live honest orderly told. k.told live (subst IsTrue (sym h.honest) honest) (subst IsTrue (sym (h.orderly (k.live live))) orderly) (h.told (k.live live) honest orderly told);
+  }
+
+  -- a cause since a later state is one since the earlier
+  pub goes_cause : (a b c : Allocator F g) (e : Error) → GoesOn a b → has_failed_here b ≡ false → HasCauseBelow b c e → HasCauseBelow a c e
+  goes_cause a b c e h live cause =
+      λ start from. subst (λ f. HasCause g.failures (λ m. f || g.failed m) start (medium_of c) e) (live ∙ sym (h.live live)) (cause start (h.continues start from))

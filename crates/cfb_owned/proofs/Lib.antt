@@ -1,0 +1,5 @@
+pub mod GoingOn
+pub mod WrittenParts
+pub mod Owning
+pub mod ReadParts
+pub mod Resizing

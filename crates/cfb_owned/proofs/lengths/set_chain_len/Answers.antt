@@ -1,0 +1,55 @@
+use Rattle.std.proofs.Common.{length, sym, ap, subst, ◌∙◌, ⊎_elim}
+use Rattle.std.proofs.lemmas.Bool.Decides.{leb_tells}
+use Rattle.cfb_chains.specs.ChainViews.{holder_of, sectors_of}
+use Rattle.std.specs.Prelude.{OnOk}
+use Rattle.cfb_sectors.proofs.Appending.{on_ok}
+use Rattle.cfb_owned.proofs.Resizing.{on_ok_both, resized_links, resized_longer, resized_shorter, Resized}
+use Rattle.cfb_chains.specs.LinkViews.{ids_of, links_version}
+use Rattle.cfb_chains.specs.Positions.{sectors_for}
+use Rattle.cfb_chains.proofs.Lending.{told_of_lent}
+use Rattle.cfb_owned.specs.Chains.{GoesOn}
+use Rattle.cfb_owned.proofs.GoingOn.{changes_go_on, takes_go_on}
+use Rattle.cfb_owned.proofs.lengths.set_chain_len.Goals as goal
+
+pub returns-clause-goes_on : goal.returns-clause-goes_on
+returns-clause-goes_on g c =
+    let made = c.new-chain.ensures in
+    let did = c.set_len.ensures in
+    let a = holder_of c.new-chain.result in
+    let b = holder_of c.set_len.new.self in
+    let is = c.allocator-1.given.1 (sym (did.same.holder ∙ made.same_reference)) in
+    let links_is = c.links-1.given.1 (sym (did.same.links ∙ made.same_links)) in
+    let went : GoesOn {g = g.F.ReadMedium} a b =
+    ⊎_elim
+    (λ long. let longer = did.longer long.1 in takes_go_on longer.0 longer.1 a b longer.3)
+    (λ short. let frees = (did.shorter short.1).frees in changes_go_on frees.0 a b frees.1)
+    (leb_tells (length (sectors_of c.new-chain.result)) (sectors_for c.new-chain.result.links.now.version c.args.len)) in
+    told_of_lent (λ a v s b t. GoesOn {g = g.F.ReadMedium} a b) _ c.args.allocator.now _ _ _ _ _ _ _ _ made.holder made.chain.0 made.chain.1 is (ap ids_of links_is) went
+
+pub returns-clause-resized : goal.returns-clause-resized
+returns-clause-resized g c =
+    let made = c.new-chain.ensures in
+    let did = c.set_len.ensures in
+    let r = c.set_len.result in
+    let a = holder_of c.new-chain.result in
+    let b = holder_of c.set_len.new.self in
+    let v = c.new-chain.result.links.now.version in
+    let s = sectors_of c.new-chain.result in
+    let t = sectors_of c.set_len.new.self in
+    let i = c.new-chain.result.init in
+    let n = sectors_for v c.args.len in
+    let is = c.allocator-1.given.1 (sym (did.same.holder ∙ made.same_reference)) in
+    let links_is = c.links-1.given.1 (sym (did.same.links ∙ made.same_links)) in
+    let both = on_ok_both r _ _ did.answers.live did.keeps in
+    let did_so : OnOk r (Resized {g = g.F.ReadMedium} i n a v s b t) =
+    ⊎_elim
+    (λ long. let longer = did.longer long.1 in
+    on_ok r _ _ (λ all. resized_longer i n a b v s t longer.0 longer.1 long.1 all.0.0.0 all.0.0.1 longer.2 longer.3 longer.4 all.0.1.linked all.0.1.writable all.1) (on_ok_both r _ _ both (did.filled long.1)))
+    (λ short. let cuts = did.shorter short.1 in
+    on_ok r _ _ (λ all. resized_shorter i n a b v s t cuts.frees.0 all.0.0.0 all.0.0.1 all.1.0.0 cuts.frees.1 all.1.1.0 all.0.1.linked all.0.1.writable all.1.1.1)
+    (on_ok_both r _ _ both (on_ok_both r _ _ cuts.cut (on_ok_both r _ _ cuts.frees.2 cuts.bytes))))
+    (leb_tells (length s) n) in
+    let told = told_of_lent (λ a v s b t. OnOk r (Resized {g = g.F.ReadMedium} c.args.init (sectors_for v c.args.len) a v s b t))
+    a c.args.allocator.now b _ v c.args.links.now.version s (ids_of c.args.links.now) t _ made.holder made.chain.0 made.chain.1 is (ap ids_of links_is)
+    (subst (λ j. OnOk r (Resized {g = g.F.ReadMedium} j n a v s b t)) made.chain.3 did_so) in
+    on_ok r _ _ (λ had chain. resized_links c.args.init (sectors_for c.args.links.now.version c.args.len) c.args.allocator.now _ c.args.links.now _ (ap links_version links_is ∙ did.same.version ∙ made.chain.0) had chain) told

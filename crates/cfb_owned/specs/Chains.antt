@@ -1,0 +1,86 @@
+-- What calls on a chain of sectors do: to its bytes, to its sectors, and to what others own ([MS-CFB] 2.3).
+use Rattle.std.specs.Prelude.{◌≡◌, ℕ, ◌+◌, ◌-◌, ◌*◌, ◌<◌, ◌⊎◌, false, List, [], ◌++◌, drop, length, take, IsTrue}
+use Rattle.cfb_medium.specs.Bytes.{overwritten}
+use Rattle.cfb_medium.specs.Calls.{Extends}
+use Rattle.cfb_medium.specs.Versions.{sector_len}
+use Rattle.cfb_medium.specs.declared.error.Error.{Error}
+use Rattle.cfb_medium.specs.declared.error.Error.TheVariants.{Full}
+use Rattle.cfb_medium.specs.declared.medium.ReadMedium.{Ghosts}
+use Rattle.cfb_sectors.specs.Copies.{copies}
+use Rattle.cfb_sectors.specs.Initial.{initial}
+use Rattle.cfb_sectors.specs.Sectors.{free, greatest_regular, joined, sector}
+use Rattle.cfb_sectors.specs.declared.initial.SectorInit.{SectorInit}
+use Rattle.cfb_chains.specs.ChainCalls.{IsInvalidPlace}
+use Rattle.cfb_chains.specs.Changes.{AreNoneOf, HaveEntry}
+use Rattle.cfb_chains.specs.Grown.{IsLinked}
+use Rattle.cfb_chains.specs.LinkViews.{ids_of, links_version}
+use Rattle.cfb_chains.specs.Owned.{Becomes}
+use Rattle.cfb_chains.specs.declared.links.Links.{Links}
+use Rattle.cfb_fat.specs.Growing.{LacksNumbers}
+use Rattle.cfb_fat.specs.Seeing.{seen_of}
+use Rattle.cfb_fat.specs.Tables.{bytes_of, fat_of, has_failed_here, is_honest, medium_of, orderly_of, tables_of, version_of, IsTold}
+use Rattle.cfb_fat.specs.declared.allocator.Allocator.{Allocator}
+
+-- refusals by rule: there is no such place, or the layer's tables can't be changed or haven't the chain; or no number is left
+abbrev pub IsInvalidPlaceOrFull : Error → Type 0
+IsInvalidPlaceOrFull e = IsInvalidPlace e ⊎ (e ≡ Full)
+
+-- so many bytes its sectors have
+abbrev pub len_of : Links → ℕ
+len_of it = length (ids_of it) * sector_len (links_version it)
+
+module _ {F : Type 0} {g : Ghosts F} where
+  -- the same file of the same version; where it has not failed its tables can be changed if they could, and then the header's
+  -- numbers of their sectors are right if they were. Nothing was published
+  pub record GoesOn (old new : Allocator F g) : Type 0 where
+    pub honest : g.honest (medium_of new) ≡ g.honest (medium_of old)
+    pub continues : Extends g.continues (medium_of old) (medium_of new)
+    pub version : version_of new ≡ version_of old
+    pub live : has_failed_here new ≡ false → has_failed_here old ≡ false
+    pub orderly : has_failed_here new ≡ false → orderly_of new ≡ orderly_of old
+    pub told : has_failed_here new ≡ false → IsTrue (is_honest old) → IsTrue (orderly_of old) → IsTold old → IsTold new
+
+  -- an honest file whose FAT has this chain
+  pub record HasLinks (it : Allocator F g) (links : Links) : Type 0 where
+    pub honest : IsTrue (is_honest it)
+    pub version : links_version links ≡ version_of it
+    pub linked : IsLinked (fat_of it) (ids_of links)
+
+  -- so it is, and none of the chain's sectors holds a table
+  pub record HasChain (it : Allocator F g) (links : Links) : Type 0 where
+    pub has : HasLinks it links
+    pub beside : AreNoneOf (tables_of it) (ids_of links)
+
+  -- the chain's bytes: those of its sectors, joined
+  abbrev pub content_of : Allocator F g → Links → List ℕ
+  content_of it links = joined (version_of it) (bytes_of it) (ids_of links)
+
+  -- these bytes lie over the chain's from a place on, and its sectors are those that they were
+  pub record Overwrites (at : ℕ) (bytes : List ℕ) (old new : Allocator F g) (links : Links) : Type 0 where
+    pub chain : HasChain new links
+    pub becomes : Becomes (sector (version_of old)) [] (ids_of links) [] (ids_of links) (seen_of old) (seen_of new)
+    pub content : content_of new links ≡ overwritten (content_of old links) at bytes
+
+  -- The chain keeps so many sectors at its front, with their bytes, and those behind them are free. What it took in was in no
+  -- use, and holds what a sector of this kind does at first.
+  pub record Resizes (init : SectorInit) (count : ℕ) (old new : Allocator F g) (before after : Links) : Type 0 where
+    pub more : List ℕ
+    pub sectors : ids_of after ≡ take count (ids_of before) ++ more
+    pub chain : HasChain new after
+    pub becomes : Becomes (sector (version_of old)) [] (ids_of before) more (ids_of after) (seen_of old) (seen_of new)
+    pub freed : HaveEntry free (fat_of new) (drop count (ids_of before))
+    pub content : content_of new after
+        ≡ joined (version_of old) (bytes_of old) (take count (ids_of before)) ++ copies (length more) (initial init (sector_len (version_of old)))
+
+  -- The chain took in sectors that were in no use, which held what a sector of this kind does at first, and then these bytes lie
+  -- over its own from a place on.
+  pub record Writes (init : SectorInit) (at : ℕ) (bytes : List ℕ) (old new : Allocator F g) (before after : Links) : Type 0 where
+    pub more : List ℕ
+    pub sectors : ids_of after ≡ ids_of before ++ more
+    pub chain : HasChain new after
+    pub becomes : Becomes (sector (version_of old)) [] (ids_of before) more (ids_of after) (seen_of old) (seen_of new)
+    pub content : content_of new after ≡ overwritten (content_of old before ++ copies (length more) (initial init (sector_len (version_of old)))) at bytes
+
+  -- numbers are missing for a chain of so many sectors, in the FAT or in a chain
+  abbrev pub LacksSectors : Allocator F g → Links → ℕ → Type 0
+  LacksSectors it links count = LacksNumbers it (count - length (ids_of links)) ⊎ (greatest_regular + 1 < count)
