@@ -1,4 +1,6 @@
 pub mod Pool
+pub mod PoolIndex
+pub mod PoolParts
 pub mod PoolKept
 pub mod PoolState
 pub mod PoolReading

@@ -1,7 +1,10 @@
 //! The string pool of a Windows Installer database, and the cells that refer to it.
 #![tactic(auto)]
 
+mod indexing;
 mod laws;
+mod parts;
+mod places;
 mod poolbuilder;
 mod stringpool;
 mod stringref;
