@@ -1,4 +1,5 @@
 pub mod Pool
+pub mod PoolHeld
 pub mod PoolIndex
 pub mod PoolParts
 pub mod PoolKept

@@ -1,6 +1,7 @@
 //! The string pool of a Windows Installer database, and the cells that refer to it.
 #![tactic(auto)]
 
+mod held;
 mod indexing;
 mod laws;
 mod parts;

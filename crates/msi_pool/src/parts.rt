@@ -202,19 +202,12 @@ impl PoolParts for StdParts {
     }
 }
 
-// The least place of a set.
-fn least(places: &BTreeSet<u32>) -> Option<u32>
-    ensures { IsLeast (has_place places.now) result }
-{
-    places.first().copied()
-}
-
 // The least place of a text.
 fn least_with_room(room: &BTreeMap<String, BTreeSet<u32>>, text: &str) -> Option<u32>
     ensures { IsLeast (has_room room.now text.now) result }
 {
     match room.get(text) {
-        Some(places) => least(places),
+        Some(places) => places.first().copied(),
         None => None,
     }
 }

@@ -59,21 +59,26 @@ impl Places {
         self.parts.list.as_slice()
     }
 
-    // What memory is taken from.
-    pub(crate) fn allocator(&self) -> Global {
-        *self.parts.list.allocator()
+    // The index moves to a copy of the list; the list stays.
+    pub(crate) fn moved(self, copies: Vec<(String, u16)>) -> (Places, Vec<(String, u16)>)
+        requires { places_of copies.items ≡ self.places }
+        ensures moved { result.0.places ≡ self.places }
+        ensures left { places_of result.1.items ≡ self.places }
+    {
+        let StdParts { list, free, room } = self.parts;
+        let list_with_index = StdParts {
+            list: copies,
+            free,
+            room,
+        };
+        let moved = Places {
+            parts: list_with_index,
+        };
+        (moved, list)
     }
 }
 
 impl<P: PoolParts> Places<P> {
-    // The number of places.
-    pub(crate) fn len(&self) -> usize
-        ensures len { result ≡ length self.now.places }
-        ensures few { result < 2 ^ 32 }
-    {
-        self.parts.len()
-    }
-
     // Counts a use of the text at the least place that takes it, else at a new place, and tells its number. InvalidInput where
     // that is above the last; then, and after Memory, the places are as they were.
     pub(crate) fn incref(&mut self, text: String, last: u32) -> Result<u32, Error>
@@ -86,6 +91,7 @@ impl<P: PoolParts> Places<P> {
             ↔ (last < place_among (string_bytes text) self.old.places) }
         ensures kinds { IfErr result (λ e. (e ≡ Memory) ⊎ (e ≡ InvalidInput)) }
         ensures err { OnErr result (self.new.places ≡ self.old.places) }
+        ensures few { length self.new.places < 2 ^ 32 }
         ensures steps { self.new.steps ≤ self.old.steps + 16 }
     {
         let index = first_place(&mut self.parts, text.as_str());
@@ -104,6 +110,7 @@ impl<P: PoolParts> Places<P> {
             ↔ ((at_place self.old.places (index + 1)).count ≡ 0) }
         ensures kinds { IfErr result (λ e. (e ≡ Memory) ⊎ (e ≡ InvalidData)) }
         ensures err { OnErr result (self.new.places ≡ self.old.places) }
+        ensures few { length self.new.places < 2 ^ 32 }
         ensures steps { self.new.steps ≤ self.old.steps + 16 }
     {
         uncount_at(&mut self.parts, index)

@@ -7,6 +7,7 @@ ghost use Rattle.msi_pool.specs.Pool.{place, place_among, last_place, with_use, 
 ghost use Rattle.msi_pool.specs.PoolState.{changed_to, is_in_size, length_limit};
 ghost use Rattle.cfb_medium.specs.declared.error.Error.TheVariants.{InvalidInput, InvalidData, Memory};
 
+use crate::held::Held;
 use crate::places::Places;
 use crate::stringref::StringRef;
 use cfb_medium::Error;
@@ -32,30 +33,21 @@ const LENGTH_LIMIT: usize = 4294967295;
 pub struct StringPool {
     codepage: CodePage,
     long_string_refs: bool,
-    places: Places,
+    held: Held,
     is_modified: bool,
 }
 
 impl Model for StringPool {
     ghost use Rattle.msi_pool.specs.Pool.{Pool};
     ghost use Rattle.msi_pool.specs.PoolState.{PoolState};
+    ghost use Rattle.msi_pool.specs.PoolHeld.{held_places};
+    ghost use Rattle.std.specs.Prelude.{length, ◌<◌, ◌^◌};
 
     ghost Value = { PoolState };
 
-    ghost view = { λ p. record { pool = record { page = p.codepage; long = p.long_string_refs; places = p.places.places }; modified = p.is_modified } };
-}
+    ghost view = { λ p. record { pool = record { page = p.codepage; long = p.long_string_refs; places = held_places p.held }; modified = p.is_modified } };
 
-// Copies of texts with their counts.
-fn copied_strings(alloc: Global, strings: &[(String, u16)]) -> Result<Vec<(String, u16)>, Error>
-    ensures ok { IfOk result (λ copies. places_of copies.items ≡ places_of strings.now) }
-    ensures size { IfOk result (λ copies. length copies.items ≡ length strings.now) }
-    ensures err { IfErr result (λ e. e ≡ Memory) }
-{
-    let mut copies = Vec::new(alloc);
-    for (text, count) in strings {
-        copies.push((String::from_str(alloc, text)?, *count))?;
-    }
-    Ok(copies)
+    ghost invariant = { λ p. length (held_places p.held) < 2 ^ 32 };
 }
 
 impl StringPool {
@@ -66,7 +58,7 @@ impl StringPool {
         StringPool {
             codepage,
             long_string_refs: false,
-            places: Places::new(alloc),
+            held: Held::Indexed(Places::new(alloc)),
             is_modified: true,
         }
     }
@@ -94,21 +86,23 @@ impl StringPool {
         Ok(StringPool {
             codepage,
             long_string_refs,
-            places: Places::of(alloc, strings)?,
+            held: Held::Indexed(Places::of(alloc, strings)?),
             is_modified: false,
         })
     }
 
-    /// A copy of its own.
-    pub fn clone(&self, alloc: Global) -> Result<StringPool, Error>
-        ensures ok { IfOk result (λ pool. pool ≡ self.now) }
+    /// A copy of its own, to be changed and put in the place of this pool. It takes with it what finds
+    /// texts quickly; where this pool stays, the next draft makes that anew. Memory leaves it as it was.
+    pub fn draft(&mut self, alloc: Global) -> Result<StringPool, Error>
+        ensures ok { IfOk result (λ draft. draft ≡ self.old) }
+        ensures same { self.new ≡ self.old }
         ensures err { IfErr result (λ e. e ≡ Memory) }
     {
-        let strings = copied_strings(alloc, self.places.list())?;
+        let held = self.held.draft(alloc)?;
         Ok(StringPool {
             codepage: self.codepage,
             long_string_refs: self.long_string_refs,
-            places: Places::of(alloc, strings)?,
+            held,
             is_modified: self.is_modified,
         })
     }
@@ -132,7 +126,7 @@ impl StringPool {
     pub fn num_strings(&self) -> u32
         ensures { result ≡ length self.now.pool.places }
     {
-        self.places.len() as u32
+        self.held.strings().len() as u32
     }
 
     /// Whether references take three bytes instead of two.
@@ -167,7 +161,7 @@ impl StringPool {
     pub fn get(&self, string_ref: StringRef) -> &str
         ensures { result.now ≡ (at_place self.now.pool.places string_ref).text }
     {
-        match self.places.list().get(string_ref.index()) {
+        match self.held.strings().get(string_ref.index()) {
             Some((text, _)) => text.as_str(),
             None => "",
         }
@@ -177,7 +171,7 @@ impl StringPool {
     pub fn refcount(&self, string_ref: StringRef) -> u16
         ensures { result ≡ (at_place self.now.pool.places string_ref).count }
     {
-        match self.places.list().get(string_ref.index()) {
+        match self.held.strings().get(string_ref.index()) {
             Some((_, count)) => *count,
             None => 0,
         }
@@ -195,7 +189,7 @@ impl StringPool {
         ensures kinds { IfErr result (λ e. (e ≡ Memory) ⊎ (e ≡ InvalidInput)) }
         ensures err { OnErr result (self.new ≡ self.old) }
     {
-        let number = self.places.incref(text, last_place(self.long_string_refs))?;
+        let number = self.held.incref(text, last_place(self.long_string_refs))?;
         self.mark_modified();
         Ok(StringRef::new(number))
     }
@@ -213,7 +207,7 @@ impl StringPool {
         ensures kinds { IfErr result (λ e. (e ≡ Memory) ⊎ (e ≡ InvalidData)) }
         ensures err { OnErr result (self.new ≡ self.old) }
     {
-        self.places.decref(string_ref.number() - 1)?;
+        self.held.decref(string_ref)?;
         self.mark_modified();
         Ok(())
     }
@@ -234,9 +228,9 @@ impl StringPool {
         } else {
             0
         };
-        let mut bytes = Vec::new(self.places.allocator());
+        let mut bytes = Vec::new(*writer.allocator());
         write_u32(&mut bytes, self.codepage.id() as u32 + width_bit)?;
-        write_heads(&mut bytes, self.codepage, self.places.list())?;
+        write_heads(&mut bytes, self.codepage, self.held.strings())?;
         if LENGTH_LIMIT <= bytes.len() {
             return Err(Error::InvalidInput);
         }
@@ -251,7 +245,7 @@ impl StringPool {
         ensures kinds { IfErr result (λ e. e ≡ Memory) }
         ensures err { OnErr result (writer.new.items ≡ writer.old.items) }
     {
-        let bytes = text_bytes(self.places.allocator(), self.codepage, self.places.list())?;
+        let bytes = text_bytes(*writer.allocator(), self.codepage, self.held.strings())?;
         writer.extend_from_slice(bytes.as_slice())?;
         Ok(())
     }
