@@ -1,6 +1,6 @@
 //! The list of places, the set of the free ones, and the map of those that can take one more use of their text.
 ghost use Rattle.cfb_medium.specs.declared.error.Error.TheVariants.{Memory};
-ghost use Rattle.std.specs.Prelude.{◌≡◌, ◌+◌, ◌≤◌, ◌<◌, ◌^◌, ◌++◌, ◌∷◌, [], ℕ, List, IfErr, IfOk, OnErr, OnOk, length, true, false, if◌then◌else◌, ◌&&◌, ◌==◌, bytes_eq, slice_set, slice_index_or, string_bytes, take};
+ghost use Rattle.std.specs.Prelude.{◌≡◌, ◌+◌, ◌<◌, ◌++◌, ◌∷◌, [], ℕ, List, IfErr, OnErr, OnOk, length, true, false, if◌then◌else◌, ◌&&◌, ◌==◌, bytes_eq, slice_set, slice_index_or, string_bytes, take};
 ghost use Rattle.std.specs.Bool.{OnTrue};
 ghost use Rattle.msi_pool.specs.Pool.{Place, no_place, one_less, places_of};
 ghost use Rattle.msi_pool.specs.PoolIndex.{Parts, KeepsAll, KeepsFree, KeepsRoom, SetsFree, SetsRoom, Takes, IsLeast};

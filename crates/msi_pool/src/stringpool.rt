@@ -1,9 +1,8 @@
 //! The string pool: texts, each with the number of its uses.
-ghost use Rattle.std.specs.Prelude.{◌≡◌, ◌↔◌, ◌⊎◌, ◌+◌, ◌<◌, ◌≤◌, ◌^◌, ◌++◌, ℕ, [], true, false, IsTrue, nat_lt, map, length, Some, None, IfOk, OnOk, OnErr, IfErr, IsErrOf, string_bytes, slice_get};
+ghost use Rattle.std.specs.Prelude.{◌≡◌, ◌↔◌, ◌⊎◌, ◌+◌, ◌<◌, ◌^◌, ◌++◌, [], true, false, IsTrue, nat_lt, map, length, Some, None, IfOk, OnOk, OnErr, IfErr, IsErrOf, string_bytes};
 ghost use Rattle.std.specs.List.{flat_map, list_all};
-ghost use Rattle.msi_texts.specs.Numbers.{le_bytes};
-ghost use Rattle.msi_texts.specs.Page.{encoded, id_of};
-ghost use Rattle.msi_pool.specs.Pool.{place, place_among, last_place, with_use, without_use, at_place, places_of, used, head_bytes, head_of, stored_place, pool_stream, data_stream, width_bit};
+ghost use Rattle.msi_texts.specs.Page.{encoded};
+ghost use Rattle.msi_pool.specs.Pool.{place, last_place, without_use, at_place, places_of, used, head_bytes, head_of, stored_place, pool_stream, data_stream, width_bit};
 ghost use Rattle.msi_pool.specs.PoolState.{changed_to, is_in_size, length_limit};
 ghost use Rattle.cfb_medium.specs.declared.error.Error.TheVariants.{InvalidInput, InvalidData, Memory};
 
