@@ -4,6 +4,7 @@
 mod chains;
 mod inserts;
 mod joins;
+mod pools;
 
 use anyhow::{Result, bail};
 use std::env;
@@ -15,6 +16,8 @@ chain SECTORS     appends sectors to one chain, a call each, and frees the chain
 insert ROWS       inserts so many rows into a table of as many, by one insert
 insert-one ROWS   inserts one row into a table of so many
 join ROWS         joins two tables of so many rows by equal numbers
+pool TEXTS        counts a use of each of so many texts, and then another one of each
+pool-insert ROWS  inserts so many rows, an insert each, over a pool of 65535 texts
 ";
 
 fn main(rt: HostRuntime) -> Result<()> {
@@ -37,6 +40,8 @@ fn run(rt: &HostRuntime, name: &str, size: usize) -> Result<()> {
         "insert" => inserts::insert(rt, size),
         "insert-one" => inserts::insert_one(rt, size),
         "join" => joins::join(rt, size),
+        "pool" => pools::count_twice(rt, size),
+        "pool-insert" => pools::insert_one_each(rt, size),
         _ => bail!("there is no benchmark of this name"),
     }
 }

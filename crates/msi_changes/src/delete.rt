@@ -98,7 +98,7 @@ impl Delete {
         if !knows_condition(alloc, table, &self.condition)? {
             return Err(Error::InvalidInput);
         }
-        let mut counted = pool.clone(alloc)?;
+        let mut counted = pool.draft(alloc)?;
         let left = match rows_left(alloc, pool, table, &self.condition, rows, &mut counted) {
             Err(error) => return Err(error),
             Ok(left) => left,

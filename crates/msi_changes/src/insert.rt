@@ -126,7 +126,7 @@ impl Insert {
             Err(error) => return Err(error),
             Ok(()) => {}
         }
-        let mut counted = pool.clone(alloc)?;
+        let mut counted = pool.draft(alloc)?;
         let mut new_rows = match count_rows(alloc, &mut counted, &self.new_rows) {
             Err(error) => return Err(error),
             Ok(new_rows) => new_rows,

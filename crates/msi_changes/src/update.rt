@@ -136,7 +136,7 @@ impl Update {
             Err(error) => return Err(error),
             Ok(()) => {}
         }
-        let mut counted = pool.clone(alloc)?;
+        let mut counted = pool.draft(alloc)?;
         let after = match set_rows(alloc, pool, table, rows, &mut counted, sets, condition) {
             Err(error) => return Err(error),
             Ok(after) => after,

@@ -4,7 +4,7 @@ use Rattle.std.specs.Prelude.{Some, codes, Result, Ok, Err}
 use Rattle.std.specs.Str.{chars, is_utf8}
 use Rattle.std.specs.Str.Lossy.{utf8_valid_len, utf8_lossy}
 use Rattle.std.proofs.Math.Utf8.{encode}
-use Rattle.msi_pool.specs.Pool.{Pool, Place, place, with_use, without_use, pool_stream}
+use Rattle.msi_pool.specs.Pool.{Pool, Place, place, place_among, with_use, without_use, pool_stream}
 use Rattle.msi_pool.specs.PoolReading.{begun, pool_of}
 use Rattle.msi_texts.specs.Results.{◌>>=◌}
 use Rattle.cfb_medium.specs.declared.error.Error.{Error}
@@ -35,6 +35,16 @@ three_left = without_use 3 (without_use 1 (without_use 2 (used_once (codes "Foo"
 
 least_taken : with_use (codes "Qux") (with_use (codes "Baz") three_left) ≡ used_once (codes "Baz") ∷ used_once (codes "Qux") ∷ record { text = []; count = 0 } ∷ []
 least_taken = refl
+
+-- a free place before one that holds the text
+abbrev two_with_a_gap : List Place
+two_with_a_gap = record { text = codes "A"; count = 65535 } ∷ record { text = []; count = 0 } ∷ used_once (codes "A") ∷ []
+
+gap_is_taken : place_among (codes "A") two_with_a_gap ≡ 2
+gap_is_taken = refl
+
+gap_is_used_again : with_use (codes "A") (with_use (codes "A") two_with_a_gap) ≡ record { text = codes "A"; count = 65535 } ∷ record { text = codes "A"; count = 2 } ∷ used_once (codes "A") ∷ []
+gap_is_used_again = refl
 
 -- reading the two streams
 abbrev read_both : List ℕ → List ℕ → Result Pool Error

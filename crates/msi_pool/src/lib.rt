@@ -1,7 +1,11 @@
 //! The string pool of a Windows Installer database, and the cells that refer to it.
 #![tactic(auto)]
 
+mod held;
+mod indexing;
 mod laws;
+mod parts;
+mod places;
 mod poolbuilder;
 mod stringpool;
 mod stringref;

@@ -93,8 +93,9 @@ impl StringPoolBuilder {
     {
         let mut rest = *reader;
         let strings = read_texts(alloc, self.codepage, self.heads.as_slice(), &mut rest)?;
+        let pool = StringPool::from_strings(alloc, self.codepage, self.long_string_refs, strings)?;
         *reader = rest;
-        Ok(StringPool::from_strings(self.codepage, self.long_string_refs, strings))
+        Ok(pool)
     }
 
     /// Whether each text of the data stream gives its bytes back when it is written under the page.

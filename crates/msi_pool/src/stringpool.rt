@@ -1,12 +1,13 @@
 //! The string pool: texts, each with the number of its uses.
-ghost use Rattle.std.specs.Prelude.{◌≡◌, ◌↔◌, ◌⊎◌, ◌+◌, ◌<◌, ◌≤◌, ◌^◌, ◌++◌, ℕ, [], true, false, IsTrue, nat_lt, map, length, Some, None, IfOk, OnOk, OnErr, IfErr, IsErrOf, string_bytes, slice_get};
+ghost use Rattle.std.specs.Prelude.{◌≡◌, ◌↔◌, ◌⊎◌, ◌+◌, ◌<◌, ◌^◌, ◌++◌, [], true, false, IsTrue, nat_lt, map, length, Some, None, IfOk, OnOk, OnErr, IfErr, IsErrOf, string_bytes};
 ghost use Rattle.std.specs.List.{flat_map, list_all};
-ghost use Rattle.msi_texts.specs.Numbers.{le_bytes};
-ghost use Rattle.msi_texts.specs.Page.{encoded, id_of};
-ghost use Rattle.msi_pool.specs.Pool.{place, place_among, last_place, with_use, without_use, at_place, places_of, used, head_bytes, head_of, stored_place, pool_stream, data_stream, width_bit};
+ghost use Rattle.msi_texts.specs.Page.{encoded};
+ghost use Rattle.msi_pool.specs.Pool.{place, last_place, without_use, at_place, places_of, used, head_bytes, head_of, stored_place, pool_stream, data_stream, width_bit};
 ghost use Rattle.msi_pool.specs.PoolState.{changed_to, is_in_size, length_limit};
 ghost use Rattle.cfb_medium.specs.declared.error.Error.TheVariants.{InvalidInput, InvalidData, Memory};
 
+use crate::held::Held;
+use crate::places::Places;
 use crate::stringref::StringRef;
 use cfb_medium::Error;
 use msi_texts::{CodePage, write_u16, write_u32};
@@ -14,10 +15,10 @@ use std::alloc::{AllocError, Global};
 use std::marker::Model;
 
 // The greatest number that a reference of two bytes names.
-const LAST_SHORT_REF: usize = 65535;
+const LAST_SHORT_REF: u32 = 65535;
 
 // The greatest number that a reference of three bytes names.
-const LAST_LONG_REF: usize = 16777215;
+const LAST_LONG_REF: u32 = 16777215;
 
 // The bit of the page's number that tells of references of three bytes.
 pub(crate) const LONG_STRING_REFS_BIT: u32 = 0x8000_0000;
@@ -31,67 +32,21 @@ const LENGTH_LIMIT: usize = 4294967295;
 pub struct StringPool {
     codepage: CodePage,
     long_string_refs: bool,
-    strings: Vec<(String, u16)>,
+    held: Held,
     is_modified: bool,
 }
 
 impl Model for StringPool {
-    ghost use Rattle.msi_pool.specs.Pool.{Pool, places_of};
+    ghost use Rattle.msi_pool.specs.Pool.{Pool};
     ghost use Rattle.msi_pool.specs.PoolState.{PoolState};
+    ghost use Rattle.msi_pool.specs.PoolHeld.{held_places};
     ghost use Rattle.std.specs.Prelude.{length, ◌<◌, ◌^◌};
 
     ghost Value = { PoolState };
 
-    ghost view = { λ p. record { pool = record { page = p.codepage; long = p.long_string_refs; places = places_of p.strings.items }; modified = p.is_modified } };
+    ghost view = { λ p. record { pool = record { page = p.codepage; long = p.long_string_refs; places = held_places p.held }; modified = p.is_modified } };
 
-    ghost invariant = { λ p. length p.strings.items < 2 ^ 32 };
-}
-
-// The first place that takes a use of the text, or the length.
-fn first_place(strings: &[(String, u16)], text: &str) -> usize
-    ensures place { result + 1 ≡ place_among text.now (places_of strings.now) }
-    ensures bound { result ≤ length strings.now }
-{
-    for (index, (kept, count)) in strings.iter().enumerate() {
-        if *count == 0 || kept.as_str() == text && *count < 65535 {
-            return index;
-        }
-    }
-    strings.len()
-}
-
-// Copies of texts with their counts.
-fn copied_strings(alloc: Global, strings: &[(String, u16)]) -> Result<Vec<(String, u16)>, Error>
-    ensures ok { IfOk result (λ copies. places_of copies.items ≡ places_of strings.now) }
-    ensures size { IfOk result (λ copies. length copies.items ≡ length strings.now) }
-    ensures err { IfErr result (λ e. e ≡ Memory) }
-{
-    let mut copies = Vec::new(alloc);
-    for (text, count) in strings {
-        copies.push((String::from_str(alloc, text)?, *count))?;
-    }
-    Ok(copies)
-}
-
-// Counts a use of the text at the first place that takes it.
-fn count_at(strings: &mut Vec<(String, u16)>, index: usize, text: String) -> Result<(), Error>
-    requires place { index + 1 ≡ place_among (string_bytes text) (places_of strings.old.items) }
-    requires inside { index ≤ length strings.old.items }
-    ensures ok { OnOk result (places_of strings.new.items
-        ≡ with_use (string_bytes text) (places_of strings.old.items)) }
-    ensures err { OnErr result (strings.new.items ≡ strings.old.items) }
-    ensures kinds { IfErr result (λ e. e ≡ Memory) }
-    ensures bound { (length strings.new.items ≡ length strings.old.items)
-        ⊎ (length strings.new.items ≡ index + 1) }
-{
-    if index < strings.len() {
-        let entry = &mut strings[index];
-        entry.1 += 1;
-        entry.0 = text;
-    } else {
-        strings.push((text, 1))?;
-    }
-    Ok(())
+    ghost invariant = { λ p. length (held_places p.held) < 2 ^ 32 };
 }
 
 impl StringPool {
@@ -102,19 +57,20 @@ impl StringPool {
         StringPool {
             codepage,
             long_string_refs: false,
-            strings: Vec::new(alloc),
+            held: Held::Indexed(Places::new(alloc)),
             is_modified: true,
         }
     }
 
-    // The pool of these strings, as it was read.
+    // The pool of these strings, as it was read. The one error is Memory.
     pub(crate) fn from_strings(
+        alloc: Global,
         codepage: CodePage,
         long_string_refs: bool,
         strings: Vec<(String, u16)>,
-    ) -> StringPool
+    ) -> Result<StringPool, Error>
         requires { length strings.items < 2 ^ 32 }
-        ensures { result
+        ensures ok { IfOk result (λ pool. pool
             ≡ record {
               pool = record {
                 page = codepage;
@@ -123,25 +79,29 @@ impl StringPool {
                     strings.items;
               };
               modified = false;
-            } }
-    {
-        StringPool {
-            codepage,
-            long_string_refs,
-            strings,
-            is_modified: false,
-        }
-    }
-
-    /// A copy of its own.
-    pub fn clone(&self, alloc: Global) -> Result<StringPool, Error>
-        ensures ok { IfOk result (λ pool. pool ≡ self.now) }
+            }) }
         ensures err { IfErr result (λ e. e ≡ Memory) }
     {
         Ok(StringPool {
+            codepage,
+            long_string_refs,
+            held: Held::Indexed(Places::of(alloc, strings)?),
+            is_modified: false,
+        })
+    }
+
+    /// A copy of its own, to be changed and put in the place of this pool. It takes with it what finds
+    /// texts quickly; where this pool stays, the next draft makes that anew. Memory leaves it as it was.
+    pub fn draft(&mut self, alloc: Global) -> Result<StringPool, Error>
+        ensures ok { IfOk result (λ draft. draft ≡ self.old) }
+        ensures same { self.new ≡ self.old }
+        ensures err { IfErr result (λ e. e ≡ Memory) }
+    {
+        let held = self.held.draft(alloc)?;
+        Ok(StringPool {
             codepage: self.codepage,
             long_string_refs: self.long_string_refs,
-            strings: copied_strings(alloc, &self.strings)?,
+            held,
             is_modified: self.is_modified,
         })
     }
@@ -165,7 +125,7 @@ impl StringPool {
     pub fn num_strings(&self) -> u32
         ensures { result ≡ length self.now.pool.places }
     {
-        self.strings.len() as u32
+        self.held.strings().len() as u32
     }
 
     /// Whether references take three bytes instead of two.
@@ -200,7 +160,7 @@ impl StringPool {
     pub fn get(&self, string_ref: StringRef) -> &str
         ensures { result.now ≡ (at_place self.now.pool.places string_ref).text }
     {
-        match self.strings.get(string_ref.index()) {
+        match self.held.strings().get(string_ref.index()) {
             Some((text, _)) => text.as_str(),
             None => "",
         }
@@ -210,7 +170,7 @@ impl StringPool {
     pub fn refcount(&self, string_ref: StringRef) -> u16
         ensures { result ≡ (at_place self.now.pool.places string_ref).count }
     {
-        match self.strings.get(string_ref.index()) {
+        match self.held.strings().get(string_ref.index()) {
             Some((_, count)) => *count,
             None => 0,
         }
@@ -228,17 +188,13 @@ impl StringPool {
         ensures kinds { IfErr result (λ e. (e ≡ Memory) ⊎ (e ≡ InvalidInput)) }
         ensures err { OnErr result (self.new ≡ self.old) }
     {
-        let index = first_place(self.strings.as_slice(), text.as_str());
-        if last_place(self.long_string_refs) <= index {
-            return Err(Error::InvalidInput);
-        }
-        count_at(&mut self.strings, index, text)?;
+        let number = self.held.incref(text, last_place(self.long_string_refs))?;
         self.mark_modified();
-        Ok(StringRef::new((index + 1) as u32))
+        Ok(StringRef::new(number))
     }
 
     /// Takes back a use at a place. The last takes the text with it. InvalidData where the place has no
-    /// use; then nothing changed.
+    /// use; then, and after Memory, nothing changed.
     pub fn decref(&mut self, string_ref: StringRef) -> Result<(), Error>
         ensures ok { OnOk result (self.new
             ≡ changed_to (record self.old.pool {
@@ -247,10 +203,10 @@ impl StringPool {
             })) }
         ensures unused { IsErrOf result InvalidData
             ↔ ((at_place self.old.pool.places string_ref).count ≡ 0) }
-        ensures kinds { IfErr result (λ e. e ≡ InvalidData) }
+        ensures kinds { IfErr result (λ e. (e ≡ Memory) ⊎ (e ≡ InvalidData)) }
         ensures err { OnErr result (self.new ≡ self.old) }
     {
-        uncount_at(&mut self.strings, string_ref)?;
+        self.held.decref(string_ref)?;
         self.mark_modified();
         Ok(())
     }
@@ -271,9 +227,9 @@ impl StringPool {
         } else {
             0
         };
-        let mut bytes = Vec::new(*self.strings.allocator());
+        let mut bytes = Vec::new(*writer.allocator());
         write_u32(&mut bytes, self.codepage.id() as u32 + width_bit)?;
-        write_heads(&mut bytes, self.codepage, self.strings.as_slice())?;
+        write_heads(&mut bytes, self.codepage, self.held.strings())?;
         if LENGTH_LIMIT <= bytes.len() {
             return Err(Error::InvalidInput);
         }
@@ -288,11 +244,7 @@ impl StringPool {
         ensures kinds { IfErr result (λ e. e ≡ Memory) }
         ensures err { OnErr result (writer.new.items ≡ writer.old.items) }
     {
-        let bytes = text_bytes(
-            *self.strings.allocator(),
-            self.codepage,
-            self.strings.as_slice(),
-        )?;
+        let bytes = text_bytes(*writer.allocator(), self.codepage, self.held.strings())?;
         writer.extend_from_slice(bytes.as_slice())?;
         Ok(())
     }
@@ -361,33 +313,9 @@ fn text_bytes(
 }
 
 // The greatest number of a place.
-fn last_place(long: bool) -> usize
-    ensures { result ≡ last_place long }
+fn last_place(long: bool) -> u32
+    ensures last { result ≡ last_place long }
+    ensures small { result < 2 ^ 24 }
 {
     if long { LAST_LONG_REF } else { LAST_SHORT_REF }
-}
-
-// Takes back a use at a place.
-fn uncount_at(strings: &mut Vec<(String, u16)>, string_ref: StringRef) -> Result<(), Error>
-    ensures ok { OnOk result (places_of strings.new.items
-        ≡ without_use string_ref (places_of strings.old.items)) }
-    ensures unused { IsErrOf result InvalidData
-        ↔ ((at_place (places_of strings.old.items) string_ref).count ≡ 0) }
-    ensures kinds { IfErr result (λ e. e ≡ InvalidData) }
-    ensures err { OnErr result (strings.new.items ≡ strings.old.items) }
-    ensures length { length strings.new.items ≡ length strings.old.items }
-{
-    let index = string_ref.index();
-    if strings.len() <= index {
-        return Err(Error::InvalidData);
-    }
-    let entry = &mut strings[index];
-    if entry.1 == 0 {
-        return Err(Error::InvalidData);
-    }
-    entry.1 -= 1;
-    if entry.1 == 0 {
-        entry.0.clear();
-    }
-    Ok(())
 }

@@ -149,13 +149,13 @@ impl ValueRef {
         }
     }
 
-    /// Takes the use of the cell's text back. InvalidData where its place has no use; then the pool is
-    /// unchanged.
+    /// Takes the use of the cell's text back. InvalidData where its place has no use; then, and after Memory,
+    /// the pool is unchanged.
     pub fn remove(self, string_pool: &mut StringPool) -> Result<(), Error>
         ensures ok { OnOk result (string_pool.new ≡ without_value string_pool.old self) }
         ensures unused { IsErrOf result InvalidData
             ↔ (is_counted string_pool.old.pool self ≡ false) }
-        ensures kinds { IfErr result (λ e. e ≡ InvalidData) }
+        ensures kinds { IfErr result (λ e. (e ≡ Memory) ⊎ (e ≡ InvalidData)) }
         ensures err { OnErr result (string_pool.new ≡ string_pool.old) }
     {
         match self {

@@ -3,7 +3,7 @@ use Rattle.std.specs.Prelude.{string_bytes, slice_set}
 use Rattle.std.proofs.lemmas.List.{map-set, get_or-map, length-map, map-append}
 use Rattle.msi_pool.specs.Pool.{Place, places_of, place_of}
 use Rattle.msi_pool.proofs.PoolPlaces.{with_use-set, with_use-push, place_among-room}
-use Rattle.msi_pool.proofs.stringpool.count_at.Goals as goal
+use Rattle.msi_pool.proofs.held.count_at.Goals as goal
 
 pub overflow_add-entry : goal.overflow_add-entry
 overflow_add-entry c =

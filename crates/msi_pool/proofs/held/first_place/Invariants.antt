@@ -1,6 +1,6 @@
 use Rattle.std.proofs.Common.{◌≡◌, ◌+◌, drop}
 use Rattle.msi_pool.specs.Pool.{place_among, places_of}
-use Rattle.msi_pool.proofs.stringpool.first_place.Given as goal
+use Rattle.msi_pool.proofs.held.first_place.Given as goal
 
 -- no place so far takes the text
 abbrev pub invariant-loop-index : goal.invariant-loop-index

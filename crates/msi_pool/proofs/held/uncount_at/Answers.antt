@@ -3,7 +3,7 @@ use Rattle.std.specs.Prelude.{slice_set}
 use Rattle.std.proofs.lemmas.List.{map-set, get_or-map, length-map}
 use Rattle.msi_pool.specs.Pool.{places_of, place_of, one_less}
 use Rattle.msi_pool.proofs.PoolPlaces.{without_use-set, one_less-last, one_less-more}
-use Rattle.msi_pool.proofs.stringpool.uncount_at.Goals as goal
+use Rattle.msi_pool.proofs.held.uncount_at.Goals as goal
 
 pub returns-then-entry-eq0-2-clause-ok : goal.returns-then-entry-eq0-2-clause-ok
 returns-then-entry-eq0-2-clause-ok c =
