@@ -1,0 +1,6 @@
+pub mod Counting
+pub mod Joining
+pub mod Judging
+pub mod Lists
+pub mod Parts
+pub mod Walking

@@ -1,0 +1,4 @@
+//! The directory of a compound file.
+#![tactic(auto)]
+
+mod walk;
