@@ -1,11 +1,17 @@
 -- Entries in memory, one by one.
-use Rattle.std.proofs.Common.{◌≡◌, ℕ, ◌<◌, ◌≤◌, List, length, get_or, refl, sym, ◌∙◌, ap, subst, Bool, true, false, IsTrue}
+use Rattle.std.proofs.Common.{◌≡◌, ℕ, ◌<◌, ◌≤◌, List, map, length, get_or, refl, sym, ◌∙◌, ap, subst, arith, ◌+◌, ◌*◌, ◌++◌, [], ◌∷◌, take, drop, Bool, true, false, IsTrue}
 use Rattle.std.specs.Prelude.{slice_get, Some, None, ◌==◌}
 use Rattle.std.specs.Option.{option_map}
 use Rattle.std.specs.Ordering.{ordering_index}
 use Rattle.std.specs.declared.cmp.Ordering.{Ordering}
 use Rattle.std.specs.declared.cmp.Ordering.TheVariants.{Less, Equal, Greater}
 use Rattle.std.proofs.lemmas.Option.{slice_get-map, slice_get_read, slice_get_past}
+use Rattle.std.specs.Prelude.{slice_range}
+use Rattle.std.proofs.lemmas.List.{map-append}
+use Rattle.cfb_medium.specs.declared.version.Version.{Version}
+use Rattle.cfb_medium.specs.Numbers.{pieces}
+use Rattle.cfb_medium.proofs.Pieces.{pieces_more, range_is}
+use Rattle.cfb_tree.specs.Directory.{entry_of}
 use Rattle.cfb_tree.specs.EntryViews.{entry_in}
 use Rattle.cfb_tree.specs.declared.entry.DirEntry.{DirEntry}
 use Rattle.cfb_tree.specs.Names.{Letters, name_cmp}
@@ -51,3 +57,14 @@ precedes_is letters directory one other first second first_name second_name o b 
       let c : p.second_name ≡ second_name = name_unique second p.second_name second_name (subst (λ y. HasName y p.second_name) seconds p.second_named) named_too in
       (is_less o b e).1 (is ∙ ap (λ n. name_cmp letters n second_name) (sym a) ∙ ap (name_cmp letters p.first_name) (sym c) ∙ p.less),
 )
+
+-- one entry more of a directory's bytes
+pub entries_more : (v : Version) (bytes : List ℕ) (k : ℕ) → map (entry_of v) (pieces 128 (k + 1) bytes)
+    ≡ map (entry_of v) (pieces 128 k bytes) ++ entry_of v (slice_range bytes (128 * k) (128 * k + 128)) ∷ []
+entries_more v bytes k =
+    let here : take 128 (drop (k * 128) bytes) ≡ slice_range bytes (128 * k) (128 * k + 128) =
+    ap (λ n. take 128 (drop n bytes)) (omega arith) ∙ sym (range_is bytes (128 * k) 128) in
+    ap (λ n. map (entry_of v) (pieces 128 n bytes)) (omega arith)
+    ∙ ap (λ p. map (entry_of v) p) (pieces_more 128 k bytes)
+    ∙ map-append (entry_of v) (pieces 128 k bytes) (take 128 (drop (k * 128) bytes) ∷ [])
+    ∙ ap (λ p. map (entry_of v) (pieces 128 k bytes) ++ entry_of v p ∷ []) here

@@ -1,3 +1,4 @@
 pub mod Entries
 pub mod Taken
+pub mod Views
 pub mod Walk

@@ -1,4 +1,8 @@
-//! The directory of a compound file.
+//! The directory of a compound file: its entries in memory, over the sectors that hold them.
 #![tactic(auto)]
 
+mod directory;
+mod reading;
 mod walk;
+
+pub use directory::Directory;
