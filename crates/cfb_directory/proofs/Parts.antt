@@ -78,7 +78,7 @@ module _ (letters : Letters) (directory : List Entry) where
   under_less None name fewer less h = tt
   under_less (Some high) name fewer less (e, other, found, named, under) = (e, other, found, named, (name_cmp_total letters).trans fewer name other less under)
 
-inside_parts : (letters : Letters) (a b : Content) → IsOrderedInside letters (joined_contents a b) → IsOrderedInside letters a × IsOrderedInside letters b
+pub inside_parts : (letters : Letters) (a b : Content) → IsOrderedInside letters (joined_contents a b) → IsOrderedInside letters a × IsOrderedInside letters b
 inside_parts letters nothing b h = (tt, h)
 inside_parts letters (stream n s x l) b h = inside_parts letters l b h
 inside_parts letters (storage n f i l) b h = let rest = inside_parts letters l b h.2 in ((h.0, h.1, rest.0), rest.1)

@@ -1,5 +1,6 @@
 //! The directory in memory, over the sectors that hold it.
 ghost use Rattle.cfb_chains.specs.LinkViews.{ids_of};
+ghost use Rattle.cfb_directory.specs.Search.{path_of, LeadsTo};
 ghost use Rattle.cfb_directory.specs.Taken.{HasAny, HasSize, IsTakenAs};
 ghost use Rattle.cfb_fat.specs.Tables.{bytes_of, fat_of, has_failed as allocator_failed, has_failed_here, is_honest, medium_of, version_of, AllRests, HasCauseBelow};
 ghost use Rattle.cfb_medium.specs.Calls.{Extends, HasCauseSince, IsFaultUnless};
@@ -9,10 +10,12 @@ ghost use Rattle.cfb_sectors.specs.Sectors.{joined, Chain as IsChain};
 ghost use Rattle.cfb_tree.specs.Directory.{entries_of, no_entry};
 ghost use Rattle.cfb_tree.specs.EntryViews.{entry_in};
 ghost use Rattle.cfb_tree.specs.LetterViews.{letters_of};
+ghost use Rattle.cfb_tree.specs.Objects.{object_at, HoldsTree};
 ghost use Rattle.cfb_tree.specs.Tree.{Tree};
-ghost use Rattle.std.specs.Prelude.{length, slice_get, true, IfErr, IfOk, IsErrOf, IsTrue, List, OnErr, OnOk, Some, ℕ, ◌<◌, ◌||◌, ◌≡◌, ◌⊎◌};
+ghost use Rattle.std.specs.Prelude.{length, slice_get, true, IfErr, IfOk, IsErrOf, IsTrue, List, MatchOption, None, OnErr, OnOk, Some, ℕ, ◌<◌, ◌||◌, ◌≡◌, ◌⊎◌};
 
 use crate::reading::read_directory;
+use crate::search::find_path;
 use cfb_chains::Links;
 use cfb_fat::Allocator;
 use cfb_medium::{Error, Medium, ReadMedium, Version};
@@ -50,7 +53,8 @@ impl<F: ReadMedium> Directory<F> {
         first_sector: u32,
     ) -> Result<Directory<F>, (F, Error)>
         ensures rests { IfOk result (λ it. AllRests allocator (allocator_of it)) }
-        ensures chain { IfOk result (λ it. IsChain (fat_of allocator) first_sector (directory_ids it)) }
+        ensures chain { IfOk result (λ it. IsChain (fat_of allocator) first_sector
+            (directory_ids it)) }
         ensures memory { IfOk result (λ it. IsDirectory it) }
         ensures tree { IfOk result (λ it. (tree : Tree)
             × IsTakenAs validation (letters_of letters.now) HasSize (entries_held it) tree) }
@@ -133,6 +137,23 @@ impl<F: ReadMedium> Directory<F> {
     }
 }
 
+impl<F: ReadMedium> Directory<F> {
+    ghost use Rattle.cfb_directory.specs.Views.{entries_held};
+
+    /// The number of the entry that these names lead to from the root, which is 0; none where there is none. It goes down the
+    /// trees of siblings, and takes no memory.
+    pub fn stream_id_for_name_chain(&self, letters: &CaseMapper, names: &[&str]) -> Option<u32>
+        ensures found { (tree : Tree)
+            → HoldsTree (letters_of letters.now) HasAny (entries_held self.now) tree
+            → MatchOption result
+            (object_at (letters_of letters.now) tree (path_of names.now) ≡ None)
+            (λ id. LeadsTo (letters_of letters.now) (entries_held self.now) tree
+            (path_of names.now) id) }
+    {
+        find_path(letters, &self.entries.items, names)
+    }
+}
+
 impl<F: Medium> Directory<F> {
     ghost use Rattle.cfb_directory.specs.Views.{allocator_of, IsDirectory, Rests};
 
@@ -147,7 +168,8 @@ impl<F: Medium> Directory<F> {
     pub fn flush(&mut self) -> Result<(), Error>
         ensures rests { Rests self.old self.new }
         ensures failed { has_failed_here (allocator_of self.old) ≡ true → IsErrOf result Failed }
-        ensures cause { IfErr result (HasCauseBelow (allocator_of self.old) (allocator_of self.new)) }
+        ensures cause { IfErr result (HasCauseBelow (allocator_of self.old)
+            (allocator_of self.new)) }
         ensures fault { IfErr result (IsFaultUnless ⊥) }
     {
         self.allocator.flush()

@@ -3,6 +3,7 @@
 
 mod directory;
 mod reading;
+mod search;
 mod walk;
 
 pub use directory::Directory;

@@ -169,7 +169,7 @@ fn is_fit(
 }
 
 // Whether the entry is of the kind.
-fn has_kind(entry: &DirEntry, kind: ObjType) -> bool
+pub(crate) fn has_kind(entry: &DirEntry, kind: ObjType) -> bool
     ensures { IsTrue result ↔ ((entry_in entry.now).kind ≡ kind_of kind) }
 {
     match entry.obj_type() {
