@@ -4,7 +4,7 @@ use Rattle.cfb_medium.specs.declared.medium.ReadMedium.{Ghosts}
 use Rattle.cfb_sectors.specs.Sectors.{joined}
 use Rattle.cfb_chains.specs.Grown.{IsLinked}
 use Rattle.cfb_chains.specs.LinkViews.{ids_of, links_version}
-use Rattle.cfb_fat.specs.Tables.{bytes_of, fat_of, has_failed_here, is_honest, version_of, AllRests}
+use Rattle.cfb_fat.specs.Tables.{bytes_of, fat_of, has_failed_here, is_honest, version_of, AllRests, KeepsTables}
 use Rattle.cfb_fat.specs.declared.allocator.Allocator.{Allocator}
 use Rattle.cfb_tree.specs.Directory.{Entry, entries_of}
 use Rattle.cfb_directory.specs.Entries.{entries_in}
@@ -33,6 +33,15 @@ module _ {F : Type 0} {g : Ghosts F} where
   -- nothing but reads and flushes was done
   pub record Rests (old new : Directory F g) : Type 0 where
     pub allocator : AllRests (allocator_of old) (allocator_of new)
+    pub ids : directory_ids new ≡ directory_ids old
+    pub entries : entries_held new ≡ entries_held old
+    pub kept : IsDirectory old → IsDirectory new
+
+  -- the memory is what it was, and that of the bytes where it was so
+  pub record KeepsMemory (old new : Directory F g) : Type 0 where
+    pub honest : is_honest (allocator_of new) ≡ is_honest (allocator_of old)
+    pub live : has_failed_here (allocator_of new) ≡ false → has_failed_here (allocator_of old) ≡ false
+    pub tables : KeepsTables (allocator_of old) (allocator_of new)
     pub ids : directory_ids new ≡ directory_ids old
     pub entries : entries_held new ≡ entries_held old
     pub kept : IsDirectory old → IsDirectory new

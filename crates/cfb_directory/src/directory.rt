@@ -2,7 +2,7 @@
 ghost use Rattle.cfb_chains.specs.LinkViews.{ids_of};
 ghost use Rattle.cfb_directory.specs.Search.{path_of, LeadsTo};
 ghost use Rattle.cfb_directory.specs.Taken.{HasAny, HasSize, IsTakenAs};
-ghost use Rattle.cfb_fat.specs.Tables.{bytes_of, fat_of, has_failed as allocator_failed, has_failed_here, is_honest, medium_of, version_of, AllRests, HasCauseBelow};
+ghost use Rattle.cfb_fat.specs.Tables.{bytes_of, fat_of, has_failed as allocator_failed, has_failed_here, is_honest, medium_of, sectors_of, version_of, AllRests, HasCauseBelow};
 ghost use Rattle.cfb_medium.specs.Calls.{Extends, HasCauseSince, IsFaultUnless};
 ghost use Rattle.cfb_medium.specs.Versions.{sector_len};
 ghost use Rattle.cfb_medium.specs.declared.error.Error.TheVariants.{Failed, InvalidData};
@@ -12,7 +12,8 @@ ghost use Rattle.cfb_tree.specs.EntryViews.{entry_in};
 ghost use Rattle.cfb_tree.specs.LetterViews.{letters_of};
 ghost use Rattle.cfb_tree.specs.Objects.{object_at, HoldsTree};
 ghost use Rattle.cfb_tree.specs.Tree.{Tree};
-ghost use Rattle.std.specs.Prelude.{length, slice_get, true, IfErr, IfOk, IsErrOf, IsTrue, List, MatchOption, None, OnErr, OnOk, Some, ℕ, ◌<◌, ◌||◌, ◌≡◌, ◌⊎◌};
+ghost use Rattle.cfb_sectors.specs.Held.{LeavesOldOrBytes};
+ghost use Rattle.std.specs.Prelude.{false, length, slice_get, true, IfErr, IfOk, IsErrOf, IsTrue, List, MatchOption, None, OnErr, OnOk, Some, ℕ, ◌<◌, ◌||◌, ◌≡◌, ◌≤◌, ◌⊎◌};
 
 use crate::reading::read_directory;
 use crate::search::find_path;
@@ -155,7 +156,7 @@ impl<F: ReadMedium> Directory<F> {
 }
 
 impl<F: Medium> Directory<F> {
-    ghost use Rattle.cfb_directory.specs.Views.{allocator_of, IsDirectory, Rests};
+    ghost use Rattle.cfb_directory.specs.Views.{allocator_of, KeepsMemory, Rests};
 
     /// Whether a fault in a write or a commit has left it, or the medium, in a state in which every call is refused.
     pub fn has_failed(&self) -> bool
@@ -173,5 +174,30 @@ impl<F: Medium> Directory<F> {
         ensures fault { IfErr result (IsFaultUnless ⊥) }
     {
         self.allocator.flush()
+    }
+
+    /// Publishes the bytes, by a commit of the medium. After a fault it has failed.
+    pub fn commit(&mut self) -> Result<(), Error>
+        ensures published { IsTrue (is_honest (allocator_of self.old))
+            → OnOk result (F.has_published (medium_of (allocator_of self.new))
+            (bytes_of (allocator_of self.old))) }
+        ensures left { IsTrue (is_honest (allocator_of self.old))
+            → LeavesOldOrBytes (sectors_of (allocator_of self.old))
+            (sectors_of (allocator_of self.new)) }
+        ensures memory { KeepsMemory self.old self.new }
+        ensures bytes { has_failed_here (allocator_of self.new) ≡ false
+            → IsTrue (is_honest (allocator_of self.old))
+            → bytes_of (allocator_of self.new) ≡ bytes_of (allocator_of self.old) }
+        ensures live { OnOk result (has_failed_here (allocator_of self.new) ≡ false) }
+        ensures err { OnErr result (has_failed_here (allocator_of self.new) ≡ true) }
+        ensures failed { has_failed_here (allocator_of self.old) ≡ true
+            → IsErrOf result Failed × Rests self.old self.new }
+        ensures cause { IfErr result (HasCauseBelow (allocator_of self.old)
+            (allocator_of self.new)) }
+        ensures failures { F.failures (medium_of (allocator_of self.old))
+            ≤ F.failures (medium_of (allocator_of self.new)) }
+        ensures fault { IfErr result (IsFaultUnless ⊥) }
+    {
+        self.allocator.commit()
     }
 }
