@@ -1,5 +1,5 @@
-//! Tests from outside: of the store and of sessions over a device that fails one of its calls, of sectors and their chains, of names
-//! and entries, of texts, values and pools, of expressions, and of tables.
+//! Tests from outside: of the store and of sessions over a device that fails one of its calls, of sectors and their chains, of names,
+//! entries and directories, of texts, values and pools, of expressions, and of tables.
 #![tactic(auto)]
 
 #[cfg(test)]
@@ -10,6 +10,8 @@ mod changes;
 mod commits;
 #[cfg(test)]
 mod container;
+#[cfg(test)]
+mod directory;
 #[cfg(test)]
 mod expressions;
 #[cfg(test)]

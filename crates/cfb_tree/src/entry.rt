@@ -9,9 +9,10 @@ ghost use Rattle.cfb_medium.specs.Versions.{stream_len_mask};
 ghost use Rattle.cfb_tree.specs.declared.kinds.Color.{Color as Hue};
 ghost use Rattle.cfb_tree.specs.declared.kinds.ObjType.{ObjType as Kind};
 ghost use Rattle.cfb_tree.specs.Names.{is_name, name_units};
+ghost use Rattle.std.specs.Char.Utf16.{utf16_chars};
 ghost use Rattle.std.specs.Int.{to_le_bytes, w16, w32, w64};
 ghost use Rattle.std.specs.List.{flat_map, AllByRecursion};
-ghost use Rattle.std.specs.Prelude.{chars, drop, length, string_bytes, take, IfErr, IfOk, IsOk, IsTrue, List, MatchOption, OnErr, OnOk, ℕ, ◌+◌, ◌++◌, ◌<◌, ◌≡◌, ◌≢◌, ◌≤◌, ◌↔◌, ◌∷◌, ◌^◌, ◌⊎◌};
+ghost use Rattle.std.specs.Prelude.{chars, drop, length, map, string_bytes, take, IfErr, IfOk, IsOk, IsTrue, List, MatchOption, OnErr, OnOk, Some, ℕ, ◌+◌, ◌++◌, ◌<◌, ◌≡◌, ◌≢◌, ◌≤◌, ◌↔◌, ◌∷◌, ◌^◌, ◌⊎◌};
 
 use crate::kinds::{Color, ObjType};
 use cfb_medium::{Error, Timestamp, Version};
@@ -295,6 +296,21 @@ impl DirEntry {
             Ok(name) => Ok(name),
             Err(_) => Err(Error::InvalidData),
         }
+    }
+
+    // The units of its name, where its length is one that names have.
+    pub(crate) fn units(&self) -> Option<&[u16]>
+        ensures { MatchOption result ((name : List ℕ) → HasName (entry_in self.now) name → ⊥)
+            (λ units. (length units.now ≤ 31) × ((name : List ℕ)
+            → HasName (entry_in self.now) name ↔ (utf16_chars units.now ≡ map Some name))) }
+    {
+        if self.name_len % 2 == 1 {
+            return None;
+        }
+        if 64 < self.name_len {
+            return None;
+        }
+        Some(&self.name_units[..(self.name_len as usize / 2).saturating_sub(1)])
     }
 
     /// Whether a reader takes it as the root, besides its name: by its kind, and a strict reader by its colour.

@@ -31,7 +31,7 @@ pub fn name_key(alloc: Global, letters: &CaseMapper, name: &str) -> Result<Vec<u
 }
 
 // The number of units of a name's key.
-fn key_len(letters: &CaseMapper, name: &str) -> usize
+pub(crate) fn key_len(letters: &CaseMapper, name: &str) -> usize
     ensures { result ≡ length (name_key (letters_of letters.now) (chars name.now)) }
 {
     let mut units = 0;
@@ -42,7 +42,7 @@ fn key_len(letters: &CaseMapper, name: &str) -> usize
 }
 
 // A character's place in the order of UTF-16 units, in which those of two units come before U+E000.
-fn rank(ch: char) -> u32
+pub(crate) fn rank(ch: char) -> u32
     ensures { result ≡ rank ch }
 {
     match ch as u32 {

@@ -1,0 +1,12 @@
+pub mod Bounds
+pub mod Counting
+pub mod Finding
+pub mod Joining
+pub mod Judging
+pub mod Lists
+pub mod Naming
+pub mod Parts
+pub mod Paths
+pub mod ReadTrees
+pub mod Searching
+pub mod Walking

@@ -1,0 +1,5 @@
+pub mod Entries
+pub mod Search
+pub mod Taken
+pub mod Views
+pub mod Walk

@@ -1,0 +1,203 @@
+//! The directory in memory, over the sectors that hold it.
+ghost use Rattle.cfb_chains.specs.LinkViews.{ids_of};
+ghost use Rattle.cfb_directory.specs.Search.{path_of, LeadsTo};
+ghost use Rattle.cfb_directory.specs.Taken.{HasAny, HasSize, IsTakenAs};
+ghost use Rattle.cfb_fat.specs.Tables.{bytes_of, fat_of, has_failed as allocator_failed, has_failed_here, is_honest, medium_of, sectors_of, version_of, AllRests, HasCauseBelow};
+ghost use Rattle.cfb_medium.specs.Calls.{Extends, HasCauseSince, IsFaultUnless};
+ghost use Rattle.cfb_medium.specs.Versions.{sector_len};
+ghost use Rattle.cfb_medium.specs.declared.error.Error.TheVariants.{Failed, InvalidData};
+ghost use Rattle.cfb_sectors.specs.Sectors.{joined, Chain as IsChain};
+ghost use Rattle.cfb_tree.specs.Directory.{entries_of, no_entry};
+ghost use Rattle.cfb_tree.specs.EntryViews.{entry_in};
+ghost use Rattle.cfb_tree.specs.LetterViews.{letters_of};
+ghost use Rattle.cfb_tree.specs.Objects.{object_at, HoldsTree};
+ghost use Rattle.cfb_tree.specs.Tree.{Tree};
+ghost use Rattle.cfb_sectors.specs.Held.{LeavesOldOrBytes};
+ghost use Rattle.std.specs.Prelude.{false, length, slice_get, true, IfErr, IfOk, IsErrOf, IsTrue, List, MatchOption, None, OnErr, OnOk, Some, ℕ, ◌<◌, ◌||◌, ◌≡◌, ◌≤◌, ◌⊎◌};
+
+use crate::reading::read_directory;
+use crate::search::find_path;
+use cfb_chains::Links;
+use cfb_fat::Allocator;
+use cfb_medium::{Error, Medium, ReadMedium, Version};
+use cfb_sectors::Validation;
+use cfb_tree::{CaseMapper, DirEntry};
+use std::alloc::Global;
+
+// The entries by number, of which the first is the root.
+#[derive(Drop)]
+pub(crate) struct Entries {
+    pub(crate) items: Vec<DirEntry>,
+    ghost some: { 0 < length items.items },
+}
+
+/// The directory of a compound file ([MS-CFB] 2.6): its entries in memory, over the sectors that hold them.
+#[derive(Drop)]
+pub struct Directory<F: ReadMedium> {
+    allocator: Allocator<F>,
+    links: Links,
+    entries: Entries,
+}
+
+impl<F: ReadMedium> Directory<F> {
+    ghost use Rattle.cfb_directory.specs.Views.{allocator_of, directory_ids, entries_held, IsDirectory, Rests};
+
+    /// Reads the directory from the chain of its first sector. `InvalidData` where there is no such chain, or a reader doesn't
+    /// take its entries as a tree: entry 0 is no root, an entry below it is no stream or storage or has no name, one stands
+    /// twice, siblings don't rise strictly under the letter table; a strict reader also asks for the root's name and for
+    /// colours. A refusal gives the medium back.
+    pub fn new(
+        alloc: Global,
+        mut allocator: Allocator<F>,
+        letters: &CaseMapper,
+        validation: Validation,
+        first_sector: u32,
+    ) -> Result<Directory<F>, (F, Error)>
+        ensures rests { IfOk result (λ it. AllRests allocator (allocator_of it)) }
+        ensures chain { IfOk result (λ it. IsChain (fat_of allocator) first_sector
+            (directory_ids it)) }
+        ensures memory { IfOk result (λ it. IsDirectory it) }
+        ensures tree { IfOk result (λ it. (tree : Tree)
+            × IsTakenAs validation (letters_of letters.now) HasSize (entries_held it) tree) }
+        ensures refused { IfErr result (λ e. e.1 ≡ InvalidData → IsTrue (is_honest allocator)
+            → (ids : List ℕ) → IsChain (fat_of allocator) first_sector ids
+            → (tree : Tree) → IsTakenAs validation (letters_of letters.now) HasAny
+            (entries_of (version_of allocator) (joined (version_of allocator)
+            (bytes_of allocator) ids)) tree → ⊥) }
+        ensures fault { IfErr result (λ e. IsFaultUnless ⊥ e.1 ⊎ (e.1 ≡ InvalidData)) }
+        ensures cause { IfErr result (λ e. HasCauseSince F.continues F.failures
+            (λ m. has_failed_here allocator || F.failed m) (medium_of allocator) e.0 e.1) }
+        ensures honest { IfErr result (λ e. F.honest e.0 ≡ F.honest (medium_of allocator)) }
+        ensures continues { IfErr result (λ e. Extends F.continues (medium_of allocator) e.0) }
+        ensures bytes { IfErr result (λ e. IsTrue (is_honest allocator)
+            → F.bytes e.0 ≡ bytes_of allocator) }
+    {
+        match read_directory(alloc, &mut allocator, letters, validation, first_sector) {
+            Ok((links, entries)) => Ok(Directory {
+                allocator,
+                links,
+                entries,
+            }),
+            Err(error) => Err((allocator.into_inner(), error)),
+        }
+    }
+
+    /// The version.
+    pub fn version(&self) -> Version
+        ensures { result ≡ version_of (allocator_of self.now) }
+    {
+        self.allocator.version()
+    }
+
+    /// A sector's bytes.
+    pub fn sector_len(&self) -> usize
+        ensures { result ≡ sector_len (version_of (allocator_of self.now)) }
+    {
+        self.allocator.sector_len()
+    }
+
+    /// The medium.
+    pub fn inner(&self) -> &F
+        ensures { result.now ≡ medium_of (allocator_of self.now) }
+    {
+        self.allocator.inner()
+    }
+
+    /// The layer below, which takes sectors into use and frees them.
+    pub fn allocator(&self) -> &Allocator<F>
+        ensures { result.now ≡ allocator_of self.now }
+    {
+        &self.allocator
+    }
+
+    /// The medium, without the directory.
+    pub fn into_inner(self) -> F
+        ensures { result ≡ medium_of (allocator_of self) }
+    {
+        let Directory {
+            allocator,
+            links: _,
+            entries: _,
+        } = self;
+        allocator.into_inner()
+    }
+
+    /// The root's entry.
+    pub fn root_dir_entry(&self) -> &DirEntry
+        ensures { slice_get (entries_held self.now) 0 ≡ Some (entry_in result.now) }
+    {
+        &self.entries.items[0]
+    }
+
+    /// An entry of the directory, by its number.
+    pub fn dir_entry(&self, id: u32) -> &DirEntry
+        requires { id < length (entries_held self.now) }
+        ensures { slice_get (entries_held self.now) id ≡ Some (entry_in result.now) }
+    {
+        &self.entries.items[id as usize]
+    }
+}
+
+impl<F: ReadMedium> Directory<F> {
+    ghost use Rattle.cfb_directory.specs.Views.{entries_held};
+
+    /// The number of the entry that these names lead to from the root, which is 0; none where there is none. It goes down the
+    /// trees of siblings, and takes no memory.
+    pub fn stream_id_for_name_chain(&self, letters: &CaseMapper, names: &[&str]) -> Option<u32>
+        ensures found { (tree : Tree)
+            → HoldsTree (letters_of letters.now) HasAny (entries_held self.now) tree
+            → MatchOption result
+            (object_at (letters_of letters.now) tree (path_of names.now) ≡ None)
+            (λ id. LeadsTo (letters_of letters.now) (entries_held self.now) tree
+            (path_of names.now) id) }
+    {
+        find_path(letters, &self.entries.items, names)
+    }
+}
+
+impl<F: Medium> Directory<F> {
+    ghost use Rattle.cfb_directory.specs.Views.{allocator_of, KeepsMemory, Rests};
+
+    /// Whether a fault in a write or a commit has left it, or the medium, in a state in which every call is refused.
+    pub fn has_failed(&self) -> bool
+        ensures { result ≡ allocator_failed (allocator_of self.now) }
+    {
+        self.allocator.has_failed()
+    }
+
+    /// Passes on what the medium keeps back, and publishes nothing.
+    pub fn flush(&mut self) -> Result<(), Error>
+        ensures rests { Rests self.old self.new }
+        ensures failed { has_failed_here (allocator_of self.old) ≡ true → IsErrOf result Failed }
+        ensures cause { IfErr result (HasCauseBelow (allocator_of self.old)
+            (allocator_of self.new)) }
+        ensures fault { IfErr result (IsFaultUnless ⊥) }
+    {
+        self.allocator.flush()
+    }
+
+    /// Publishes the bytes, by a commit of the medium. After a fault it has failed.
+    pub fn commit(&mut self) -> Result<(), Error>
+        ensures published { IsTrue (is_honest (allocator_of self.old))
+            → OnOk result (F.has_published (medium_of (allocator_of self.new))
+            (bytes_of (allocator_of self.old))) }
+        ensures left { IsTrue (is_honest (allocator_of self.old))
+            → LeavesOldOrBytes (sectors_of (allocator_of self.old))
+            (sectors_of (allocator_of self.new)) }
+        ensures memory { KeepsMemory self.old self.new }
+        ensures bytes { has_failed_here (allocator_of self.new) ≡ false
+            → IsTrue (is_honest (allocator_of self.old))
+            → bytes_of (allocator_of self.new) ≡ bytes_of (allocator_of self.old) }
+        ensures live { OnOk result (has_failed_here (allocator_of self.new) ≡ false) }
+        ensures err { OnErr result (has_failed_here (allocator_of self.new) ≡ true) }
+        ensures failed { has_failed_here (allocator_of self.old) ≡ true
+            → IsErrOf result Failed × Rests self.old self.new }
+        ensures cause { IfErr result (HasCauseBelow (allocator_of self.old)
+            (allocator_of self.new)) }
+        ensures failures { F.failures (medium_of (allocator_of self.old))
+            ≤ F.failures (medium_of (allocator_of self.new)) }
+        ensures fault { IfErr result (IsFaultUnless ⊥) }
+    {
+        self.allocator.commit()
+    }
+}

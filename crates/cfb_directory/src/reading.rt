@@ -1,0 +1,113 @@
+//! The directory as its sectors hold it.
+ghost use Rattle.cfb_directory.specs.Entries.{entries_in};
+ghost use Rattle.cfb_directory.specs.Taken.{HasAny, HasSize, IsTakenAs};
+ghost use Rattle.cfb_chains.specs.LinkViews.{ids_of, links_version};
+ghost use Rattle.cfb_fat.specs.Tables.{bytes_of, fat_of, has_failed_here, is_honest, sectors_of, version_of, AllRests, HasCauseBelow};
+ghost use Rattle.cfb_medium.specs.Calls.{IsFaultUnless};
+ghost use Rattle.cfb_medium.specs.Versions.{sector_len};
+ghost use Rattle.cfb_medium.specs.declared.error.Error.TheVariants.{Failed, InvalidData, Memory};
+ghost use Rattle.cfb_sectors.specs.Held.{AreCounted};
+ghost use Rattle.cfb_sectors.specs.Sectors.{joined, Chain as IsChain};
+ghost use Rattle.cfb_tree.specs.Directory.{entries_of, entry_of};
+ghost use Rattle.cfb_tree.specs.EntryViews.{entry_in};
+ghost use Rattle.cfb_tree.specs.LetterViews.{letters_of};
+ghost use Rattle.cfb_tree.specs.Tree.{Tree};
+ghost use Rattle.std.specs.Prelude.{false, length, true, IfErr, IfOk, IsErrOf, IsTrue, List, OnOk, ℕ, ◌*◌, ◌≡◌, ◌⊎◌};
+
+use crate::directory::Entries;
+use crate::walk::is_tree;
+use cfb_chains::Links;
+use cfb_fat::Allocator;
+use cfb_medium::{Error, ReadMedium, Version};
+use cfb_sectors::{DIR_ENTRY_LEN, Validation};
+use cfb_tree::{CaseMapper, DirEntry};
+use std::alloc::Global;
+
+// A sector of version 4 has so many bytes.
+const LONGEST: usize = 4096;
+
+// The bytes of some sectors, joined. `InvalidData` where one of them isn't there.
+fn read_joined<F: ReadMedium>(
+    alloc: Global,
+    allocator: &mut Allocator<F>,
+    sector_ids: &[u32],
+) -> Result<Vec<u8>, Error>
+    ensures read { IfOk result (λ all. IsTrue (is_honest allocator.old)
+        → all.items ≡ joined (version_of allocator.old) (bytes_of allocator.old) sector_ids.now) }
+    ensures missing { IsErrOf result InvalidData
+        → AreCounted (sectors_of allocator.old) sector_ids.now → ⊥ }
+    ensures rests { AllRests allocator.old allocator.new }
+    ensures cause { IfErr result (HasCauseBelow allocator.old allocator.new) }
+    ensures fault { IfErr result (λ e. IsFaultUnless ⊥ e ⊎ (e ≡ InvalidData)) }
+{
+    let mut all = Vec::new(alloc);
+    let mut sector = [0; LONGEST];
+    let len = allocator.sector_len();
+    for sector_id in sector_ids {
+        allocator.read_contiguous(*sector_id, 0, &mut sector[..len])?;
+        all.extend_from_slice(&sector[..len])?;
+    }
+    Ok(all)
+}
+
+// The entry at the front of some bytes.
+fn first_entry(version: Version, mut bytes: &[u8]) -> DirEntry
+    requires { length bytes.now ≡ 128 }
+    ensures { entry_in result ≡ entry_of version bytes.now }
+{
+    match DirEntry::read_from(&mut bytes, version) {
+        Ok(entry) => entry,
+        Err(_) => unreachable!(),
+    }
+}
+
+// The entries in a directory's bytes, by number.
+fn entries_from(alloc: Global, version: Version, bytes: &[u8]) -> Result<Vec<DirEntry>, Error>
+    ensures read { IfOk result (λ entries. entries_in entries.items
+        ≡ entries_of version bytes.now) }
+    ensures error { IfErr result (λ e. e ≡ Memory) }
+{
+    let mut entries = Vec::new(alloc);
+    for i in 0..bytes.len() / DIR_ENTRY_LEN {
+        entries.push(first_entry(
+            version,
+            &bytes[DIR_ENTRY_LEN * i..DIR_ENTRY_LEN * i + DIR_ENTRY_LEN],
+        ))?;
+    }
+    Ok(entries)
+}
+
+/// The directory from a start in the FAT: the sectors of its chain, and its entries. `InvalidData` where there is no such chain,
+/// or a reader doesn't take the entries as a tree.
+pub(crate) fn read_directory<F: ReadMedium>(
+    alloc: Global,
+    allocator: &mut Allocator<F>,
+    letters: &CaseMapper,
+    validation: Validation,
+    first_sector: u32,
+) -> Result<(Links, Entries), Error>
+    ensures chain { IfOk result (λ it. IsChain (fat_of allocator.old) first_sector (ids_of it.0)) }
+    ensures version { IfOk result (λ it. links_version it.0 ≡ version_of allocator.old) }
+    ensures entries { IfOk result (λ it. IsTrue (is_honest allocator.old)
+        → entries_in it.1.items.items ≡ entries_of (version_of allocator.old)
+        (joined (version_of allocator.old) (bytes_of allocator.old) (ids_of it.0))) }
+    ensures tree { IfOk result (λ it. (tree : Tree)
+        × IsTakenAs validation (letters_of letters.now) HasSize
+        (entries_in it.1.items.items) tree) }
+    ensures refused { IsErrOf result InvalidData → IsTrue (is_honest allocator.old)
+        → (ids : List ℕ) → IsChain (fat_of allocator.old) first_sector ids
+        → (tree : Tree) → IsTakenAs validation (letters_of letters.now) HasAny
+        (entries_of (version_of allocator.old) (joined (version_of allocator.old)
+        (bytes_of allocator.old) ids)) tree → ⊥ }
+    ensures rests { AllRests allocator.old allocator.new }
+    ensures cause { IfErr result (HasCauseBelow allocator.old allocator.new) }
+    ensures fault { IfErr result (λ e. IsFaultUnless ⊥ e ⊎ (e ≡ InvalidData)) }
+{
+    let links = allocator.open_chain(first_sector)?;
+    let bytes = read_joined(alloc, allocator, links.sector_ids())?;
+    let items = entries_from(alloc, allocator.version(), &bytes)?;
+    if !is_tree(alloc, letters, validation, &items)? {
+        return Err(Error::InvalidData);
+    }
+    Ok((links, Entries { items }))
+}
