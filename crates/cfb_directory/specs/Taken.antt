@@ -6,13 +6,9 @@ use Rattle.cfb_sectors.specs.declared.validation.Validation.{Validation}
 use Rattle.cfb_sectors.specs.declared.validation.Validation.TheVariants.{Permissive, Strict}
 use Rattle.cfb_tree.specs.Names.{Letters, name_cmp}
 use Rattle.cfb_tree.specs.Tree.{Tree}
-use Rattle.cfb_tree.specs.Directory.{Entry, HasName, greatest_entry, red, black}
-use Rattle.cfb_tree.specs.Entries.{IsTakenRoot, IsTakenBelow}
+use Rattle.cfb_tree.specs.Directory.{Entry, HasName, greatest_entry, red}
+use Rattle.cfb_tree.specs.Entries.{IsTakenRoot, IsTakenBelow, IsBlackAt}
 use Rattle.cfb_tree.specs.Objects.{HoldsTree}
-
--- the entry, where the directory has it, is black ([MS-CFB] 2.6.4)
-abbrev pub IsBlackAt : List Entry → ℕ → Type 0
-IsBlackAt directory id = IfSome (slice_get directory id) (λ e. e.color ≡ black)
 
 -- a reader takes the entry as the root; a strict one asks for its name ([MS-CFB] 2.6.2)
 abbrev pub IsTakenAsRoot : Validation → Entry → Type 0

@@ -6,8 +6,8 @@ ghost use Rattle.cfb_fat.specs.Tables.{bytes_of, fat_of, has_failed_here, is_hon
 ghost use Rattle.cfb_medium.specs.Calls.{IsFaultUnless};
 ghost use Rattle.cfb_medium.specs.Versions.{sector_len};
 ghost use Rattle.cfb_medium.specs.declared.error.Error.TheVariants.{Failed, InvalidData, Memory};
-ghost use Rattle.cfb_sectors.specs.Held.{AreCounted};
 ghost use Rattle.cfb_sectors.specs.Sectors.{joined, Chain as IsChain};
+ghost use Rattle.cfb_owned.specs.Chains.{content_of, HasLinks};
 ghost use Rattle.cfb_tree.specs.Directory.{entries_of, entry_of};
 ghost use Rattle.cfb_tree.specs.EntryViews.{entry_in};
 ghost use Rattle.cfb_tree.specs.LetterViews.{letters_of};
@@ -19,35 +19,28 @@ use crate::walk::is_tree;
 use cfb_chains::Links;
 use cfb_fat::Allocator;
 use cfb_medium::{Error, ReadMedium, Version};
+use cfb_owned::read_chain;
 use cfb_sectors::{DIR_ENTRY_LEN, Validation};
 use cfb_tree::{CaseMapper, DirEntry};
 use std::alloc::Global;
 
-// A sector of version 4 has so many bytes.
-const LONGEST: usize = 4096;
-
-// The bytes of some sectors, joined. `InvalidData` where one of them isn't there.
-fn read_joined<F: ReadMedium>(
+// The bytes of a chain.
+fn read_bytes<F: ReadMedium>(
     alloc: Global,
     allocator: &mut Allocator<F>,
-    sector_ids: &[u32],
+    links: &Links,
 ) -> Result<Vec<u8>, Error>
-    ensures read { IfOk result (λ all. IsTrue (is_honest allocator.old)
-        → all.items ≡ joined (version_of allocator.old) (bytes_of allocator.old) sector_ids.now) }
-    ensures missing { IsErrOf result InvalidData
-        → AreCounted (sectors_of allocator.old) sector_ids.now → ⊥ }
+    ensures read { IfOk result (λ all. HasLinks allocator.old links.now
+        → all.items ≡ content_of allocator.old links.now) }
+    ensures refused { IsErrOf result InvalidData → HasLinks allocator.old links.now → ⊥ }
     ensures rests { AllRests allocator.old allocator.new }
     ensures cause { IfErr result (HasCauseBelow allocator.old allocator.new) }
     ensures fault { IfErr result (λ e. IsFaultUnless ⊥ e ⊎ (e ≡ InvalidData)) }
 {
-    let mut all = Vec::new(alloc);
-    let mut sector = [0; LONGEST];
-    let len = allocator.sector_len();
-    for sector_id in sector_ids {
-        allocator.read_contiguous(*sector_id, 0, &mut sector[..len])?;
-        all.extend_from_slice(&sector[..len])?;
-    }
-    Ok(all)
+    let mut bytes = Vec::new(alloc);
+    bytes.resize(links.sector_ids().len() * links.version().sector_len(), 0)?;
+    read_chain(allocator, links, 0, &mut bytes)?;
+    Ok(bytes)
 }
 
 // The entry at the front of some bytes.
@@ -104,7 +97,7 @@ pub(crate) fn read_directory<F: ReadMedium>(
     ensures fault { IfErr result (λ e. IsFaultUnless ⊥ e ⊎ (e ≡ InvalidData)) }
 {
     let links = allocator.open_chain(first_sector)?;
-    let bytes = read_joined(alloc, allocator, links.sector_ids())?;
+    let bytes = read_bytes(alloc, allocator, &links)?;
     let items = entries_from(alloc, allocator.version(), &bytes)?;
     if !is_tree(alloc, letters, validation, &items)? {
         return Err(Error::InvalidData);

@@ -1,5 +1,5 @@
 -- Entries that are made, and those that a reader takes in the tree.
-use Rattle.std.specs.Prelude.{◌≡◌, ℕ, ◌+◌, ◌-◌, ◌*◌, ◌==◌, List, ◌++◌, length, replicate, codes, if◌then◌else◌, ◌⊎◌}
+use Rattle.std.specs.Prelude.{◌≡◌, ℕ, ◌+◌, ◌-◌, ◌*◌, ◌==◌, List, ◌++◌, length, replicate, codes, if◌then◌else◌, ◌⊎◌, slice_get, IfSome}
 use Rattle.cfb_sectors.specs.declared.validation.Validation.{Validation}
 use Rattle.cfb_sectors.specs.declared.validation.Validation.TheVariants.{Permissive, Strict}
 use Rattle.cfb_sectors.specs.Sectors.{end_of_chain}
@@ -44,3 +44,7 @@ IsTakenRoot Strict e = (e.kind ≡ kind_root) × (e.color ≡ black)
 abbrev pub IsTakenBelow : Validation → Entry → Type 0
 IsTakenBelow Permissive e = (e.kind ≡ kind_storage) ⊎ (e.kind ≡ kind_stream)
 IsTakenBelow Strict e = ((e.kind ≡ kind_storage) ⊎ (e.kind ≡ kind_stream)) × ((e.color ≡ red) ⊎ (e.color ≡ black))
+
+-- the entry, where the directory has it, is black ([MS-CFB] 2.6.4)
+abbrev pub IsBlackAt : List Entry → ℕ → Type 0
+IsBlackAt directory id = IfSome (slice_get directory id) (λ e. e.color ≡ black)
