@@ -2,9 +2,8 @@
 #![tactic(auto)]
 
 use command_line::msidb;
-use std::env;
-use std::io;
 use std::process::ExitCode;
+use std::{env, io};
 
 fn main(rt: HostRuntime) -> io::Result<ExitCode> {
     let mut words = Vec::new(rt.alloc());
