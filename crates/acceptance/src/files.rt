@@ -3,14 +3,16 @@ use crate::logs::open_log;
 use command_line::msidb;
 use file_device::FileDevice;
 use staged::Which;
+use std::hash::{BuildHasher, RandomState};
 use std::path::PathBuf;
 use std::test::Fail;
 use std::{env, fs};
 
-// An empty folder for a test.
-fn folder(rt: &HostRuntime, name: &str) -> Result<PathBuf, Fail> {
-    let path = env::temp_dir(rt)?.join(rt.alloc(), name)?;
-    let _ = fs::remove_dir_all(rt, path.as_path());
+// An empty folder for a test, of a name that no other run has.
+fn folder(rt: &HostRuntime) -> Result<PathBuf, Fail> {
+    let key = RandomState::new(rt)?.hash_one(&0u8);
+    let name = format!(in rt.alloc(); "huqhamizu-{key}")?;
+    let path = env::temp_dir(rt)?.join(rt.alloc(), &name)?;
     fs::create_dir(rt, path.as_path())?;
     Ok(path)
 }
@@ -37,7 +39,7 @@ fn ran_on(
 
 #[test]
 fn a_package_is_made_and_recovered(rt: HostRuntime) -> Result<(), Fail> {
-    let folder = folder(&rt, "huqhamizu_made")?;
+    let folder = folder(&rt)?;
     let home = folder.join(rt.alloc(), "home.msi")?;
     let log = folder.join(rt.alloc(), "home.log")?;
     let (home, log) = (home.as_str(), log.as_str());
@@ -61,24 +63,26 @@ fn a_package_is_made_and_recovered(rt: HostRuntime) -> Result<(), Fail> {
     assert_eq!(rt; (status, out.as_slice()), (0, b"applied 1\n".as_slice()));
     assert_eq!(rt; fs::read(&rt, home)?.as_slice(), [7; 6].as_slice());
     assert_eq!(rt; fs::read(&rt, log)?.len(), 545);
+    fs::remove_dir_all(&rt, folder.as_path())?;
     Ok(())
 }
 
 #[test]
 fn folders_are_no_files(rt: HostRuntime) -> Result<(), Fail> {
-    let folder = folder(&rt, "huqhamizu_folder")?;
+    let folder = folder(&rt)?;
     let folder = folder.as_str();
     let (status, _, err) = ran_on(&rt, "create", folder, folder)?;
     assert_eq!(rt;
         (status, err.as_slice()),
         (3, b"msidb: device fault\n".as_slice())
     );
+    fs::remove_dir_all(&rt, folder)?;
     Ok(())
 }
 
 #[test]
 fn malformed_logs_and_words_are_refused(rt: HostRuntime) -> Result<(), Fail> {
-    let folder = folder(&rt, "huqhamizu_malformed")?;
+    let folder = folder(&rt)?;
     let home = folder.join(rt.alloc(), "home.msi")?;
     let log = folder.join(rt.alloc(), "home.log")?;
     let (home, log) = (home.as_str(), log.as_str());
@@ -99,12 +103,13 @@ fn malformed_logs_and_words_are_refused(rt: HostRuntime) -> Result<(), Fail> {
         &vec![in rt.alloc(); String::from_str(rt.alloc(), "--help")?]?,
     );
     assert_eq!(rt; (status, out.is_empty(), err.is_empty()), (0, false, true));
+    fs::remove_dir_all(&rt, folder.as_path())?;
     Ok(())
 }
 
 #[test]
 fn a_missing_folder_is_not_found(rt: HostRuntime) -> Result<(), Fail> {
-    let folder = folder(&rt, "huqhamizu_missing")?;
+    let folder = folder(&rt)?;
     let missing = folder.join(rt.alloc(), "none/home.log")?;
     let missing = missing.as_str();
     let (status, _, err) = ran_on(&rt, "create", missing, missing)?;
@@ -112,12 +117,13 @@ fn a_missing_folder_is_not_found(rt: HostRuntime) -> Result<(), Fail> {
         (status, err.as_slice()),
         (3, b"msidb: not found\n".as_slice())
     );
+    fs::remove_dir_all(&rt, folder.as_path())?;
     Ok(())
 }
 
 #[test]
 fn a_second_program_is_refused(rt: HostRuntime) -> Result<(), Fail> {
-    let folder = folder(&rt, "huqhamizu_locked")?;
+    let folder = folder(&rt)?;
     let home = folder.join(rt.alloc(), "home.msi")?;
     let log = folder.join(rt.alloc(), "home.log")?;
     let (home, log) = (home.as_str(), log.as_str());
@@ -128,5 +134,6 @@ fn a_second_program_is_refused(rt: HostRuntime) -> Result<(), Fail> {
     assert_eq!(rt; (status, err.as_slice()), (3, told.as_bytes()));
     drop(device);
     assert_eq!(rt; ran_on(&rt, "create", home, log)?.0, 0);
+    fs::remove_dir_all(&rt, folder.as_path())?;
     Ok(())
 }
