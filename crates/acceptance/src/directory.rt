@@ -8,7 +8,7 @@ use std::alloc::Global;
 use std::test::Fail;
 
 // An entry of this name and kind, with these siblings and this child.
-fn entry(name: &str, obj_type: ObjType, links: [u32; 3]) -> Result<DirEntry, Error> {
+pub(crate) fn entry(name: &str, obj_type: ObjType, links: [u32; 3]) -> Result<DirEntry, Error> {
     validate_name(name)?;
     let mut entry = DirEntry::new(name, obj_type, Timestamp::zero());
     let [left, right, child] = links;
@@ -39,7 +39,7 @@ fn header() -> Header {
 }
 
 // The directory of these entries, in sectors 1 and 2, of which the second one's entry in the FAT is this.
-fn opened(
+pub(crate) fn opened(
     alloc: Global,
     validation: Validation,
     next: u32,
@@ -65,7 +65,11 @@ fn opened(
 }
 
 // A root with the first stream, the stream "bb" and the storage "ccc", which holds the last entry.
-fn tree_with(alloc: Global, first: DirEntry, last: DirEntry) -> Result<Vec<DirEntry>, Error> {
+pub(crate) fn tree_with(
+    alloc: Global,
+    first: DirEntry,
+    last: DirEntry,
+) -> Result<Vec<DirEntry>, Error> {
     let mut entries = Vec::new(alloc);
     let mut root = DirEntry::empty_root_entry();
     root.child = 2;
@@ -78,7 +82,7 @@ fn tree_with(alloc: Global, first: DirEntry, last: DirEntry) -> Result<Vec<DirEn
 }
 
 // A stream alone.
-fn stream(name: &str) -> Result<DirEntry, Error> {
+pub(crate) fn stream(name: &str) -> Result<DirEntry, Error> {
     entry(name, ObjType::Stream, [NONE, NONE, NONE])
 }
 

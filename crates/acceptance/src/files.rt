@@ -4,9 +4,10 @@ use command_line::msidb;
 use file_device::FileDevice;
 use staged::Which;
 use std::hash::{BuildHasher, RandomState};
+use std::io::Write;
 use std::path::PathBuf;
 use std::test::Fail;
-use std::{env, fs};
+use std::{env, fs, io};
 
 // An empty folder for a test, of a name that no other run has.
 fn folder(rt: &HostRuntime) -> Result<PathBuf, Fail> {
@@ -64,6 +65,174 @@ fn a_package_is_made_and_recovered(rt: HostRuntime) -> Result<(), Fail> {
     assert_eq!(rt; fs::read(&rt, home)?.as_slice(), [7; 6].as_slice());
     assert_eq!(rt; fs::read(&rt, log)?.len(), 545);
     fs::remove_dir_all(&rt, folder.as_path())?;
+    Ok(())
+}
+
+// A folder with a new package, and the paths of its home file, its log and a command file.
+#[derive(Drop)]
+struct Place {
+    folder: PathBuf,
+    home: PathBuf,
+    log: PathBuf,
+    commands: PathBuf,
+}
+
+fn new_place(rt: &HostRuntime) -> Result<Place, Fail> {
+    let folder = folder(rt)?;
+    let home = folder.join(rt.alloc(), "home.msi")?;
+    let log = folder.join(rt.alloc(), "home.log")?;
+    let commands = folder.join(rt.alloc(), "commands.json")?;
+    let _ = ran_on(rt, "create", home.as_str(), log.as_str())?;
+    Ok(Place {
+        folder,
+        home,
+        log,
+        commands,
+    })
+}
+
+// The word `run` on a place.
+fn ran_commands(rt: &HostRuntime, place: &Place) -> Result<(u8, Vec<u8>, Vec<u8>), Fail> {
+    let word = String::from_str(rt.alloc(), "run")?;
+    let home = String::from_str(rt.alloc(), place.home.as_str())?;
+    let log = String::from_str(rt.alloc(), place.log.as_str())?;
+    let commands = String::from_str(rt.alloc(), place.commands.as_str())?;
+    Ok(ran(rt, &vec![in rt.alloc(); word, home, log, commands]?))
+}
+
+#[test]
+fn a_command_file_is_run(rt: HostRuntime) -> Result<(), Fail> {
+    let place = new_place(&rt)?;
+    let text = r#"[
+        {"op":"create_table","table":"T","columns":[{"name":"Id","type":"int16","key":true}]},
+        {"op":"insert","table":"T","rows":[[1],[2]]},
+        {"op":"commit"},
+        {"op":"select","from":"T"}
+    ]"#;
+    fs::write(&rt, place.commands.as_str(), text.as_bytes())?;
+    let (status, out, err) = ran_commands(&rt, &place)?;
+    let lines = "\"ok\"\n\"ok\"\n\"ok\"\n{\"columns\":[\"Id\"],\"rows\":[[1],[2]]}\n";
+    assert_eq!(rt;
+        (status, out.as_slice(), err.as_slice()),
+        (0, lines.as_bytes(), b"".as_slice())
+    );
+    let select = b"[{\"op\":\"select\",\"from\":\"T\"}]".as_slice();
+    fs::write(&rt, place.commands.as_str(), select)?;
+    let (status, out, _) = ran_commands(&rt, &place)?;
+    let rows = b"{\"columns\":[\"Id\"],\"rows\":[[1],[2]]}\n".as_slice();
+    assert_eq!(rt; (status, out.as_slice()), (0, rows));
+    fs::remove_dir_all(&rt, place.folder.as_path())?;
+    Ok(())
+}
+
+#[test]
+fn a_refused_command_stops_no_other(rt: HostRuntime) -> Result<(), Fail> {
+    let place = new_place(&rt)?;
+    let package = fs::read(&rt, place.home.as_str())?;
+    let text = r#"[{"op":"select","from":"None"},{"op":"flush"}]"#;
+    fs::write(&rt, place.commands.as_str(), text.as_bytes())?;
+    let (status, out, err) = ran_commands(&rt, &place)?;
+    let lines = b"{\"refused\":\"NotFound\"}\n\"ok\"\n".as_slice();
+    assert_eq!(rt;
+        (status, out.as_slice(), err.as_slice()),
+        (1, lines, b"".as_slice())
+    );
+    assert!(rt; fs::read(&rt, place.home.as_str())? == package);
+    fs::remove_dir_all(&rt, place.folder.as_path())?;
+    Ok(())
+}
+
+#[test]
+fn a_refused_command_file_opens_no_package(rt: HostRuntime) -> Result<(), Fail> {
+    let place = new_place(&rt)?;
+    fs::remove_file(&rt, place.log.as_str())?;
+    let package = fs::read(&rt, place.home.as_str())?;
+    let (status, out, err) = ran_commands(&rt, &place)?;
+    assert_eq!(rt;
+        (status, out.as_slice(), err.as_slice()),
+        (2, b"".as_slice(), b"msidb: invalid data\n".as_slice())
+    );
+    fs::write(&rt, place.commands.as_str(), b"{".as_slice())?;
+    let (status, out, err) = ran_commands(&rt, &place)?;
+    assert_eq!(rt;
+        (status, out.as_slice(), err.as_slice()),
+        (2, b"".as_slice(), b"msidb: invalid data\n".as_slice())
+    );
+    fs::write(
+        &rt,
+        place.commands.as_str(),
+        b"[{\"op\":\"none\"}]".as_slice(),
+    )?;
+    let (status, out, err) = ran_commands(&rt, &place)?;
+    assert_eq!(rt;
+        (status, out.as_slice(), err.as_slice()),
+        (2, b"".as_slice(), b"msidb: invalid input\n".as_slice())
+    );
+    assert!(rt; fs::read(&rt, place.home.as_str())? == package);
+    assert!(rt; fs::read(&rt, place.log.as_str()).is_err());
+    fs::remove_dir_all(&rt, place.folder.as_path())?;
+    Ok(())
+}
+
+#[test]
+fn more_commands_than_a_slice_are_run(rt: HostRuntime) -> Result<(), Fail> {
+    let place = new_place(&rt)?;
+    let mut text = String::from_str(rt.alloc(), "[")?;
+    for _ in 0..130 {
+        text.push_str(r#"{"op":"flush"},"#)?;
+    }
+    text.push_str(r#"{"op":"select","from":"None"}]"#)?;
+    fs::write(&rt, place.commands.as_str(), text.as_bytes())?;
+    let (status, out, _) = ran_commands(&rt, &place)?;
+    let mut lines = Vec::new(rt.alloc());
+    for _ in 0..130 {
+        lines.extend_from_slice(b"\"ok\"\n")?;
+    }
+    lines.extend_from_slice(b"{\"refused\":\"NotFound\"}\n")?;
+    assert_eq!(rt; (status, out.as_slice()), (1, lines.as_slice()));
+    fs::remove_dir_all(&rt, place.folder.as_path())?;
+    Ok(())
+}
+
+// A writer whose writes fail.
+#[derive(Drop)]
+struct Closed;
+
+impl Write for Closed {
+    fn write(&mut self, _: &[u8]) -> io::Result<usize> {
+        Err(io::ErrorKind::BrokenPipe.into())
+    }
+
+    fn flush(&mut self) -> io::Result<()> {
+        Ok(())
+    }
+}
+
+#[test]
+fn commands_are_run_where_no_answer_can_be_written(rt: HostRuntime) -> Result<(), Fail> {
+    let place = new_place(&rt)?;
+    let text = r#"[
+        {"op":"create_table","table":"T","columns":[{"name":"Id","type":"int16","key":true}]},
+        {"op":"commit"}
+    ]"#;
+    fs::write(&rt, place.commands.as_str(), text.as_bytes())?;
+    let word = String::from_str(rt.alloc(), "run")?;
+    let home = String::from_str(rt.alloc(), place.home.as_str())?;
+    let log = String::from_str(rt.alloc(), place.log.as_str())?;
+    let commands = String::from_str(rt.alloc(), place.commands.as_str())?;
+    let words = vec![in rt.alloc(); word, home, log, commands]?;
+    let mut err = Vec::new(rt.alloc());
+    assert_eq!(rt; msidb(&rt, &words, &mut Closed, &mut err), 3);
+    assert_eq!(rt; err.as_slice(), b"msidb: device fault\n".as_slice());
+    fs::write(
+        &rt,
+        place.commands.as_str(),
+        b"[{\"op\":\"select\",\"from\":\"T\"}]".as_slice(),
+    )?;
+    let (status, out, _) = ran_commands(&rt, &place)?;
+    let rows = b"{\"columns\":[\"Id\"],\"rows\":[]}\n".as_slice();
+    assert_eq!(rt; (status, out.as_slice()), (0, rows));
+    fs::remove_dir_all(&rt, place.folder.as_path())?;
     Ok(())
 }
 

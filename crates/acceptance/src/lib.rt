@@ -7,11 +7,15 @@ mod chains;
 #[cfg(test)]
 mod changes;
 #[cfg(test)]
+mod command_files;
+#[cfg(test)]
 mod commits;
 #[cfg(test)]
 mod container;
 #[cfg(test)]
 mod directory;
+#[cfg(test)]
+mod directory_changes;
 #[cfg(test)]
 mod expressions;
 #[cfg(test)]
@@ -24,6 +28,8 @@ mod files;
 mod lists;
 #[cfg(test)]
 mod logs;
+#[cfg(test)]
+mod mini_sectors;
 #[cfg(test)]
 mod names;
 #[cfg(test)]
@@ -39,6 +45,8 @@ mod session_stops;
 #[cfg(test)]
 mod sessions;
 pub mod shelf;
+#[cfg(test)]
+mod siblings;
 #[cfg(test)]
 mod stops;
 pub mod survivor;

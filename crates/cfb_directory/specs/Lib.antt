@@ -1,4 +1,8 @@
+pub mod Changes
+pub mod Children
 pub mod Entries
+pub mod Growth
+pub mod Lent
 pub mod Search
 pub mod Taken
 pub mod Views

@@ -4,6 +4,7 @@ use Rattle.cfb_medium.specs.declared.medium.ReadMedium.{Ghosts}
 use Rattle.cfb_sectors.specs.Sectors.{joined}
 use Rattle.cfb_chains.specs.Grown.{IsLinked}
 use Rattle.cfb_chains.specs.LinkViews.{ids_of, links_version}
+use Rattle.cfb_chains.specs.declared.links.Links.{Links}
 use Rattle.cfb_fat.specs.Tables.{bytes_of, fat_of, has_failed_here, is_honest, version_of, AllRests, KeepsTables}
 use Rattle.cfb_fat.specs.declared.allocator.Allocator.{Allocator}
 use Rattle.cfb_tree.specs.Directory.{Entry, entries_of}
@@ -14,6 +15,13 @@ module _ {F : Type 0} {g : Ghosts F} where
   abbrev pub allocator_of : Directory F g → Allocator F g
   allocator_of it = it.allocator
 
+  -- the same directory over this layer below
+  abbrev pub with_allocator : Directory F g → Allocator F g → Directory F g
+  with_allocator it allocator = record it { allocator = allocator }
+
+  abbrev pub links_of : Directory F g → Links
+  links_of it = it.links
+
   -- the sectors that hold the directory, in the order of their chain
   abbrev pub directory_ids : Directory F g → List ℕ
   directory_ids it = ids_of it.links
@@ -22,11 +30,11 @@ module _ {F : Type 0} {g : Ghosts F} where
   abbrev pub entries_held : Directory F g → List Entry
   entries_held it = entries_in it.entries.items.items
 
-  -- memory is that of the bytes: the FAT has the chain of the directory's sectors, and while nothing failed and the medium is
-  -- honest the entries are those that these sectors hold ([MS-CFB] 2.6)
+  -- memory is that of the bytes: while nothing failed and the medium is honest the FAT has the chain of the directory's sectors,
+  -- and the entries are those that these hold ([MS-CFB] 2.6)
   pub record IsDirectory (it : Directory F g) : Type 0 where
-    pub version : links_version it.links ≡ version_of (allocator_of it)
-    pub linked : IsLinked (fat_of (allocator_of it)) (directory_ids it)
+    pub version : has_failed_here (allocator_of it) ≡ false → IsTrue (is_honest (allocator_of it)) → links_version it.links ≡ version_of (allocator_of it)
+    pub linked : has_failed_here (allocator_of it) ≡ false → IsTrue (is_honest (allocator_of it)) → IsLinked (fat_of (allocator_of it)) (directory_ids it)
     pub entries : has_failed_here (allocator_of it) ≡ false → IsTrue (is_honest (allocator_of it))
         → entries_held it ≡ entries_of (version_of (allocator_of it)) (joined (version_of (allocator_of it)) (bytes_of (allocator_of it)) (directory_ids it))
 

@@ -13,7 +13,7 @@ ghost use Rattle.cfb_tree.specs.LetterViews.{letters_of};
 ghost use Rattle.cfb_tree.specs.Objects.{object_at, HoldsTree};
 ghost use Rattle.cfb_tree.specs.Tree.{Tree};
 ghost use Rattle.cfb_sectors.specs.Held.{LeavesOldOrBytes};
-ghost use Rattle.std.specs.Prelude.{false, length, slice_get, true, IfErr, IfOk, IsErrOf, IsTrue, List, MatchOption, None, OnErr, OnOk, Some, ℕ, ◌<◌, ◌||◌, ◌≡◌, ◌≤◌, ◌⊎◌};
+ghost use Rattle.std.specs.Prelude.{false, length, slice_get, slice_set, true, IfErr, IfOk, IsErrOf, IsTrue, List, MatchOption, None, OnErr, OnOk, Some, ℕ, ◌<◌, ◌||◌, ◌≡◌, ◌≤◌, ◌↔◌, ◌⊎◌};
 
 use crate::reading::read_directory;
 use crate::search::find_path;
@@ -24,19 +24,33 @@ use cfb_sectors::Validation;
 use cfb_tree::{CaseMapper, DirEntry};
 use std::alloc::Global;
 
-// The entries by number, of which the first is the root.
+// The entries by number, of which the first is the root; and numbers of some, among which are those of all in no use.
 #[derive(Drop)]
 pub(crate) struct Entries {
     pub(crate) items: Vec<DirEntry>,
+    pub(crate) unused: Vec<u32>,
     ghost some: { 0 < length items.items },
+}
+
+impl Entries {
+    ghost use Rattle.cfb_directory.specs.Entries.{entries_in};
+
+    // Puts an entry in the place of the one of this number.
+    pub(crate) fn set(&mut self, id: usize, entry: DirEntry)
+        requires { id < length self.old.items.items }
+        ensures { entries_in self.new.items.items
+            ≡ slice_set (entries_in self.old.items.items) id (entry_in entry) }
+    {
+        self.items[id] = entry;
+    }
 }
 
 /// The directory of a compound file ([MS-CFB] 2.6): its entries in memory, over the sectors that hold them.
 #[derive(Drop)]
 pub struct Directory<F: ReadMedium> {
-    allocator: Allocator<F>,
-    links: Links,
-    entries: Entries,
+    pub(crate) allocator: Allocator<F>,
+    pub(crate) links: Links,
+    pub(crate) entries: Entries,
 }
 
 impl<F: ReadMedium> Directory<F> {
@@ -127,6 +141,13 @@ impl<F: ReadMedium> Directory<F> {
         ensures { slice_get (entries_held self.now) 0 ≡ Some (entry_in result.now) }
     {
         &self.entries.items[0]
+    }
+
+    /// Whether the directory has an entry of this number.
+    pub fn has_dir_entry(&self, id: u32) -> bool
+        ensures { IsTrue result ↔ (id < length (entries_held self.now)) }
+    {
+        (id as usize) < self.entries.items.len()
     }
 
     /// An entry of the directory, by its number.

@@ -1,9 +1,14 @@
 //! The directory of a compound file: its entries in memory, over the sectors that hold them.
 #![tactic(auto)]
 
+mod changes;
+mod children;
 mod directory;
+mod free;
+mod lending;
 mod reading;
 mod search;
 mod walk;
 
+pub use changes::EntryChange;
 pub use directory::Directory;

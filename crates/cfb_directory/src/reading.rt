@@ -15,6 +15,7 @@ ghost use Rattle.cfb_tree.specs.Tree.{Tree};
 ghost use Rattle.std.specs.Prelude.{false, length, true, IfErr, IfOk, IsErrOf, IsTrue, List, OnOk, ℕ, ◌*◌, ◌≡◌, ◌⊎◌};
 
 use crate::directory::Entries;
+use crate::free::unused_among;
 use crate::walk::is_tree;
 use cfb_chains::Links;
 use cfb_fat::Allocator;
@@ -102,5 +103,6 @@ pub(crate) fn read_directory<F: ReadMedium>(
     if !is_tree(alloc, letters, validation, &items)? {
         return Err(Error::InvalidData);
     }
-    Ok((links, Entries { items }))
+    let unused = unused_among(alloc, &items)?;
+    Ok((links, Entries { items, unused }))
 }

@@ -4,7 +4,7 @@ use Rattle.cfb_sectors.specs.declared.validation.Validation.{Validation}
 use Rattle.cfb_sectors.specs.declared.validation.Validation.TheVariants.{Permissive, Strict}
 use Rattle.cfb_sectors.specs.Sectors.{end_of_chain}
 use Rattle.cfb_tree.specs.Names.{name_units}
-use Rattle.cfb_tree.specs.Directory.{Entry, no_entry, kind_storage, kind_stream, kind_root, red, black}
+use Rattle.cfb_tree.specs.Directory.{Entry, no_entry, kind_unallocated, kind_storage, kind_stream, kind_root, red, black}
 
 -- the 32 units of a name's field: the name's, and zeros ([MS-CFB] 2.6.1)
 abbrev pub name_field : List ℕ → List ℕ
@@ -28,6 +28,21 @@ new_entry name kind moment = record {
     modified = if kind == kind_storage then moment else 0;
   };
   start = if kind == kind_storage then 0 else end_of_chain;
+  size = 0;
+}
+
+-- an entry that is not in use: zeros, but no siblings and no child ([MS-CFB] 2.6.3)
+abbrev pub empty_entry : Entry
+empty_entry = record {
+  name_units = replicate 32 0;
+  name_len = 0;
+  kind = kind_unallocated;
+  color = red;
+  left = no_entry;
+  right = no_entry;
+  child = no_entry;
+  facts = record { clsid = replicate 16 0; state_bits = 0; created = 0; modified = 0 };
+  start = 0;
   size = 0;
 }
 

@@ -4,7 +4,7 @@ ghost use Rattle.cfb_medium.specs.Times.{units_of};
 ghost use Rattle.cfb_medium.specs.declared.error.Error.TheVariants.{InvalidData, Memory, UnexpectedEof};
 ghost use Rattle.cfb_sectors.specs.Appended.{Begins};
 ghost use Rattle.cfb_tree.specs.Directory.{clsid_of, entry_bytes, entry_of, name_units_of, size_of, unused_entry, FitsEntry, HasName};
-ghost use Rattle.cfb_tree.specs.Entries.{empty_root, name_field, new_entry, IsTakenBelow, IsTakenRoot};
+ghost use Rattle.cfb_tree.specs.Entries.{empty_entry, empty_root, name_field, new_entry, IsTakenBelow, IsTakenRoot};
 ghost use Rattle.cfb_medium.specs.Versions.{stream_len_mask};
 ghost use Rattle.cfb_tree.specs.declared.kinds.Color.{Color as Hue};
 ghost use Rattle.cfb_tree.specs.declared.kinds.ObjType.{ObjType as Kind};
@@ -28,7 +28,7 @@ const NAME_UNITS: usize = 32;
 
 /// A directory entry ([MS-CFB] 2.6.1). It keeps name, kind and colour as they stand in its bytes, since an entry that is not
 /// in the tree may hold anything.
-#[derive(Drop)]
+#[derive(Clone, Copy)]
 pub struct DirEntry {
     name_units: [u16; NAME_UNITS],
     name_len: u16,
@@ -193,7 +193,8 @@ impl DirEntry {
 
     /// An entry that is not in use: zeros, but no siblings and no child.
     pub fn unallocated() -> DirEntry
-        ensures { entry_bytes (entry_in result) ≡ unused_entry }
+        ensures value { entry_in result ≡ empty_entry }
+        ensures bytes { entry_bytes (entry_in result) ≡ unused_entry }
     {
         let none = NO_STREAM;
         DirEntry {
@@ -277,6 +278,13 @@ impl DirEntry {
         Color::from_byte(self.color)
     }
 
+    /// Gives it this colour; all else stays.
+    pub fn set_color(&mut self, color: Color)
+        ensures { entry_in self.new ≡ record (entry_in self.old) { color = color_of color } }
+    {
+        self.color = color.as_byte();
+    }
+
     /// Its name. `InvalidData` where it has none: its length in bytes is odd or above 64, or the units are no UTF-16. The one
     /// other error is `Memory`.
     pub fn name(&self, alloc: Global) -> Result<String, Error>
@@ -334,8 +342,8 @@ impl DirEntry {
         }
     }
 
-    // Its numbers fit into its bytes, as their types say.
-    fn fits(&self, version: Version)
+    /// Its numbers fit into its bytes, as their types say, where its size fits the version. It does nothing: a law.
+    pub fn fits(&self, version: Version)
         requires { self.now.stream_len ≤ stream_len_mask version }
         ensures { FitsEntry version (entry_in self.now) }
     {

@@ -10,9 +10,17 @@ path id = record (new_rule id) { required = true }
 abbrev pub two_paths : Text → App
 two_paths name = with_rule (with_rule (new_app name) (path (codes "HOME"))) (path (codes "LOG"))
 
+-- a word with the path of a command file beside these
+abbrev pub three_paths : Text → App
+three_paths name = with_rule (two_paths name) (path (codes "COMMANDS"))
+
 -- no word yet: one must be there, and the program's own name isn't among the words
 abbrev pub bare : App
 bare = let app = new_app (codes "msidb") in record app { top = record app.top { no_binary_name = true; subcommand_required = true } }
 
+-- the words of which each has two paths
+abbrev pub without_run : App
+without_run = with_subcommand (with_subcommand bare (two_paths (codes "create")).top) (two_paths (codes "recover")).top
+
 abbrev pub msidb : App
-msidb = with_subcommand (with_subcommand bare (two_paths (codes "create")).top) (two_paths (codes "recover")).top
+msidb = with_subcommand without_run (three_paths (codes "run")).top

@@ -1,6 +1,7 @@
 //! The command line of `msidb`: what its words ask for, and what is done about it.
 #![tactic(auto)]
 
+mod commands;
 mod line;
 mod run;
 mod words;

@@ -1,21 +1,23 @@
 //! A line of words.
-ghost use Rattle.std.specs.Prelude.{◌≡◌, [], ◌∷◌, codes, IfOk, IfErr, IfSome, option_map, map, string_bytes, true};
+ghost use Rattle.std.specs.Prelude.{◌≡◌, IfOk, IfErr, IfSome, option_map, map, string_bytes, true};
 ghost use Rattle.clap.specs.Words.{first_of, found_of, kind_of, rows_of, subcommand_rows_of, takes};
 ghost use Rattle.command_line.specs.Words.{msidb};
-ghost use Rattle.command_line.specs.Lines.{said, paths_in, SaidIn, HasSaid};
+ghost use Rattle.command_line.specs.Lines.{said, AreIn, SaidIn, HasSaid};
 
 use crate::words::matches;
 use clap::error::ErrorKind;
 use clap::{ArgMatches, Error};
 use std::alloc::{AllocError, Global};
 
-/// What the program is asked for: the paths of a home file and of its log.
+/// What the program is asked for: the paths of a home file and of its log, and of a command file.
 #[derive(Clone, Copy, Debug, PartialEq, Eq)]
 pub enum Line<'a> {
     /// Make a new package.
     Create(&'a str, &'a str),
     /// Finish a commit.
     Recover(&'a str, &'a str),
+    /// Run the commands of a file.
+    Run(&'a str, &'a str, &'a str),
 }
 
 /// Reads the words after the program's name. Words that ask for nothing are refused, with a text that says why; so is a wish for help,
@@ -41,13 +43,17 @@ fn line_in<'a>(found: &ArgMatches<'a>) -> Option<Line<'a>>
 
 fn line_of<'a>(name: &str, paths: &ArgMatches<'a>) -> Option<Line<'a>>
     ensures { IfSome result (λ line. ((said line).0 ≡ name.now)
-        × paths_in (codes "HOME" ∷ codes "LOG" ∷ []) (said line).1 (rows_of (found_of paths.now))) }
+        × AreIn (said line).1 (rows_of (found_of paths.now))) }
 {
     let home = path(paths, "HOME")?;
     let log = path(paths, "LOG")?;
     match name {
         "create" => Some(Line::Create(home, log)),
         "recover" => Some(Line::Recover(home, log)),
+        "run" => {
+            let commands = path(paths, "COMMANDS")?;
+            Some(Line::Run(home, log, commands))
+        }
         _ => None,
     }
 }

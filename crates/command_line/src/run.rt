@@ -1,6 +1,7 @@
 //! What the program does with its words.
 ghost use Rattle.std.specs.Prelude.{◌≤◌};
 
+use crate::commands::{Ending, commands_in, run};
 use crate::{Line, read_words};
 use cfb_medium::Error;
 use clap::error::ErrorKind;
@@ -13,8 +14,9 @@ use std::io::Write;
 use std::rt::Files;
 
 /// Does what the words after the program's name ask for. Answers go to `out`, what went wrong goes to `err`. The status is 0 where all
-/// was done, or help was asked for; 2 where the words can't be read; 3 for a fault, where home file or log were refused, and where
-/// nothing more can be written.
+/// was done, or help was asked for; 1 where a command was refused by a rule; 2 where the words or the command file can't be read, and
+/// then no package was opened; 3 for a fault, where home file or log were refused, and where nothing more can be written. A fault comes
+/// before a refusal. Commands are run to the end of their list, also where their answers can't be written.
 pub fn msidb<R: Files<File = File> + AllocGlobal, O: Write, E: Write>(
     rt: &R,
     words: &[String],
@@ -56,12 +58,17 @@ fn done<R: Files<File = File> + AllocGlobal, O: Write, E: Write>(
 ) -> u8
     ensures { result ≤ 3 }
 {
-    let (outcome, home, log) = match line {
+    let (ended, home, log) = match line {
         Line::Create(home, log) => (create(rt, home, log, out), home, log),
         Line::Recover(home, log) => (finish(rt, home, log, out), home, log),
+        Line::Run(home, log, path) => match commands_in(rt, path) {
+            Ok(commands) => (run(rt, home, log, &commands, out), home, log),
+            Err(error) => return unread(error, err),
+        },
     };
-    match outcome {
-        Ok(()) => 0,
+    match ended {
+        Ok(Ending::Done) => 0,
+        Ok(Ending::Refused) => 1,
         Err(error) => {
             let _ = writeln!(err, "msidb: {error}");
             if error == Error::Device {
@@ -70,6 +77,14 @@ fn done<R: Files<File = File> + AllocGlobal, O: Write, E: Write>(
             3
         }
     }
+}
+
+// Tells why a command file was refused.
+fn unread<E: Write>(error: Error, err: &mut E) -> u8
+    ensures { result ≤ 3 }
+{
+    let _ = writeln!(err, "msidb: {error}");
+    if error == Error::Memory { 3 } else { 2 }
 }
 
 // Says which file another program has.
@@ -88,7 +103,7 @@ fn create<R: Files<File = File> + AllocGlobal, O: Write>(
     home: &str,
     log: &str,
     out: &mut O,
-) -> Result<(), Error> {
+) -> Result<Ending, Error> {
     let device = FileDevice::create(rt, home, log)?;
     let mut session = match Session::create(rt.alloc(), device) {
         Ok(session) => session,
@@ -96,7 +111,7 @@ fn create<R: Files<File = File> + AllocGlobal, O: Write>(
     };
     session.commit()?;
     match writeln!(out, "created") {
-        Ok(()) => Ok(()),
+        Ok(()) => Ok(Ending::Done),
         Err(_) => Err(Error::Device),
     }
 }
@@ -107,14 +122,14 @@ fn finish<R: Files<File = File>, O: Write>(
     home: &str,
     log: &str,
     out: &mut O,
-) -> Result<(), Error> {
+) -> Result<Ending, Error> {
     let mut device = FileDevice::open(rt, home, log)?;
     let written = match recover(&mut device)? {
         Recovered::Closed => writeln!(out, "closed"),
         Recovered::Applied(pages) => writeln!(out, "applied {pages}"),
     };
     match written {
-        Ok(()) => Ok(()),
+        Ok(()) => Ok(Ending::Done),
         Err(_) => Err(Error::Device),
     }
 }

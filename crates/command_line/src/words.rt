@@ -2,7 +2,7 @@
 ghost use Rattle.std.specs.Prelude.{◌≡◌, codes, true, false, IfOk, IfErr, map, string_bytes};
 ghost use Rattle.clap.specs.Words.{app_of, kind_of, takes, with_subcommand, HasMatchesOf};
 ghost use Rattle.clap.specs.declared.Command.TheViews.{out-Command as fields_of};
-ghost use Rattle.command_line.specs.Words.{two_paths, bare, msidb};
+ghost use Rattle.command_line.specs.Words.{two_paths, three_paths, bare, msidb};
 
 use clap::error::ErrorKind;
 use clap::{Arg, ArgMatches, Command, Error};
@@ -10,7 +10,7 @@ use std::alloc::{AllocError, Global};
 
 // What stands behind each help.
 const STATUSES: &str =
-    "Status: 0 done, 1 refused by a rule, 2 words that can't be read, 3 a fault, or files that were refused.";
+    "Status: 0 done, 1 a command was refused by a rule, 2 words or a command file that can't be read, 3 a fault, or files that were refused.";
 
 // A word with the paths of a home file and a log.
 fn with_paths<'a>(
@@ -31,6 +31,22 @@ fn with_paths<'a>(
         .after_help(example)
         .arg(home)?
         .arg(log)
+}
+
+// A word with the path of a command file beside these.
+fn with_commands<'a>(
+    alloc: Global,
+    name: &'a str,
+    about: &'a str,
+    example: &'a str,
+) -> Result<Command<'a>, AllocError>
+    ensures app { IfOk result (λ c. app_of c ≡ three_paths name.entry.now) }
+    ensures local { IfOk result (λ c. (fields_of c).has_globals ≡ false) }
+{
+    let commands = Arg::new(alloc, "COMMANDS").required(true).help(
+        "The command file: a JSON array of objects, each with its `op`",
+    );
+    with_paths(alloc, name, about, example)?.arg(commands)
 }
 
 fn root<'a>(alloc: Global) -> Command<'a>
@@ -70,8 +86,15 @@ fn definition<'a>(alloc: Global) -> Result<Command<'a>, AllocError>
         "Finishes a commit that a stop cut short",
         "Example: msidb recover setup.msi setup.log\nPrints `closed` where there was nothing to do, else `applied` and how many pages were written.",
     )?;
-    let command = with(root(alloc), create)?;
-    with(command, recover)
+    let run = with_commands(
+        alloc,
+        "run",
+        "Runs the commands of a file",
+        "Example: msidb run setup.msi setup.log commands.json\nPrints an answer for each command, a line of JSON each.\nStatus: 0 done, 1 a command was refused by a rule, 2 the command file was refused and nothing was opened, 3 a fault, or files that were refused.",
+    )?;
+    let first = with(root(alloc), create)?;
+    let second = with(first, recover)?;
+    with(second, run)
 }
 
 // What was found among the words.

@@ -1,16 +1,17 @@
 -- How one command goes.
-use Rattle.std.proofs.Common.{arith, ◌≤◌, ◌≡◌, ◌⊎◌, inl, ⊎_elim, Bool, false, refl, sym, ap, ◌∙◌}
+use Rattle.std.proofs.Common.{arith, ◌≤◌, ◌≡◌, ◌⊎◌, inl, inr, ⊎_elim, Bool, true, false, List, [], refl, sym, ap, ◌∙◌}
 use Rattle.std.specs.Prelude.{Result, Ok, Err, OnOk, IfErr}
 use Rattle.msi.specs.Package.{Package}
 use Rattle.one_table.specs.Answers.{Meets}
-use Rattle.installer.specs.Request.{Request, is_reading}
-use Rattle.installer.specs.Request as command
+use Rattle.command_file.specs.Request.{Request, is_commit, is_reading}
+use Rattle.command_file.specs.Request as command
 use Rattle.installer.specs.Reply.{Reply}
 use Rattle.installer.specs.Reply as told
 use Rattle.installer.specs.Step.{Tells, told_of}
 use Rattle.installer.specs.LimitedStep.{LimitedStep}
+use Rattle.installer.specs.Replies.{Replies}
 use Rattle.installer.specs.Sessions.{phase_of}
-use Rattle.installer.specs.Course.{Course, Phase, running, failed, Goes, steps, stays, fails, IsFault, committed_after}
+use Rattle.installer.specs.Course.{Course, Phase, running, failed, Goes, steps, stays, fails, IsFault, committed_after, marks_of}
 use Rattle.cfb_medium.specs.declared.error.Error.{Error}
 use Rattle.cfb_medium.specs.declared.error.Error.TheVariants.{Memory}
 
@@ -18,24 +19,32 @@ use Rattle.cfb_medium.specs.declared.error.Error.TheVariants.{Memory}
 stayed : (old new : Course) → new.held ≡ old.held → new.committed ≡ old.committed → new.phase ≡ old.phase → new ≡ record old { failures = new.failures }
 stayed old new held committed phase = rw (sym held, sym committed, sym phase) refl
 
--- a change that meets its rule
-pub goes_meets : (old new : Course) (request : Request) (reply : Reply) (Call : Package → Result (Unit {0}) Error → Type 0) (outcome : Result (Unit {0}) Error)
-    → ((Q : Package) (r : Reply) → Tells Call Q r → LimitedStep old.held request r Q)
-    → Meets Call old.held new.held outcome → reply ≡ told_of outcome → old.phase ≡ running → new.phase ≡ running → new.committed ≡ old.committed
-    → committed_after old request reply ≡ old.committed → old.failures ≤ new.failures → Goes old request reply new
-goes_meets old new request reply Call (Ok u) step meets is was now committed after more = steps was (step new.held reply (Ok tt, meets, is)) (committed ∙ sym after) now more
-goes_meets old new request reply Call (Err e) step meets is was now committed after more =
-    ⊎_elim (λ memory. stays e was is (inl memory.0) (stayed old new memory.1 committed (now ∙ sym was)) more)
-    (λ call. steps was (step new.held reply (Err e, call, is)) (committed ∙ sym after) now more) meets
+-- what begins no commit leaves the package that was committed
+pub committed_other : (old : Course) (request : Request) (reply : Reply) → is_commit request ≡ false → committed_after old request reply ≡ old.committed
+committed_other old command.commit reply other = absurd (cc)
+committed_other old request reply other = refl
 
--- a select
-pub goes_select : (old new : Course) (request : Request) (reply : Reply)
-    → LimitedStep old.held request reply new.held ⊎ (reply ≡ told.refused Memory) → old.phase ≡ running → new ≡ old
-    → committed_after old request reply ≡ old.committed → Goes old request reply new
-goes_select old new request reply answer was same after =
-    let more : old.failures ≤ new.failures = omega (arith, ap (λ (c : Course). c.failures) same) in
-    ⊎_elim (λ step. steps was step (ap (λ c. c.committed) same ∙ sym after) (ap (λ c. c.phase) same ∙ was) more)
-    (λ memory. stays Memory was memory (inl refl) (stayed old new (ap (λ c. c.held) same) (ap (λ c. c.committed) same) (ap (λ c. c.phase) same)) more) answer
+pub marks_other : (old : Course) (request : Request) (reply : Reply) → is_commit request ≡ false → marks_of old request reply ≡ []
+marks_other old command.commit reply other = absurd (cc)
+marks_other old request reply other = refl
+
+pub commit_is : (request : Request) → is_commit request ≡ true → request ≡ command.commit
+commit_is command.commit is = refl
+commit_is request is = absurd (cc)
+
+-- a change that meets its rule is answered
+pub meets_replies : (P Q : Package) (request : Request) (reply : Reply) (Call : Package → Result (Unit {0}) Error → Type 0) (outcome : Result (Unit {0}) Error)
+    → ((R : Package) (r : Reply) → Tells Call R r → LimitedStep P request r R) → Meets Call P Q outcome → reply ≡ told_of outcome → Replies P request reply Q
+meets_replies P Q request reply Call (Ok u) step meets is = inl (step Q reply (Ok tt, meets, is))
+meets_replies P Q request reply Call (Err e) step meets is =
+    ⊎_elim (λ memory. inr (is ∙ ap (λ x. told.refused x) memory.0, memory.1)) (λ call. inl (step Q reply (Err e, call, is))) meets
+
+-- a command that begins no commit
+pub goes_reply : (old new : Course) (request : Request) (reply : Reply) → is_commit request ≡ false → Replies old.held request reply new.held
+    → old.phase ≡ running → new.phase ≡ running → new.committed ≡ old.committed → old.failures ≤ new.failures → Goes old request reply new
+goes_reply old new request reply other replies was now committed more =
+    ⊎_elim (λ step. steps was step (committed ∙ sym (committed_other old request reply other)) now more)
+    (λ memory. stays Memory was memory.0 (inl refl) (stayed old new memory.1 committed (now ∙ sym was)) more) replies
 
 by_phase : (old new : Course) (reply : Reply) (e : Error) (p : Phase) → new.phase ≡ p → reply ≡ told.refused e → IsFault old e new → new.held ≡ old.held → old.phase ≡ running
     → new.committed ≡ old.committed → old.failures ≤ new.failures → Goes old command.commit reply new

@@ -7,7 +7,7 @@ use Rattle.std.proofs.Math.ListN.{get_or}
 use Rattle.std.specs.Prelude.{Option}
 use Rattle.msi.specs.Package.{Package}
 use Rattle.staged.specs.declared.device.Device.{Ghosts}
-use Rattle.installer.specs.Request.{Request}
+use Rattle.command_file.specs.Request.{Request}
 use Rattle.installer.specs.Reply.{Reply}
 use Rattle.installer.specs.Course.{Course, Mark, Phase, running, failed, Goes, steps, stays, fails, refuses, Runs, marks_of, committed_after}
 use Rattle.installer.specs.Survival.{FoundAtReturn, Survives}

@@ -9,8 +9,8 @@ use Rattle.staged.specs.Log.{recovered}
 use Rattle.staged.specs.Steps.{GivenBy, GivesAlike}
 use Rattle.staged.specs.declared.device.Device.{Ghosts}
 use Rattle.installer.specs.Course.{Course, Mark, marks_of, commit_marks}
-use Rattle.installer.specs.Request.{Request}
-use Rattle.installer.specs.Request as command
+use Rattle.command_file.specs.Request.{Request}
+use Rattle.command_file.specs.Request as command
 use Rattle.installer.specs.Reply as told
 use Rattle.installer.specs.Step.{told_of}
 use Rattle.cfb_medium.specs.declared.error.Error.{Error}

@@ -8,7 +8,7 @@ use Rattle.staged.specs.Settled.{IsSettled}
 use Rattle.staged.specs.declared.device.Device.{Ghosts}
 use Rattle.installer.proofs.Recovering.{closed_home}
 use Rattle.installer.specs.Course.{Course, Mark, marks_of}
-use Rattle.installer.specs.Request as command
+use Rattle.command_file.specs.Request as command
 use Rattle.installer.specs.Reply.{Reply}
 use Rattle.installer.specs.Reply as told
 use Rattle.installer.specs.Step.{told_of}

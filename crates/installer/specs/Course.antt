@@ -1,8 +1,8 @@
 -- How a session goes along a list of commands.
 use Rattle.std.specs.Prelude.{◌≡◌, ◌⊎◌, ◌<◌, ◌≤◌, ◌-◌, ◌^◌, ℕ, Bool, true, false, List, [], ◌∷◌, ◌++◌, Option, Some, Result, Ok, Err}
 use Rattle.msi.specs.Package.{Package}
-use Rattle.installer.specs.Request.{Request, is_reading}
-use Rattle.installer.specs.Request as command
+use Rattle.command_file.specs.Request.{Request, is_reading}
+use Rattle.command_file.specs.Request as command
 use Rattle.installer.specs.Reply.{Reply}
 use Rattle.installer.specs.Reply as told
 use Rattle.installer.specs.LimitedStep.{LimitedStep}

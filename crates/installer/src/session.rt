@@ -12,20 +12,19 @@ ghost use Rattle.staged.specs.Settled.{IsSettled, HasPublished};
 ghost use Rattle.staged.specs.Staged.{device_of, staged_bytes, staged_moment, staged_left_since, staged_may_leave, is_failed, Continues};
 ghost use Rattle.staged.specs.Recovery.{IsMalformedOrFault};
 ghost use Rattle.one_table.specs.Held.{image_in, package_in};
-ghost use Rattle.one_table.specs.Requests.{select_said};
 ghost use Rattle.one_table.specs.Contents.{package_of as bare};
 ghost use Rattle.installer.specs.Course.{Course, Mark, Runs, Goes, committed_after, commit_marks, marks_of, running};
 ghost use Rattle.installer.specs.Survival.{FoundAtReturn, Survives};
 ghost use Rattle.installer.specs.Refusals.{IsCreateRefusal, IsReadRefusal};
-ghost use Rattle.installer.specs.Said.{said, told_by};
-ghost use Rattle.installer.specs.LimitedStep.{LimitedStep};
-ghost use Rattle.installer.specs.Step.{told_of};
-ghost use Rattle.installer.specs.Request as asked;
-ghost use Rattle.installer.specs.Reply as told;
+ghost use Rattle.command_file.specs.Said.{said};
+ghost use Rattle.installer.specs.Said.{told_by};
+ghost use Rattle.command_file.specs.Request.{is_commit};
 
-use crate::{Answer, Command};
+use crate::Answer;
+use crate::replies::{answer_of, reply_to};
 use cfb_medium::{Error, Medium, ReadMedium};
-use one_table::{Contents, Select};
+use command_file::Command;
+use one_table::Contents;
 use staged::{Device, Staged, recover};
 use std::alloc::Global;
 
@@ -139,25 +138,10 @@ impl<D: Device> Session<D> {
         if self.has_failed() {
             return Answer::Refused(Error::Failed);
         }
-        match command {
-            Command::CreateTable(name, columns) => answer_of(
-                self.contents.create_table(name, columns),
-            ),
-            Command::Insert(insert) => answer_of(self.contents.insert(insert)),
-            Command::Select(select) => self.select(select),
-            Command::Commit => answer_of(self.commit()),
+        if is_commit(command) {
+            return answer_of(self.commit());
         }
-    }
-
-    // Answers a select.
-    fn select(&self, select: &Select) -> Answer
-        ensures { LimitedStep (package_of self.now) (asked.select (select_said select.now))
-            (told_by result) (package_of self.now) ⊎ (told_by result ≡ told.refused error.Memory) }
-    {
-        match self.contents.select(select) {
-            Ok((names, rows)) => Answer::Rows(names, rows),
-            Err(error) => Answer::Refused(error),
-        }
+        reply_to(self.alloc, &mut self.contents, command)
     }
 
     /// Writes the package into the home file. `Memory` where there is no room and `Device` for a fault of the device: then either all is
@@ -208,14 +192,11 @@ impl<D: Device> Session<D> {
     }
 }
 
-// The answer of a command that gives nothing but that it was done.
-fn answer_of(outcome: Result<(), Error>) -> Answer
-    ensures { told_by result ≡ told_of outcome }
+// Whether it is a commit.
+fn is_commit(command: &Command) -> bool
+    ensures { result ≡ is_commit (said command.now) }
 {
-    match outcome {
-        Ok(()) => Answer::Done,
-        Err(error) => Answer::Refused(error),
-    }
+    matches!(command, Command::Commit)
 }
 
 // The home file of a recovered device.

@@ -84,6 +84,13 @@ impl Insert {
         self.table_name.as_str()
     }
 
+    /// The rows, in order.
+    pub fn new_rows(&self) -> &[Vec<Value>]
+        ensures { map (λ row. data_of row.items) result.now ≡ insert_rows self.now }
+    {
+        &self.new_rows
+    }
+
     /// The rows of a table with the new ones behind them, whose texts are counted in the pool row by row. In this order:
     /// `InvalidInput` for a row that has not a value for each column, or one that its column doesn't take; `InvalidData` where
     /// a key is stored twice; for each new key in turn `AlreadyExists` where it is stored, `InvalidInput` where an earlier

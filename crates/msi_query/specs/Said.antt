@@ -1,5 +1,5 @@
 -- What a select in memory says.
-use Rattle.std.specs.Prelude.{ℕ, List, map, Option, string_bytes}
+use Rattle.std.specs.Prelude.{ℕ, List, map, Option, Some, None, string_bytes}
 use Rattle.msi_expr.specs.Formula.{Formula, formula_of}
 use Rattle.msi_expr.specs.Conditions.{condition_of}
 use Rattle.msi_query.specs.Query.{Query, Source, query, table, inner_join, left_join}
@@ -18,6 +18,12 @@ query_of s = query (source_of s.from) (map string_bytes s.column_names.items) (c
 -- the source of a query, its columns and its condition
 abbrev pub source_in : Query → Source
 source_in (query source names condition) = source
+
+-- its table, where it is no join
+abbrev pub table_in : Query → Option (List ℕ)
+table_in (query (table name) names condition) = Some name
+table_in (query (inner_join l r on) names condition) = None
+table_in (query (left_join l r on) names condition) = None
 
 abbrev pub names_in : Query → List (List ℕ)
 names_in (query source names condition) = names

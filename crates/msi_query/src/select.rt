@@ -1,12 +1,12 @@
 //! Selects.
-ghost use Rattle.std.specs.Prelude.{◌≡◌, [], Ok, Some, None, codes, map};
+ghost use Rattle.std.specs.Prelude.{◌≡◌, [], Ok, Some, None, codes, map, option_map};
 ghost use Rattle.std.specs.Fmt.{DisplaysOnOk, ◌++?◌};
 ghost use Rattle.msi_texts.specs.Results.{Answers};
 ghost use Rattle.msi_expr.specs.Formula.{formula_of};
 ghost use Rattle.msi_query.specs.Answered.{answered};
 ghost use Rattle.msi_query.specs.Printed.{is_bare, select_text, side_text, source_text};
 ghost use Rattle.msi_query.specs.Query.{inner_join, left_join, query, selected, source_rows, table};
-ghost use Rattle.msi_query.specs.Said.{condition_in, names_in, query_of, source_in, source_of};
+ghost use Rattle.msi_query.specs.Said.{condition_in, names_in, query_of, source_in, source_of, table_in};
 ghost use Rattle.msi_expr.specs.Conditions.{narrowed};
 ghost use Rattle.msi_query.specs.Sources.{AnswersOf};
 
@@ -130,8 +130,18 @@ impl Select {
         cut(alloc, pool, &self.column_names, &self.condition, found)
     }
 
-    // Whether it is a table and nothing else.
-    fn is_bare(&self) -> bool
+    /// The name of the table, where it takes rows of one table and not of a join.
+    pub fn table_name(&self) -> Option<&str>
+        ensures { option_map (λ name. name.now) result ≡ table_in (query_of self.now) }
+    {
+        match &self.from {
+            Join::Table(name) => Some(name.as_str()),
+            _ => None,
+        }
+    }
+
+    /// Whether it asks for a table and nothing else: for all columns and rows.
+    pub fn is_bare(&self) -> bool
         ensures { result
             ≡ is_bare (source_in (query_of self.now)) (names_in (query_of self.now))
             (condition_in (query_of self.now)) }

@@ -1,7 +1,8 @@
 -- What a new table makes of the package, and why others are refused.
 use Rattle.std.proofs.lemmas.Bool.{and_parts}
-use Rattle.std.proofs.Common.{◌≡◌, ℕ, ◌<◌, ◌≤◌, Bool, true, false, cond, List, [], ◌∷◌, map, length, refl, sym, ap, ◌∙◌, arith, Ok, Err, Some, None}
-use Rattle.std.specs.Prelude.{◌&&◌, not, ◌==◌, nat_le, bytes_eq, chars, Option, is_some}
+use Rattle.msi_texts.specs.declared.category.Category.{Category}
+use Rattle.std.proofs.Common.{◌≡◌, ℕ, ℤ, ◌<◌, ◌≤◌, Bool, true, false, cond, List, [], ◌∷◌, map, length, refl, sym, ap, ◌∙◌, arith, Ok, Err, Some, None}
+use Rattle.std.specs.Prelude.{is_none, ◌&&◌, not, ◌==◌, nat_le, bytes_eq, chars, Option, is_some}
 use Rattle.std.specs.List.{list_all, list_any}
 use Rattle.std.specs.Ordering.{is_lt}
 use Rattle.std.specs.declared.cmp.Ordering.{Ordering}
@@ -23,11 +24,11 @@ use Rattle.msi.specs.Calls.{table_put, with_rows, rows_put, new_table, has_table
 use Rattle.one_table.proofs.Identifiers.{name_chars, short_is_valid}
 use Rattle.one_table.specs.declared.contents.OnlyTable.{OnlyTable}
 use Rattle.one_table.specs.Contents.{only_seen, only_of, Only, IsKept, AreKept, package_of, only_table, key_column, columns_row, tables_row, places_of, own_tables, all_tables, new_only, IsFirst, pool_with, columns_table, tables_table}
-use Rattle.one_table.specs.Limits.{CreatesBare, created_bare, is_well_named, is_describable, is_number_key, is_bare, is_taken}
+use Rattle.one_table.specs.Limits.{is_int16, is_open, CreatesBare, created_bare, is_well_named, is_describable, is_number_key, is_bare, is_taken}
 use Rattle.std.specs.Prelude.{string_bytes}
 use Rattle.std.proofs.Common.{lit≤}
-use Rattle.one_table.specs.Requests.{columns_said}
-use Rattle.one_table.specs.declared.column.Column.{Column as HeldColumn}
+use Rattle.msi_columns.specs.Held.{column_of, columns_of}
+use Rattle.msi_columns.specs.declared.column.Column.{Column as HeldColumn}
 use Rattle.one_table.specs.Naming.{are_named}
 use Rattle.one_table.proofs.Found.{IsFree, is_free, bytes_same, same_bytes, others_found, found_only, found_none}
 use Rattle.cfb_medium.specs.declared.error.Error.TheVariants.{InvalidInput, AlreadyExists}
@@ -40,15 +41,23 @@ stored_one : (pool : Pool) (columns : List Column) (row : Row) → IsStoredByKey
 stored_one pool columns row = (row ∷ [], arranged_one (row_key_cmp pool columns) row, arranged_one (row_cmp columns) row)
 
 -- a column that is such a key is that of its name
-pub number_key_is : (name : List ℕ) (k : ColumnType) (nullable key : Bool) → is_number_key (record (plain name k) { nullable = nullable; key = key } ∷ []) ≡ true
-    → record (plain name k) { nullable = nullable; key = key } ≡ key_column name
-number_key_is name kind.Int16 false true e = refl
-number_key_is name kind.Int16 false false e = absurd (cc)
-number_key_is name kind.Int16 true true e = absurd (cc)
-number_key_is name kind.Int16 true false e = absurd (cc)
-number_key_is name kind.Int32 nullable key e = absurd (cc)
-number_key_is name (kind.Str n) nullable key e = absurd (cc)
-number_key_is name kind.Binary nullable key e = absurd (cc)
+pub number_key_is : (c : Column) → is_number_key (c ∷ []) ≡ true → c ≡ key_column c.name
+number_key_is c e = go c.kind c.key c.nullable c.localizable c.range c.foreign c.category c.choices e
+  where
+    go : (k : ColumnType) (key nullable localizable : Bool) (range : Option (ℤ × ℤ)) (foreign : Option (List ℕ × ℤ)) (category : Option Category) (choices : List (List ℕ))
+        → (is_int16 k && key && (not nullable && not localizable && is_none range && is_none foreign && is_none category && is_open choices)) ≡ true
+        → record { name = c.name; kind = k; localizable = localizable; nullable = nullable; key = key; range = range; foreign = foreign; category = category; choices = choices } ≡ key_column c.name
+    go kind.Int16 true false false None None None [] e = refl
+    go kind.Int16 true false false None None None (t ∷ ts) e = absurd (cc)
+    go kind.Int16 true false false None None (Some x) choices e = absurd (cc)
+    go kind.Int16 true false false None (Some x) category choices e = absurd (cc)
+    go kind.Int16 true false false (Some x) foreign category choices e = absurd (cc)
+    go kind.Int16 true false true range foreign category choices e = absurd (cc)
+    go kind.Int16 true true localizable range foreign category choices e = absurd (cc)
+    go kind.Int16 false nullable localizable range foreign category choices e = absurd (cc)
+    go kind.Int32 key nullable localizable range foreign category choices e = absurd (cc)
+    go (kind.Str n) key nullable localizable range foreign category choices e = absurd (cc)
+    go kind.Binary key nullable localizable range foreign category choices e = absurd (cc)
 
 -- the places once the row of _Columns is counted
 abbrev first_places : List ℕ → List ℕ → Bool → List Place
@@ -283,9 +292,9 @@ has_only o t name kept is ec et = go (bytes_eq t.name name) refl
         rw none refl
 
 -- columns that are one such key
-pub key_of_columns : (columns : List HeldColumn) → is_number_key (columns_said columns) ≡ true → (column : List ℕ) × (columns_said columns ≡ key_column column ∷ [])
+pub key_of_columns : (columns : List HeldColumn) → is_number_key (columns_of columns) ≡ true → (column : List ℕ) × (columns_of columns ≡ key_column column ∷ [])
 key_of_columns [] e = absurd (cc)
-key_of_columns (c ∷ []) e = (string_bytes c.name, ap (λ d. d ∷ []) (number_key_is (string_bytes c.name) c.coltype c.is_nullable c.is_primary_key e))
+key_of_columns (c ∷ []) e = ((column_of c).name, ap (λ d. d ∷ []) (number_key_is (column_of c) e))
 key_of_columns (c ∷ d ∷ cs) e = absurd (cc)
 
 -- the first table, by the tests

@@ -3,7 +3,7 @@ pub mod Contents
 pub mod Held
 pub mod Limits
 pub mod Naming
-pub mod Requests
 pub mod Rules
 pub mod Sheets
 pub mod Streams
+pub mod Listing

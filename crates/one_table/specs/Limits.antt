@@ -1,6 +1,6 @@
 -- What a session's calls make of a package while it holds at most one table: the rules, and behind them the limits of this stage, which
 -- refuse as InvalidInput what the rules accept.
-use Rattle.std.specs.Prelude.{◌≡◌, ℕ, Bool, true, false, not, ◌&&◌, ◌||◌, List, [], ◌∷◌, ◌++◌, map, length, nat_le, ◌==◌, Some, None, Result, Ok, bytes_eq, is_none}
+use Rattle.std.specs.Prelude.{◌≡◌, ℕ, Bool, true, false, not, ◌&&◌, ◌||◌, List, [], ◌∷◌, ◌++◌, map, length, nat_le, ◌==◌, Some, None, Result, Ok, bytes_eq, is_none, is_some}
 use Rattle.std.specs.List.{list_all, list_any}
 use Rattle.msi_texts.specs.Results.{◌>>=◌, unless_not}
 use Rattle.msi_values.specs.Datum.{Datum, text}
@@ -12,7 +12,9 @@ use Rattle.msi_tables.specs.Table.{is_valid_table_name, IsStoredByKeys}
 use Rattle.msi_tables.specs.Schema.{tables_name, columns_name, tables_columns, columns_columns, validation_columns, columns_rows, validation_row}
 use Rattle.msi_columns.specs.declared.column.ColumnType.{ColumnType}
 use Rattle.msi_columns.specs.declared.column.ColumnType.TheVariants as kind
-use Rattle.msi_query.specs.Query.{Query, query, table, inner_join, left_join}
+use Rattle.msi_query.specs.Query.{Query, query}
+use Rattle.msi_query.specs.Printed.{is_bare as is_bare_select}
+use Rattle.msi_query.specs.Said.{table_in}
 use Rattle.msi_changes.specs.Changes.{inserted, rows_counted}
 use Rattle.cfb_tree.specs.Names.{Letters}
 use Rattle.msi.specs.Package.{Package, at_name, stream_name, pool_name, data_name}
@@ -38,11 +40,14 @@ abbrev pub is_open : List (List ℕ) → Bool
 is_open [] = true
 is_open (c ∷ cs) = false
 
+-- nothing is said of the column but its type and whether it belongs to the key
+abbrev pub is_bare_column : Column → Bool
+is_bare_column c = not c.nullable && not c.localizable && is_none c.range && is_none c.foreign && is_none c.category && is_open c.choices
+
 -- one column of whole numbers of 16 bits, which is the key, with nothing else said of it
 abbrev pub is_number_key : List Column → Bool
 is_number_key [] = false
-is_number_key (c ∷ []) =
-    is_int16 c.kind && c.key && not c.nullable && not c.localizable && is_none c.range && is_none c.foreign && is_none c.category && is_open c.choices
+is_number_key (c ∷ []) = is_int16 c.kind && c.key && is_bare_column c
 is_number_key (c ∷ d ∷ cs) = false
 
 -- there is no table but those of the database itself
@@ -104,14 +109,13 @@ InsertsFew P name new_rows Q answer =
 
 -- ---- select
 
--- a whole table: no join, no columns, no condition
+-- a whole table: no columns, no condition
 abbrev pub is_whole : Query → Bool
-is_whole (query (table name) [] None) = true
-is_whole (query (table name) [] (Some f)) = false
-is_whole (query (table name) (c ∷ cs) condition) = false
-is_whole (query (inner_join l r on) names condition) = false
-is_whole (query (left_join l r on) names condition) = false
+is_whole (query source names condition) = is_bare_select source names condition
 
--- a select
+-- a select: a join is past the limits, and so is less than a whole table
 abbrev pub selected_whole : Package → Query → Result Shown Error
-selected_whole P asked = selected_in P asked >>= λ s. unless_not (is_whole asked) InvalidInput >>= λ _. Ok s
+selected_whole P asked =
+    unless_not (is_some (table_in asked)) InvalidInput >>= λ _.
+    selected_in P asked >>= λ s.
+    unless_not (is_whole asked) InvalidInput >>= λ _. Ok s

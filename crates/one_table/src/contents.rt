@@ -1,26 +1,32 @@
 //! The package as plain lists.
-ghost use Rattle.std.specs.Prelude.{◌≡◌, ◌⊎◌, ◌||◌, ◌∷◌, ◌≤◌, ◌<◌, ◌^◌, [], ℕ, List, length, nat_lt, true, Err, string_bytes, IfOk, IfErr, MatchOption, Some, None, bytes_eq};
+ghost use Rattle.std.specs.Prelude.{◌≡◌, ◌⊎◌, ◌||◌, Ok, map, ◌∷◌, ◌≤◌, ◌<◌, ◌^◌, [], ℕ, List, length, nat_lt, true, Err, string_bytes, IfOk, IfErr, MatchOption, Some, None, bytes_eq};
 ghost use Rattle.msi_tables.specs.Schema.{columns_name, tables_name};
 ghost use Rattle.cfb_medium.specs.declared.error.Error.TheVariants.{Memory, InvalidData};
 ghost use Rattle.msi.specs.Package.{MeansPackage};
 ghost use Rattle.cfb_tree.specs.Names.{ascii_letters};
 ghost use Rattle.one_table.specs.Contents.{package_of, AreKept, IsKept, IsFirst, Adds, new_only, key_column, only_of, only_seen};
 ghost use Rattle.one_table.specs.Limits.{CreatesBare, InsertsFew, created_bare, inserted_few, is_taken};
-ghost use Rattle.msi.specs.Calls.{has_table};
+ghost use Rattle.msi.specs.Calls.{has_table, table_names};
+ghost use Rattle.msi_texts.specs.Results.{Answers};
 ghost use Rattle.one_table.specs.Rules.{rows_said};
-ghost use Rattle.one_table.specs.Requests.{columns_said, insert_table, insert_rows, select_said};
+ghost use Rattle.msi_columns.specs.Held.{columns_of};
+ghost use Rattle.msi_changes.specs.Said.{insert_name, insert_rows};
+ghost use Rattle.msi_query.specs.Said.{query_of};
 ghost use Rattle.msi_tables.specs.Table.{Table, table_named};
 ghost use Rattle.one_table.specs.Sheets.{IsSheet};
 ghost use Rattle.one_table.specs.Answers.{Meets, Selects};
 
 use crate::keys::merged;
+use crate::listing::{names_with, own_names};
 use crate::names::{are_named, is_number_key};
 use crate::reading::{find_only, is_kept};
 use crate::rules::judge;
 use crate::sheet::{Sheet, columns_sheet, only_sheet, tables_sheet};
 use crate::streams::{ASCII_LETTERS, all_streams};
-use crate::{Column, Insert, Select};
 use cfb_medium::Error;
+use msi_changes::Insert;
+use msi_columns::Column;
+use msi_query::Select;
 use msi_values::Value;
 use plain::{Facts, read_tree, write_image};
 use std::alloc::Global;
@@ -79,12 +85,15 @@ impl Contents {
 
     /// The columns' names and the rows of a table. `NotFound` without the table, `InvalidInput` where columns are asked for.
     pub fn select(&self, select: &Select) -> Result<(Vec<String>, Vec<Vec<Value>>), Error>
-        ensures { Selects (package_in self.now) (select_said select.now) result }
+        ensures { Selects (package_in self.now) (query_of select.now) result }
     {
-        let Some(sheet) = self.sheet(select.table_name())? else {
+        let Some(name) = select.table_name() else {
+            return Err(Error::InvalidInput);
+        };
+        let Some(sheet) = self.sheet(name)? else {
             return Err(Error::NotFound);
         };
-        if !select.is_whole() {
+        if !select.is_bare() {
             return Err(Error::InvalidInput);
         }
         let Sheet {
@@ -95,13 +104,24 @@ impl Contents {
         Ok((column_names, rows))
     }
 
+    /// The names of all tables, in the order of their bytes. `Memory` where there is no room for them.
+    pub fn table_names(&self) -> Result<Vec<String>, Error>
+        ensures { Answers (λ names. map string_bytes names.items) result
+            (Ok (table_names (package_in self.now))) }
+    {
+        match &self.only {
+            Some(only) => names_with(self.alloc, &only.name),
+            None => own_names(self.alloc),
+        }
+    }
+
     /// Makes a table. `InvalidInput` for names that aren't identifiers or can't name a stream, for no column, more than 32, none of the
     /// key or a name twice; `AlreadyExists` where there is such a table; `InvalidInput` for names of more than 32 characters, for the
     /// name of a table of the database or of a stream of its pool, where there is another table, and for any but one column of
     /// 16 bits that is the key. After an error nothing has changed.
     pub fn create_table(&mut self, name: &str, columns: &[Column]) -> Result<(), Error>
         ensures meets { Meets (CreatesBare ascii_letters (package_in self.old) name.now
-            (columns_said columns.now)) (package_in self.old) (package_in self.new) result }
+            (columns_of columns.now)) (package_in self.old) (package_in self.new) result }
         ensures grows { length (image_in self.old) ≤ length (image_in self.new) }
     {
         match self.refusal(name, columns) {
@@ -117,8 +137,8 @@ impl Contents {
     // Why a table can't be made, if so.
     fn refusal(&self, name: &str, columns: &[Column]) -> Option<Error>
         ensures { MatchOption result (IsFirst (only_seen self.now.only) name.now
-            (columns_said columns.now))
-            (λ e. created_bare true (package_in self.now) name.now (columns_said columns.now)
+            (columns_of columns.now))
+            (λ e. created_bare true (package_in self.now) name.now (columns_of columns.now)
             ≡ Err e) }
     {
         if !are_named(name, columns) {
@@ -198,7 +218,7 @@ impl Contents {
     /// row by row `AlreadyExists` for a stored key and `InvalidInput` for that of an earlier new row; `InvalidInput` for a table of
     /// the database itself, and for more than 2047 rows. After an error nothing has changed.
     pub fn insert(&mut self, insert: &Insert) -> Result<(), Error>
-        ensures meets { Meets (InsertsFew (package_in self.old) (insert_table insert.now)
+        ensures meets { Meets (InsertsFew (package_in self.old) (insert_name insert.now)
             (insert_rows insert.now)) (package_in self.old) (package_in self.new) result }
         ensures grows { length (image_in self.old) ≤ length (image_in self.new) }
     {
@@ -235,10 +255,10 @@ impl Contents {
 
     // Why an insert into a table of the database itself is refused.
     fn own_refusal(&self, insert: &Insert) -> Error
-        requires { (bytes_eq (insert_table insert.now) columns_name || bytes_eq
-            (insert_table insert.now) tables_name) ≡ true }
+        requires { (bytes_eq (insert_name insert.now) columns_name || bytes_eq
+            (insert_name insert.now) tables_name) ≡ true }
         ensures { (result ≡ Memory)
-            ⊎ (inserted_few (package_in self.now) (insert_table insert.now) (insert_rows insert.now)
+            ⊎ (inserted_few (package_in self.now) (insert_name insert.now) (insert_rows insert.now)
             ≡ Err result) }
     {
         match self.sheet(insert.table_name()) {
@@ -266,7 +286,7 @@ const ROOT: Facts = Facts {
 // The first table.
 fn new_table(alloc: Global, name: &str, columns: &[Column]) -> Result<OnlyTable, Error>
     ensures made { IfOk result (λ t. (column : List ℕ)
-        → columns_said columns.now ≡ key_column column ∷ []
+        → columns_of columns.now ≡ key_column column ∷ []
         → only_of t ≡ new_only name.now column) }
     ensures err { IfErr result (λ e. e ≡ Memory) }
 {
@@ -283,7 +303,7 @@ fn new_table(alloc: Global, name: &str, columns: &[Column]) -> Result<OnlyTable,
 
 // Whether the one column has a name of too many characters.
 fn has_long_name(columns: &[Column]) -> bool
-    ensures { (column : List ℕ) → columns_said columns.now ≡ key_column column ∷ []
+    ensures { (column : List ℕ) → columns_of columns.now ≡ key_column column ∷ []
         → result ≡ nat_lt 32 (length column) }
 {
     match columns {

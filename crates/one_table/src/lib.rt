@@ -2,18 +2,13 @@
 //! that it is written as.
 #![tactic(auto)]
 
-mod column;
 mod contents;
-mod insert;
 mod keys;
+mod listing;
 mod names;
 mod reading;
 mod rules;
-mod select;
 mod sheet;
 mod streams;
 
-pub use column::{Column, ColumnBuilder};
 pub use contents::Contents;
-pub use insert::Insert;
-pub use select::Select;

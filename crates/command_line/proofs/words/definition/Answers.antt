@@ -8,5 +8,6 @@ joined a b = with_subcommand a b.top
 
 pub returns : goal.returns
 returns c =
-    let one = c.in_ok-command.ensures.app ∙ ap₂ joined c.root.ensures.app c.in_ok-create.ensures.app in
-    IfOk-weaker c.with-2.result _ _ (λ r h. h ∙ ap₂ joined one c.in_ok-recover.ensures.app) c.with-2.ensures.app
+    let one = c.in_ok-first.ensures.app ∙ ap₂ joined c.root.ensures.app c.in_ok-create.ensures.app in
+    let two = c.in_ok-second.ensures.app ∙ ap₂ joined one c.in_ok-recover.ensures.app in
+    IfOk-weaker c.with-3.result _ _ (λ r h. h ∙ ap₂ joined two c.in_ok-run.ensures.app) c.with-3.ensures.app

@@ -1,6 +1,7 @@
 use Rattle.std.proofs.Common.{◌≡◌, ◌++◌, ◌∷◌, [], map, take, ap, ◌∙◌, arith}
 use Rattle.std.proofs.lemmas.List.{map-append, take_all}
-use Rattle.installer.specs.Said.{said, told_by}
+use Rattle.command_file.specs.Said.{said}
+use Rattle.installer.specs.Said.{told_by}
 use Rattle.installer.specs.Sessions.{device_below}
 use Rattle.installer.proofs.Stopping.{survives_stay}
 use Rattle.installer.proofs.Running.{reaches_itself, reaches_more, taken_more}

@@ -1,7 +1,8 @@
 use Rattle.std.proofs.Common.{◌≤◌, ◌+◌, ◌-◌, length, map, take}
 use Rattle.std.specs.Prelude.{vec_len, vec_capacity}
 use Rattle.installer.specs.Course.{Course}
-use Rattle.installer.specs.Said.{said, told_by}
+use Rattle.command_file.specs.Said.{said}
+use Rattle.installer.specs.Said.{told_by}
 use Rattle.installer.specs.Sessions.{IsAt}
 use Rattle.installer.proofs.Running.{Reaches}
 use Rattle.installer.proofs.session.Session.run.Given as goal

@@ -1,13 +1,13 @@
 use Rattle.std.proofs.Common.{inr, ap}
 use Rattle.one_table.specs.Contents.{only_seen, only_of}
-use Rattle.one_table.specs.Requests.{insert_rows, insert_table}
+use Rattle.msi_changes.specs.Said.{insert_name, insert_rows}
 use Rattle.one_table.proofs.Inserted.{missing}
 use Rattle.one_table.proofs.Growing.{more_keys}
 use Rattle.one_table.proofs.contents.Contents.insert.Goals as goal
 
 pub returns-then-not-is_same-clause-meets : goal.returns-then-not-is_same-clause-meets
 returns-then-not-is_same-clause-meets c =
-    inr (missing (only_seen c.args.self.now.only) (only_of c.in-Some.only) (insert_table c.args.insert.now) (insert_rows c.args.insert.now) (ap only_seen c.in-Some.is) (cc) (cc) (cc))
+    inr (missing (only_seen c.args.self.now.only) (only_of c.in-Some.only) (insert_name c.args.insert.now) (insert_rows c.args.insert.now) (ap only_seen c.in-Some.is) (cc) (cc) (cc))
 
 pub added-requires : goal.added-requires
 added-requires c = c.args.self.now.kept.each (only_of c.in-Some.only) (ap only_seen c.in-Some.is)

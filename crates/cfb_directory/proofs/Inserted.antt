@@ -1,0 +1,90 @@
+-- The tree with a child more, over entries that may have become more.
+use Rattle.std.proofs.Common.{◌≡◌, ℕ, Bool, List, ◌++◌, replicate, refl, sym, ap, subst, ◌∙◌, ⊎_elim}
+use Rattle.std.specs.Prelude.{slice_get, slice_set, Option, Some, None}
+use Rattle.cfb_medium.specs.Versions.{dir_entries_per_sector}
+use Rattle.cfb_medium.specs.declared.version.Version.{Version}
+use Rattle.cfb_tree.specs.Changes.{added}
+use Rattle.cfb_tree.specs.Directory.{Entry}
+use Rattle.cfb_tree.specs.Entries.{empty_entry}
+use Rattle.cfb_tree.specs.Names.{Letters}
+use Rattle.cfb_tree.specs.Objects.{name_of, HoldsTree, Object}
+use Rattle.cfb_tree.specs.Paths.{Path}
+use Rattle.cfb_tree.specs.Tree.{Tree}
+use Rattle.cfb_tree.proofs.OneContent.{Some_same}
+use Rattle.cfb_siblings.specs.Changes.{HoldsOn, IsAlone, IsUnused}
+use Rattle.cfb_siblings.specs.Links.{holder, linked_to, relinked, with_entry}
+use Rattle.cfb_siblings.specs.Places.{path_to, IsFree, IsStorageAt}
+use Rattle.cfb_siblings.specs.Reading.{ReadBy}
+use Rattle.cfb_siblings.specs.declared.links.Link.{Link}
+use Rattle.cfb_siblings.specs.declared.links.Link.TheVariants.{Child, Left, Right}
+use Rattle.cfb_siblings.proofs.Adding.{grows}
+use Rattle.cfb_siblings.proofs.Frames.{append_keeps, either_same, holds_stays, set_changes_only, set_found}
+use Rattle.cfb_siblings.proofs.Unused.{read_by_place, same_stay}
+use Rattle.cfb_directory.specs.Children.{HasAt, HoldsMore, IsAs, LinksNew}
+use Rattle.cfb_directory.proofs.Longer.{free_more, siblings_more, storage_more}
+
+-- a tree stays where entries are appended, of the same entries
+appended_on : (letters : Letters) (Reads : Entry → List ℕ → Type 0) (old more : List Entry) (tree : Tree) → (h : HoldsTree letters Reads old tree) → HoldsOn letters Reads (old ++ more) tree h.ids
+appended_on letters Reads old more tree h =
+    let keep = λ (k : ℕ) (x : Entry) (found : slice_get old k ≡ Some x). append_keeps old more k x found in record {
+      holds = record {
+        root = h.root;
+        root_found = keep 0 h.root h.root_found;
+        root_kind = h.root_kind;
+        facts = h.facts;
+        children = h.children;
+        ids = h.ids;
+        siblings = siblings_more letters old (old ++ more) keep h.root.child h.children h.siblings;
+        holds = holds_stays old (old ++ more) Reads Reads tree.content h.children h.ids (same_stay old (old ++ more) Reads h.ids keep) h.holds;
+        once = h.once;
+        ordered = h.ordered;
+      };
+      ids_are = refl;
+    }
+
+module _ (reads : ℕ → ℕ → List ℕ → Bool) (letters : Letters) (tree : Tree) (path : Path) (parent : ℕ) (link : Link) (e : Entry) (object : Object) (alone : IsAlone (ReadBy reads) e object) where
+  added_to : (old new : List Entry) (id : ℕ) → (h : HoldsTree letters (ReadBy reads) old tree) → IsStorageAt letters old path parent → IsFree letters old parent (name_of object) link → IsUnused old id
+      → new ≡ relinked link id (slice_set old id e) → HoldsMore letters (ReadBy reads) new (added letters object (path_to path (name_of object)) tree) h.ids id
+  added_to old new id h s free unused is =
+      let more = grows letters (ReadBy reads) (read_by_place reads) old tree path parent link id e object h s free unused alone in
+      subst (λ l. HoldsMore letters (ReadBy reads) l (added letters object (path_to path (name_of object)) tree) h.ids id) (sym is) (record { holds = more.holds; all_are = more.all_are })
+
+  pub inserted_holds_tree : (version : Version) (old new : List Entry) (id : ℕ) → LinksNew version link e old new id → (h : HoldsTree letters (ReadBy reads) old tree) → IsStorageAt letters old path parent
+      → IsFree letters old parent (name_of object) link → HoldsMore letters (ReadBy reads) new (added letters object (path_to path (name_of object)) tree) h.ids id
+  inserted_holds_tree version old new id links h s free =
+      let more = replicate (dir_entries_per_sector version) empty_entry in
+      let keep = λ (k : ℕ) (x : Entry) (found : slice_get old k ≡ Some x). append_keeps old more k x found in
+      let P : List Entry → Type 0 = λ es. IsUnused es id → new ≡ relinked link id (slice_set es id e) → HoldsMore letters (ReadBy reads) new (added letters object (path_to path (name_of object)) tree) h.ids id in
+      ⊎_elim
+      (λ same. subst P (sym same) (λ unused is. added_to old new id h s free unused is) links.unused links.entries)
+      (λ longer. subst P (sym longer)
+      (λ unused is.
+      let on = appended_on letters (ReadBy reads) old more tree h in
+      subst (λ ids. HoldsMore letters (ReadBy reads) new (added letters object (path_to path (name_of object)) tree) ids id) on.ids_are
+      (added_to (old ++ more) new id on.holds (storage_more letters old (old ++ more) keep path parent s) (free_more letters old (old ++ more) keep parent (name_of object) link free) unused is))
+      links.unused links.entries)
+      links.behind
+
+as_itself : (e : Entry) → IsAs e e
+as_itself e = record { name_units = refl; name_len = refl; kind = refl; facts = refl; start = refl; size = refl }
+
+as_linked : (link : Link) (target : ℕ) (e : Entry) → IsAs e (linked_to link target e)
+as_linked (Child id) target e = record { name_units = refl; name_len = refl; kind = refl; facts = refl; start = refl; size = refl }
+as_linked (Left id) target e = record { name_units = refl; name_len = refl; kind = refl; facts = refl; start = refl; size = refl }
+as_linked (Right id) target e = record { name_units = refl; name_len = refl; kind = refl; facts = refl; start = refl; size = refl }
+
+-- a link that is set leaves each entry, but for links and colour
+relinked_as : (link : Link) (target id : ℕ) (es : List Entry) (e : Entry) (at : Option Entry) → at ≡ slice_get es (holder link) → slice_get es id ≡ Some e → HasAt (with_entry es (holder link) (linked_to link target) at) id e
+relinked_as link target id es e None is found = (e, found, as_itself e)
+relinked_as link target id es e (Some x) is found =
+    ⊎_elim
+    (λ same.
+    let one : x ≡ e = Some_same (is ∙ ap (slice_get es) same ∙ found) in
+    (linked_to link target x, ap (slice_get (slice_set es (holder link) (linked_to link target x))) (sym same) ∙ set_found es (holder link) x (linked_to link target x) (sym is), subst (λ y. IsAs y (linked_to link target x)) one (as_linked link target x)))
+    (λ other. (e, set_changes_only es (holder link) (linked_to link target x) id e other found, as_itself e))
+    (either_same (holder link) id)
+
+pub inserted_at : (version : Version) (link : Link) (e : Entry) (old new : List Entry) (id : ℕ) → LinksNew version link e old new id → HasAt new id e
+inserted_at version link e old new id links =
+    subst (λ l. HasAt l id e) (sym links.entries)
+    (relinked_as link id id (slice_set links.grown id e) e (slice_get (slice_set links.grown id e) (holder link)) refl (set_found links.grown id links.unused.entry e links.unused.found))

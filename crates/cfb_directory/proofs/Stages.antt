@@ -1,0 +1,57 @@
+-- Changes of a directory, one after the other.
+use Rattle.std.proofs.Common.{ℕ, inl, List, [], ◌++◌, length, sym, subst, ◌∙◌, arith, append-nil}
+use Rattle.cfb_medium.specs.declared.medium.ReadMedium.{Ghosts}
+use Rattle.cfb_medium.specs.declared.version.Version.{Version}
+use Rattle.cfb_medium.specs.declared.version.Version.TheVariants.{V3, V4}
+use Rattle.cfb_sectors.specs.Sectors.{sector}
+use Rattle.cfb_chains.specs.Changes.{AreNoneOf}
+use Rattle.cfb_chains.specs.Owned.{Becomes, Leaves, Seen}
+use Rattle.cfb_chains.proofs.ChainGrowing.{among_both}
+use Rattle.cfb_chains.proofs.Owners.{leaves_more, leaves_then}
+use Rattle.cfb_fat.specs.Seeing.{seen_of}
+use Rattle.cfb_fat.specs.Tables.{bytes_of, tables_of, version_of}
+use Rattle.cfb_owned.specs.Chains.{GoesOn}
+use Rattle.cfb_owned.proofs.Owning.{none_behind_all}
+use Rattle.cfb_tree.specs.Directory.{Entry}
+use Rattle.cfb_directory.specs.Changes.{SetsEntry}
+use Rattle.cfb_directory.specs.Growth.{count_words, GrowsDirectory, IsCounted}
+use Rattle.cfb_directory.specs.Views.{allocator_of, directory_ids}
+use Rattle.cfb_directory.specs.declared.directory.Directory.{Directory}
+
+-- a chain that became longer, and then another of the same sectors
+becomes_again : (S : List ℕ → ℕ → List ℕ) (ws ids more later : List ℕ) (a b c : Seen) → Becomes S ws ids more later a b → Becomes S [] later [] later b c → AreNoneOf c.tables more → Becomes S ws ids more later a c
+becomes_again S ws ids more later a b c h k spare = record {
+  leaves = leaves_more S ws ((ids ++ more) ++ (later ++ [])) (ids ++ more) a c
+      (among_both (ids ++ more) (ids ++ more) (later ++ []) (λ n none. none) (among_both (ids ++ more) later [] h.among (λ n none k below same. absurd (omega (arith, below)))))
+      (subst (λ l. Leaves S l ((ids ++ more) ++ (later ++ [])) a c) (append-nil ws) (leaves_then S ws [] (ids ++ more) (later ++ []) a b c h.leaves k.leaves));
+  were_free = h.were_free;
+  spare = spare;
+  linked = k.linked;
+  among = h.among;
+}
+
+-- the header's number of sectors stays where nothing of it is written
+counted_still : (v : Version) (S : List ℕ → ℕ → List ℕ) (xs : List ℕ) (n : ℕ) (a b : Seen) → Leaves S [] xs a b → IsCounted v a.bytes n → IsCounted v b.bytes n
+counted_still V3 S xs n a b h was = tt
+counted_still V4 S xs n a b h was = h.header 40 4 (omega arith) (inl (omega arith), tt) ∙ was
+
+module _ {F : Type 0} {g : Ghosts F} where
+  -- a directory that grew, and then an entry that was written
+  pub grows_then : (old mid new : Directory F g) (id : ℕ) (e : Entry) → GoesOn (allocator_of old) (allocator_of mid) → GrowsDirectory old mid → SetsEntry id e mid new → GrowsDirectory old new
+  unfolding seen_of
+  grows_then old mid new id e goes grown sets =
+      let v = version_of (allocator_of old) in
+      let later = directory_ids mid in
+      let has = sets.has grown.has in
+      let becomes = subst (λ u. Becomes (sector u) [] later [] later (seen_of (allocator_of mid)) (seen_of (allocator_of new))) goes.version (sets.becomes grown.has) in
+      let ids = sets.ids ∙ grown.ids in
+      record {
+        more = grown.more;
+        ids = ids;
+        becomes = subst (λ l. Becomes (sector v) (count_words v) (directory_ids old) grown.more l (seen_of (allocator_of old)) (seen_of (allocator_of new))) (sym sets.ids)
+            (becomes_again (sector v) (count_words v) (directory_ids old) grown.more later (seen_of (allocator_of old)) (seen_of (allocator_of mid)) (seen_of (allocator_of new)) grown.becomes becomes
+            (none_behind_all (tables_of (allocator_of new)) (directory_ids old) grown.more (subst (AreNoneOf (tables_of (allocator_of new))) ids has.chain.beside)));
+        has = has;
+        counted = λ was. subst (λ l. IsCounted v (bytes_of (allocator_of new)) (length l)) (sym sets.ids)
+            (counted_still v (sector v) (later ++ []) (length later) (seen_of (allocator_of mid)) (seen_of (allocator_of new)) becomes.leaves (grown.counted was));
+      }

@@ -1,0 +1,61 @@
+use Rattle.std.proofs.Common.{inl, inr, rules, []}
+use Rattle.cfb_fat.specs.Keeping.{fails_cause}
+use Rattle.cfb_fat.specs.Resting.{all_rest_refl}
+use Rattle.cfb_owned.proofs.GoingOn.{fails_go_on, goes_cause, goes_then}
+use Rattle.cfb_siblings.specs.Links.{holder, linked_to}
+use Rattle.cfb_tree.specs.EntryViews.{entry_in}
+use Rattle.cfb_directory.specs.Views.{allocator_of}
+use Rattle.cfb_directory.proofs.Stages.{grows_then}
+use Rattle.cfb_directory.proofs.directory.Directory.take_out.Goals as goal
+
+pub returns-in-Err-write_link-clause-goes_on : goal.returns-in-Err-write_link-clause-goes_on
+returns-in-Err-write_link-clause-goes_on g c =
+    let b = allocator_of c.write_link.new.self in
+    fails_go_on 0 [] (allocator_of c.args.self.now) b b c.fail-in-Err-write_link.new.self (goes_then _ _ _ c.write_joined.ensures.goes_on c.write_link.ensures.goes_on) (inr (all_rest_refl b)) c.fail-in-Err-write_link.ensures
+
+pub returns-in-Err-write_link-clause-answers : goal.returns-in-Err-write_link-clause-answers
+returns-in-Err-write_link-clause-answers g c =
+    let a = allocator_of c.args.self.now in
+    let m = allocator_of c.write_joined.new.self in
+    let b = allocator_of c.write_link.new.self in
+    let told = c.in-Err-write_link.ensures.answers in
+    record {
+      live = tt;
+      failed = search rules;
+      after = inl c.fail-in-Err-write_link.ensures.sectors.failed;
+      cause = fails_cause a b c.fail-in-Err-write_link.new.self c.in-Err-write_link.error (goes_cause a m b c.in-Err-write_link.error c.write_joined.ensures.goes_on c.in_default.ensures.answers.live.1 told.cause) c.fail-in-Err-write_link.ensures;
+      fault = told.fault;
+    }
+
+pub returns-in-Err-write_entry-clause-goes_on : goal.returns-in-Err-write_entry-clause-goes_on
+returns-in-Err-write_entry-clause-goes_on g c =
+    let b = allocator_of c.write_entry.new.self in
+    fails_go_on 0 [] (allocator_of c.args.self.now) b b c.fail-in-Err-write_entry.new.self
+    (goes_then _ _ _ (goes_then _ _ _ c.write_joined.ensures.goes_on c.write_link.ensures.goes_on) c.write_entry.ensures.goes_on) (inr (all_rest_refl b)) c.fail-in-Err-write_entry.ensures
+
+pub returns-in-Err-write_entry-clause-answers : goal.returns-in-Err-write_entry-clause-answers
+returns-in-Err-write_entry-clause-answers g c =
+    let a = allocator_of c.args.self.now in
+    let m = allocator_of c.write_link.new.self in
+    let b = allocator_of c.write_entry.new.self in
+    let told = c.in-Err-write_entry.ensures.answers in
+    record {
+      live = tt;
+      failed = search rules;
+      after = inl c.fail-in-Err-write_entry.ensures.sectors.failed;
+      cause = fails_cause a b c.fail-in-Err-write_entry.new.self c.in-Err-write_entry.error
+          (goes_cause a m b c.in-Err-write_entry.error (goes_then _ _ _ c.write_joined.ensures.goes_on c.write_link.ensures.goes_on) c.in_default-write_link.ensures.answers.live.1 told.cause) c.fail-in-Err-write_entry.ensures;
+      fault = told.fault;
+    }
+
+pub returns-clause-grown : goal.returns-clause-grown
+returns-clause-grown g c = λ has.
+    let old = c.args.self.now in
+    let mid = c.write_link.new.self in
+    let it = c.args.removal.replaced in
+    let set = c.in_default-write_link.ensures.set in
+    grows_then old mid c.write_entry.new.self c.args.id (entry_in c.unallocated.result) (goes_then _ _ _ c.write_joined.ensures.goes_on c.write_link.ensures.goes_on)
+    (grows_then old c.write_joined.new.self mid (holder it.link) (linked_to it.link it.target set.0) c.write_joined.ensures.goes_on (c.in_default.ensures.grown has) set.2) c.in_default-write_entry.ensures.set
+
+pub returns-clause-goes_on : goal.returns-clause-goes_on
+returns-clause-goes_on g c = goes_then _ _ _ (goes_then _ _ _ c.write_joined.ensures.goes_on c.write_link.ensures.goes_on) c.write_entry.ensures.goes_on

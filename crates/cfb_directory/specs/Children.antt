@@ -1,0 +1,54 @@
+-- Entries of a directory that come and go ([MS-CFB] 2.6.3, 2.6.4).
+use Rattle.std.specs.Prelude.{◌≡◌, ℕ, ◌⊎◌, ◌↔◌, Bool, false, List, ◌∷◌, nat_eq, slice_get, slice_set, Some}
+use Rattle.cfb_medium.specs.declared.error.Error.{Error}
+use Rattle.cfb_medium.specs.declared.error.Error.TheVariants.{AlreadyExists, Full, InvalidData, InvalidInput, NotFound}
+use Rattle.cfb_medium.specs.declared.version.Version.{Version}
+use Rattle.cfb_siblings.specs.Changes.{IsApart, IsUnused}
+use Rattle.cfb_siblings.specs.Links.{relinked}
+use Rattle.cfb_siblings.specs.Places.{IsStorageAt}
+use Rattle.cfb_siblings.specs.Reading.{ReadBy}
+use Rattle.cfb_siblings.specs.declared.links.Link.{Link}
+use Rattle.cfb_tree.specs.Names.{Letters}
+use Rattle.cfb_tree.specs.Objects.{HoldsTree}
+use Rattle.cfb_tree.specs.Paths.{Path}
+use Rattle.cfb_tree.specs.Tree.{Tree}
+use Rattle.cfb_tree.specs.Directory.{Entry}
+use Rattle.cfb_directory.specs.Growth.{longer}
+
+-- refusals by rule of a new child: the name is taken or invalid, no number is left, or the directory isn't there as it must be
+abbrev pub IsRefusedInsert : Error → Type 0
+IsRefusedInsert e = (e ≡ AlreadyExists) ⊎ (e ≡ InvalidInput) ⊎ (e ≡ Full) ⊎ (e ≡ InvalidData)
+
+-- refusals by rule where a child goes: there is none, or the directory isn't there as it must be
+abbrev pub IsRefusedRemove : Error → Type 0
+IsRefusedRemove e = (e ≡ NotFound) ⊎ (e ≡ InvalidData)
+
+-- the entries hold the tree, in which the path leads to entry `id`, a storage ([MS-CFB] 2.6.2)
+pub record HoldsStorage (letters : Letters) (reads : ℕ → ℕ → List ℕ → Bool) (entries : List Entry) (tree : Tree) (path : Path) (id : ℕ) : Type 0 where
+  pub holds : HoldsTree letters (ReadBy reads) entries tree
+  pub storage : IsStorageAt letters entries path id
+
+-- the entries hold the tree, which is made of the root, of the entries `ids` and of entry `id`
+pub record HoldsMore (letters : Letters) (Reads : Entry → List ℕ → Type 0) (entries : List Entry) (tree : Tree) (ids : List ℕ) (id : ℕ) : Type 0 where
+  pub holds : HoldsTree letters Reads entries tree
+  pub all_are : (k : ℕ) → IsApart k (0 ∷ holds.ids) ↔ (nat_eq k id ≡ false) × IsApart k (0 ∷ ids)
+
+-- the other entry is this one but for its links and its colour ([MS-CFB] 2.6.1)
+pub record IsAs (e other : Entry) : Type 0 where
+  pub name_units : other.name_units ≡ e.name_units
+  pub name_len : other.name_len ≡ e.name_len
+  pub kind : other.kind ≡ e.kind
+  pub facts : other.facts ≡ e.facts
+  pub start : other.start ≡ e.start
+  pub size : other.size ≡ e.size
+
+-- entry `id` is this one, but for its links and its colour
+abbrev pub HasAt : List Entry → ℕ → Entry → Type 0
+HasAt entries id e = (other : Entry) × (slice_get entries id ≡ Some other) × IsAs e other
+
+-- the entry stands at a number that was in no use, perhaps of a sector that was taken in, and the link leads to it
+pub record LinksNew (version : Version) (link : Link) (e : Entry) (old new : List Entry) (id : ℕ) : Type 0 where
+  pub grown : List Entry
+  pub behind : (grown ≡ old) ⊎ (grown ≡ longer version old)
+  pub unused : IsUnused grown id
+  pub entries : new ≡ relinked link id (slice_set grown id e)

@@ -1,0 +1,40 @@
+-- What a directory is that took in entries in no use ([MS-CFB] 2.6.3).
+use Rattle.std.specs.Prelude.{◌≡◌, ℕ, List, [], ◌∷◌, ◌++◌, ⊤, length, replicate}
+use Rattle.std.specs.Int.{to_le_bytes, w32}
+use Rattle.cfb_medium.specs.Versions.{dir_entries_per_sector}
+use Rattle.cfb_medium.specs.declared.medium.ReadMedium.{Ghosts}
+use Rattle.cfb_medium.specs.declared.version.Version.{Version}
+use Rattle.cfb_medium.specs.declared.version.Version.TheVariants.{V3, V4}
+use Rattle.cfb_sectors.specs.Sectors.{filled_part, sector}
+use Rattle.cfb_chains.specs.Owned.{Becomes}
+use Rattle.cfb_fat.specs.Seeing.{seen_of}
+use Rattle.cfb_fat.specs.Tables.{bytes_of, version_of}
+use Rattle.cfb_tree.specs.Directory.{Entry}
+use Rattle.cfb_tree.specs.Entries.{empty_entry}
+use Rattle.cfb_directory.specs.Changes.{HasDirectory}
+use Rattle.cfb_directory.specs.Views.{allocator_of, directory_ids}
+use Rattle.cfb_directory.specs.declared.directory.Directory.{Directory}
+
+-- the header's number of the directory's sectors, which version 3 has not ([MS-CFB] 2.2)
+abbrev pub count_words : Version → List ℕ
+count_words V3 = []
+count_words V4 = 40 ∷ []
+
+-- in version 4 the header's bytes from 40 on are so many sectors of the directory ([MS-CFB] 2.2)
+abbrev pub IsCounted : Version → List ℕ → ℕ → Type 0
+IsCounted V3 bytes count = ⊤
+IsCounted V4 bytes count = filled_part bytes 40 4 ≡ to_le_bytes w32 count
+
+-- the entries, and those of a sector in no use behind them
+abbrev pub longer : Version → List Entry → List Entry
+longer version entries = entries ++ replicate (dir_entries_per_sector version) empty_entry
+
+module _ {F : Type 0} {g : Ghosts F} where
+  -- the directory has its sectors, and behind them others that were in no use; where the header counted them it does. No other
+  -- owner's sector is touched
+  pub record GrowsDirectory (old new : Directory F g) : Type 0 where
+    pub more : List ℕ
+    pub ids : directory_ids new ≡ directory_ids old ++ more
+    pub becomes : Becomes (sector (version_of (allocator_of old))) (count_words (version_of (allocator_of old))) (directory_ids old) more (directory_ids new) (seen_of (allocator_of old)) (seen_of (allocator_of new))
+    pub has : HasDirectory new
+    pub counted : IsCounted (version_of (allocator_of old)) (bytes_of (allocator_of old)) (length (directory_ids old)) → IsCounted (version_of (allocator_of old)) (bytes_of (allocator_of new)) (length (directory_ids new))

@@ -1,0 +1,13 @@
+pub mod Entries
+pub mod Keeping
+pub mod Linking
+pub mod LongerTables
+pub mod MiniNumbers
+pub mod MiniOwners
+pub mod MiniParts
+pub mod MiniSteps
+pub mod MiniWrites
+pub mod Resting
+pub mod Results
+pub mod StreamGrowth
+pub mod Parts

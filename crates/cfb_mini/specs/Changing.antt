@@ -1,0 +1,102 @@
+-- Who owns which sectors beside the mini FAT and the mini stream, and what a change of mini chains leaves.
+use Rattle.std.specs.Prelude.{◌≡◌, ℕ, ◌<◌, List, [], ◌∷◌, ◌++◌, ◌/◌, false, replicate, slice_get, slice_index_or, slice_set, IsTrue, Some}
+use Rattle.cfb_medium.specs.Bytes.{overwritten}
+use Rattle.cfb_medium.specs.Versions.{sector_len}
+use Rattle.cfb_medium.specs.declared.medium.ReadMedium.{Ghosts}
+use Rattle.cfb_sectors.specs.Sectors.{end_of_chain, free, sector}
+use Rattle.cfb_chains.specs.Changes.{HaveEntry}
+use Rattle.cfb_chains.specs.Owned.{Becomes, Owned, Seen, Stays}
+use Rattle.cfb_fat.specs.Seeing.{seen_of}
+use Rattle.cfb_fat.specs.Tables.{bytes_of, fat_of, has_failed_here, is_honest, tables_of, version_of}
+use Rattle.cfb_fat.specs.declared.allocator.Allocator.{Allocator}
+use Rattle.cfb_owned.specs.Chains.{GoesOn}
+use Rattle.cfb_tree.specs.Directory.{Entry}
+use Rattle.cfb_directory.specs.Views as directory
+use Rattle.cfb_mini.specs.Growing.{TellsMiniFat}
+use Rattle.cfb_mini.specs.LinkViews.{minis_of}
+use Rattle.cfb_mini.specs.Minis.{all_words, mini_sector}
+use Rattle.cfb_mini.specs.Taking.{HasNoneBelow, IsFreeIn}
+use Rattle.cfb_mini.specs.Views.{allocator_of, directory_of, mini_content_of, mini_fat_ids, mini_fat_of, mini_stream_ids, mini_stream_len, mini_stream_of, IsMini}
+use Rattle.cfb_mini.specs.declared.links.MiniLinks.{MiniLinks}
+use Rattle.cfb_mini.specs.declared.mini_allocator.MiniAllocator.{MiniAllocator}
+
+module _ {F : Type 0} {g : Ghosts F} where
+  -- the same over this layer below
+  abbrev pub with_allocator : MiniAllocator F g → Allocator F g → MiniAllocator F g
+  with_allocator it allocator = record it { directory = directory.with_allocator (directory_of it) allocator }
+
+  -- what those see who own mini sectors: the mini stream's bytes and the mini FAT; no mini sector holds a table ([MS-CFB] 2.4)
+  unfoldable pub mini_seen : MiniAllocator F g → Seen
+  mini_seen it = record { bytes = mini_stream_of it; table = mini_fat_of it; tables = [] }
+
+  -- memory is that of an honest file's bytes, and each sector has one owner at most: owner 0 is the directory, 1 the mini FAT and
+  -- 2 the mini stream
+  pub record HasOwners (it : MiniAllocator F g) (own : ℕ → List ℕ) : Type 0 where
+    pub honest : IsTrue (is_honest (allocator_of it))
+    pub memory : IsMini it
+    pub owned : Owned (fat_of (allocator_of it)) (tables_of (allocator_of it)) own
+    pub directory : own 0 ≡ directory.directory_ids (directory_of it)
+    pub mini_fat : own 1 ≡ mini_fat_ids it
+    pub mini_stream : own 2 ≡ mini_stream_ids it
+
+  -- the file goes on, and where it has not failed the sectors of directory, mini FAT and mini stream are still their chains, with
+  -- their bytes: so it is where a change leaves them out
+  pub record LeavesMini (it : MiniAllocator F g) (later : Allocator F g) : Type 0 where
+    pub goes_on : GoesOn (allocator_of it) later
+    pub directory : has_failed_here later ≡ false → IsTrue (is_honest (allocator_of it)) → Stays (sector (version_of (allocator_of it))) (seen_of (allocator_of it)) (seen_of later) (directory.directory_ids (directory_of it))
+    pub mini_fat : has_failed_here later ≡ false → IsTrue (is_honest (allocator_of it)) → Stays (sector (version_of (allocator_of it))) (seen_of (allocator_of it)) (seen_of later) (mini_fat_ids it)
+    pub mini_stream : has_failed_here later ≡ false → IsTrue (is_honest (allocator_of it)) → Stays (sector (version_of (allocator_of it))) (seen_of (allocator_of it)) (seen_of later) (mini_stream_ids it)
+
+  -- memory is that of the bytes still, over whatever layer such a change leaves
+  abbrev pub IsKeptOver : MiniAllocator F g → Type 0
+  IsKeptOver it = (later : Allocator F g) → LeavesMini it later → IsMini it → IsMini (with_allocator it later)
+
+  -- The mini chain of these mini sectors became another one, of what it had and of what was free; all other mini sectors keep
+  -- their numbers and bytes. Each owner but directory, mini FAT and mini stream has the sectors that it had, with their bytes.
+  pub record Changes (minis more later : List ℕ) (old new : MiniAllocator F g) (own then : ℕ → List ℕ) : Type 0 where
+    pub owners : HasOwners new then
+    pub same : (k : ℕ) → 2 < k → then k ≡ own k
+    pub others : (k : ℕ) → 2 < k → Stays (sector (version_of (allocator_of old))) (seen_of (allocator_of old)) (seen_of (allocator_of new)) (own k)
+    pub becomes : Becomes mini_sector all_words minis more later (mini_seen old) (mini_seen new)
+
+  -- these bytes lie over the mini chain's from a place on, and its mini sectors are those that they were
+  pub record Overwrites (at : ℕ) (bytes : List ℕ) (old new : MiniAllocator F g) (links : MiniLinks) (own : ℕ → List ℕ) : Type 0 where
+    pub changes : Changes (minis_of links) [] (minis_of links) old new own own
+    pub content : mini_content_of new links ≡ overwritten (mini_content_of old links) at bytes
+
+  -- these mini sectors are free
+  pub record Frees (minis : List ℕ) (old new : MiniAllocator F g) (own : ℕ → List ℕ) : Type 0 where
+    pub changes : Changes minis [] [] old new own own
+    pub freed : HaveEntry free (mini_fat_of new) minis
+
+  -- The mini chain took in the first mini sector that was free, behind its last one; the mini stream has it. The mini stream's bytes are those
+  -- that they were.
+  pub record Extends (old new : MiniAllocator F g) (minis later : List ℕ) (own : ℕ → List ℕ) : Type 0 where
+    pub taken : ℕ
+    pub was_free : IsFreeIn (mini_fat_of old) (mini_stream_len old) taken
+    pub first : HasNoneBelow (mini_fat_of old) taken
+    pub minis_are : later ≡ minis ++ taken ∷ []
+    pub changes : Changes minis (taken ∷ []) later old new own own
+    pub bytes : mini_stream_of new ≡ mini_stream_of old
+
+  -- The mini FAT took in a sector that was in no use, of "free" numbers, and the header tells of it; all else that is owned stays.
+  pub record GrowsMiniFat (old new : MiniAllocator F g) (own : ℕ → List ℕ) : Type 0 where
+    pub more : List ℕ
+    pub sectors : mini_fat_ids new ≡ mini_fat_ids old ++ more
+    pub owners : (then : ℕ → List ℕ) → then 1 ≡ mini_fat_ids new → ((k : ℕ) → (k ≡ 1 → ⊥) → then k ≡ own k) → HasOwners new then
+    pub others : (k : ℕ) → (k ≡ 1 → ⊥) → Stays (sector (version_of (allocator_of old))) (seen_of (allocator_of old)) (seen_of (allocator_of new)) (own k)
+    pub numbers : mini_fat_of new ≡ mini_fat_of old ++ replicate (sector_len (version_of (allocator_of old)) / 4) free
+    pub stream : mini_stream_of new ≡ mini_stream_of old
+    pub told : TellsMiniFat (bytes_of (allocator_of new)) (mini_fat_ids new)
+
+  -- The mini stream took in a sector that was in no use, of zeros, and the root's entry tells where it begins and how many bytes it
+  -- has. All other entries stay, and all else that is owned.
+  pub record GrowsMiniStream (old new : MiniAllocator F g) (own : ℕ → List ℕ) : Type 0 where
+    pub more : List ℕ
+    pub sectors : mini_stream_ids new ≡ mini_stream_ids old ++ more
+    pub owners : (then : ℕ → List ℕ) → then 2 ≡ mini_stream_ids new → ((k : ℕ) → (k ≡ 2 → ⊥) → then k ≡ own k) → HasOwners new then
+    pub others : (k : ℕ) → 2 < k → Stays (sector (version_of (allocator_of old))) (seen_of (allocator_of old)) (seen_of (allocator_of new)) (own k)
+    pub stream : mini_stream_of new ≡ mini_stream_of old ++ replicate (sector_len (version_of (allocator_of old))) 0
+    pub mini_fat : mini_fat_of new ≡ mini_fat_of old
+    pub root : (e : Entry) → slice_get (directory.entries_held (directory_of old)) 0 ≡ Some e
+        → directory.entries_held (directory_of new) ≡ slice_set (directory.entries_held (directory_of old)) 0 (record e { start = slice_index_or (mini_stream_ids new) 0 end_of_chain; size = mini_stream_len new })

@@ -1,0 +1,27 @@
+-- What a change of the mini FAT's numbers does ([MS-CFB] 2.4).
+use Rattle.std.specs.Prelude.{◌≡◌, ℕ, List, []}
+use Rattle.cfb_medium.specs.declared.medium.ReadMedium.{Ghosts}
+use Rattle.cfb_sectors.specs.Sectors.{fat_in, sector}
+use Rattle.cfb_chains.specs.Changes.{DifferAt}
+use Rattle.cfb_chains.specs.LinkViews.{ids_of}
+use Rattle.cfb_chains.specs.Owned.{Becomes}
+use Rattle.cfb_fat.specs.Seeing.{seen_of}
+use Rattle.cfb_fat.specs.Tables.{bytes_of, version_of}
+use Rattle.cfb_fat.specs.declared.allocator.Allocator.{Allocator}
+use Rattle.cfb_owned.specs.Chains.{HasChain}
+use Rattle.cfb_mini.specs.NumberViews.{numbers_of}
+use Rattle.cfb_mini.specs.declared.mini_fat.MiniFat.{MiniFat}
+
+-- the mini FAT and the mini stream lie in the sectors in which they lay
+pub record LiesSo (before after : MiniFat) : Type 0 where
+  pub links : after.links ≡ before.links
+  pub stream : after.stream ≡ before.stream
+
+module _ {F : Type 0} {g : Ghosts F} where
+  -- At most these mini sectors' numbers are changed, in the file as in memory. The mini FAT's sectors are those that they were.
+  pub record Enters (minis : List ℕ) (old new : Allocator F g) (before after : MiniFat) : Type 0 where
+    pub chain : HasChain new before.links
+    pub becomes : Becomes (sector (version_of old)) [] (ids_of before.links) [] (ids_of before.links) (seen_of old) (seen_of new)
+    pub differ : DifferAt minis (numbers_of before.numbers) (numbers_of after.numbers)
+    pub same : numbers_of before.numbers ≡ fat_in (version_of old) (bytes_of old) (ids_of before.links)
+        → numbers_of after.numbers ≡ fat_in (version_of new) (bytes_of new) (ids_of before.links)

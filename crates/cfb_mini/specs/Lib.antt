@@ -1,0 +1,10 @@
+pub mod Changing
+pub mod Entering
+pub mod Growing
+pub mod Layers
+pub mod LinkViews
+pub mod Minis
+pub mod NumberViews
+pub mod Overwriting
+pub mod Taking
+pub mod Views

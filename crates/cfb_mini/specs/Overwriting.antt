@@ -1,0 +1,23 @@
+-- What a write in a mini chain does to the mini stream ([MS-CFB] 2.4).
+use Rattle.std.specs.Prelude.{◌≡◌, ℕ, List, []}
+use Rattle.cfb_medium.specs.Bytes.{overwritten}
+use Rattle.cfb_medium.specs.declared.medium.ReadMedium.{Ghosts}
+use Rattle.cfb_sectors.specs.Sectors.{sector}
+use Rattle.cfb_chains.specs.Changes.{IsNoneOf}
+use Rattle.cfb_chains.specs.LinkViews.{ids_of}
+use Rattle.cfb_chains.specs.Owned.{Becomes}
+use Rattle.cfb_chains.specs.declared.links.Links.{Links}
+use Rattle.cfb_fat.specs.Seeing.{seen_of}
+use Rattle.cfb_fat.specs.Tables.{version_of}
+use Rattle.cfb_fat.specs.declared.allocator.Allocator.{Allocator}
+use Rattle.cfb_owned.specs.Chains.{content_of, HasChain}
+use Rattle.cfb_mini.specs.Minis.{mini_joined, mini_sector}
+
+module _ {F : Type 0} {g : Ghosts F} where
+  -- In the mini stream of these sectors, these bytes lie over those of these mini sectors from a place on. All other mini sectors
+  -- are as they were, and the mini stream's sectors are those that they were.
+  pub record WritesMinis (at : ℕ) (bytes : List ℕ) (old new : Allocator F g) (stream : Links) (minis : List ℕ) : Type 0 where
+    pub chain : HasChain new stream
+    pub becomes : Becomes (sector (version_of old)) [] (ids_of stream) [] (ids_of stream) (seen_of old) (seen_of new)
+    pub content : mini_joined (content_of new stream) minis ≡ overwritten (mini_joined (content_of old stream) minis) at bytes
+    pub others : (n : ℕ) → IsNoneOf minis n → mini_sector (content_of new stream) n ≡ mini_sector (content_of old stream) n

@@ -1,0 +1,21 @@
+//! Mini sectors of a compound file: short streams, over the mini FAT and the mini stream.
+#![tactic(auto)]
+
+mod changing;
+mod entering;
+mod growing;
+mod laws;
+mod lending;
+mod links;
+mod mini_allocator;
+mod mini_fat;
+mod numbers;
+mod places;
+mod reading;
+mod stream_growth;
+mod taking;
+mod writing;
+
+pub use laws::mini_sectors_are_parts;
+pub use links::MiniLinks;
+pub use mini_allocator::MiniAllocator;

@@ -1,0 +1,100 @@
+-- What entries hold after one was linked, or taken out.
+use Rattle.std.specs.Prelude.{◌≡◌, ℕ, ◌≤◌, false, List, ◌∷◌, nat_eq, slice_get, slice_set, Some, IfSome, ◌↔◌, ◌⊎◌}
+use Rattle.std.specs.List.{AllByRecursion}
+use Rattle.cfb_tree.specs.Names.{Letters}
+use Rattle.cfb_tree.specs.Paths.{Path}
+use Rattle.cfb_tree.specs.Tree.{Tree, nothing}
+use Rattle.cfb_tree.specs.Directory.{Entry, HasName, no_entry, greatest_entry, kind_unallocated, kind_storage, kind_stream, red, black}
+use Rattle.cfb_tree.specs.Entries.{IsBlackAt}
+use Rattle.cfb_tree.specs.Objects.{Object, a_stream, a_storage, IsObject, HoldsTree}
+use Rattle.cfb_tree.specs.Changes.{removed}
+use Rattle.cfb_siblings.specs.declared.removal.Removal.{Removal}
+use Rattle.cfb_siblings.specs.Links.{holder, taken_out}
+use Rattle.cfb_siblings.specs.Places.{HasEntry}
+
+-- the number is none of these
+abbrev pub IsApart : ℕ → List ℕ → Type 0
+IsApart n ids = AllByRecursion (λ id. nat_eq n id ≡ false) ids
+
+-- entry `id` is not in use ([MS-CFB] 2.6.1)
+pub record IsUnused (directory : List Entry) (id : ℕ) : Type 0 where
+  pub fits : id ≤ greatest_entry
+  pub entry : Entry
+  pub found : slice_get directory id ≡ Some entry
+  pub of_kind : entry.kind ≡ kind_unallocated
+
+-- the entry is this object: a stream, or a storage without children ([MS-CFB] 2.6.2, 2.6.3)
+abbrev pub Is : (Entry → List ℕ → Type 0) → Entry → Object → Type 0
+Is Reads e (a_stream name state_bits bytes) =
+    (e.kind ≡ kind_stream) × HasName e name × (e.facts.state_bits ≡ state_bits) × Reads e bytes
+Is Reads e (a_storage name facts inside) =
+    (e.kind ≡ kind_storage) × HasName e name × (e.facts ≡ facts) × (e.child ≡ no_entry) × (inside ≡ nothing)
+
+-- the entry is this object, has no siblings, and is black ([MS-CFB] 2.6.4)
+pub record IsAlone (Reads : Entry → List ℕ → Type 0) (e : Entry) (object : Object) : Type 0 where
+  pub is : Is Reads e object
+  pub left : e.left ≡ no_entry
+  pub right : e.right ≡ no_entry
+  pub color : e.color ≡ black
+
+-- entry `id` is red or black, and where it is red no red sibling hangs under it ([MS-CFB] 2.6.4)
+abbrev pub IsColored : List Entry → ℕ → Type 0
+IsColored directory id = IfSome (slice_get directory id) (λ e.
+    ((e.color ≡ red) ⊎ (e.color ≡ black)) × (e.color ≡ red → IsBlackAt directory e.left × IsBlackAt directory e.right))
+
+-- the root is black, and the entries below it are coloured so ([MS-CFB] 2.6.4)
+abbrev pub AreColored : List Entry → List ℕ → Type 0
+AreColored directory ids = IsBlackAt directory 0 × AllByRecursion (IsColored directory) ids
+
+-- the entries hold the tree, which is made of the root, of `ids` and of `id`; colours stay right
+pub record HoldsOneMore (letters : Letters) (Reads : Entry → List ℕ → Type 0) (old new : List Entry) (tree : Tree) (ids : List ℕ) (id : ℕ) : Type 0 where
+  pub holds : HoldsTree letters Reads new tree
+  pub all_are : (k : ℕ) → IsApart k (0 ∷ holds.ids) ↔ (nat_eq k id ≡ false) × IsApart k (0 ∷ ids)
+  pub colors : AreColored old ids → AreColored new holds.ids
+
+-- the entries hold the tree, which is made of the root and of `ids` without `id` and those inside of it, `own`; colours stay right
+pub record HoldsOneLess (letters : Letters) (Reads : Entry → List ℕ → Type 0) (old new : List Entry) (tree : Tree) (ids : List ℕ) (id : ℕ)
+    (own : List ℕ) : Type 0 where
+  pub holds : HoldsTree letters Reads new tree
+  pub all_are : (k : ℕ) → IsApart k (0 ∷ ids) ↔ (nat_eq k id ≡ false) × IsApart k own × IsApart k (0 ∷ holds.ids)
+  pub gone : IsApart id (0 ∷ holds.ids)
+  pub colors : AreColored old ids → AreColored new holds.ids
+
+-- the removal takes entry `id` out, of which the object is at the path: whatever stands in its place then, the entries hold the
+-- tree without the object and what is in it ([MS-CFB] 2.6.4)
+pub record TakesOut (letters : Letters) (Reads : Entry → List ℕ → Type 0) (directory : List Entry) (tree : Tree) (ids : List ℕ)
+    (path : Path) (id : ℕ) (removal : Removal) : Type 0 where
+  pub object : Object
+  pub own : List ℕ
+  pub is_object : IsObject directory Reads id object own
+  pub replaced : HasEntry directory (holder removal.replaced.link)
+  pub joined : IfSome removal.joined (λ it. HasEntry directory (holder it.link))
+  pub leaves : (e : Entry)
+      → HoldsOneLess letters Reads directory (slice_set (taken_out removal directory) id e) (removed letters path tree) ids id own
+
+-- entry f has the name, the kind and the links of entry e ([MS-CFB] 2.6.1)
+pub record HasSameLinks (e f : Entry) : Type 0 where
+  pub name_units : f.name_units ≡ e.name_units
+  pub name_len : f.name_len ≡ e.name_len
+  pub kind : f.kind ≡ e.kind
+  pub left : f.left ≡ e.left
+  pub right : f.right ≡ e.right
+  pub child : f.child ≡ e.child
+
+-- as entry f says it, one object becomes another of its name: a stream gets state bits and bytes, a storage facts ([MS-CFB] 2.6.1)
+abbrev pub Becomes : (Entry → List ℕ → Type 0) → Entry → Object → Object → Type 0
+Becomes Reads f (a_stream name state_bits bytes) (a_stream name' state_bits' bytes') =
+    (name' ≡ name) × (f.facts.state_bits ≡ state_bits') × Reads f bytes'
+Becomes Reads f (a_storage name facts inside) (a_storage name' facts' inside') = (name' ≡ name) × (f.facts ≡ facts') × (inside' ≡ inside)
+Becomes Reads f (a_stream name state_bits bytes) (a_storage name' facts' inside') = ⊥
+Becomes Reads f (a_storage name facts inside) (a_stream name' state_bits' bytes') = ⊥
+
+-- the streams of these entries but `id` keep their bytes ([MS-CFB] 2.6.3)
+abbrev pub KeepBytes : (Entry → List ℕ → Type 0) → (Entry → List ℕ → Type 0) → List Entry → ℕ → List ℕ → Type 0
+KeepBytes Reads Reads' directory id ids = AllByRecursion (λ k. nat_eq id k ≡ false
+    → (e : Entry) (bytes : List ℕ) → slice_get directory k ≡ Some e → Reads e bytes → Reads' e bytes) ids
+
+-- the entries hold the tree, which is made of the root and of `ids`
+pub record HoldsOn (letters : Letters) (Reads : Entry → List ℕ → Type 0) (directory : List Entry) (tree : Tree) (ids : List ℕ) : Type 0 where
+  pub holds : HoldsTree letters Reads directory tree
+  pub ids_are : holds.ids ≡ ids

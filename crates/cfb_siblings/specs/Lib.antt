@@ -1,0 +1,4 @@
+pub mod Changes
+pub mod Links
+pub mod Places
+pub mod Reading

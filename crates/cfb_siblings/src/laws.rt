@@ -1,0 +1,77 @@
+//! Laws of the definitions, each of a function that does nothing.
+ghost use Rattle.cfb_siblings.specs.Changes.{AreColored, Becomes, HasSameLinks, HoldsOn, HoldsOneMore, IsAlone, IsApart, IsUnused, KeepBytes};
+ghost use Rattle.cfb_siblings.specs.Links.{relinked};
+ghost use Rattle.cfb_siblings.specs.Places.{path_to, IsFree, IsStorageAt, LeadsTo};
+ghost use Rattle.cfb_siblings.specs.Reading.{ReadBy};
+ghost use Rattle.cfb_siblings.specs.declared.links.Link.{Link as Way};
+ghost use Rattle.cfb_sectors.specs.Sectors.{end_of_chain};
+ghost use Rattle.cfb_tree.specs.Changes.{added, changed, made_at};
+ghost use Rattle.cfb_tree.specs.Directory.{kind_storage, kind_stream, Entry};
+ghost use Rattle.cfb_tree.specs.Entries.{new_entry};
+ghost use Rattle.cfb_tree.specs.Names.{is_name, Letters};
+ghost use Rattle.cfb_tree.specs.Objects.{a_storage, a_stream, name_of, object_at, HoldsTree, Object};
+ghost use Rattle.cfb_tree.specs.Paths.{Path};
+ghost use Rattle.cfb_tree.specs.Tree.{nothing, Tree};
+ghost use Rattle.std.specs.Char.{IsScalar};
+ghost use Rattle.std.specs.List.{AllByRecursion};
+ghost use Rattle.std.specs.Prelude.{slice_get, slice_set, Bool, IsTrue, List, [], ℕ, Some, ◌++◌, ◌≡◌, ◌∷◌};
+
+/// A new child: an entry that is not in use becomes an object without siblings, and then the free link leads to it. The
+/// entries hold the tree with this object, and the tree has the one entry more ([MS-CFB] 2.6.4).
+pub fn linked_entries_are_added()
+    ensures { (reads : ℕ → ℕ → List ℕ → Bool) (letters : Letters) (directory : List Entry)
+        (tree : Tree) (path : Path) (parent : ℕ) (link : Way) (id : ℕ) (e : Entry)
+        (object : Object) → (h : HoldsTree letters (ReadBy reads) directory tree)
+        → IsStorageAt letters directory path parent
+        → IsFree letters directory parent (name_of object) link → IsUnused directory id
+        → IsAlone (ReadBy reads) e object
+        → HoldsOneMore letters (ReadBy reads) directory (relinked link id (slice_set directory id e))
+        (added letters object (path_to path (name_of object)) tree) h.ids id }
+{}
+
+/// An entry that is not in use is outside of the tree, and may become any other.
+pub fn unused_entries_are_free()
+    ensures apart { (reads : ℕ → ℕ → List ℕ → Bool) (letters : Letters) (directory : List Entry)
+        (tree : Tree) (id : ℕ) → (h : HoldsTree letters (ReadBy reads) directory tree)
+        → IsUnused directory id → IsApart id (0 ∷ h.ids) }
+    ensures stays { (reads : ℕ → ℕ → List ℕ → Bool) (letters : Letters) (directory : List Entry)
+        (tree : Tree) (id : ℕ) (e : Entry)
+        → (h : HoldsTree letters (ReadBy reads) directory tree) → IsApart id (0 ∷ h.ids)
+        → HoldsTree letters (ReadBy reads) (slice_set directory id e) tree }
+{}
+
+/// Entries behind those of the tree are outside of it.
+pub fn appended_entries_are_free()
+    ensures { (reads : ℕ → ℕ → List ℕ → Bool) (letters : Letters) (directory more : List Entry)
+        (tree : Tree) → HoldsTree letters (ReadBy reads) directory tree
+        → HoldsTree letters (ReadBy reads) (directory ++ more) tree }
+{}
+
+/// What `DirEntry::new` makes is an object on its own: an empty stream, or a storage made at a moment, without children.
+pub fn new_entries_are_alone()
+    ensures stream { (reads : ℕ → ℕ → List ℕ → Bool) (name : List ℕ) (moment : ℕ)
+        → AllByRecursion IsScalar name → IsTrue (is_name name) → IsTrue (reads end_of_chain 0 [])
+        → IsAlone (ReadBy reads) (new_entry name kind_stream moment) (a_stream name 0 []) }
+    ensures storage { (reads : ℕ → ℕ → List ℕ → Bool) (name : List ℕ) (moment : ℕ)
+        → AllByRecursion IsScalar name → IsTrue (is_name name)
+        → IsAlone (ReadBy reads) (new_entry name kind_storage moment)
+        (a_storage name (made_at moment) nothing) }
+{}
+
+/// An entry of the tree gets other facts, or its stream other bytes: the entries hold the tree with the object changed so, where
+/// the other streams keep their bytes. Colours stay right where its own stays.
+pub fn changed_entries_change_the_tree()
+    ensures tree { (reads reads' : ℕ → ℕ → List ℕ → Bool) (letters : Letters)
+        (directory : List Entry) (tree : Tree) (path : Path) (id : ℕ) (e f : Entry)
+        (change : Object → Object) (object : Object)
+        → (h : HoldsTree letters (ReadBy reads) directory tree)
+        → LeadsTo letters directory 0 path id → object_at letters tree path ≡ Some object
+        → slice_get directory id ≡ Some e → HasSameLinks e f
+        → Becomes (ReadBy reads') f object (change object)
+        → KeepBytes (ReadBy reads) (ReadBy reads') directory id h.ids
+        → HoldsOn letters (ReadBy reads') (slice_set directory id f)
+        (changed letters change path tree) h.ids }
+    ensures colors { (directory : List Entry) (ids : List ℕ) (id : ℕ) (e f : Entry)
+        → slice_get directory id ≡ Some e → HasSameLinks e f → f.color ≡ e.color
+        → AreColored directory ids → AreColored (slice_set directory id f) ids }
+{}

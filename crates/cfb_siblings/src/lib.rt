@@ -1,0 +1,17 @@
+//! Trees of siblings: where a name hangs among a storage's children, and what to link when an entry comes or goes.
+#![tactic(auto)]
+
+mod laws;
+mod links;
+mod paths;
+mod places;
+mod removal;
+
+pub use laws::{
+    appended_entries_are_free, changed_entries_change_the_tree, linked_entries_are_added,
+    new_entries_are_alone, unused_entries_are_free,
+};
+pub use links::{Link, NewLink, relink};
+pub use paths::find_entry;
+pub use places::{Place, find_place};
+pub use removal::{Removal, plan_removal};

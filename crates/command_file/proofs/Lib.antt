@@ -1,0 +1,4 @@
+pub mod Named
+pub mod Nested
+pub mod Hex
+pub mod BuiltColumns

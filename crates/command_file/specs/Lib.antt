@@ -1,0 +1,6 @@
+pub mod Expressions
+pub mod Request
+pub mod Commands
+pub mod Built
+pub mod Nested
+pub mod Said

@@ -1,0 +1,12 @@
+//! Command files: what a session is asked for, as a person writes it.
+#![tactic(auto)]
+
+mod columns;
+mod command;
+mod expressions;
+mod reading;
+mod selects;
+mod summary;
+
+pub use command::{Command, SummaryEdit};
+pub use reading::read_commands;

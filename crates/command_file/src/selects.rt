@@ -1,0 +1,120 @@
+//! Selects: tables, joins, columns and conditions.
+ghost use Rattle.std.specs.Prelude.{◌≡◌, Some, codes, map, option_and_then, option_map};
+ghost use Rattle.serde_json.specs.Find.{as_object};
+ghost use Rattle.serde_json.specs.View.{view};
+ghost use Rattle.msi_expr.specs.Formula.{formula_of};
+ghost use Rattle.msi_query.specs.Said.{query_of};
+ghost use Rattle.command_file.specs.Expressions.{columns_in, joined, select_in, side_of, source_in};
+ghost use Rattle.command_file.specs.Nested.{all_of, join_in, select_at};
+ghost use Rattle.json_parts.specs.Reads.{Gives};
+ghost use Rattle.json_parts.specs.Values.{at_key};
+
+use crate::expressions::{condition_of, expression_at};
+use cfb_medium::Error;
+use json_parts::{are_among, borrowed_texts, has_only, member, text_at};
+use msi_expr::Expr;
+use msi_query::Select;
+use serde_json::Value as Json;
+use std::alloc::Global;
+
+// A select, whatever other keys stand there.
+pub(crate) fn select_of(alloc: Global, json: &Json) -> Result<Select, Error>
+    ensures { Gives query_of result (option_and_then select_in (as_object (view json.now))) }
+{
+    select_at(alloc, json)
+}
+
+#[cycle(selects)]
+fn select_at(alloc: Global, json: &Json) -> Result<Select, Error>
+    ensures { Gives query_of result (select_at (view json.now)) }
+{
+    let select = source_at(alloc, json)?;
+    let names = names_of(alloc, json)?;
+    let condition = condition_of(alloc, json)?;
+    let select = select.columns(alloc, &names)?;
+    match condition {
+        Some(condition) => select.with(alloc, condition),
+        None => Ok(select),
+    }
+}
+
+// The columns that are asked for; none where all are.
+fn names_of<'a>(alloc: Global, json: &'a Json) -> Result<Vec<&'a str>, Error>
+    ensures { Gives (λ names. map (λ name. name.now) names.items) result
+        (columns_in (view json.now)) }
+{
+    match json.get("columns") {
+        Some(found) => borrowed_texts(alloc, found),
+        None => Ok(Vec::new(alloc)),
+    }
+}
+
+// All of the source.
+#[cycle(selects)]
+fn source_at(alloc: Global, json: &Json) -> Result<Select, Error>
+    ensures { Gives query_of result
+        (option_map all_of (at_key (codes "from") source_in (view json.now))) }
+{
+    let found = member(json, "from")?;
+    source_of(alloc, found)
+}
+
+#[cycle(selects)]
+fn source_of(alloc: Global, json: &Json) -> Result<Select, Error>
+    ensures { Gives query_of result (option_map all_of (source_in (view json.now))) }
+{
+    match json {
+        Json::String(name) => Select::table(alloc, name.as_str()),
+        Json::Object(members) => {
+            if are_among(members, &["join", "left", "right", "on"]) {
+                return join_of(alloc, json);
+            }
+            Err(Error::InvalidInput)
+        }
+        _ => Err(Error::InvalidInput),
+    }
+}
+
+// All of two selects joined.
+#[cycle(selects)]
+fn join_of(alloc: Global, json: &Json) -> Result<Select, Error>
+    ensures { Gives query_of result (option_map all_of (join_in (view json.now))) }
+{
+    let left = side_at(alloc, json, "left")?;
+    let right = side_at(alloc, json, "right")?;
+    let on = expression_at(alloc, json, "on")?;
+    let kind = text_at(json, "join")?;
+    joined(alloc, kind, left, right, on)
+}
+
+// A side of a join.
+#[cycle(selects)]
+fn side_at(alloc: Global, json: &Json, key: &str) -> Result<Select, Error>
+    ensures { Gives query_of result (at_key key.now side_of (view json.now)) }
+{
+    let found = member(json, key)?;
+    side_of(alloc, found)
+}
+
+#[cycle(selects)]
+fn side_of(alloc: Global, json: &Json) -> Result<Select, Error>
+    ensures { Gives query_of result (side_of (view json.now)) }
+{
+    if has_only(json, &["from", "columns", "where"]) {
+        select_at(alloc, json)
+    } else {
+        Err(Error::InvalidInput)
+    }
+}
+
+// Two selects joined.
+fn joined(alloc: Global, kind: &str, left: Select, right: Select, on: Expr) -> Result<Select, Error>
+    ensures { Gives query_of result (option_map all_of
+        (joined (Some kind.now) (query_of left) (query_of right) (formula_of on))) }
+{
+    match kind {
+        "inner" => left.inner_join(alloc, right, on),
+        "left" => left.left_join(alloc, right, on),
+        _ => Err(Error::InvalidInput),
+    }
+}

@@ -1,0 +1,9 @@
+use Rattle.std.proofs.Common.{◌≡◌, map, drop}
+use Rattle.serde_json.specs.View.{items_view}
+use Rattle.serde_json.specs.Find.{as_str}
+use Rattle.json_parts.specs.Values.{all_in}
+use Rattle.json_parts.proofs.ReadLists.{onto}
+use Rattle.json_parts.proofs.lists.each_borrowed.Given as goal
+
+abbrev pub invariant-loop-item : goal.invariant-loop-item
+invariant-loop-item l = onto (map (λ text. text.now) l.texts.items) (all_in as_str (items_view (drop l.item-index l.list))) ≡ all_in as_str (items_view l.list)

@@ -1,5 +1,0 @@
-use Rattle.std.proofs.Common.{◌≡◌, map, string_bytes, take}
-use Rattle.one_table.proofs.select.Select.columns.Given as goal
-
-abbrev pub invariant-loop-name : goal.invariant-loop-name
-invariant-loop-name l = map string_bytes l.names.items ≡ map (λ name. name.now) (take l.name-index l.column_names)
