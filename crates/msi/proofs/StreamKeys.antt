@@ -7,8 +7,8 @@ use Rattle.cfb_medium.specs.declared.error.Error.{Error}
 use Rattle.cfb_medium.specs.declared.error.Error.TheVariants.{NotFound, AlreadyExists}
 use Rattle.cfb_tree.specs.Names.{Letters, name_key, key_cmp, name_cmp}
 use Rattle.cfb_tree.proofs.NameOrder.{name_cmp_equal}
-use Rattle.cfb.specs.TreeRules.{Object, a_stream, a_storage, is_same_name}
-use Rattle.cfb.specs.TreeRules.{name_of as object_name}
+use Rattle.cfb_meaning.specs.TreeRules.{Object, a_stream, a_storage, is_same_name}
+use Rattle.cfb_meaning.specs.TreeRules.{name_of as object_name}
 use Rattle.msi_texts.specs.Results.{◌>>=◌, unless_not, or_refused}
 use Rattle.msi.specs.Package.{Package, is_stream, object_bytes, at_name, stream_at}
 use Rattle.msi.specs.Calls.{bare_package}

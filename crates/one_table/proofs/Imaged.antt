@@ -6,7 +6,7 @@ use Rattle.one_table.specs.declared.contents.OnlyTable.{OnlyTable}
 use Rattle.one_table.specs.Contents.{only_lent, only_seen}
 use Rattle.std.specs.List.{AllByRecursion}
 use Rattle.cfb_tree.specs.Names.{ascii_letters, name_cmp, name_units}
-use Rattle.cfb.specs.Means.{Means}
+use Rattle.cfb_meaning.specs.Means.{Means}
 use Rattle.msi_texts.specs.Category.{is_identifier}
 use Rattle.msi_tables.specs.Schema.{columns_name, tables_name}
 use Rattle.msi.specs.Package.{MeansPackage, stream_name, pool_name, data_name}

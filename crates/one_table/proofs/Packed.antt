@@ -7,7 +7,7 @@ use Rattle.std.specs.List.{list_any, AllByRecursion}
 use Rattle.std.specs.List.Sorted.{IsStrictlySortedBy}
 use Rattle.std.specs.Str.Lossy.{utf8_lossy}
 use Rattle.cfb_tree.specs.Names.{ascii_letters, name_cmp}
-use Rattle.cfb.specs.TreeRules.{is_same_name}
+use Rattle.cfb_meaning.specs.TreeRules.{is_same_name}
 use Rattle.plain.specs.WholeImage.{NamedStream}
 use Rattle.msi_texts.specs.Category.{is_identifier}
 use Rattle.msi_pool.specs.Pool.{Place, pool_stream, data_stream, at_place}

@@ -2,7 +2,7 @@
 use Rattle.std.proofs.Common.{◌≡◌, ℕ, Bool, true, false, cond, List, [], ◌∷◌, map, refl, ap, Some, None}
 use Rattle.std.specs.Prelude.{bytes_eq, find, Option, option_map, option_and_then}
 use Rattle.cfb_tree.specs.Names.{ascii_letters}
-use Rattle.cfb.specs.TreeRules.{Object, a_stream, is_same_name}
+use Rattle.cfb_meaning.specs.TreeRules.{Object, a_stream, is_same_name}
 use Rattle.plain.specs.WholeImage.{NamedStream, content_of_streams}
 use Rattle.msi_texts.specs.Category.{is_identifier}
 use Rattle.msi_pool.specs.Pool.{pool_stream, data_stream}

@@ -17,7 +17,7 @@ use Rattle.cfb_tree.specs.Names.{Letters, name_cmp}
 use Rattle.cfb_tree.specs.Tree.{Facts, Tree, child_names, IsOrderedInside}
 use Rattle.cfb_tree.specs.Directory.{Entry, FitsEntry, entries_of, entry_of, entry_bytes, unused_entry, kind_root, no_entry}
 use Rattle.cfb_tree.proofs.NamesRead.{all_append}
-use Rattle.cfb.specs.Means.{Layout, IsLaidOut, IsStrict, IsStrictlyOpenable, HasBytes, Means, fat, mini_fat, mini_stream, directory}
+use Rattle.cfb_meaning.specs.Means.{Layout, IsLaidOut, IsStrict, IsStrictlyOpenable, HasBytes, Means, fat, mini_fat, mini_stream, directory}
 use Rattle.plain.specs.Runs.{run, run_start, runs}
 use Rattle.plain.specs.WholeImage.{NamedStream, Plan, IsImaged, parts, filled, is_short, counts, sum_of, plan_of, fat_of, header_of, first_mini_stream_of, directory_of, named_entry, right_of, content_of_streams, image}
 use Rattle.plain.proofs.DirectoryJoined.{directory_again}

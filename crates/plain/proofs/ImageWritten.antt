@@ -8,7 +8,7 @@ use Rattle.std.specs.Prelude.{not}
 use Rattle.std.specs.String.{string_bytes}
 use Rattle.std.proofs.Math.Utf8.{scalar, scalars}
 use Rattle.std.proofs.lemmas.Str.{IsUtf8-string_bytes, scalars-chars}
-use Rattle.cfb.specs.Means.{IsStrictlyOpenable, Means}
+use Rattle.cfb_meaning.specs.Means.{IsStrictlyOpenable, Means}
 use Rattle.cfb_medium.specs.Numbers.{number_bytes}
 use Rattle.cfb_sectors.specs.Header.{header_bytes}
 use Rattle.cfb_sectors.specs.Sectors.{free}

@@ -1,5 +1,5 @@
 //! Writing a whole image at once.
-ghost use Rattle.cfb.specs.Means.{IsStrictlyOpenable, Means};
+ghost use Rattle.cfb_meaning.specs.Means.{IsStrictlyOpenable, Means};
 ghost use Rattle.cfb_medium.specs.Numbers.{number_bytes};
 ghost use Rattle.cfb_medium.specs.declared.error.Error.TheVariants.{Full, Memory};
 ghost use Rattle.cfb_sectors.specs.Header.{header_bytes};
