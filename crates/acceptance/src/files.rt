@@ -21,7 +21,7 @@ fn folder(rt: &HostRuntime) -> Result<PathBuf, Fail> {
 // The status of the program, what it answers, and what it says went wrong.
 fn ran(rt: &HostRuntime, words: &[String]) -> (u8, Vec<u8>, Vec<u8>) {
     let (mut out, mut err) = (Vec::new(rt.alloc()), Vec::new(rt.alloc()));
-    let status = msidb(rt, words, &mut out, &mut err);
+    let status = msidb(rt, words, &mut out, &mut err, false);
     (status, out, err)
 }
 
@@ -222,7 +222,7 @@ fn commands_are_run_where_no_answer_can_be_written(rt: HostRuntime) -> Result<()
     let commands = String::from_str(rt.alloc(), place.commands.as_str())?;
     let words = vec![in rt.alloc(); word, home, log, commands]?;
     let mut err = Vec::new(rt.alloc());
-    assert_eq!(rt; msidb(&rt, &words, &mut Closed, &mut err), 3);
+    assert_eq!(rt; msidb(&rt, &words, &mut Closed, &mut err, false), 3);
     assert_eq!(rt; err.as_slice(), b"msidb: device fault\n".as_slice());
     fs::write(
         &rt,

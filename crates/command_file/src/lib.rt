@@ -5,8 +5,10 @@ mod columns;
 mod command;
 mod expressions;
 mod reading;
+mod refusal;
 mod selects;
 mod summary;
 
 pub use command::{Command, SummaryEdit};
 pub use reading::read_commands;
+pub use refusal::{Refusal, refusal_in};

@@ -70,7 +70,7 @@ fn each_command(alloc: Global, list: &[Json]) -> Result<Vec<Command>, Error>
 }
 
 #[tactic(auto, unfolding(crate::specs::Commands::command_in))]
-fn command_of(alloc: Global, json: &Json) -> Result<Command, Error>
+pub(crate) fn command_of(alloc: Global, json: &Json) -> Result<Command, Error>
     ensures { Gives said result (command_in (view json.now)) }
 {
     match text_at(json, "op")? {
@@ -179,7 +179,7 @@ fn with_sets(alloc: Global, update: Update, list: &[Json]) -> Result<Update, Err
 }
 
 // A column and its value.
-fn set_of<'a>(alloc: Global, json: &'a Json) -> Result<(&'a str, Value), Error>
+pub(crate) fn set_of<'a>(alloc: Global, json: &'a Json) -> Result<(&'a str, Value), Error>
     ensures { Gives (λ set. (set.0.now, datum_of set.1)) result
         (pair_in as_str value_in (view json.now)) }
 {
@@ -228,7 +228,7 @@ fn write_of(alloc: Global, json: &Json) -> Result<Command, Error>
 }
 
 // Bytes from pairs of hexadecimal digits.
-fn bytes_of(alloc: Global, text: &str) -> Result<Vec<u8>, Error>
+pub(crate) fn bytes_of(alloc: Global, text: &str) -> Result<Vec<u8>, Error>
     ensures { Gives (λ bytes. bytes.items) result (hex_bytes text.now) }
 {
     match hex::decode(alloc, text) {

@@ -3,13 +3,14 @@ use Rattle.std.specs.Prelude.{◌≡◌, List, [], ◌∷◌, Option, Some, None
 use Rattle.clap.specs.Words.{Row, Text, first_of, subcommand_of}
 use Rattle.command_line.specs.Words.{msidb}
 use Rattle.command_line.specs.declared.line.Line.{Line}
-use Rattle.command_line.specs.declared.line.Line.TheVariants.{Create, Recover, Run}
+use Rattle.command_line.specs.declared.line.Line.TheVariants.{Create, List as ListNames, Recover, Run}
 
 -- what a line says: the word, and each path with the name under which it is given
 abbrev pub said : Line → Text × List (Text × Text)
 said (Create home log) = (codes "create", (codes "HOME", home.now) ∷ (codes "LOG", log.now) ∷ [])
 said (Recover home log) = (codes "recover", (codes "HOME", home.now) ∷ (codes "LOG", log.now) ∷ [])
 said (Run home log commands) = (codes "run", (codes "HOME", home.now) ∷ (codes "LOG", log.now) ∷ (codes "COMMANDS", commands.now) ∷ [])
+said (ListNames home log) = (codes "list", (codes "HOME", home.now) ∷ (codes "LOG", log.now) ∷ [])
 
 -- these paths were given under these names
 abbrev pub AreIn : List (Text × Text) → List Row → Type 0

@@ -23,4 +23,4 @@ abbrev pub without_run : App
 without_run = with_subcommand (with_subcommand bare (two_paths (codes "create")).top) (two_paths (codes "recover")).top
 
 abbrev pub msidb : App
-msidb = with_subcommand without_run (three_paths (codes "run")).top
+msidb = with_subcommand (with_subcommand without_run (three_paths (codes "run")).top) (two_paths (codes "list")).top

@@ -1,12 +1,14 @@
 //! A command file, and the run of its commands.
+use crate::progress::Progress;
 use cfb_medium::Error;
 use file_device::FileDevice;
-use installer::{Answer, Command, Session, answer_text, read_commands};
+use installer::{Answer, Command, Session, answer_text};
 use staged::Device;
 use std::alloc::Global;
 use std::fs::{self, File};
 use std::io::{self, Write};
 use std::rt::Files;
+use std::time::Clock;
 
 // How many commands are run before their answers are printed.
 const SLICE: usize = 64;
@@ -20,26 +22,23 @@ pub enum Ending {
     Refused,
 }
 
-// The commands of a file. `InvalidData` where the file can't be read, or is no JSON text; `InvalidInput` where it holds other than
-// commands; `Memory` where there is no room.
-pub fn commands_in<R: Files<File = File> + AllocGlobal>(
-    rt: &R,
-    path: &str,
-) -> Result<Vec<Command>, Error> {
+// The text of a command file. `InvalidData` where it can't be read, `Memory` where there is no room.
+pub fn text_in<R: Files<File = File> + AllocGlobal>(rt: &R, path: &str) -> Result<String, Error> {
     match fs::read_to_string(rt, path) {
-        Ok(text) => read_commands(rt.alloc(), &text),
+        Ok(text) => Ok(text),
         Err(error) if error.kind() == io::ErrorKind::OutOfMemory => Err(Error::Memory),
         Err(_) => Err(Error::InvalidData),
     }
 }
 
-// Runs commands on the package of two files, and prints their answers.
-pub fn run<R: Files<File = File> + AllocGlobal, O: Write>(
+// Runs commands on the package of two files, prints their answers, and shows how far it has come.
+pub fn run<R: Files<File = File> + AllocGlobal + Clock, O: Write, E: Write>(
     rt: &R,
     home: &str,
     log: &str,
     commands: &[Command],
     out: &mut O,
+    progress: &mut Progress<'_, R, E>,
 ) -> Result<Ending, Error> {
     let device = FileDevice::open(rt, home, log)?;
     let mut session = match Session::open(rt.alloc(), device) {
@@ -47,20 +46,22 @@ pub fn run<R: Files<File = File> + AllocGlobal, O: Write>(
         Err((_, error)) => return Err(error),
     };
     let mut answers = Answers::new(rt.alloc(), out);
-    if let Err(fault) = run_all(&mut session, commands, &mut answers) {
+    if let Err(fault) = run_all(&mut session, commands, &mut answers, progress) {
         answers.meet(fault);
     }
     answers.ending()
 }
 
 // Runs commands in slices, whose answers are printed as they come.
-fn run_all<D: Device, O: Write>(
+fn run_all<D: Device, O: Write, R: Clock, E: Write>(
     session: &mut Session<D>,
     commands: &[Command],
     answers: &mut Answers<'_, O>,
+    progress: &mut Progress<'_, R, E>,
 ) -> Result<(), Error> {
     for slice in commands.chunks(SLICE) {
         answers.take(&session.run(slice)?);
+        progress.step(slice.len());
     }
     Ok(())
 }

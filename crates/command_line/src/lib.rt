@@ -3,6 +3,7 @@
 
 mod commands;
 mod line;
+mod progress;
 mod run;
 mod words;
 

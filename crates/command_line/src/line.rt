@@ -18,6 +18,8 @@ pub enum Line<'a> {
     Recover(&'a str, &'a str),
     /// Run the commands of a file.
     Run(&'a str, &'a str, &'a str),
+    /// List the tables and the streams.
+    List(&'a str, &'a str),
 }
 
 /// Reads the words after the program's name. Words that ask for nothing are refused, with a text that says why; so is a wish for help,
@@ -54,6 +56,7 @@ fn line_of<'a>(name: &str, paths: &ArgMatches<'a>) -> Option<Line<'a>>
             let commands = path(paths, "COMMANDS")?;
             Some(Line::Run(home, log, commands))
         }
+        "list" => Some(Line::List(home, log)),
         _ => None,
     }
 }

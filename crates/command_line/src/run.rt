@@ -1,10 +1,12 @@
 //! What the program does with its words.
 ghost use Rattle.std.specs.Prelude.{◌≤◌};
 
-use crate::commands::{Ending, commands_in, run};
+use crate::commands::{Ending, run, text_in};
+use crate::progress::Progress;
 use crate::{Line, read_words};
 use cfb_medium::Error;
 use clap::error::ErrorKind;
+use command_file::{Command, read_commands, refusal_in};
 use file_device::FileDevice;
 use installer::Session;
 use staged::{Recovered, Which, recover};
@@ -12,21 +14,23 @@ use std::alloc::Global;
 use std::fs::File;
 use std::io::Write;
 use std::rt::Files;
+use std::time::Clock;
 
 /// Does what the words after the program's name ask for. Answers go to `out`, what went wrong goes to `err`. The status is 0 where all
 /// was done, or help was asked for; 1 where a command was refused by a rule; 2 where the words or the command file can't be read, and
 /// then no package was opened; 3 for a fault, where home file or log were refused, and where nothing more can be written. A fault comes
 /// before a refusal. Commands are run to the end of their list, also where their answers can't be written.
-pub fn msidb<R: Files<File = File> + AllocGlobal, O: Write, E: Write>(
+pub fn msidb<R: Files<File = File> + AllocGlobal + Clock, O: Write, E: Write>(
     rt: &R,
     words: &[String],
     out: &mut O,
     err: &mut E,
+    shows_progress: bool,
 ) -> u8
     ensures { result ≤ 3 }
 {
     match read_words(rt.alloc(), words) {
-        Ok(line) => done(rt, line, out, err),
+        Ok(line) => done(rt, line, out, err, shows_progress),
         Err(refusal) => refused(&refusal, out, err),
     }
 }
@@ -50,21 +54,31 @@ fn refused<O: Write, E: Write>(refusal: &clap::Error, out: &mut O, err: &mut E) 
 }
 
 // Does what a line asks for.
-fn done<R: Files<File = File> + AllocGlobal, O: Write, E: Write>(
+fn done<R: Files<File = File> + AllocGlobal + Clock, O: Write, E: Write>(
     rt: &R,
     line: Line<'_>,
     out: &mut O,
     err: &mut E,
+    shows_progress: bool,
 ) -> u8
     ensures { result ≤ 3 }
 {
     let (ended, home, log) = match line {
         Line::Create(home, log) => (create(rt, home, log, out), home, log),
         Line::Recover(home, log) => (finish(rt, home, log, out), home, log),
-        Line::Run(home, log, path) => match commands_in(rt, path) {
-            Ok(commands) => (run(rt, home, log, &commands, out), home, log),
-            Err(error) => return unread(error, err),
-        },
+        Line::List(home, log) => {
+            let mut progress = Progress::new(rt, err, false, 2);
+            let commands = [Command::Tables, Command::Streams];
+            (run(rt, home, log, &commands, out, &mut progress), home, log)
+        }
+        Line::Run(home, log, path) => {
+            let commands = match commands_in(rt, path, err) {
+                Ok(commands) => commands,
+                Err(error) => return if error == Error::Memory { 3 } else { 2 },
+            };
+            let mut progress = Progress::new(rt, err, shows_progress, commands.len());
+            (run(rt, home, log, &commands, out, &mut progress), home, log)
+        }
     };
     match ended {
         Ok(Ending::Done) => 0,
@@ -79,12 +93,26 @@ fn done<R: Files<File = File> + AllocGlobal, O: Write, E: Write>(
     }
 }
 
-// Tells why a command file was refused.
-fn unread<E: Write>(error: Error, err: &mut E) -> u8
-    ensures { result ≤ 3 }
-{
+// The commands of a file, or why it was refused, which is told. `InvalidData` where the file can't be read, or is no JSON text;
+// `InvalidInput` where it holds other than commands; `Memory` where there is no room.
+fn commands_in<R: Files<File = File> + AllocGlobal, E: Write>(
+    rt: &R,
+    path: &str,
+    err: &mut E,
+) -> Result<Vec<Command>, Error> {
+    let read = match text_in(rt, path) {
+        Ok(text) => match read_commands(rt.alloc(), &text) {
+            Ok(commands) => return Ok(commands),
+            Err(error) => (error, refusal_in(rt.alloc(), &text)),
+        },
+        Err(error) => (error, Ok(None)),
+    };
+    let (error, refusal) = read;
     let _ = writeln!(err, "msidb: {error}");
-    if error == Error::Memory { 3 } else { 2 }
+    if let Ok(Some(refusal)) = refusal {
+        let _ = writeln!(err, "msidb: {refusal}");
+    }
+    Err(error)
 }
 
 // Says which file another program has.

@@ -92,9 +92,16 @@ fn definition<'a>(alloc: Global) -> Result<Command<'a>, AllocError>
         "Runs the commands of a file",
         "Example: msidb run setup.msi setup.log commands.json\nPrints an answer for each command, a line of JSON each.\nStatus: 0 done, 1 a command was refused by a rule, 2 the command file was refused and nothing was opened, 3 a fault, or files that were refused.",
     )?;
+    let list = with_paths(
+        alloc,
+        "list",
+        "Lists the tables and the streams",
+        "Example: msidb list setup.msi setup.log\nPrints the names of the tables, and those of the streams that hold no tables, a JSON list on a line each.",
+    )?;
     let first = with(root(alloc), create)?;
     let second = with(first, recover)?;
-    with(second, run)
+    let third = with(second, run)?;
+    with(third, list)
 }
 
 // What was found among the words.

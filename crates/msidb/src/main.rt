@@ -2,6 +2,7 @@
 #![tactic(auto)]
 
 use command_line::msidb;
+use std::io::IsTerminal;
 use std::process::ExitCode;
 use std::{env, io};
 
@@ -10,6 +11,8 @@ fn main(rt: HostRuntime) -> io::Result<ExitCode> {
     for word in env::args(&rt)?.skip(1) {
         words.push(word)?;
     }
-    let status = msidb(&rt, &words, &mut io::writer(&rt), &mut rt.stderr());
+    let mut err = rt.stderr();
+    let shows_progress = err.is_terminal();
+    let status = msidb(&rt, &words, &mut io::writer(&rt), &mut err, shows_progress);
     Ok(ExitCode::from(status))
 }

@@ -62,6 +62,13 @@ fn is_short(s: &NamedStream) -> bool
     s.bytes.len() < MINI_CUTOFF
 }
 
+// Whether it lies in sectors of its own.
+fn is_long(s: &NamedStream) -> bool
+    ensures { result ≡ not (is_short (stream_view s.now)) }
+{
+    !is_short(s)
+}
+
 // The mini sectors of all short streams, or the greatest number if they are more.
 fn mini_sectors(streams: &[NamedStream]) -> u64
     ensures { result
@@ -84,7 +91,7 @@ fn long_sectors(streams: &[NamedStream]) -> u64
 {
     let mut count = 0u64;
     for s in streams {
-        if !is_short(s) {
+        if is_long(s) {
             count = count.saturating_add(parts(SECTOR_LEN, s.bytes.len()) as u64);
         }
     }
@@ -137,7 +144,7 @@ fn push_long_runs(out: &mut Vec<u8>, streams: &[NamedStream], first: u32) -> Res
 {
     let mut at = first;
     for s in streams {
-        if !is_short(s) {
+        if is_long(s) {
             let count = parts(SECTOR_LEN, s.bytes.len()) as u32;
             push_run(out, at, count)?;
             at += count;
@@ -171,7 +178,7 @@ fn push_long_streams(out: &mut Vec<u8>, streams: &[NamedStream]) -> Result<(), A
         (filter (λ s. not (is_short s)) (stream_views streams.now))) }
 {
     for s in streams {
-        if !is_short(s) {
+        if is_long(s) {
             push_filled(out, &s.bytes, SECTOR_LEN)?;
         }
     }
