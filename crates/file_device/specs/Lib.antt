@@ -1,1 +1,2 @@
 pub mod FileDevice
+pub mod FileMedium

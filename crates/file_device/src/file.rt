@@ -1,4 +1,4 @@
-//! An open file of a device.
+//! An open file.
 ghost use Rattle.std.specs.Prelude.{◌≡◌, ◌≤◌, true, is_err, length, IfOk};
 
 use std::fs::{File, OpenOptions};
@@ -42,6 +42,26 @@ impl DiskFile {
             file,
             is_lost: false,
         })
+    }
+
+    // Opens a regular file that is only read. Others may read it too.
+    pub fn open_to_read<R: Files<File = File>>(rt: &R, path: &str) -> io::Result<DiskFile> {
+        let file = File::open(rt, path)?;
+        file.try_lock_shared()?;
+        if !file.metadata()?.is_file() {
+            return Err(io::ErrorKind::Unsupported.into());
+        }
+        Ok(DiskFile {
+            file,
+            is_lost: false,
+        })
+    }
+
+    // Opens a regular file, or makes it, and empties it.
+    pub fn open_empty<R: Files<File = File>>(rt: &R, path: &str) -> io::Result<DiskFile> {
+        let opened = DiskFile::open(rt, path, true)?;
+        opened.file.set_len(0)?;
+        Ok(opened)
     }
 
     // The number of bytes, where what is shown can be trusted.

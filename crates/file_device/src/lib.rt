@@ -1,7 +1,9 @@
-//! A device over two files on disk.
+//! Files on disk: a device over two of them, and a medium over one.
 #![tactic(auto)]
 
 mod device;
 mod file;
+mod medium;
 
 pub use device::FileDevice;
+pub use medium::FileMedium;

@@ -1,0 +1,149 @@
+//! A medium over one file on disk.
+ghost use Rattle.std.specs.Prelude.{◌≡◌, ◌≤◌, ⊤, ℕ, [], true, false, is_err, length, IfOk, IfErr, refl};
+ghost use Rattle.std.proofs.Common.{arith, inl};
+ghost use Rattle.cfb_medium.specs.Calls.{Extends};
+ghost use Rattle.file_device.specs.FileDevice.{IsOpenRefusal};
+ghost use Rattle.file_device.specs.FileMedium.{medium_failures};
+
+use crate::file::DiskFile;
+use cfb_medium::{Error, Medium, ReadMedium};
+use staged::Counts;
+use std::fs::File;
+use std::io;
+use std::rt::Files;
+
+/// One file on disk, which is written in place: a stop may leave anything of it. It is locked as long as the medium lives, so that no
+/// second program writes what this one reads.
+///
+/// What is proved of it are its count of failures and the causes of its errors; nothing is claimed of its bytes.
+#[derive(Drop)]
+pub struct FileMedium {
+    file: DiskFile,
+    counts: Counts,
+}
+
+// The end of the furthest write.
+const END: u64 = (1 << 63) - 1;
+
+impl FileMedium {
+    /// The file of this path, to be read. `NotFound` where file or folder is missing, else `Device`: also where it is no regular file, and
+    /// where another program writes it.
+    pub fn open<R: Files<File = File>>(rt: &R, path: &str) -> Result<FileMedium, Error>
+        ensures failures { IfOk result (λ medium. medium_failures medium ≡ 0) }
+        ensures refusal { IfErr result IsOpenRefusal }
+    {
+        medium_of(DiskFile::open_to_read(rt, path))
+    }
+
+    /// The file of this path, to be read and written. `NotFound` where file or folder is missing, else `Device`: also where it is no
+    /// regular file, may not be written, or another program has it.
+    pub fn open_rw<R: Files<File = File>>(rt: &R, path: &str) -> Result<FileMedium, Error>
+        ensures failures { IfOk result (λ medium. medium_failures medium ≡ 0) }
+        ensures refusal { IfErr result IsOpenRefusal }
+    {
+        medium_of(DiskFile::open(rt, path, false))
+    }
+
+    /// The file of this path, made where it is missing and emptied where it is there. `NotFound` where the folder is missing, else
+    /// `Device`, as for `open_rw`.
+    pub fn create<R: Files<File = File>>(rt: &R, path: &str) -> Result<FileMedium, Error>
+        ensures failures { IfOk result (λ medium. medium_failures medium ≡ 0) }
+        ensures refusal { IfErr result IsOpenRefusal }
+    {
+        medium_of(DiskFile::open_empty(rt, path))
+    }
+}
+
+// The medium of a file that was opened, with the error that a medium has.
+fn medium_of(opened: io::Result<DiskFile>) -> Result<FileMedium, Error>
+    ensures failures { IfOk result (λ medium. medium_failures medium ≡ 0) }
+    ensures refusal { IfErr result IsOpenRefusal }
+{
+    match opened {
+        Ok(file) => Ok(FileMedium {
+            file,
+            counts: Counts::new(),
+        }),
+        Err(error) if error.kind() == io::ErrorKind::NotFound => Err(Error::NotFound),
+        Err(_) => Err(Error::Device),
+    }
+}
+
+impl ReadMedium for FileMedium {
+    ghost bytes = { λ _. [] };
+
+    // No clause says which bytes reach a disk, or come from one.
+    ghost honest = { λ _. false };
+
+    ghost failures = { λ m. medium_failures m };
+
+    ghost failed = { λ _. false };
+
+    ghost continues = { λ a b. medium_failures a ≤ medium_failures b };
+
+    ghost moment = { λ _. 0 };
+
+    ghost may_leave = { λ _ _. ⊤ };
+
+    ghost left_since = { λ _ _ _. ⊤ };
+
+    fn len(&mut self) -> Result<u64, Error> {
+        match self.file.len() {
+            Ok(len) => Ok(len),
+            Err(_) => Err(self.counts.fault()),
+        }
+    }
+
+    fn read_at(&mut self, at: u64, buffer: &mut [u8]) -> Result<usize, Error> {
+        match self.file.read_at(at, buffer) {
+            Ok(count) => Ok(count),
+            Err(_) => Err(self.counts.fault()),
+        }
+    }
+
+    ghost continues_refl = { λ _. Prim.omega arith };
+
+    ghost continues_keeps = { λ a b more. record { as_honest = refl; as_failed = refl; counted = more } };
+
+    ghost counts_now = { λ _ _ _ _ _. tt };
+
+    ghost only_now = { λ _ _ _. tt };
+
+    ghost continues_leaves = { λ _ _ _. record { later = Prim.omega arith; each = λ _ _. tt; before = λ _ _ _ _. inl tt } };
+}
+
+impl Medium for FileMedium {
+    ghost has_published = { λ _ _. ⊤ };
+
+    fn write_at(&mut self, at: u64, bytes: &[u8]) -> Result<(), Error> {
+        if at > END || bytes.len() as u64 > END - at {
+            return Err(Error::InvalidInput);
+        }
+        match self.file.write_at(at, bytes) {
+            Ok(()) => Ok(()),
+            Err(_) => Err(self.counts.fault()),
+        }
+    }
+
+    /// Syncs the file. After a failure each later call is `Device`, since what is shown may be missing on the disk.
+    fn flush(&mut self) -> Result<(), Error> {
+        match self.file.sync() {
+            Ok(()) => Ok(()),
+            Err(_) => Err(self.counts.fault()),
+        }
+    }
+
+    /// The same as `flush`.
+    fn commit(&mut self) -> Result<(), Error> {
+        match self.file.sync() {
+            Ok(()) => Ok(()),
+            Err(_) => Err(self.counts.fault()),
+        }
+    }
+
+    fn has_failed(&self) -> bool {
+        false
+    }
+
+    ghost continues_published = { λ _ _ _ _ _ _. tt };
+}
