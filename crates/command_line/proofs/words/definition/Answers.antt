@@ -10,4 +10,5 @@ pub returns : goal.returns
 returns c =
     let one = c.in_ok-first.ensures.app ∙ ap₂ joined c.root.ensures.app c.in_ok-create.ensures.app in
     let two = c.in_ok-second.ensures.app ∙ ap₂ joined one c.in_ok-recover.ensures.app in
-    IfOk-weaker c.with-3.result _ _ (λ r h. h ∙ ap₂ joined two c.in_ok-run.ensures.app) c.with-3.ensures.app
+    let three = c.in_ok-third.ensures.app ∙ ap₂ joined two c.in_ok-run.ensures.app in
+    IfOk-weaker c.with-4.result _ _ (λ r h. h ∙ ap₂ joined three c.in_ok-list.ensures.app) c.with-4.ensures.app
