@@ -1,5 +1,5 @@
 //! The FAT in memory, over the sectors that hold it.
-ghost use Rattle.cfb_medium.specs.Calls.{Extends, IsFaultUnless};
+ghost use Rattle.cfb_medium.specs.Calls.{Extends, HasCauseSince, IsFaultUnless};
 ghost use Rattle.cfb_medium.specs.Versions.{sector_len};
 ghost use Rattle.cfb_medium.specs.declared.error.Error.TheVariants.{Failed, InvalidData, Memory};
 ghost use Rattle.cfb_chains.specs.Changes.{IsNoneOf};
@@ -7,7 +7,7 @@ ghost use Rattle.cfb_fat.specs.Listed.{Lists};
 ghost use Rattle.cfb_fat.specs.Orderly.{AreBelow, IsOrderly};
 ghost use Rattle.cfb_sectors.specs.Held.{bytes_of as sectors_bytes, count_of as sectors_count, has_failed_here as sectors_failed, medium_of as sectors_medium, version_of as sectors_version, AreCounted, IsHonest as AreHonest, IsRefused, LeavesOldOrBytes, Rests};
 ghost use Rattle.cfb_sectors.specs.Sectors.{fat_in, free, Chain as IsChain};
-ghost use Rattle.std.specs.Prelude.{false, length, slice_get, slice_index, take, true, IfErr, IfOk, IsErrOf, IsTrue, List, None, OnErr, OnOk, Some, ℕ, ◌*◌, ◌++◌, ◌/◌, ◌<◌, ◌≡◌, ◌≤◌, ◌↔◌, ◌⊎◌};
+ghost use Rattle.std.specs.Prelude.{false, length, slice_get, slice_index, take, true, IfErr, IfOk, IsErrOf, IsTrue, List, None, OnErr, OnOk, Some, ℕ, ◌*◌, ◌++◌, ◌/◌, ◌<◌, ◌≡◌, ◌≤◌, ◌↔◌, ◌⊎◌, ◌||◌};
 
 use crate::fat::{both, read_parts};
 use cfb_chains::{Links, chain_in};
@@ -58,6 +58,8 @@ impl<F: ReadMedium> Allocator<F> {
         ensures missing { IfErr result (λ e. e.1 ≡ InvalidData
             → AreCounted sectors fat_sectors.items → ⊥) }
         ensures fault { IfErr result (λ e. IsFaultUnless ⊥ e.1 ⊎ (e.1 ≡ InvalidData)) }
+        ensures cause { IfErr result (λ e. HasCauseSince F.continues F.failures
+            (λ m. sectors_failed sectors || F.failed m) (sectors_medium sectors) e.0 e.1) }
         ensures honest { IfErr result (λ e. F.honest e.0 ≡ F.honest (sectors_medium sectors)) }
         ensures continues { IfErr result (λ e. Extends F.continues (sectors_medium sectors) e.0) }
         ensures bytes { IfErr result (λ e. AreHonest sectors
