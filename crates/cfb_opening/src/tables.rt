@@ -95,7 +95,11 @@ pub(crate) fn open_tables<F: ReadMedium>(
         Ok(difat) => difat,
         Err(error) => return Err((sectors.into_inner(), error)),
     };
-    let allocator = Allocator::new(alloc, sectors, difat.sectors, difat.fat_sectors)?;
+    let tables = Allocator::new(alloc, sectors, difat.sectors, difat.fat_sectors);
+    let allocator = match tables {
+        Ok(allocator) => allocator,
+        Err(refused) => return Err(refused),
+    };
     Ok(Tables {
         header,
         len,
