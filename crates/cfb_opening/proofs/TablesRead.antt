@@ -34,11 +34,14 @@ module _ (b : List ℕ) (h : HeaderFields) (header : HasFields h b) (l : Layout)
   pub version_is : l.version ≡ h.version
   version_is = version_unique l.version h.version (u16_at b 26) a.header.for_version header.header.for_version
 
+  pub difat_chain_of : DifatChain h.version b (first_difat_sector b) l.difat_sectors l.difat_stop
+  difat_chain_of = subst (λ v. DifatChain v b (first_difat_sector b) l.difat_sectors l.difat_stop) version_is a.difat_chain
+
   pub lists_of : Lists h.version b l.difat_sectors l.fat_sectors
   lists_of = record {
     stop = l.difat_stop;
     stops = a.difat_end;
-    chain = subst (λ v. DifatChain v b (first_difat_sector b) l.difat_sectors l.difat_stop) version_is a.difat_chain;
+    chain = difat_chain_of;
     unused = a.fat_named.0;
     entries = subst (λ v. difat v b l.difat_sectors ≡ l.fat_sectors ++ replicate a.fat_named.0 free) version_is a.fat_named.1;
   }

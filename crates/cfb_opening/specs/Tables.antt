@@ -1,10 +1,12 @@
 -- Header, DIFAT and FAT of a file, as they are read before its directory ([MS-CFB] 2.2 to 2.5).
-use Rattle.std.specs.Prelude.{◌≡◌, ◌%◌, ℕ, Bool, List, length, take, IsTrue}
+use Rattle.std.specs.Prelude.{◌≡◌, ◌%◌, ℕ, Bool, List, length, take, IsTrue, ⊤}
 use Rattle.cfb_medium.specs.Calls.{Extends}
 use Rattle.cfb_medium.specs.Versions.{sector_len}
 use Rattle.cfb_medium.specs.declared.version.Version.{Version}
 use Rattle.cfb_sectors.specs.Header.{first_difat_sector, HeaderFields}
 use Rattle.cfb_sectors.specs.Sectors.{end_of_chain, fat_in, sectors_in, AreInFile, DifatChain}
+use Rattle.cfb_sectors.specs.declared.validation.Validation.{Validation}
+use Rattle.cfb_sectors.specs.declared.validation.Validation.TheVariants.{Permissive, Strict}
 use Rattle.cfb_fat.specs.Listed.{IsStop, Lists}
 use Rattle.cfb_meaning.specs.Means.{directory_count}
 
@@ -32,3 +34,9 @@ pub record IsExact (header : HeaderFields) (difat_stop len directory_len fat_len
   pub difat : header.difat_count ≡ difat_len
   pub difat_end : difat_stop ≡ end_of_chain
   pub whole_sectors : len % sector_len header.version ≡ 0
+
+-- a strict reader asks for that
+abbrev pub IsExactFor : Validation → HeaderFields → ℕ → ℕ → ℕ → ℕ → ℕ → ℕ → Type 0
+IsExactFor Permissive header difat_stop len directory_len fat_len mini_fat_len difat_len = ⊤
+IsExactFor Strict header difat_stop len directory_len fat_len mini_fat_len difat_len =
+    IsExact header difat_stop len directory_len fat_len mini_fat_len difat_len

@@ -1,13 +1,14 @@
 //! Opening a compound file ([MS-CFB] 2).
 ghost use Rattle.cfb_meaning.specs.Means.{Layout};
-ghost use Rattle.cfb_medium.specs.Calls.{Extends, HasCauseSince, IsFaultUnless};
+ghost use Rattle.cfb_medium.specs.Calls.{HasCauseSince, IsFaultUnless};
 ghost use Rattle.cfb_medium.specs.declared.error.Error.TheVariants.{InvalidData};
 ghost use Rattle.cfb_opening.specs.Opened.{CanOpen, IsOpened, OpensAt};
+ghost use Rattle.cfb_opening.specs.Tables.{OnlyReads};
 ghost use Rattle.cfb_tree.specs.LetterViews.{letters_of};
 ghost use Rattle.cfb_tree.specs.Tree.{Tree};
 ghost use Rattle.std.specs.Prelude.{IfErr, IfOk, IsTrue, ◌≡◌, ◌⊎◌};
 
-use crate::strict::is_exact;
+use crate::strict::is_taken;
 use crate::tables::{Tables, open_tables};
 use cfb_directory::Directory;
 use cfb_medium::{Error, ReadMedium};
@@ -35,25 +36,27 @@ pub fn open_file<F: ReadMedium>(
     ensures fault { IfErr result (λ e. IsFaultUnless ⊥ e.1 ⊎ (e.1 ≡ InvalidData)) }
     ensures cause { IfErr result (λ e. HasCauseSince F.continues F.failures F.failed medium
         e.0 e.1) }
-    ensures honest { IfErr result (λ e. F.honest e.0 ≡ F.honest medium) }
-    ensures continues { IfErr result (λ e. Extends F.continues medium e.0) }
-    ensures bytes { IfErr result (λ e. IsTrue (F.honest medium) → F.bytes e.0 ≡ F.bytes medium) }
+    ensures left { IfErr result (λ e. OnlyReads F.honest F.bytes F.continues medium e.0) }
 {
     let Tables {
         header,
         len,
         difat_stop,
         allocator,
-    } = open_tables(alloc, medium)?;
-    let directory = Directory::new(
-        alloc,
-        allocator,
-        letters,
-        validation,
-        header.first_dir_sector,
-    )?;
-    let file = MiniAllocator::new(alloc, directory, header.first_minifat_sector)?;
-    if validation.is_strict() && !is_exact(&header, difat_stop, len, &file) {
+    } = match open_tables(alloc, medium) {
+        Ok(tables) => tables,
+        Err(refused) => return Err(refused),
+    };
+    let start = header.first_dir_sector;
+    let directory = match Directory::new(alloc, allocator, letters, validation, start) {
+        Ok(directory) => directory,
+        Err(refused) => return Err(refused),
+    };
+    let file = match MiniAllocator::new(alloc, directory, header.first_minifat_sector) {
+        Ok(file) => file,
+        Err(refused) => return Err(refused),
+    };
+    if !is_taken(validation, &header, difat_stop, len, &file) {
         return Err((file.into_inner(), Error::InvalidData));
     }
     Ok(file)

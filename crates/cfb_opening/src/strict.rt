@@ -4,14 +4,14 @@ ghost use Rattle.cfb_fat.specs.Tables.{difat_sectors_of, fat_sectors_of};
 ghost use Rattle.cfb_medium.specs.Versions.{sector_len};
 ghost use Rattle.cfb_meaning.specs.Means.{directory_count};
 ghost use Rattle.cfb_mini.specs.Views.{allocator_of, directory_of, mini_fat_ids};
-ghost use Rattle.cfb_opening.specs.Tables.{IsExact};
+ghost use Rattle.cfb_opening.specs.Tables.{IsExact, IsExactFor};
 ghost use Rattle.cfb_sectors.specs.HeaderViews.{fields_of};
 ghost use Rattle.cfb_sectors.specs.Sectors.{end_of_chain};
 ghost use Rattle.std.specs.Prelude.{length, IsTrue, ◌≡◌, ◌↔◌, ◌%◌};
 
 use cfb_medium::{ReadMedium, Version};
 use cfb_mini::MiniAllocator;
-use cfb_sectors::{END_OF_CHAIN, Header};
+use cfb_sectors::{END_OF_CHAIN, Header, Validation};
 
 // Whether the header counts so many sectors of the directory: none in version 3.
 fn counts_directory(header: &Header, directory_len: usize) -> bool
@@ -47,7 +47,7 @@ fn is_whole(version: Version, len: u64) -> bool
 
 // Whether the header counts the sectors of each part as they are, the DIFAT's chain ends as it should, and the file is whole
 // sectors.
-pub(crate) fn is_exact<F: ReadMedium>(
+fn is_exact<F: ReadMedium>(
     header: &Header,
     difat_stop: u32,
     len: u64,
@@ -66,4 +66,23 @@ pub(crate) fn is_exact<F: ReadMedium>(
         && counts(header.num_difat_sectors, allocator.difat_sectors())
         && ends(difat_stop)
         && is_whole(header.version, len)
+}
+
+// Whether a reader of this kind takes header and tables, of which a strict one asks this.
+pub(crate) fn is_taken<F: ReadMedium>(
+    validation: Validation,
+    header: &Header,
+    difat_stop: u32,
+    len: u64,
+    file: &MiniAllocator<F>,
+) -> bool
+    ensures { IsTrue result ↔ IsExactFor validation (fields_of header.now) difat_stop len
+        (length (directory_ids (directory_of file.now)))
+        (length (fat_sectors_of (allocator_of file.now))) (length (mini_fat_ids file.now))
+        (length (difat_sectors_of (allocator_of file.now))) }
+{
+    match validation {
+        Validation::Permissive => true,
+        Validation::Strict => is_exact(header, difat_stop, len, file),
+    }
 }
