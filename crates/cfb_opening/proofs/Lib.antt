@@ -5,3 +5,4 @@ pub mod CutChains
 pub mod TreesTaken
 pub mod PartsRead
 pub mod Tied
+pub mod Readings
