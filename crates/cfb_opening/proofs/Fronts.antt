@@ -1,5 +1,5 @@
 -- What the first 512 bytes of a file tell of its header.
-use Rattle.std.proofs.Common.{◌≡◌, ℕ, ◌+◌, ◌-◌, ◌≤◌, min, List, length, take, drop, ap, sym, subst, ◌∙◌, arith, length-take}
+use Rattle.std.proofs.Common.{◌≡◌, ℕ, ◌+◌, ◌-◌, ◌≤◌, min, List, length, take, drop, ap, sym, ◌∙◌, arith, length-take}
 use Rattle.std.specs.Prelude.{slice_range}
 use Rattle.std.specs.Int.{w16, w32, from_le_bytes}
 use Rattle.std.proofs.lemmas.List.{drop-take, take_min, take-take}

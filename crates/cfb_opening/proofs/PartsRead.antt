@@ -1,10 +1,10 @@
 -- Directory, mini FAT and mini stream over tables that were read, beside any layout of the bytes.
-use Rattle.std.proofs.Common.{◌≡◌, ℕ, ◌%◌, List, [], ◌∷◌, ◌++◌, length, take, refl, ap, sym, subst, ◌∙◌}
-use Rattle.std.specs.Prelude.{codes, slice_get, IfSome, Some}
+use Rattle.std.proofs.Common.{◌≡◌, ℕ, ◌%◌, List, length, take, refl, ap, sym, subst, ◌∙◌}
+use Rattle.std.specs.Prelude.{slice_get, IfSome, Some}
 use Rattle.std.specs.List.{AllByRecursion}
 use Rattle.cfb_medium.specs.Versions.{sector_len}
-use Rattle.cfb_sectors.specs.Header.{directory_sector_count, first_difat_sector, first_directory_sector, first_mini_fat_sector, HasFields, HeaderFields}
-use Rattle.cfb_sectors.specs.Sectors.{difat, end_of_chain, fat_in, joined, sectors_in, AreInFile, Chain}
+use Rattle.cfb_sectors.specs.Header.{first_difat_sector, HasFields, HeaderFields}
+use Rattle.cfb_sectors.specs.Sectors.{difat, fat_in, joined, sectors_in, AreInFile, Chain}
 use Rattle.cfb_sectors.specs.declared.validation.Validation.{Validation}
 use Rattle.cfb_sectors.specs.declared.validation.Validation.TheVariants.{Permissive, Strict}
 use Rattle.cfb_sectors.proofs.OneChain.{chain_unique, difat_unique}
@@ -16,7 +16,7 @@ use Rattle.cfb_directory.specs.Taken.{HasAny, HasSize, IsTakenAs, IsTakenAsRoot,
 use Rattle.cfb_meaning.specs.Means.{directory, directory_count, fat, IsColored, IsLaidOut, IsStrict, Layout, MeansBy}
 use Rattle.cfb_meaning.proofs.OneTree.{filled_unique}
 use Rattle.cfb_opening.specs.Opened.{CanOpen}
-use Rattle.cfb_opening.specs.Tables.{AreTables, IsExact, IsExactFor}
+use Rattle.cfb_opening.specs.Tables.{AreTables, IsExactFor}
 use Rattle.cfb_opening.proofs.CutChains.{chain_of_cut, cut_in_file, cut_of_chain}
 use Rattle.cfb_opening.proofs.TablesRead.{difat_chain_of, lists_of, version_is}
 use Rattle.cfb_opening.proofs.TreesTaken.{all_colored, opens_by, taken_as, OpensBy}

@@ -1,5 +1,5 @@
 -- A tree stays one where less is said of its streams' bytes.
-use Rattle.std.proofs.Common.{◌≡◌, ℕ, ◌<◌, ◌≤◌, List, length, arith}
+use Rattle.std.proofs.Common.{◌≡◌, ℕ, List, length, arith}
 use native.Mathlib.Decide.{dec_lt}
 use mathlib.Core.Logic.{dite}
 use Rattle.cfb_sectors.specs.Header.{mini_cutoff}

@@ -1,12 +1,12 @@
 -- Header and tables, as calls read them.
-use Rattle.std.proofs.Common.{◌≡◌, ℕ, ◌<◌, ◌≤◌, ◌+◌, List, [], ◌∷◌, ◌++◌, length, take, replicate, false, IsTrue, ap, sym, subst, ◌∙◌, arith, suc, zero}
+use Rattle.std.proofs.Common.{◌≡◌, ℕ, ◌<◌, ◌≤◌, List, [], ◌∷◌, ◌++◌, length, take, replicate, false, IsTrue, ap, sym, subst, ◌∙◌, arith, suc, zero}
 use Rattle.std.specs.List.{AllByRecursion}
 use Rattle.cfb_medium.specs.Numbers.{u16_at}
 use Rattle.cfb_medium.specs.declared.medium.ReadMedium.{Ghosts}
 use Rattle.cfb_medium.specs.declared.version.Version.{Version}
 use Rattle.cfb_sectors.specs.Header.{first_difat_sector, HasFields, HeaderFields}
 use Rattle.cfb_sectors.specs.Held.{bytes_of, count_of, has_failed_here, medium_of, version_of, AreCounted, IsHonest}
-use Rattle.cfb_sectors.specs.Sectors.{difat, fat_in, free, greatest_regular, sectors_in, AreInFile, DifatChain}
+use Rattle.cfb_sectors.specs.Sectors.{difat, fat_in, free, sectors_in, AreInFile, DifatChain}
 use Rattle.cfb_sectors.specs.declared.sectors.Sectors.{Sectors}
 use Rattle.cfb_fat.specs.Listed.{IsStop, Lists}
 use Rattle.cfb_fat.specs.Orderly.{AreBelow}

@@ -14,7 +14,7 @@ use Rattle.cfb_directory.specs.Taken.{HasAny, HasSize, IsTakenAs}
 use Rattle.cfb_directory.specs.Views.{directory_ids, entries_held, IsDirectory}
 use Rattle.cfb_directory.specs.Views as layer
 use Rattle.cfb_directory.specs.declared.directory.Directory.{Directory}
-use Rattle.cfb_mini.specs.Views.{allocator_of, directory_of, mini_fat_ids, mini_fat_of, mini_stream_ids, IsMini}
+use Rattle.cfb_mini.specs.Views.{allocator_of, directory_of, mini_fat_ids, mini_stream_ids, IsMini}
 use Rattle.cfb_mini.specs.declared.mini_allocator.MiniAllocator.{MiniAllocator}
 use Rattle.cfb_meaning.specs.Means.{Layout}
 use Rattle.cfb_opening.specs.Opened.{CanOpen, IsOpened}

@@ -1,5 +1,5 @@
 -- A tree that bytes mean is one that a reader takes, and the other way round.
-use Rattle.std.proofs.Common.{◌≡◌, ◌⊎◌, ℕ, List, [], ◌∷◌, ◌++◌, inl, inr, refl, sym, subst}
+use Rattle.std.proofs.Common.{◌≡◌, ◌⊎◌, ℕ, List, [], ◌∷◌, inl, inr, refl, sym, subst}
 use Rattle.std.specs.Prelude.{slice_get, Option, None, Some, IfSome}
 use Rattle.std.specs.List.{AllByRecursion}
 use Rattle.cfb_sectors.specs.declared.validation.Validation.{Validation}
@@ -10,7 +10,7 @@ use Rattle.cfb_tree.specs.Directory.{black, kind_storage, kind_stream, red, Entr
 use Rattle.cfb_tree.specs.Entries.{IsBlackAt}
 use Rattle.cfb_tree.proofs.NamesRead.{all_append}
 use Rattle.cfb_directory.specs.Taken.{HasAny, IsTakenAs, IsTakenAsRoot, IsTakenIn}
-use Rattle.cfb_meaning.specs.Means.{directory, IsColored, IsLaidOut, IsStrict, Layout, MeansBy}
+use Rattle.cfb_meaning.specs.Means.{directory, IsColored, IsStrict, Layout, MeansBy}
 use Rattle.cfb_opening.specs.Opened.{CanOpen}
 
 -- a layout in which the bytes mean a tree, and what a strict reader asks of it

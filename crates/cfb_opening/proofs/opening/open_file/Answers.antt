@@ -6,7 +6,7 @@ use Rattle.cfb_sectors.specs.Sectors.{Chain}
 use Rattle.cfb_tree.specs.LetterViews.{letters_of}
 use Rattle.cfb_directory.specs.Taken.{HasSize, IsTakenAs}
 use Rattle.cfb_directory.specs.Views as layer
-use Rattle.cfb_mini.specs.Views.{allocator_of, directory_of, mini_fat_ids, mini_stream_ids}
+use Rattle.cfb_mini.specs.Views.{allocator_of, mini_fat_ids, mini_stream_ids}
 use Rattle.cfb_opening.specs.Tables.{OnlyReads}
 use Rattle.cfb_opening.proofs.ReadsInTurn.{cause_since, reads_then}
 use Rattle.cfb_opening.proofs.Tied.{no_directory, no_mini, not_strict, opened, tied_after, tied_first}

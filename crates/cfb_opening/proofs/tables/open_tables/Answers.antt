@@ -1,8 +1,8 @@
-use Rattle.std.proofs.Common.{◌≡◌, sym, subst, ◌∙◌, ap}
+use Rattle.std.proofs.Common.{sym, subst, ◌∙◌, ap}
 use Rattle.std.specs.Prelude.{Err}
 use Rattle.cfb_fat.specs.Tables.{fat_of, fat_sectors_of, sectors_of}
 use Rattle.cfb_medium.specs.Calls.{HasCauseSince}
-use Rattle.cfb_sectors.specs.Held.{medium_of, version_of}
+use Rattle.cfb_sectors.specs.Held.{medium_of}
 use Rattle.cfb_sectors.specs.HeaderViews.{fields_of}
 use Rattle.cfb_opening.specs.Tables.{AreTables, OnlyReads}
 use Rattle.cfb_opening.proofs.ReadsInTurn.{cause_since, reads_then, sectors_read}

@@ -1,4 +1,3 @@
-use Rattle.std.proofs.Common.{◌≡◌}
 use Rattle.cfb_opening.proofs.ReadsInTurn.{reads_then}
 use Rattle.cfb_opening.proofs.tables.read_front.Goals as goal
 

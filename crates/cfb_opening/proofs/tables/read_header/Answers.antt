@@ -1,4 +1,4 @@
-use Rattle.std.proofs.Common.{◌≡◌, refl, sym, subst}
+use Rattle.std.proofs.Common.{refl, sym, subst}
 use Rattle.cfb_sectors.specs.Header.{HasFields, IsHeader}
 use Rattle.cfb_sectors.specs.HeaderViews.{fields_of}
 use Rattle.cfb_opening.proofs.Fronts.{fields_of_front, front_of_header, served_front}
