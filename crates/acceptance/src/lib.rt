@@ -33,6 +33,8 @@ mod mini_sectors;
 #[cfg(test)]
 mod names;
 #[cfg(test)]
+mod opening;
+#[cfg(test)]
 mod pool;
 #[cfg(test)]
 mod properties;

@@ -123,6 +123,11 @@ const NUMBERS: [u32; 10] = [
     0,
 ];
 
+// A file of either version, with a root alone.
+pub(crate) fn plain_file(alloc: Global, version: Version) -> Result<Vec<u8>, Error> {
+    file(alloc, version, LAID_OUT, 4, &NUMBERS)
+}
+
 #[test]
 fn mini_chains_are_read(rt: HostRuntime) -> Result<(), Fail> {
     for version in [Version::V3, Version::V4] {

@@ -1,0 +1,28 @@
+//! Laws of what opening tells, each of a function that does nothing.
+ghost use Rattle.cfb_directory.specs.Taken.{HasSize};
+ghost use Rattle.cfb_meaning.specs.Means.{HasBytes, IsStrict, Layout, MeansBy};
+ghost use Rattle.cfb_medium.specs.declared.version.Version.{Version};
+ghost use Rattle.cfb_opening.specs.Opened.{CanOpen};
+ghost use Rattle.cfb_sectors.specs.Sectors.{sectors_in, AreInFile, Chain};
+ghost use Rattle.cfb_sectors.specs.declared.validation.Validation.TheVariants.{Strict};
+ghost use Rattle.cfb_sectors.specs.declared.validation.Validation.{Validation};
+ghost use Rattle.cfb_tree.specs.Names.{Letters};
+ghost use Rattle.cfb_tree.specs.Tree.{Tree};
+ghost use Rattle.std.specs.Prelude.{length, take, List, ℕ, ◌↔◌, ◌≡◌};
+
+/// The chains of a FAT that is cut to the file's sectors, as memory has it, are those of the whole FAT whose sectors the file
+/// has ([MS-CFB] 2.3).
+pub fn chains_in_memory_are_in_the_file()
+    ensures { (version : Version) (bytes table : List ℕ) (start : ℕ) (ids : List ℕ)
+        → Chain (take (sectors_in version (length bytes)) table) start ids
+        ↔ (Chain table start ids × AreInFile version bytes ids) }
+{}
+
+/// Where opening answers `Ok`, the file can be opened; and a file whose streams have bytes is one whose streams have sizes.
+pub fn opened_files_can_be_opened()
+    ensures opened { (validation : Validation) (letters : Letters) (bytes : List ℕ) (l : Layout)
+        (tree : Tree) → MeansBy l HasSize letters bytes tree
+        → (validation ≡ Strict → IsStrict bytes l) → CanOpen validation letters bytes }
+    ensures meant { (letters : Letters) (bytes : List ℕ) (l : Layout) (tree : Tree)
+        → MeansBy l (HasBytes bytes l) letters bytes tree → MeansBy l HasSize letters bytes tree }
+{}
