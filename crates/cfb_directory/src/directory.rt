@@ -124,6 +124,13 @@ impl<F: ReadMedium> Directory<F> {
         &self.allocator
     }
 
+    /// The sectors that hold the directory, in the order of their chain.
+    pub fn sectors(&self) -> &[u32]
+        ensures { result.now ≡ directory_ids self.now }
+    {
+        self.links.sector_ids()
+    }
+
     /// The medium, without the directory.
     pub fn into_inner(self) -> F
         ensures { result ≡ medium_of (allocator_of self) }
