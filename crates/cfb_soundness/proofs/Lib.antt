@@ -1,5 +1,6 @@
 pub mod EntrySteps
 pub mod Having
+pub mod InMemory
 pub mod Judged
 pub mod MiniPlaces
 pub mod PartsOnce

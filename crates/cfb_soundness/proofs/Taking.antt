@@ -1,5 +1,6 @@
 -- Parts that are marked one after the other.
-use Rattle.std.proofs.Common.{◌≡◌, ℕ, ◌+◌, ◌<◌, ◌≤◌, Bool, List, [], ◌∷◌, ◌++◌, length, refl, sym, subst, ◌∙◌, arith}
+use Rattle.std.proofs.Common.{◌≡◌, ℕ, ◌+◌, ◌<◌, ◌≤◌, Bool, true, false, List, [], ◌∷◌, ◌++◌, length, zero, suc, refl, sym, subst, ◌∙◌, arith}
+use Rattle.std.specs.Prelude.{if◌then◌else◌, nat_eq, slice_index_or}
 use Rattle.std.specs.List.{AllByRecursion}
 use Rattle.cfb_soundness.specs.Marks.{mark, times, CanTake, Takes}
 
@@ -34,4 +35,30 @@ pub can_take_front : (xs ys : List ℕ) (a : List Bool) → CanTake (xs ++ ys) a
 can_take_front xs ys a can = record {
   there = (all_front (λ n. n < length a) xs ys can.there).0;
   once = λ n. omega (arith, can.once n, times_append n xs ys);
+}
+
+marked_below : (marks : List Bool) (n : ℕ) → 1 ≤ mark marks n → n < length marks
+marked_below [] n some_mark = absurd (omega (arith, some_mark))
+marked_below (b ∷ marks) zero some_mark = omega arith
+marked_below (b ∷ marks) (suc n) some_mark = omega (arith, marked_below marks n some_mark)
+
+mark_one : (marks : List Bool) (n : ℕ) → mark marks n ≤ 1
+mark_one marks n = by_test (slice_index_or marks n false)
+  where
+    by_test : (b : Bool) → (if b then 1 else 0) ≤ 1
+    by_test true = omega arith
+    by_test false = omega arith
+
+all_below : (marks : List Bool) (xs : List ℕ) → ((n : ℕ) → times n xs ≤ mark marks n) → AllByRecursion (λ n. n < length marks) xs
+all_below marks [] few = tt
+all_below marks (x ∷ xs) few =
+    let same : nat_eq x x ≡ true = grind arith in
+    let here : times x (x ∷ xs) ≡ 1 + times x xs = rw same refl in
+    (marked_below marks x (omega (arith, few x, here)), all_below marks xs (λ n. omega (arith, few n)))
+
+-- what was marked could be
+pub could_take : (xs : List ℕ) (a b : List Bool) → Takes xs a b → CanTake xs a
+could_take xs a b took = record {
+  there = subst (λ n. AllByRecursion (λ k. k < n) xs) took.size (all_below b xs (λ n. omega (arith, took.marks n)));
+  once = λ n. omega (arith, took.marks n, mark_one b n);
 }
