@@ -1,5 +1,5 @@
 -- How far the walk over a directory's tree has come, in the order of its entries.
-use Rattle.std.proofs.Common.{◌≡◌, ℕ, ◌+◌, ◌*◌, ◌<◌, ◌≤◌, Bool, true, false, inl, inr, ◌⊎◌, List, [], ◌∷◌, ◌++◌, length, refl, ap, sym, subst, ◌∙◌, arith, ⊎_elim, append_assoc, append-nil, length-append}
+use Rattle.std.proofs.Common.{◌≡◌, ℕ, ◌+◌, ◌<◌, ◌≤◌, Bool, true, false, List, [], ◌∷◌, ◌++◌, length, refl, ap, sym, subst, ◌∙◌, arith, append_assoc, append-nil, length-append}
 use Rattle.std.specs.Prelude.{nat_eq, slice_get, Some}
 use Rattle.std.specs.List.{list_any, AllByRecursion, IsDistinct}
 use Rattle.std.proofs.lemmas.Map.Steps.{length-le_from_distinct_below}
@@ -120,8 +120,13 @@ module _ (directory : List Entry) where
           let nowhere : children_of e ≡ no_entry = rw kind refl in (
             ((front ++ at ∷ []) ++ []),
             rest,
-            ((front ++ at ∷ []), [], (front, at ∷ [], ([], front, refl, lefts, refl), refl, refl),
-              ([], nothing, none nowhere refl, (refl, refl)), refl),
+            (
+              (front ++ at ∷ []),
+              [],
+              (front, at ∷ [], ([], front, refl, lefts, refl), refl, refl),
+              ([], nothing, none nowhere refl, (refl, refl)),
+              refl,
+            ),
             (after, later, rights, subst (λ ids. Holds directory HasSize ids later rest) others_are onwards),
             here_is ∙ ap (λ xs. front ++ xs) back_is ∙ ap (λ k. front ++ (k ∷ rest)) id_is ∙ regroup front at rest,
           )
@@ -133,8 +138,13 @@ module _ (directory : List Entry) where
           let where_children : children_of e ≡ e.child = rw kind refl in (
             ((front ++ at ∷ []) ++ within),
             rest,
-            ((front ++ at ∷ []), within, (front, at ∷ [], ([], front, refl, lefts, refl), refl, refl),
-              (children, inside, subst (λ k. Siblings directory k children) (sym where_children) (subst (λ (x : Entry). Siblings directory x.child children) same siblings), in_it), refl),
+            (
+              (front ++ at ∷ []),
+              within,
+              (front, at ∷ [], ([], front, refl, lefts, refl), refl, refl),
+              (children, inside, subst (λ k. Siblings directory k children) (sym where_children) (subst (λ (x : Entry). Siblings directory x.child children) same siblings), in_it),
+              refl,
+            ),
             (after, later, rights, subst (λ ids. Holds directory HasSize ids later rest) others_are onwards),
             here_is ∙ ap (λ xs. front ++ xs) back_is ∙ ends front id_is within rest,
           )

@@ -1,9 +1,6 @@
 -- What entries use, one after the other.
-use Rattle.std.proofs.Common.{◌≡◌, ℕ, ◌+◌, ◌<◌, ◌≤◌, List, [], ◌∷◌, ◌++◌, drop, take, get_or, length, suc, refl, ap, sym, subst, ◌∙◌, arith, append_assoc, append-nil, ⊎_elim}
-use Rattle.std.specs.Prelude.{slice_get, Some}
-use Rattle.std.proofs.Math.Seq.{drop-cons}
+use Rattle.std.proofs.Common.{◌≡◌, ℕ, ◌<◌, ◌≤◌, List, [], ◌∷◌, ◌++◌, refl, ap, sym, subst, ◌∙◌, append_assoc, append-nil, ⊎_elim}
 use Rattle.std.proofs.lemmas.Bool.Decides.{eqb_tells, leb_tells}
-use Rattle.std.proofs.lemmas.List.{take-append-drop}
 use Rattle.cfb_sectors.specs.Header.{mini_cutoff}
 use Rattle.cfb_sectors.specs.Sectors.{Chain}
 use Rattle.cfb_sectors.proofs.OneChain.{chain_unique}
@@ -14,9 +11,6 @@ use Rattle.cfb_soundness.specs.Uses.{EntriesHave, EntryHas, Tables}
 use Rattle.cfb_soundness.specs.Views.{marks_of, CanTakeBoth, TakesBoth}
 use Rattle.cfb_soundness.specs.declared.streams.Taken.{Taken}
 use Rattle.cfb_soundness.proofs.Taking.{can_take_front, can_take_rest, takes_none, takes_then}
-
-pub parted : (xs : List ℕ) (i : ℕ) → i < length xs → xs ≡ take i xs ++ (get_or xs i 0 ∷ drop (i + 1) xs)
-parted xs i below = sym (take-append-drop i xs) ∙ ap (λ ys. take i xs ++ ys) (drop-cons xs i 0 below ∙ ap (λ k. get_or xs i 0 ∷ drop k xs) (let one : suc i ≡ i + 1 = omega arith in one))
 
 module _ (t : Tables) where
   entry_unique : (id : ℕ) (s m s' m' : List ℕ) → EntryHas t id s m → EntryHas t id s' m' → (s ≡ s') × (m ≡ m')

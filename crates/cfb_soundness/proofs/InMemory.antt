@@ -1,6 +1,6 @@
 -- A file is sound exactly where the tables in memory are judged so.
-use Rattle.std.proofs.Common.{◌≡◌, ℕ, ◌*◌, ◌≤◌, Bool, true, false, IsTrue, List, [], ◌++◌, length, take, replicate, refl, ap, sym, subst, ◌∙◌}
-use Rattle.std.specs.Prelude.{nat_eq, slice_get, ◌↔◌, Err, IfOk, Ok, Result, Some}
+use Rattle.std.proofs.Common.{◌≡◌, ℕ, ◌*◌, ◌≤◌, Bool, true, false, IsTrue, List, ◌++◌, length, take, replicate, refl, ap, sym, subst, ◌∙◌}
+use Rattle.std.specs.Prelude.{◌↔◌, Err, IfOk, Ok, Result}
 use Rattle.std.specs.List.{IsDistinct}
 use Rattle.cfb_medium.specs.Versions.{sector_len}
 use Rattle.cfb_medium.specs.declared.error.Error.{Error}
@@ -11,10 +11,10 @@ use Rattle.cfb_sectors.specs.Sectors.{fat_in, joined, sectors_in}
 use Rattle.cfb_fat.specs.Tables.{bytes_of, difat_sectors_of, fat_of, fat_sectors_of, sectors_of, version_of}
 use Rattle.cfb_tree.specs.Names.{Letters}
 use Rattle.cfb_tree.specs.Tree.{Tree}
-use Rattle.cfb_tree.specs.Directory.{entries_of, Entry}
+use Rattle.cfb_tree.specs.Directory.{entries_of}
 use Rattle.cfb_directory.specs.Taken.{HasSize}
 use Rattle.cfb_directory.specs.Views.{directory_ids, entries_held}
-use Rattle.cfb_mini.specs.Views.{allocator_of, directory_of, mini_fat_ids, mini_fat_of, mini_stream_ids}
+use Rattle.cfb_mini.specs.Views.{allocator_of, directory_of, mini_fat_ids, mini_fat_of}
 use Rattle.cfb_mini.specs.declared.mini_allocator.MiniAllocator.{MiniAllocator}
 use Rattle.cfb_meaning.specs.Means.{directory, Layout, MeansBy}
 use Rattle.cfb_meaning.specs.Sound.{IsSound}

@@ -1,16 +1,16 @@
 -- A file is sound exactly where it is judged so.
-use Rattle.std.proofs.Common.{◌≡◌, ◌≢◌, ℕ, ◌+◌, ◌-◌, ◌*◌, ◌<◌, ◌≤◌, inl, inr, ◌⊎◌, false, List, [], ◌∷◌, ◌++◌, length, map, take, replicate, zero, suc, refl, ap, sym, subst, ◌∙◌, arith, append_assoc, length-take}
-use Rattle.std.specs.Prelude.{nat_eq, slice_get, Some}
-use Rattle.std.specs.List.{AllByRecursion, IsDistinct}
+use Rattle.std.proofs.Common.{◌≡◌, ℕ, ◌<◌, ◌≤◌, inl, inr, false, List, [], ◌∷◌, ◌++◌, length, map, take, replicate, zero, suc, refl, ap, sym, subst, ◌∙◌, arith, length-take}
+use Rattle.std.specs.Prelude.{slice_get, Some}
+use Rattle.std.specs.List.{AllByRecursion}
 use Rattle.std.specs.List.Sorted.{IsStrictlySortedBy}
-use Rattle.std.proofs.lemmas.List.{get_or-replicate, get_or_past, length-replicate}
+use Rattle.std.proofs.lemmas.List.{length-replicate}
 use Rattle.std.proofs.lemmas.Option.{slice_get_within}
 use Rattle.cfb_medium.specs.declared.version.Version.{Version}
-use Rattle.cfb_sectors.specs.Sectors.{sectors_in, IsInFile}
+use Rattle.cfb_sectors.specs.Sectors.{sectors_in}
 use Rattle.cfb_fat.proofs.DifatChains.{below_in_file, in_file_below}
 use Rattle.cfb_tree.specs.Names.{name_cmp, Letters}
 use Rattle.cfb_tree.specs.Tree.{nothing, storage, stream, Content, Tree}
-use Rattle.cfb_tree.specs.Directory.{kind_storage, kind_stream, Entry, Holds, Siblings}
+use Rattle.cfb_tree.specs.Directory.{kind_stream, Entry, Holds, Siblings}
 use Rattle.cfb_tree.proofs.NamesRead.{all_append}
 use Rattle.cfb_tree.proofs.OneContent.{siblings_unique, Some_same}
 use Rattle.cfb_meaning.specs.Means.{directory, fat, mini_fat, HasBytes, Layout, MeansBy}
@@ -18,9 +18,10 @@ use Rattle.cfb_meaning.specs.Sound.{in_file, in_mini_stream, AreApart, IsSound, 
 use Rattle.cfb_meaning.proofs.OneTree.{directory_same, layout_same, root_same}
 use Rattle.cfb_soundness.specs.Marks.{mark, times, CanTake}
 use Rattle.cfb_soundness.specs.Uses.{AreInUse, EntriesHave, Tables}
-use Rattle.cfb_soundness.proofs.Taking.{all_front, all_mapped}
-use Rattle.cfb_soundness.proofs.Refilling.{entries_same, refilled, Refilled}
-use Rattle.cfb_soundness.proofs.PartsOnce.{apart_from_once, minis_among, minis_append, minis_of_sectors, once_from_apart, sectors_among, sectors_append, sectors_of_map}
+use Rattle.cfb_soundness.proofs.Taking.{all_front}
+use Rattle.cfb_soundness.proofs.Refilling.{entries_same, refilled}
+use Rattle.cfb_owners.proofs.KeysOfParts.{minis_among, minis_of_sectors, sectors_among, sectors_of_map}
+use Rattle.cfb_soundness.proofs.PartsOnce.{apart_from_once, minis_append, once_from_apart, sectors_append}
 use Rattle.cfb_soundness.proofs.Telling.{entry_has, entry_told, sectors_usable, told, usable_chain, usable_from_use, usable_sectors, use_from_usable, HasKind, IsUsableSector}
 
 -- what judging finds of a sound file: the FAT covers its sectors, the tables' own are in use, the tree's entries have what they

@@ -1,37 +1,10 @@
 -- Parts that stand apart are those that are counted once.
-use Rattle.std.proofs.Common.{◌≡◌, ◌≢◌, ℕ, ◌+◌, ◌≤◌, Bool, true, false, List, [], ◌∷◌, ◌++◌, map, refl, ap, sym, ◌∙◌, subst, arith}
+use Rattle.std.proofs.Common.{◌≡◌, ◌≢◌, ℕ, ◌+◌, ◌≤◌, Bool, true, false, List, [], ◌∷◌, ◌++◌, refl, ap, sym, ◌∙◌, arith}
 use Rattle.std.specs.Prelude.{nat_eq, if◌then◌else◌}
 use Rattle.std.specs.List.{AllByRecursion}
 use Rattle.cfb_meaning.specs.Sound.{in_file, in_mini_stream, AreApart, Part}
+use Rattle.cfb_owners.proofs.KeysOfParts.{minis_among, sectors_among}
 use Rattle.cfb_soundness.specs.Marks.{times}
-
--- the sectors among some parts
-abbrev pub sectors_among : List Part → List ℕ
-sectors_among [] = []
-sectors_among (in_file n ∷ parts) = n ∷ sectors_among parts
-sectors_among (in_mini_stream n ∷ parts) = sectors_among parts
-
--- the mini sectors among some parts
-abbrev pub minis_among : List Part → List ℕ
-minis_among [] = []
-minis_among (in_file n ∷ parts) = minis_among parts
-minis_among (in_mini_stream n ∷ parts) = n ∷ minis_among parts
-
-pub sectors_of_map : (xs : List ℕ) → sectors_among (map in_file xs) ≡ xs
-sectors_of_map [] = refl
-sectors_of_map (x ∷ xs) = ap (λ l. x ∷ l) (sectors_of_map xs)
-
-pub sectors_of_minis : (xs : List ℕ) → sectors_among (map in_mini_stream xs) ≡ []
-sectors_of_minis [] = refl
-sectors_of_minis (x ∷ xs) = sectors_of_minis xs
-
-pub minis_of_map : (xs : List ℕ) → minis_among (map in_mini_stream xs) ≡ xs
-minis_of_map [] = refl
-minis_of_map (x ∷ xs) = ap (λ l. x ∷ l) (minis_of_map xs)
-
-pub minis_of_sectors : (xs : List ℕ) → minis_among (map in_file xs) ≡ []
-minis_of_sectors [] = refl
-minis_of_sectors (x ∷ xs) = minis_of_sectors xs
 
 pub sectors_append : (xs ys : List Part) → sectors_among (xs ++ ys) ≡ sectors_among xs ++ sectors_among ys
 sectors_append [] ys = refl

@@ -1,7 +1,6 @@
 -- Bytes that stand in pieces of a file.
-use Rattle.std.proofs.Common.{◌≡◌, ℕ, ◌+◌, ◌-◌, ◌*◌, ◌<◌, ◌≤◌, min, List, [], ◌∷◌, ◌++◌, length, take, zero, suc, refl, sym, ap, subst, ◌∙◌, arith, ⊎_elim}
-use Rattle.std.specs.List.{flat_map, range_with_len, AllByRecursion}
-use Rattle.std.proofs.lemmas.List.FromFn.{length-range_with_len}
+use Rattle.std.proofs.Common.{◌≡◌, ℕ, ◌+◌, ◌-◌, ◌<◌, ◌≤◌, min, List, [], ◌∷◌, ◌++◌, take, zero, suc, refl, sym, ap, subst, arith}
+use Rattle.std.specs.List.{range_with_len, AllByRecursion}
 use Rattle.cfb_tree.proofs.NamesRead.{all_append}
 use Rattle.cfb_soundness.specs.Places.{places_of, HoldBytes}
 use Rattle.cfb_soundness.proofs.Taking.{all_front}

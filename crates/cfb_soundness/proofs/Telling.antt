@@ -1,25 +1,25 @@
 -- What the streams of a file use, told by memory and by the bytes.
-use Rattle.std.proofs.Common.{◌≡◌, ◌≢◌, ℕ, ◌+◌, ◌-◌, ◌*◌, ◌<◌, ◌≤◌, inl, inr, ◌⊎◌, List, [], ◌∷◌, ◌++◌, length, map, take, drop, replicate, zero, suc, refl, ap, sym, subst, ◌∙◌, arith, ⊎_elim, length-append, length-take, length-drop}
-use Rattle.std.specs.Prelude.{slice_get, slice_index, slice_range, Some}
+use Rattle.std.proofs.Common.{◌≡◌, ℕ, ◌+◌, ◌-◌, ◌*◌, ◌<◌, ◌≤◌, ◌⊎◌, List, [], ◌∷◌, ◌++◌, length, map, take, drop, zero, suc, refl, ap, sym, subst, ◌∙◌, arith, ⊎_elim, length-append, length-take, length-drop}
+use Rattle.std.specs.Prelude.{slice_get, slice_index, Some}
 use Rattle.std.specs.List.{flat_map, AllByRecursion}
 use Rattle.std.proofs.lemmas.Bool.Decides.{eqb_tells, leb_tells}
 use Rattle.std.proofs.lemmas.Option.{slice_get_within}
 use Rattle.cfb_medium.specs.Versions.{sector_len}
 use Rattle.cfb_sectors.specs.Header.{mini_cutoff}
-use Rattle.cfb_sectors.specs.Sectors.{free, joined, places, sector_start, sectors_in, AreInFile, Chain, IsInFile}
+use Rattle.cfb_sectors.specs.Sectors.{joined, sector_start, sectors_in, AreInFile, Chain, IsInFile}
 use Rattle.cfb_sectors.proofs.OneChain.{chain_unique}
 use Rattle.cfb_chains.proofs.ChainWriting.{length-joined}
 use Rattle.cfb_fat.proofs.DifatChains.{below_in_file, in_file_below}
 use Rattle.cfb_tree.specs.Directory.{kind_storage, kind_stream, Entry}
-use Rattle.cfb_tree.proofs.NamesRead.{all_append}
 use Rattle.cfb_tree.proofs.OneContent.{Some_same}
 use Rattle.cfb_meaning.specs.Means.{directory, fat, mini_fat, mini_sector, mini_stream, HasBytes, IsInMiniStream, Layout}
-use Rattle.cfb_meaning.specs.Sound.{in_file, in_mini_stream, mini_places, EntryUses, IsUsable, LieInFile, Part, TreeUses}
-use Rattle.cfb_soundness.specs.Places.{places_of, HoldBytes}
-use Rattle.cfb_soundness.specs.Uses.{mini_start, AreInUse, EntriesHave, EntryHas, HasMiniSectors, HasSectors, Tables}
-use Rattle.cfb_soundness.proofs.Taking.{all_front, all_mapped}
+use Rattle.cfb_meaning.specs.Sound.{in_file, in_mini_stream, mini_places, EntryUses, IsUsable, LieInFile, Part}
+use Rattle.cfb_soundness.specs.Places.{places_of}
+use Rattle.cfb_soundness.specs.Uses.{mini_start, AreInUse, EntryHas, HasMiniSectors, HasSectors, Tables}
+use Rattle.cfb_soundness.proofs.Taking.{all_mapped}
 use Rattle.cfb_soundness.proofs.MiniPlaces.{mini_place, sector_places}
-use Rattle.cfb_soundness.proofs.PartsOnce.{minis_among, minis_append, minis_of_map, minis_of_sectors, sectors_among, sectors_append, sectors_of_map, sectors_of_minis}
+use Rattle.cfb_owners.proofs.CutChains.{chain_of_cut, get_of_cut, start_used}
+use Rattle.cfb_owners.proofs.KeysOfParts.{minis_among, minis_of_map, minis_of_sectors, sectors_among, sectors_of_map, sectors_of_minis}
 
 -- the tables that memory has of a file of these bytes, laid out so: the FAT is cut to the file's sectors
 abbrev pub told : List ℕ → Layout → Tables
@@ -33,22 +33,11 @@ told bytes l = record {
   file_len = length bytes;
 }
 
-get_of_cut : (n : ℕ) (table : List ℕ) (i x : ℕ) → slice_get (take n table) i ≡ Some x → slice_get table i ≡ Some x
-get_of_cut zero table i x found = absurd (cc)
-get_of_cut (suc n) [] i x found = found
-get_of_cut (suc n) (y ∷ table) zero x found = found
-get_of_cut (suc n) (y ∷ table) (suc i) x found = get_of_cut n table i x found
-
 get_in_cut : (n : ℕ) (table : List ℕ) (i x : ℕ) → i < n → slice_get table i ≡ Some x → slice_get (take n table) i ≡ Some x
 get_in_cut zero table i x below found = absurd (omega (arith, below))
 get_in_cut (suc n) [] i x below found = found
 get_in_cut (suc n) (y ∷ table) zero x below found = found
 get_in_cut (suc n) (y ∷ table) (suc i) x below found = get_in_cut n table i x (omega (arith, below)) found
-
--- no chain starts at a part that is marked "free"
-start_used : (table : List ℕ) (start : ℕ) (ids : List ℕ) → Chain table start ids → start ≢ free
-start_used table start [] is wrong = absurd (omega (arith, is, wrong))
-start_used table start (x ∷ ids) (is, regular, next, found, rest) wrong = absurd (omega (arith, regular, wrong))
 
 pub chain_used : (table : List ℕ) (start : ℕ) (ids : List ℕ) → Chain table start ids → AreInUse table ids
 chain_used table start [] is = tt
@@ -64,10 +53,6 @@ module _ (bytes : List ℕ) (l : Layout) where
 
   abbrev pub IsUsableSector : ℕ → Type 0
   IsUsableSector n = IsUsable bytes l (in_file n)
-
-  chain_of_cut : (start : ℕ) (ids : List ℕ) → Chain cut start ids → Chain (fat bytes l) start ids
-  chain_of_cut start [] is = is
-  chain_of_cut start (x ∷ ids) (is, regular, next, found, rest) = (is, regular, next, get_of_cut count (fat bytes l) start next found, chain_of_cut next ids rest)
 
   chain_in_cut : (start : ℕ) (ids : List ℕ) → AllByRecursion IsUsableSector ids → Chain (fat bytes l) start ids → Chain cut start ids
   chain_in_cut start [] all is = is
@@ -108,9 +93,10 @@ module _ (bytes : List ℕ) (l : Layout) where
 
   usable_minis : (start : ℕ) (ids : List ℕ) → Chain (mini_fat bytes l) start ids → AreInside ids → AllByRecursion (IsUsable bytes l) (map in_mini_stream ids)
   usable_minis start [] chain inside = tt
-  usable_minis start (x ∷ ids) (is, regular, next, found, rest) inside =
-      ((omega (arith, inside 0 (omega arith), long_stream), next, subst (λ n. slice_get (mini_fat bytes l) n ≡ Some next) (sym is) found, start_used (mini_fat bytes l) next ids rest),
-        usable_minis next ids rest (λ k below. inside (suc k) (omega (arith, below))))
+  usable_minis start (x ∷ ids) (is, regular, next, found, rest) inside = (
+    (omega (arith, inside 0 (omega arith), long_stream), next, subst (λ n. slice_get (mini_fat bytes l) n ≡ Some next) (sym is) found, start_used (mini_fat bytes l) next ids rest),
+    usable_minis next ids rest (λ k below. inside (suc k) (omega (arith, below))),
+  )
 
   minis_inside : (ids : List ℕ) → AllByRecursion (IsUsable bytes l) (map in_mini_stream ids) → AreInside ids
   minis_inside [] all k below = absurd (omega (arith, below))
@@ -164,16 +150,19 @@ module _ (bytes : List ℕ) (l : Layout) where
         sectors_are = sectors_of_minis minis ∙ sym none;
         minis_are = minis_of_map minis;
         usable = usable_minis e.start minis h.chain h.inside;
-        has = λ _. (take e.size (flat_map (mini_sector bytes l) minis), record {
-          short = λ _. record {
-            sectors = minis;
-            chain = h.chain;
-            in_stream = in_stream minis h.inside;
-            content_is = refl;
-            whole = omega (arith, length-take e.size (flat_map (mini_sector bytes l) minis), long, size, h.held.enough);
-          };
-          long = λ up. absurd (omega (arith, below, up));
-        });
+        has = λ _. (
+          take e.size (flat_map (mini_sector bytes l) minis),
+          record {
+            short = λ _. record {
+              sectors = minis;
+              chain = h.chain;
+              in_stream = in_stream minis h.inside;
+              content_is = refl;
+              whole = omega (arith, length-take e.size (flat_map (mini_sector bytes l) minis), long, size, h.held.enough);
+            };
+            long = λ up. absurd (omega (arith, below, up));
+          },
+        );
       }
     where
       in_stream : (ids : List ℕ) → AreInside ids → AllByRecursion (IsInMiniStream bytes l) ids
@@ -184,7 +173,7 @@ module _ (bytes : List ℕ) (l : Layout) where
       → minis ≡ [] → HasSectors (told bytes l) e own → EntryTold id own minis
   long_told id e own minis found is_stream up none h =
       let used = usable_from_use own (chain_used cut e.start own h.chain) in
-      let chain = chain_of_cut e.start own h.chain in
+      let chain = chain_of_cut count (fat bytes l) e.start own h.chain in
       let enough : e.size ≤ length own * sector_len l.version = subst (λ n. e.size ≤ n * sector_len l.version) (length-starts (sector_start l.version) own) h.held.enough in
       record {
         parts = map in_file own;
@@ -198,16 +187,19 @@ module _ (bytes : List ℕ) (l : Layout) where
         sectors_are = sectors_of_map own;
         minis_are = minis_of_sectors own ∙ sym none;
         usable = usable_sectors own used;
-        has = λ _. (take e.size (joined l.version bytes own), record {
-          short = λ below. absurd (omega (arith, below, up));
-          long = λ _. record {
-            sectors = own;
-            chain = chain;
-            in_file = all_mapped IsUsableSector (IsInFile l.version bytes) (λ n u. u.0) own used;
-            content_is = refl;
-            whole = omega (arith, length-take e.size (joined l.version bytes own), length-joined l.version bytes own, enough);
-          };
-        });
+        has = λ _. (
+          take e.size (joined l.version bytes own),
+          record {
+            short = λ below. absurd (omega (arith, below, up));
+            long = λ _. record {
+              sectors = own;
+              chain = chain;
+              in_file = all_mapped IsUsableSector (IsInFile l.version bytes) (λ n u. u.0) own used;
+              content_is = refl;
+              whole = omega (arith, length-take e.size (joined l.version bytes own), length-joined l.version bytes own, enough);
+            };
+          },
+        );
       }
 
   pub entry_told : (id : ℕ) (own minis : List ℕ) → EntryHas (told bytes l) id own minis → EntryTold id own minis
@@ -263,13 +255,13 @@ module _ (bytes : List ℕ) (l : Layout) where
               ap sectors_among mine.2 ∙ sectors_of_minis mine.0,
               subst (HasMiniSectors (told bytes l) e) (sym (ap minis_among mine.2 ∙ minis_of_map mine.0))
                   (record {
-                chain = mine.1;
-                inside = inside;
-                held = record {
-                  enough = omega (arith, size, read.whole, length-starts (mini_start (told bytes l)) mine.0);
-                  there = subst (λ xs. LieInFile bytes e xs) (mini_starts_are mine.0 inside) mine.3;
-                };
-              }),
+                    chain = mine.1;
+                    inside = inside;
+                    held = record {
+                      enough = omega (arith, size, read.whole, length-starts (mini_start (told bytes l)) mine.0);
+                      there = subst (λ xs. LieInFile bytes e xs) (mini_starts_are mine.0 inside) mine.3;
+                    };
+                  }),
             );
         long = λ _ up.
             let mine = uses.long is up in
@@ -280,12 +272,12 @@ module _ (bytes : List ℕ) (l : Layout) where
               ap minis_among mine.2 ∙ minis_of_sectors mine.0,
               subst (HasSectors (told bytes l) e) (sym (ap sectors_among mine.2 ∙ sectors_of_map mine.0))
                   (record {
-                chain = chain_in_cut e.start mine.0 used mine.1;
-                held = record {
-                  enough = subst (λ n. e.size ≤ n * sector_len l.version) (sym (length-starts (sector_start l.version) mine.0)) (omega (arith, size, read.whole));
-                  there = subst (λ xs. LieInFile bytes e xs) (sector_places l.version mine.0) mine.3;
-                };
-              }),
+                    chain = chain_in_cut e.start mine.0 used mine.1;
+                    held = record {
+                      enough = subst (λ n. e.size ≤ n * sector_len l.version) (sym (length-starts (sector_start l.version) mine.0)) (omega (arith, size, read.whole));
+                      there = subst (λ xs. LieInFile bytes e xs) (sector_places l.version mine.0) mine.3;
+                    };
+                  }),
             );
         other = λ other. absurd (other is);
       })

@@ -1,5 +1,5 @@
 -- What a stream uses, from the chain that was found and where its parts begin.
-use Rattle.std.proofs.Common.{◌≡◌, ℕ, List, [], ◌++◌, map, ap, sym, subst, ◌∙◌, Bool}
+use Rattle.std.proofs.Common.{◌≡◌, ℕ, List, ◌++◌, map, ap, sym, subst, ◌∙◌, Bool}
 use Rattle.cfb_medium.specs.Versions.{sector_len}
 use Rattle.cfb_sectors.specs.Sectors.{sector_start, Chain}
 use Rattle.cfb_sectors.proofs.OneChain.{chain_unique}

@@ -9,7 +9,6 @@ use Rattle.cfb_sectors.specs.Header.{mini_cutoff}
 use Rattle.cfb_sectors.specs.Sectors.{free, sector_start, Chain}
 use Rattle.cfb_tree.specs.Directory.{kind_stream, Entry}
 use Rattle.cfb_mini.specs.Minis.{AreInside}
-use Rattle.cfb_soundness.specs.Marks.{Takes}
 use Rattle.cfb_soundness.specs.Places.{HoldBytes}
 
 -- the FAT and the mini FAT, the mini stream's sectors and how many bytes it has, the directory's entries, and the file's bytes

@@ -1,7 +1,7 @@
 -- What judging a file looks at.
 use Rattle.std.specs.Prelude.{◌≡◌, ℕ, ◌++◌, Bool, false, List, IsTrue}
 use Rattle.cfb_medium.specs.declared.medium.ReadMedium.{Ghosts}
-use Rattle.cfb_fat.specs.Tables.{bytes_of, difat_sectors_of, fat_of, fat_sectors_of, has_failed_here, is_honest, version_of}
+use Rattle.cfb_fat.specs.Tables.{difat_sectors_of, fat_of, fat_sectors_of, has_failed_here, is_honest, version_of}
 use Rattle.cfb_directory.specs.Views.{directory_ids, entries_held}
 use Rattle.cfb_mini.specs.Views.{allocator_of, directory_of, mini_fat_ids, mini_fat_of, mini_stream_ids, mini_stream_len, IsMini}
 use Rattle.cfb_mini.specs.declared.mini_allocator.MiniAllocator.{MiniAllocator}

@@ -25,7 +25,8 @@ use std::alloc::Global;
 // Whether the FAT has an entry for each sector of the file ([MS-CFB] 2.3).
 fn covers_the_file<F: ReadMedium>(allocator: &Allocator<F>) -> bool
     requires { has_failed_here allocator.now ≡ false }
-    ensures { IsTrue result ↔ (count_of (sectors_of allocator.now) ≤ length (fat_of allocator.now)) }
+    ensures { IsTrue result
+        ↔ (count_of (sectors_of allocator.now) ≤ length (fat_of allocator.now)) }
 {
     let count = allocator.num_sectors();
     count == 0 || allocator.next(count - 1).is_ok()

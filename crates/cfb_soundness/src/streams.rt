@@ -132,7 +132,12 @@ fn take_long<F: ReadMedium>(
     };
     let version = file.version();
     let starts = sector_starts(alloc, version, links.sector_ids())?;
-    if !hold_bytes(version.sector_len() as u64, &starts, entry.stream_len, file_len) {
+    if !hold_bytes(
+        version.sector_len() as u64,
+        &starts,
+        entry.stream_len,
+        file_len,
+    ) {
         return Ok(false);
     }
     Ok(sectors.take_all(links.sector_ids()))

@@ -1,9 +1,7 @@
-use Rattle.std.proofs.Common.{◌≡◌, ℕ, ◌+◌, List, [], ◌∷◌, ◌++◌, refl, ap, sym, subst, ◌∙◌, arith}
+use Rattle.std.proofs.Common.{◌≡◌, ◌+◌, [], ◌∷◌, ◌++◌, refl, ap, sym, subst, ◌∙◌, arith}
 use Rattle.std.proofs.lemmas.List.{nil_from_length}
 use Rattle.cfb_tree.specs.EntryViews.{entry_in}
 use Rattle.cfb_directory.specs.Views.{entries_held}
-use Rattle.cfb_soundness.specs.Entries.{steps_at}
-use Rattle.cfb_soundness.specs.declared.entries.Step.{Step}
 use Rattle.cfb_soundness.specs.declared.entries.Step.TheVariants.{Hanging, Met}
 use Rattle.cfb_soundness.proofs.EntrySteps.{walk_begins, walk_ends, walk_meets, walk_passes, walk_tells, Walked}
 use Rattle.cfb_soundness.proofs.entries.tree_entries.Goals as goal

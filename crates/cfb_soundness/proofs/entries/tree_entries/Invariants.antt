@@ -1,6 +1,5 @@
 use Rattle.std.proofs.Common.{◌≡◌, ◌+◌, ◌-◌, ◌*◌, length}
 use Rattle.std.specs.Prelude.{slice_get, Some}
-use Rattle.std.specs.List.{IsDistinct}
 use Rattle.cfb_tree.specs.Directory.{Entry}
 use Rattle.cfb_directory.specs.Views.{entries_held}
 use Rattle.cfb_soundness.proofs.EntrySteps.{Walked}

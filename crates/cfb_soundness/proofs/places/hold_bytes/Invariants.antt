@@ -1,4 +1,4 @@
-use Rattle.std.proofs.Common.{drop, ◌≤◌}
+use Rattle.std.proofs.Common.{drop}
 use Rattle.std.specs.Prelude.{◌↔◌}
 use Rattle.cfb_soundness.specs.Places.{HoldBytes}
 use Rattle.cfb_soundness.proofs.places.hold_bytes.Given as goal

@@ -1,9 +1,9 @@
-use Rattle.std.proofs.Common.{rules, ◌≡◌, ℕ, ◌++◌, List, [], refl, ap, sym, subst, ◌∙◌}
+use Rattle.std.proofs.Common.{rules, ◌≡◌, [], refl, sym, subst}
 use Rattle.cfb_fat.specs.Tables.{difat_sectors_of, fat_sectors_of}
 use Rattle.cfb_directory.specs.Views.{directory_ids}
 use Rattle.cfb_mini.specs.Views.{allocator_of, directory_of, mini_fat_ids, mini_stream_ids}
 use Rattle.cfb_soundness.specs.Marks.{CanTake, Takes}
-use Rattle.cfb_soundness.specs.Views.{marks_of, table_sectors}
+use Rattle.cfb_soundness.specs.Views.{marks_of}
 use Rattle.cfb_soundness.proofs.UsesFound.{can_fifth, can_first, can_fourth, can_second, can_third, take_five}
 use Rattle.cfb_soundness.proofs.soundness.take_tables.Goals as goal
 

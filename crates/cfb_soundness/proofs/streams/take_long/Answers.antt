@@ -1,10 +1,8 @@
-use Rattle.std.proofs.Common.{rules, ◌≡◌, ℕ, List, map, refl, ap, sym, subst, ◌∙◌}
+use Rattle.std.proofs.Common.{rules, ◌≡◌, map, ap, sym, subst, ◌∙◌}
 use Rattle.cfb_chains.specs.LinkViews.{ids_of}
-use Rattle.cfb_fat.specs.Tables.{fat_of, version_of}
 use Rattle.cfb_medium.specs.Versions.{sector_len}
 use Rattle.cfb_sectors.specs.Sectors.{sector_start, Chain}
 use Rattle.cfb_tree.specs.EntryViews.{entry_in}
-use Rattle.cfb_mini.specs.Views.{allocator_of}
 use Rattle.cfb_soundness.specs.Marks.{CanTake}
 use Rattle.cfb_soundness.specs.Views.{marks_of, tables_in}
 use Rattle.cfb_soundness.proofs.UsesFound.{long_is, long_not_held}

@@ -1,5 +1,4 @@
-use Rattle.std.proofs.Common.{◌≡◌, ℕ, List, map, refl, ap, sym, subst, ◌∙◌}
-use Rattle.cfb_sectors.specs.Sectors.{Chain}
+use Rattle.std.proofs.Common.{◌≡◌, map, ap, sym, subst, ◌∙◌}
 use Rattle.cfb_tree.specs.EntryViews.{entry_in}
 use Rattle.cfb_mini.specs.LinkViews.{minis_of}
 use Rattle.cfb_soundness.specs.Marks.{CanTake}

@@ -1,13 +1,8 @@
-use Rattle.std.proofs.Common.{◌≡◌, ℕ, ◌+◌, ◌<◌, List, [], ◌∷◌, ◌++◌, drop, take, get_or, length, suc, arith, subst, sym, refl, ap, ◌∙◌, append_assoc}
-use Rattle.std.proofs.Math.Seq.{drop-cons}
-use Rattle.std.proofs.lemmas.List.{take_more, take-append-drop}
+use Rattle.std.proofs.Common.{◌+◌, [], ◌∷◌, ◌++◌, drop, take, get_or, subst, sym, refl}
+use Rattle.std.proofs.lemmas.List.{take_more}
 use Rattle.cfb_soundness.specs.Marks.{CanTake, Takes}
-use Rattle.cfb_soundness.proofs.Taking.{can_take_front, can_take_rest, takes_then}
+use Rattle.cfb_soundness.proofs.Taking.{can_take_front, can_take_rest, parted, takes_then}
 use Rattle.cfb_soundness.proofs.marks.Marks.take_all.Goals as goal
-
--- the list in front of a part, the part, and what is behind it
-parted : (xs : List ℕ) (i : ℕ) → i < length xs → xs ≡ take i xs ++ ((get_or xs i 0 ∷ []) ++ drop (i + 1) xs)
-parted xs i below = sym (take-append-drop i xs) ∙ ap (λ ys. take i xs ++ ys) (drop-cons xs i 0 below ∙ ap (λ k. get_or xs i 0 ∷ drop k xs) (let one : suc i ≡ i + 1 = omega arith in one))
 
 pub returns-then-not-take-clause-refused : goal.returns-then-not-take-clause-refused
 returns-then-not-take-clause-refused c = λ no can.

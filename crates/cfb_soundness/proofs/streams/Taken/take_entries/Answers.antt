@@ -1,8 +1,9 @@
-use Rattle.std.proofs.Common.{rules, ◌≡◌, ℕ, ◌+◌, List, [], ◌∷◌, ◌++◌, drop, take, get_or, refl, sym, subst}
+use Rattle.std.proofs.Common.{◌+◌, drop, take, get_or, sym, subst}
 use Rattle.std.proofs.lemmas.List.{take_more}
 use Rattle.cfb_soundness.specs.Uses.{EntriesHave}
 use Rattle.cfb_soundness.specs.Views.{tables_in}
-use Rattle.cfb_soundness.proofs.Having.{none_fits, none_gone, one_gone, parted, Gone}
+use Rattle.cfb_soundness.proofs.Having.{none_fits, none_gone, one_gone, Gone}
+use Rattle.cfb_soundness.proofs.Taking.{parted}
 use Rattle.cfb_soundness.proofs.streams.Taken.take_entries.Goals as goal
 
 pub loop-id-init : goal.loop-id-init

@@ -1,4 +1,4 @@
-use Rattle.std.proofs.Common.{rules, ◌≡◌, ℕ, ◌<◌, ◌≤◌, Bool, List, [], refl, ap, sym, subst, ◌∙◌, arith}
+use Rattle.std.proofs.Common.{rules, ◌≡◌, ◌<◌, ◌≤◌, Bool, [], refl, arith}
 use Rattle.std.specs.Prelude.{slice_get, Err, IfOk, Ok, Result, Some}
 use Rattle.cfb_medium.specs.declared.error.Error.{Error}
 use Rattle.cfb_tree.specs.Directory.{kind_stream}
