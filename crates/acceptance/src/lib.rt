@@ -50,6 +50,8 @@ pub mod shelf;
 #[cfg(test)]
 mod siblings;
 #[cfg(test)]
+mod soundness;
+#[cfg(test)]
 mod stops;
 pub mod survivor;
 #[cfg(test)]

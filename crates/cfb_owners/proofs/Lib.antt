@@ -1,0 +1,12 @@
+pub mod CutChains
+pub mod HoldsById
+pub mod MeansIs
+pub mod PartsApart
+pub mod UsedParts
+pub mod PartsUsable
+pub mod OwnersApart
+pub mod SoundIs
+pub mod KeysOfParts
+pub mod UsesOfEntries
+pub mod UsesOwned
+pub mod HeldIs

@@ -1,0 +1,4 @@
+pub mod Owners
+pub mod LiveFile
+pub mod Kept
+pub mod Held

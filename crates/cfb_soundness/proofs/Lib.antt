@@ -1,0 +1,11 @@
+pub mod EntrySteps
+pub mod Having
+pub mod InMemory
+pub mod Judged
+pub mod MiniPlaces
+pub mod PartsOnce
+pub mod Pieces
+pub mod Refilling
+pub mod UsesFound
+pub mod Taking
+pub mod Telling

@@ -1,0 +1,5 @@
+pub mod Entries
+pub mod Marks
+pub mod Places
+pub mod Uses
+pub mod Views
