@@ -44,12 +44,7 @@ fn stream(name: &str, start: u32, len: u64) -> Result<DirEntry, Error> {
 }
 
 // A file of version 3 without what is read of its header: a stream of 4096 bytes, and one of `short_len` bytes in mini sectors.
-fn file(
-    alloc: Global,
-    fat: &[u32],
-    mini_fat: &[u32],
-    short_len: u64,
-) -> Result<Vec<u8>, Error> {
+fn file(alloc: Global, fat: &[u32], mini_fat: &[u32], short_len: u64) -> Result<Vec<u8>, Error> {
     let mut bytes = Vec::new(alloc);
     bytes.resize(512, 0)?;
     push_table(&mut bytes, fat, 1024)?;
@@ -95,7 +90,12 @@ fn parts_of_sound_files_serve_one_use(rt: HostRuntime) -> Result<(), Fail> {
     assert!(rt; !sound(alloc, file(alloc, &FAT, &[END_OF_CHAIN], 70)?)?);
     assert!(rt; !sound(alloc, file(alloc, &FAT, &[FREE_SECTOR], 10)?)?);
     assert!(rt; !sound(alloc, file(alloc, &FAT, &[1, 0], 70)?)?);
-    assert!(rt; !sound(alloc, file(alloc, &FAT, &[8, 0, 0, 0, 0, 0, 0, 0, END_OF_CHAIN], 70)?)?);
+    assert!(rt;
+        !sound(
+            alloc,
+            file(alloc, &FAT, &[8, 0, 0, 0, 0, 0, 0, 0, END_OF_CHAIN], 70)?
+        )?
+    );
     Ok(())
 }
 
@@ -103,7 +103,13 @@ fn parts_of_sound_files_serve_one_use(rt: HostRuntime) -> Result<(), Fail> {
 fn sectors_are_shared_or_missing(rt: HostRuntime) -> Result<(), Fail> {
     let alloc = rt.alloc();
     // The mini stream goes on in the long stream, the FAT's own sector is free, a chain breaks, loops, ends early.
-    for (place, number) in [(3, 4), (0, FREE_SECTOR), (11, 200), (11, 4), (8, END_OF_CHAIN)] {
+    for (place, number) in [
+        (3, 4),
+        (0, FREE_SECTOR),
+        (11, 200),
+        (11, 4),
+        (8, END_OF_CHAIN),
+    ] {
         let mut fat = FAT;
         fat[place] = number;
         assert!(rt; !sound(alloc, file(alloc, &fat, &[1, END_OF_CHAIN], 70)?)?);
