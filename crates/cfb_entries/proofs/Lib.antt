@@ -1,0 +1,3 @@
+pub mod Preorder
+pub mod Sides
+pub mod Texts

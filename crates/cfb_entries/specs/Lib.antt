@@ -1,0 +1,4 @@
+pub mod Holding
+pub mod Listed
+pub mod Pending
+pub mod Walk
