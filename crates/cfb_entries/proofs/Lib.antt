@@ -1,3 +1,4 @@
+pub mod Items
 pub mod Preorder
 pub mod Sides
 pub mod Texts

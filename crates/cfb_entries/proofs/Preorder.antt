@@ -3,11 +3,13 @@ use Rattle.std.proofs.Common.{◌≡◌, ℕ, ◌+◌, ◌<◌, ◌≤◌, ◌||
 use Rattle.std.specs.Prelude.{slice_get, Some, None, nat_eq}
 use Rattle.std.specs.List.{flat_map, AllByRecursion, IsDistinct, list_any}
 use Rattle.std.proofs.lemmas.Grind.{flat_map-append, reverse_onto}
-use Rattle.std.proofs.lemmas.List.{map-append}
+use Rattle.std.proofs.lemmas.List.{length-map, map-append}
 use Rattle.std.proofs.lemmas.Option.{slice_get_within}
 use Rattle.std.proofs.lemmas.Map.Steps.{length-le_from_distinct_below}
 use Rattle.cfb_meaning.specs.TreeRules.{Shown, shown, all_shown, children_shown}
-use Rattle.cfb_tree.specs.Directory.{Entry, HasName, Siblings, none, some, Holds, no_entry, kind_stream, kind_storage}
+use Rattle.cfb_tree.specs.Directory.{Entry, HasName, IsStream, IsStorage, Siblings, none, some, Holds, no_entry, kind_stream, kind_storage}
+use Rattle.cfb_tree.specs.EntryViews.{entry_in}
+use Rattle.cfb_tree.specs.declared.entry.DirEntry.{DirEntry}
 use Rattle.cfb_tree.specs.Objects.{Object, a_stream, a_storage, name_of, inside_of, IsObject}
 use Rattle.cfb_tree.specs.Paths.{Path, path_text}
 use Rattle.cfb_tree.specs.Tree.{Content, nothing, stream, storage}
@@ -283,3 +285,84 @@ module _ (directory : List Entry) where
 
   pub walked_all : (L whole : List Listed) → Walked L [] whole → L ≡ whole
   walked_all L whole it = sym (append-nil L) ∙ ap (λ xs. L ++ map listed xs) (sym it.kept.0) ∙ it.whole_is
+
+  -- how far the list of a storage's children has come
+  pub record Told (front : Path) (L : List Listed) (ids : List ℕ) (whole : List Listed) : Type 0 where
+    pub later : Content
+    pub all : List ℕ
+    pub holds : Holds directory HasSize ids later all
+    pub whole_is : L ++ map listed (children_shown front later) ≡ whole
+
+  pub told_first : (link : ℕ) (c : Content) (held : IsHeldAt directory link c) (front : Path) (L : List Listed) (ids : List ℕ) → L ≡ [] → ids ≡ held.children
+      → Told front L ids (map listed (children_shown front c))
+  told_first link c held front L ids none_yet ids_are = record {
+    later = c;
+    all = held.ids;
+    holds = subst (λ ks. Holds directory HasSize ks c held.ids) (sym ids_are) held.holds;
+    whole_is = ap (λ K. K ++ map listed (children_shown front c)) none_yet;
+  }
+
+  pub told_all : (front : Path) (L whole : List Listed) → Told front L [] whole → L ≡ whole
+  told_all front L whole it = sym (append-nil L) ∙ ap (λ xs. L ++ map listed xs) (sym (nothing_left it.later it.all it.holds)) ∙ it.whole_is
+    where
+      nothing_left : (c : Content) (all : List ℕ) → Holds directory HasSize [] c all → children_shown front c ≡ []
+      nothing_left nothing all h = refl
+      nothing_left (stream n b x l) all (e, id, others, rest, is, all_is, at, reads, later) = absurd (cc)
+      nothing_left (storage n f i l) all (e, id, others, children, within, rest, is, all_is, at, siblings, inside, later) = absurd (cc)
+
+  -- the next child
+  pub record NextChild (front : Path) (L : List Listed) (id : ℕ) (ids : List ℕ) (whole : List Listed) : Type 0 where
+    pub object : Object
+    pub own : List ℕ
+    pub is_object : IsObject directory HasSize id object own
+    pub told : Told front (L ++ listed (shown (front ++ name_of object ∷ []) object) ∷ []) ids whole
+
+  pub told_next : (front : Path) (L : List Listed) (id : ℕ) (ids : List ℕ) (whole : List Listed) → Told front L (id ∷ ids) whole → NextChild front L id ids whole
+  told_next front L id ids whole it = by_content it.later it.all it.holds it.whole_is
+    where
+      by_content : (c : Content) (all : List ℕ) → Holds directory HasSize (id ∷ ids) c all → L ++ map listed (children_shown front c) ≡ whole → NextChild front L id ids whole
+      by_content nothing all (is, empty) whole_is = absurd (cc)
+      by_content (stream n b x l) all (e, k, others, rest, is, all_is, at, reads, later) whole_is =
+          let same : k ≡ id = cc in
+          let others_are : others ≡ ids = cc in
+          record {
+            object = a_stream n b x;
+            own = [];
+            is_object = (e, subst (λ j. IsStream directory j e n b) same at, reads, refl);
+            told = record {
+              later = l;
+              all = rest;
+              holds = subst (λ ks. Holds directory HasSize ks l rest) others_are later;
+              whole_is = append_assoc L (listed (shown (front ++ n ∷ []) (a_stream n b x)) ∷ []) (map listed (children_shown front l)) ∙ whole_is;
+            };
+          }
+      by_content (storage n f i l) all (e, k, others, children, within, rest, is, all_is, at, siblings, inside, later) whole_is =
+          let same : k ≡ id = cc in
+          let others_are : others ≡ ids = cc in
+          record {
+            object = a_storage n f i;
+            own = within;
+            is_object = (e, children, subst (λ j. IsStorage directory j e n f) same at, siblings, inside);
+            told = record {
+              later = l;
+              all = rest;
+              holds = subst (λ ks. Holds directory HasSize ks l rest) others_are later;
+              whole_is = append_assoc L (listed (shown (front ++ n ∷ []) (a_storage n f i)) ∷ []) (map listed (children_shown front l)) ∙ whole_is;
+            };
+          }
+
+  -- an object of the directory is there, and has a name
+  pub object_there : (id : ℕ) (o : Object) (own : List ℕ) → IsObject directory HasSize id o own → slice_get directory id ≡ None → ⊥
+  object_there id (a_stream n b x) own (e, at, reads, empty) lost = let never : Some e ≡ None = sym at.found ∙ lost in absurd (cc)
+  object_there id (a_storage n f i) own (e, children, at, siblings, inside) lost = let never : Some e ≡ None = sym at.found ∙ lost in absurd (cc)
+
+  pub object_named : (id : ℕ) (o : Object) (own : List ℕ) (e : Entry) → IsObject directory HasSize id o own → slice_get directory id ≡ Some e → HasName e (name_of o)
+  object_named id (a_stream n b x) own e (f, at, reads, empty) found = subst (λ y. HasName y n) (Some_same (sym at.found ∙ found)) at.named
+  object_named id (a_storage n f i) own e (g, children, at, siblings, inside) found = subst (λ y. HasName y n) (Some_same (sym at.found ∙ found)) at.named
+
+-- the children that hang at a link are no more than there are entries
+pub held_few : (entries : List DirEntry) (link : ℕ) (c : Content) (held : IsHeldAt (map entry_in entries) link c) → length held.children ≤ length entries
+held_few entries link c held =
+    let few : length held.ids ≤ length entries = simp length-map at (all_fit (map entry_in entries) c held.children held.ids held.holds held.once) in
+    let fewer = outer_fewer (map entry_in entries) c held.children held.ids held.holds in
+    omega (arith, few, fewer)
