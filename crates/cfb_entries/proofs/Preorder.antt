@@ -17,6 +17,7 @@ use Rattle.cfb_tree.proofs.NamesRead.{all_append}
 use Rattle.cfb_tree.proofs.OneContent.{name_unique, Some_same}
 use Rattle.cfb_entries.specs.Holding.{children_link, HasSize, IsHeldAt}
 use Rattle.cfb_entries.specs.Listed.{Listed, listed, listed_at, prefix_of_listed, prefix_text, is_root_path}
+use Rattle.cfb_entries.proofs.Texts.{prefix_more}
 use Rattle.cfb_entries.specs.Walk.{pending_at}
 use Rattle.cfb_entries.specs.declared.walking.Pending.{Pending}
 
@@ -25,21 +26,18 @@ reverse_cons x xs = reverse_onto xs x []
 
 -- ---- paths
 
-pub prefix_child : (front : Path) (name : List ℕ) → prefix_text (front ++ name ∷ []) ≡ prefix_text front ++ 47 ∷ name
-prefix_child front name = flat_map-append (λ part. 47 ∷ part) front (name ∷ []) ∙ ap (λ xs. prefix_text front ++ 47 ∷ xs) (append-nil name)
-
 pub path_child : (front : Path) (name : List ℕ) → path_text (front ++ name ∷ []) ≡ prefix_text front ++ 47 ∷ name
 path_child [] name = ap (λ xs. 47 ∷ xs) (append-nil name)
-path_child (part ∷ front) name = prefix_child (part ∷ front) name
+path_child (part ∷ front) name = prefix_more (part ∷ front) name
 
 pub below_root : (front : Path) (name : List ℕ) → is_root_path (front ++ name ∷ []) ≡ false
 below_root [] name = refl
 below_root (part ∷ front) name = refl
 
 -- what stands in front of the slash of a child of an object below the root
-shown_prefix : (front : Path) (o : Object) → prefix_of_listed (listed (shown (front ++ name_of o ∷ []) o)) ≡ prefix_text (front ++ name_of o ∷ [])
-shown_prefix front (a_stream n b x) = rw below_root (path_child front n ∙ sym (prefix_child front n))
-shown_prefix front (a_storage n f i) = rw below_root (path_child front n ∙ sym (prefix_child front n))
+pub shown_prefix : (front : Path) (o : Object) → prefix_of_listed (listed (shown (front ++ name_of o ∷ []) o)) ≡ prefix_text (front ++ name_of o ∷ [])
+shown_prefix front (a_stream n b x) = rw below_root (path_child front n ∙ sym (prefix_more front n))
+shown_prefix front (a_storage n f i) = rw below_root (path_child front n ∙ sym (prefix_more front n))
 
 -- an object and what it holds, as it is listed
 abbrev pub object_shown : Path → Object → List Shown
@@ -98,22 +96,33 @@ module _ (directory : List Entry) where
       let here : g.child ≡ children_link e = ap (λ y. y.child) is ∙ rw kind refl in
       (children, subst (λ k. Siblings directory k children) here siblings, inside)
 
+  pub object_named : (id : ℕ) (o : Object) (own : List ℕ) (e : Entry) → IsObject directory HasSize id o own → slice_get directory id ≡ Some e → HasName e (name_of o)
+  object_named id (a_stream n b x) own e (f, at, reads, empty) found = subst (λ y. HasName y n) (Some_same (sym at.found ∙ found)) at.named
+  object_named id (a_storage n f i) own e (g, children, at, siblings, inside) found = subst (λ y. HasName y n) (Some_same (sym at.found ∙ found)) at.named
+
   -- an entry is listed as the object that it is
-  pub listed_object : (id : ℕ) (o : Object) (own : List ℕ) (e : Entry) (name : List ℕ) (front : Path) → IsObject directory HasSize id o own
-      → slice_get directory id ≡ Some e → HasName e name → listed_at e (prefix_text front ++ 47 ∷ name) name ≡ listed (shown (front ++ name_of o ∷ []) o)
-  listed_object id (a_stream n b x) own e name front (g, at, reads, empty) found named =
+  pub listed_as : (id : ℕ) (o : Object) (own : List ℕ) (e : Entry) (name : List ℕ) (path : Path) → IsObject directory HasSize id o own
+      → slice_get directory id ≡ Some e → HasName e name → is_root_path path ≡ false → listed_at e (path_text path) name ≡ listed (shown path o)
+  listed_as id (a_stream n b x) own e name path (g, at, reads, empty) found named below =
       let is : g ≡ e = Some_same (sym at.found ∙ found) in
       let kind : e.kind ≡ kind_stream = ap (λ y. y.kind) (sym is) ∙ at.of_kind in
       let names : n ≡ name = name_unique e n name (subst (λ y. HasName y n) is at.named) named in
       let size : length x ≡ e.size = reads ∙ ap (λ y. y.size) is in
       let bits : e.facts.state_bits ≡ b = ap (λ y. y.facts.state_bits) (sym is) ∙ at.bits in
-      rw (kind, sym names, path_child front n, below_root front n, size, bits) refl
-  listed_object id (a_storage n f i) own e name front (g, children, at, siblings, inside) found named =
+      rw (kind, sym names, below, size, bits) refl
+  listed_as id (a_storage n f i) own e name path (g, children, at, siblings, inside) found named below =
       let is : g ≡ e = Some_same (sym at.found ∙ found) in
       let kind : e.kind ≡ kind_storage = ap (λ y. y.kind) (sym is) ∙ at.of_kind in
       let names : n ≡ name = name_unique e n name (subst (λ y. HasName y n) is at.named) named in
       let facts : e.facts ≡ f = ap (λ y. y.facts) (sym is) ∙ at.has_facts in
-      rw (kind, sym names, path_child front n, below_root front n, facts) refl
+      rw (kind, sym names, below, facts) refl
+
+  pub listed_object : (id : ℕ) (o : Object) (own : List ℕ) (e : Entry) (name : List ℕ) (front : Path) → IsObject directory HasSize id o own
+      → slice_get directory id ≡ Some e → HasName e name → listed_at e (prefix_text front ++ 47 ∷ name) name ≡ listed (shown (front ++ name_of o ∷ []) o)
+  listed_object id o own e name front is found named =
+      let same : name_of o ≡ name = name_unique e (name_of o) name (object_named id o own e is found) named in
+      ap (λ text. listed_at e text name) (sym (path_child front name) ∙ ap (λ n. path_text (front ++ n ∷ [])) (sym same))
+      ∙ listed_as id o own e name (front ++ name_of o ∷ []) is found named (below_root front (name_of o))
 
   -- what is to be listed of these entries, the last one first, and how many entries that are
   abbrev pub Left : List Listed → List Pending → List Shown → ℕ → Type 0
@@ -355,10 +364,6 @@ module _ (directory : List Entry) where
   pub object_there : (id : ℕ) (o : Object) (own : List ℕ) → IsObject directory HasSize id o own → slice_get directory id ≡ None → ⊥
   object_there id (a_stream n b x) own (e, at, reads, empty) lost = let never : Some e ≡ None = sym at.found ∙ lost in absurd (cc)
   object_there id (a_storage n f i) own (e, children, at, siblings, inside) lost = let never : Some e ≡ None = sym at.found ∙ lost in absurd (cc)
-
-  pub object_named : (id : ℕ) (o : Object) (own : List ℕ) (e : Entry) → IsObject directory HasSize id o own → slice_get directory id ≡ Some e → HasName e (name_of o)
-  object_named id (a_stream n b x) own e (f, at, reads, empty) found = subst (λ y. HasName y n) (Some_same (sym at.found ∙ found)) at.named
-  object_named id (a_storage n f i) own e (g, children, at, siblings, inside) found = subst (λ y. HasName y n) (Some_same (sym at.found ∙ found)) at.named
 
 -- the children that hang at a link are no more than there are entries
 pub held_few : (entries : List DirEntry) (link : ℕ) (c : Content) (held : IsHeldAt (map entry_in entries) link c) → length held.children ≤ length entries

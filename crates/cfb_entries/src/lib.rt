@@ -2,7 +2,11 @@
 #![tactic(auto)]
 
 mod entry;
+mod finding;
+mod listing;
 mod siblings;
 mod walking;
 
 pub use entry::Entry;
+pub use finding::find_by_path;
+pub use listing::{Entries, EntriesOrder, children_at, entry_at, walk_at};
