@@ -1,6 +1,9 @@
 -- What calls by paths answer, by the object that is found.
-use Rattle.std.proofs.Common.{◌≡◌, ◌≢◌, ℕ, ◌<◌, ◌==◌, Bool, true, false, List, [], ◌∷◌, ◌++◌, length, map, take, refl, sym, ◌∙◌, ap, subst, arith, ◌⊎◌, inl, inr, Ok, Err}
+use Rattle.std.proofs.Common.{◌≡◌, ◌≢◌, ℕ, ◌<◌, ◌==◌, Bool, true, false, List, [], ◌∷◌, ◌++◌, length, map, take, refl, sym, ◌∙◌, ap, subst, arith, ◌⊎◌, inl, inr, Ok, Err, ◌-◌, chars}
 use Rattle.std.specs.Prelude.{slice_get, Some, None, Option, Result, IfOk, IfErr}
+use Rattle.std.specs.Borrow.{Bor}
+use Rattle.std.proofs.lemmas.List.{length-map, take-map}
+use Rattle.cfb_siblings.specs.Places.{path_of}
 use Rattle.cfb_meaning.specs.TreeRules.{Answer, refused, entries, an_entry, Call, tree_step, entry, read_storage, walk_storage, shown, all_shown, children_shown, stored_path, parent_of}
 use Rattle.cfb_medium.specs.declared.error.Error.{Error}
 use Rattle.cfb_medium.specs.declared.error.Error.TheVariants.{InvalidInput, Memory, NotFound}
@@ -21,6 +24,10 @@ pub both_cases : {A E : Type 0} (P P' : A → Type 0) (Q Q' : E → Type 0) (r :
     → IfOk r P → IfErr r Q → IfOk r P' × IfErr r Q'
 both_cases P P' Q Q' (Ok x) good bad p q = (good x p, tt)
 both_cases P P' Q Q' (Err e) good bad p q = (tt, bad e q)
+
+pub ok_case : {A E : Type 0} (P P' : A → Type 0) (r : Result A E) → ((x : A) → P x → P' x) → IfOk r P → IfOk r P'
+ok_case P P' (Ok x) good p = good x p
+ok_case P P' (Err e) good p = tt
 
 module _ (letters : Letters) (tree : Tree) where
   -- why no entry was found
@@ -130,3 +137,38 @@ module _ (letters : Letters) (tree : Tree) where
         by_path : (p : Path) → p ≡ path → prefix_of_listed (listed (shown (stored_path p it.object) it.object)) ≡ prefix_text (stored_path p it.object)
         by_path [] same = let (is, facts, kind) = it.root (sym same) in rw is refl
         by_path (n ∷ ns) same = shown_prefix (parent_of (n ∷ ns)) it.object
+
+-- no names, and some
+pub no_names : (names : List (Bor (List ℕ))) → length names ≡ 0 → path_of names ≡ []
+no_names [] is = refl
+no_names (name ∷ names) is = absurd (omega (arith, is))
+
+pub some_names : (names : List (Bor (List ℕ))) → 0 < length names → path_of names ≢ []
+some_names [] some = absurd (omega (arith, some))
+some_names (name ∷ names) some = λ none_there. absurd (cc)
+
+-- the parent's names are all but the last
+pub parents_of : (names : List (Bor (List ℕ))) (n : ℕ) → n ≡ length names - 1 → path_of (take n names) ≡ parent_of (path_of names)
+parents_of names n is = sym (take-map (λ name. chars name.now) n names) ∙ ap (λ k. take k (path_of names)) (is ∙ ap (λ k. k - 1) (sym (simp length-map refl)))
+
+module _ (letters : Letters) (tree : Tree) (directory : List Entry) (names : List (Bor (List ℕ))) (id : ℕ) (e : Entry) (at : slice_get directory id ≡ Some e)
+    (it : Found letters directory tree (path_of names) id e) where
+  -- what is told of the first of a listing by the names that lead to it
+  pub top_told : (x : Listed) (ns : List (Bor (List ℕ))) → ns ≡ names → (length ns ≡ 0 → x ≡ root_listed e.facts)
+      → (0 < length ns → (name : List ℕ) × HasName e name × (x ≡ listed_at e (prefix_text (parent_of (path_of ns)) ++ 47 ∷ name) name))
+      → x ≡ listed (shown (stored_path (path_of names) it.object) it.object)
+  top_told x ns same root below = top_is letters tree directory (path_of names) id e at it x
+      (λ none_there. root (no_path ns (ap path_of same ∙ none_there)))
+      (λ some. let (name, has, is) = below (some_path ns (λ none_there. some (sym (ap path_of same) ∙ none_there))) in
+      (name, has, is ∙ ap (λ ks. listed_at e (prefix_text (parent_of (path_of ks)) ++ 47 ∷ name) name) same))
+    where
+      no_path : (ns : List (Bor (List ℕ))) → path_of ns ≡ [] → length ns ≡ 0
+      no_path [] is = refl
+      no_path (n ∷ ns) is = absurd (cc)
+
+      some_path : (ns : List (Bor (List ℕ))) → path_of ns ≢ [] → 0 < length ns
+      some_path [] some = absurd (some refl)
+      some_path (n ∷ ns) some = omega arith
+
+pub not_empty : (n m : ℕ) (b : Bool) → b ≡ (n == 0) → b ≡ false → n ≡ m → 0 < m
+not_empty n m b test isnt same = grind arith
