@@ -2,6 +2,7 @@
 use Rattle.std.proofs.Common.{◌≡◌, ◌≢◌, ℕ, ◌<◌, ◌==◌, Bool, true, false, List, [], ◌∷◌, ◌++◌, length, map, take, refl, sym, ◌∙◌, ap, subst, arith, ◌⊎◌, inl, inr, Ok, Err, ◌-◌, chars}
 use Rattle.std.specs.Prelude.{slice_get, Some, None, Option, Result, IfOk, IfErr}
 use Rattle.std.specs.Borrow.{Bor}
+use Rattle.std.specs.Option.{option_map}
 use Rattle.std.proofs.lemmas.List.{length-map, take-map}
 use Rattle.cfb_siblings.specs.Places.{path_of}
 use Rattle.cfb_meaning.specs.TreeRules.{Answer, refused, entries, an_entry, Call, tree_step, entry, read_storage, walk_storage, shown, all_shown, children_shown, stored_path, parent_of}
@@ -15,7 +16,7 @@ use Rattle.cfb_tree.specs.Objects.{Object, a_stream, a_storage, name_of, inside_
 use Rattle.cfb_tree.proofs.OneContent.{Some_same}
 use Rattle.cfb_entries.specs.Holding.{HasSize}
 use Rattle.cfb_entries.specs.Listed.{listed, listed_at, root_listed, prefix_of_listed, prefix_text, is_root_path, Listed}
-use Rattle.cfb_entries.specs.Rules.{answer_at, names_in, HoldsSizes, IsFoundAt}
+use Rattle.cfb_entries.specs.Rules.{answer_at, is_stream_object, kind_at, names_in, HoldsSizes, IsFoundAt}
 use Rattle.cfb_entries.proofs.Found.{Found, found}
 use Rattle.cfb_entries.proofs.Preorder.{listed_as, listed_object, object_named, shown_prefix}
 
@@ -172,3 +173,22 @@ module _ (letters : Letters) (tree : Tree) (directory : List Entry) (names : Lis
 
 pub not_empty : (n m : ℕ) (b : Bool) → b ≡ (n == 0) → b ≡ false → n ≡ m → 0 < m
 not_empty n m b test isnt same = grind arith
+
+module _ (letters : Letters) (tree : Tree) (directory : List Entry) (path : Path) (id : ℕ) (e : Entry) (at : slice_get directory id ≡ Some e)
+    (it : Found letters directory tree path id e) where
+  -- what is at the path
+  pub kind_found : (text : List ℕ) → names_in text ≡ Some path → Some (e.kind == kind_stream) ≡ kind_at letters tree (names_in text)
+  kind_found text named = by_kind (e.kind == kind_stream) refl ∙ ap (kind_at letters tree) (sym named)
+    where
+      by_kind : (b : Bool) → (e.kind == kind_stream) ≡ b → Some (e.kind == kind_stream) ≡ kind_at letters tree (Some path)
+      by_kind true is = let (n, b, x, stream) = is_a_stream letters tree directory path id e at it is in rw (is, it.at_path, stream) refl
+      by_kind false isnt = let (n, f, i, storage) = is_a_storage letters tree directory path id e at it isnt in rw (isnt, it.at_path, storage) refl
+
+pub kind_lost : (letters : Letters) (tree : Tree) (text : List ℕ) (e : Error) → IsLost letters tree text e → (e ≡ Memory → ⊥) → None ≡ kind_at letters tree (names_in text)
+kind_lost letters tree text e h not_memory = elim h [
+  | inl memory ↦ absurd (not_memory memory)
+  | inr rest ↦ elim rest [
+    | inl (is, none_there) ↦ ap (kind_at letters tree) (sym none_there)
+    | inr (is, names, some, nowhere) ↦ sym (ap (kind_at letters tree) some ∙ ap (option_map is_stream_object) nowhere)
+  ]
+]

@@ -1,5 +1,5 @@
 -- What calls by a path's text answer.
-use Rattle.std.specs.Prelude.{◌≡◌, ℕ, List, map, chars, Option, Some, None, ◌⊎◌, Result, IfOk, IfErr, slice_get}
+use Rattle.std.specs.Prelude.{◌≡◌, ℕ, Bool, true, false, List, map, chars, Option, Some, None, ◌⊎◌, Result, IfOk, IfErr, slice_get}
 use Rattle.std.specs.Borrow.{Bor}
 use Rattle.std.specs.Option.{option_map}
 use Rattle.cfb_meaning.specs.TreeRules.{Answer, an_entry, entries, refused, Call, Shown, tree_step}
@@ -8,7 +8,7 @@ use Rattle.cfb_medium.specs.declared.error.Error.TheVariants.{InvalidInput, Memo
 use Rattle.cfb_siblings.specs.Places.{path_of, LeadsTo}
 use Rattle.cfb_tree.specs.Directory.{Entry}
 use Rattle.cfb_tree.specs.Names.{Letters}
-use Rattle.cfb_tree.specs.Objects.{HoldsTree}
+use Rattle.cfb_tree.specs.Objects.{Object, a_stream, a_storage, object_at, HoldsTree}
 use Rattle.cfb_tree.specs.Paths.{Path, path_names}
 use Rattle.cfb_tree.specs.Tree.{Tree}
 use Rattle.cfb_entries.specs.Holding.{HasSize}
@@ -37,3 +37,13 @@ IsFoundAt letters directory text path e =
 abbrev pub TellsEntry : Answer → Result ShownEntry Error → Type 0
 TellsEntry answer result =
     IfOk result (λ e. (s : Shown) × (answer ≡ an_entry s) × (listed_in e ≡ listed s)) × IfErr result (λ e. (e ≡ Memory) ⊎ (answer ≡ refused e))
+
+-- the object is a stream
+abbrev pub is_stream_object : Object → Bool
+is_stream_object (a_stream name state_bits bytes) = true
+is_stream_object (a_storage name facts inside) = false
+
+-- whether the object at a path is a stream, where one is there: above the root none is
+abbrev pub kind_at : Letters → Tree → Option Path → Option Bool
+kind_at letters tree None = None
+kind_at letters tree (Some path) = option_map is_stream_object (object_at letters tree path)
