@@ -1,5 +1,5 @@
 -- What a `CompoundFile` shows.
-use Rattle.std.specs.Prelude.{◌≡◌, Bool, false, List, Option, Some, None, is_some, ◌⊎◌, IfOk, IfErr, Result}
+use Rattle.std.specs.Prelude.{false, Option, Some, None}
 use Rattle.cfb_directory.specs.Views.{entries_held}
 use Rattle.cfb_entries.specs.Rules.{HoldsSizes}
 use Rattle.cfb_meaning.specs.TreeRules.{Answer, yes, Call, tree_step}

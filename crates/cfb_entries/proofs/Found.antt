@@ -1,6 +1,6 @@
 -- What a path that leads to an entry tells of a tree.
-use Rattle.std.proofs.Common.{◌≡◌, ◌≢◌, ℕ, Bool, IsTrue, true, false, List, [], ◌∷◌, ◌++◌, length, map, refl, sym, ◌∙◌, ap, subst, arith, chars}
-use Rattle.std.specs.Prelude.{slice_get, Some, None, Option, nat_eq, codes}
+use Rattle.std.proofs.Common.{◌≡◌, ◌≢◌, ℕ, Bool, List, [], ◌∷◌, ◌++◌, length, map, refl, sym, ◌∙◌, ap, subst, arith, chars}
+use Rattle.std.specs.Prelude.{slice_get, Some, None, nat_eq, codes}
 use Rattle.std.specs.List.{IsDistinct}
 use Rattle.std.specs.Borrow.{Bor}
 use Rattle.std.specs.Option.{option_map}
@@ -8,11 +8,12 @@ use Rattle.cfb_siblings.specs.Places.{LeadsTo, path_of}
 use Rattle.cfb_siblings.specs.Reading.{ReadBy}
 use Rattle.cfb_siblings.proofs.Lists.{distinct_parts}
 use Rattle.cfb_siblings.proofs.Spots.{spot}
+use Rattle.cfb_siblings.proofs.Unused.{tree_reads}
 use Rattle.cfb_tree.specs.Names.{Letters}
 use Rattle.cfb_tree.specs.Paths.{Path, path_names}
-use Rattle.cfb_tree.specs.Tree.{Content, nothing, stream, storage, Tree}
-use Rattle.cfb_tree.specs.Directory.{Entry, Siblings, Holds, kind_root, kind_stream}
-use Rattle.cfb_tree.specs.Objects.{Object, a_stream, a_storage, inside_of, root_object, object_at, IsObject, HoldsTree}
+use Rattle.cfb_tree.specs.Tree.{Tree}
+use Rattle.cfb_tree.specs.Directory.{Entry, Siblings, kind_root}
+use Rattle.cfb_tree.specs.Objects.{Object, inside_of, root_object, object_at, IsObject, HoldsTree}
 use Rattle.cfb_tree.proofs.OneContent.{Some_same}
 use Rattle.cfb_entries.specs.Holding.{children_link, HasSize, IsHeldAt}
 use Rattle.cfb_entries.specs.Rules.{HoldsSizes, names_in}
@@ -22,34 +23,11 @@ use Rattle.cfb_entries.proofs.Preorder.{inside_held, object_there}
 abbrev pub has_size : ℕ → ℕ → List ℕ → Bool
 has_size start size bytes = nat_eq (length bytes) size
 
-module _ (directory : List Entry) (Reads Reads' : Entry → List ℕ → Type 0) (weaker : (e : Entry) (bytes : List ℕ) → Reads e bytes → Reads' e bytes) where
-  -- what is held is so with less known of the streams' bytes
-  pub holds_as : (c : Content) (ids all : List ℕ) → Holds directory Reads ids c all → Holds directory Reads' ids c all
-  holds_as nothing ids all h = h
-  holds_as (stream n b x l) ids all (e, id, others, rest, is, all_is, at, reads, later) =
-      (e, id, others, rest, is, all_is, at, weaker e x reads, holds_as l others rest later)
-  holds_as (storage n f i l) ids all (e, id, others, children, within, rest, is, all_is, at, siblings, inside, later) =
-      (e, id, others, children, within, rest, is, all_is, at, siblings, holds_as i children within inside, holds_as l others rest later)
-
-  pub tree_as : (letters : Letters) (tree : Tree) → HoldsTree letters Reads directory tree → HoldsTree letters Reads' directory tree
-  tree_as letters tree h = record {
-    root = h.root;
-    root_found = h.root_found;
-    root_kind = h.root_kind;
-    facts = h.facts;
-    children = h.children;
-    ids = h.ids;
-    siblings = h.siblings;
-    holds = holds_as tree.content h.children h.ids h.holds;
-    once = h.once;
-    ordered = h.ordered;
-  }
-
 by_size : (e : Entry) (bytes : List ℕ) → HasSize e bytes → ReadBy has_size e bytes
 by_size e bytes is = rw is (grind arith)
 
 pub sizes_read : (letters : Letters) (directory : List Entry) (tree : Tree) → HoldsSizes letters directory tree → HoldsTree letters (ReadBy has_size) directory tree
-sizes_read letters directory tree h = tree_as directory HasSize (ReadBy has_size) by_size letters tree h
+sizes_read letters directory tree h = tree_reads letters HasSize (ReadBy has_size) directory tree by_size h
 
 past : (x : ℕ) (xs : List ℕ) → IsDistinct nat_eq (x ∷ xs) → IsDistinct nat_eq xs
 unfolding IsDistinct

@@ -1,13 +1,13 @@
 -- A walk over a tree of entries, each storage before what it holds.
-use Rattle.std.proofs.Common.{◌≡◌, ℕ, ◌+◌, ◌<◌, ◌≤◌, ◌||◌, ◌==◌, Bool, true, false, suc, zero, List, [], ◌∷◌, ◌++◌, length, length-append, map, refl, sym, ◌∙◌, ap, subst, append_assoc, append-nil, arith, reverse, cond}
+use Rattle.std.proofs.Common.{◌≡◌, ℕ, ◌+◌, ◌<◌, ◌≤◌, ◌||◌, Bool, true, false, suc, zero, List, [], ◌∷◌, ◌++◌, length, length-append, map, refl, sym, ◌∙◌, ap, subst, append_assoc, append-nil, arith, reverse}
 use Rattle.std.specs.Prelude.{slice_get, Some, None, nat_eq}
-use Rattle.std.specs.List.{flat_map, AllByRecursion, IsDistinct, list_any}
-use Rattle.std.proofs.lemmas.Grind.{flat_map-append, reverse_onto}
+use Rattle.std.specs.List.{AllByRecursion, IsDistinct, list_any}
+use Rattle.std.proofs.lemmas.Grind.{reverse_onto}
 use Rattle.std.proofs.lemmas.List.{length-map, map-append}
 use Rattle.std.proofs.lemmas.Option.{slice_get_within}
 use Rattle.std.proofs.lemmas.Map.Steps.{length-le_from_distinct_below}
 use Rattle.cfb_meaning.specs.TreeRules.{Shown, shown, all_shown, children_shown}
-use Rattle.cfb_tree.specs.Directory.{Entry, HasName, IsStream, IsStorage, Siblings, none, some, Holds, no_entry, kind_stream, kind_storage}
+use Rattle.cfb_tree.specs.Directory.{Entry, HasName, IsStream, IsStorage, Siblings, none, Holds, no_entry, kind_stream, kind_storage}
 use Rattle.cfb_tree.specs.EntryViews.{entry_in}
 use Rattle.cfb_tree.specs.declared.entry.DirEntry.{DirEntry}
 use Rattle.cfb_tree.specs.Objects.{Object, a_stream, a_storage, name_of, inside_of, IsObject}

@@ -1,23 +1,23 @@
 -- What calls by paths answer, by the object that is found.
-use Rattle.std.proofs.Common.{◌≡◌, ◌≢◌, ℕ, ◌<◌, ◌==◌, Bool, true, false, List, [], ◌∷◌, ◌++◌, length, map, take, refl, sym, ◌∙◌, ap, subst, arith, ◌⊎◌, inl, inr, Ok, Err, ◌-◌, chars}
-use Rattle.std.specs.Prelude.{slice_get, Some, None, Option, Result, IfOk, IfErr}
+use Rattle.std.proofs.Common.{◌≡◌, ◌≢◌, ℕ, ◌<◌, ◌==◌, Bool, true, false, List, [], ◌∷◌, ◌++◌, length, take, refl, sym, ◌∙◌, ap, arith, ◌⊎◌, inl, inr, Ok, Err, ◌-◌, chars}
+use Rattle.std.specs.Prelude.{slice_get, Some, None, Result, IfOk, IfErr}
 use Rattle.std.specs.Borrow.{Bor}
 use Rattle.std.specs.Option.{option_map}
 use Rattle.std.proofs.lemmas.List.{length-map, take-map}
 use Rattle.cfb_siblings.specs.Places.{path_of}
-use Rattle.cfb_meaning.specs.TreeRules.{Answer, refused, entries, an_entry, Call, tree_step, entry, read_storage, walk_storage, shown, all_shown, children_shown, stored_path, parent_of}
+use Rattle.cfb_meaning.specs.TreeRules.{refused, entries, an_entry, Call, tree_step, entry, read_storage, walk_storage, shown, all_shown, children_shown, stored_path, parent_of}
 use Rattle.cfb_medium.specs.declared.error.Error.{Error}
 use Rattle.cfb_medium.specs.declared.error.Error.TheVariants.{InvalidInput, Memory, NotFound}
 use Rattle.cfb_tree.specs.Names.{Letters}
-use Rattle.cfb_tree.specs.Paths.{Path, path_text}
+use Rattle.cfb_tree.specs.Paths.{Path}
 use Rattle.cfb_tree.specs.Tree.{Facts, Content, Tree}
-use Rattle.cfb_tree.specs.Directory.{Entry, HasName, IsStream, IsStorage, kind_root, kind_stream, kind_storage}
+use Rattle.cfb_tree.specs.Directory.{Entry, HasName, kind_stream, kind_storage}
 use Rattle.cfb_tree.specs.Objects.{Object, a_stream, a_storage, name_of, inside_of, root_object, object_at, IsObject}
 use Rattle.cfb_tree.proofs.OneContent.{Some_same}
 use Rattle.cfb_entries.specs.Holding.{HasSize}
-use Rattle.cfb_entries.specs.Listed.{listed, listed_at, root_listed, prefix_of_listed, prefix_text, is_root_path, Listed}
-use Rattle.cfb_entries.specs.Rules.{answer_at, is_stream_object, kind_at, names_in, HoldsSizes, IsFoundAt}
-use Rattle.cfb_entries.proofs.Found.{Found, found}
+use Rattle.cfb_entries.specs.Listed.{listed, listed_at, root_listed, prefix_of_listed, prefix_text, Listed}
+use Rattle.cfb_entries.specs.Rules.{answer_at, is_stream_object, kind_at, names_in}
+use Rattle.cfb_entries.proofs.Found.{Found}
 use Rattle.cfb_entries.proofs.Preorder.{listed_as, listed_object, object_named, shown_prefix}
 
 -- what is known of both cases of a result

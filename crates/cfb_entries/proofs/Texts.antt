@@ -1,5 +1,5 @@
 -- Paths as texts.
-use Rattle.std.proofs.Common.{◌≡◌, ℕ, ◌+◌, ◌<◌, take, get_or, length, map, append-nil, List, [], ◌∷◌, ◌++◌, chars, refl, sym, ◌∙◌, ap, append_assoc, arith}
+use Rattle.std.proofs.Common.{◌≡◌, ℕ, ◌+◌, ◌<◌, take, get_or, length, append-nil, List, [], ◌∷◌, ◌++◌, chars, sym, ◌∙◌, ap, append_assoc, arith}
 use Rattle.std.specs.Str.{IsUtf8, IsAscii}
 use Rattle.std.specs.Borrow.{Bor}
 use Rattle.std.proofs.lemmas.Grind.{flat_map-append}

@@ -1,5 +1,5 @@
 -- What listings in memory show.
-use Rattle.std.specs.Prelude.{◌≡◌, ◌==◌, ℕ, Bool, true, false, not, List, [], ◌∷◌, ◌++◌, length, map, if◌then◌else◌, chars, codes, string_bytes}
+use Rattle.std.specs.Prelude.{◌==◌, ℕ, Bool, true, false, List, [], ◌∷◌, if◌then◌else◌, chars, codes, string_bytes}
 use Rattle.std.specs.List.{flat_map}
 use Rattle.cfb_meaning.specs.TreeRules.{Shown}
 use Rattle.cfb_medium.specs.Times.{units_of}

@@ -1,11 +1,10 @@
 -- What calls by a path's text answer.
 use Rattle.std.specs.Prelude.{◌≡◌, ℕ, Bool, true, false, List, map, chars, Option, Some, None, ◌⊎◌, Result, IfOk, IfErr, slice_get}
-use Rattle.std.specs.Borrow.{Bor}
 use Rattle.std.specs.Option.{option_map}
-use Rattle.cfb_meaning.specs.TreeRules.{Answer, an_entry, entries, refused, Call, Shown, tree_step}
+use Rattle.cfb_meaning.specs.TreeRules.{Answer, an_entry, refused, Call, Shown, tree_step}
 use Rattle.cfb_medium.specs.declared.error.Error.{Error}
 use Rattle.cfb_medium.specs.declared.error.Error.TheVariants.{InvalidInput, Memory}
-use Rattle.cfb_siblings.specs.Places.{path_of, LeadsTo}
+use Rattle.cfb_siblings.specs.Places.{LeadsTo}
 use Rattle.cfb_tree.specs.Directory.{Entry}
 use Rattle.cfb_tree.specs.Names.{Letters}
 use Rattle.cfb_tree.specs.Objects.{Object, a_stream, a_storage, object_at, HoldsTree}

@@ -34,11 +34,7 @@ fn descend(entries: &[DirEntry], link: u32, above: &mut Vec<u32>) -> Result<(), 
 }
 
 // The siblings that hang at a link, in their order. `InvalidData` comes only where no siblings hang there.
-pub(crate) fn siblings(
-    alloc: Global,
-    entries: &[DirEntry],
-    link: u32,
-) -> Result<Vec<u32>, Error>
+pub(crate) fn siblings(alloc: Global, entries: &[DirEntry], link: u32) -> Result<Vec<u32>, Error>
     ensures { (all : List ℕ) → Siblings (map entry_in entries.now) link all
         → length all ≤ length entries.now → IfOk result (λ ids. ids.items ≡ all)
         × IfErr result (λ e. e ≡ Memory) }

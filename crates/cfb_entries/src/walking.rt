@@ -35,11 +35,7 @@ pub(crate) fn children_link(entry: &DirEntry) -> u32
 }
 
 // Adds entries, of which the first is to be listed first.
-fn push_entries(
-    pending: &mut Vec<Pending>,
-    mut ids: Vec<u32>,
-    parent: usize,
-) -> Result<(), Error>
+fn push_entries(pending: &mut Vec<Pending>, mut ids: Vec<u32>, parent: usize) -> Result<(), Error>
     ensures added { OnOk result (pending.new.items
         ≡ pending.old.items ++ pending_at parent (reverse ids.items)) }
     ensures error { IfErr result (λ e. e ≡ Memory) }

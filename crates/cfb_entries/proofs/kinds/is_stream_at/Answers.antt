@@ -1,4 +1,4 @@
-use Rattle.std.proofs.Common.{map, ◌≡◌, ◌∙◌, ap, sym}
+use Rattle.std.proofs.Common.{map, ◌∙◌, ap}
 use Rattle.std.specs.Prelude.{Some}
 use Rattle.cfb_siblings.specs.Places.{path_of}
 use Rattle.cfb_tree.specs.EntryViews.{entry_in}

@@ -1,5 +1,4 @@
-use Rattle.std.proofs.Common.{map, ◌≡◌, ◌≢◌, ◌∙◌, ◌<◌, [], ap, sym, arith, inl, inr, length, subst, chars}
-use Rattle.std.specs.Prelude.{slice_get, Some}
+use Rattle.std.proofs.Common.{map, ◌∙◌, ap, sym, inl, inr, subst, chars}
 use Rattle.cfb_meaning.specs.TreeRules.{read_storage, children_shown}
 use Rattle.cfb_siblings.specs.Places.{path_of}
 use Rattle.cfb_tree.specs.EntryViews.{entry_in}
@@ -36,10 +35,14 @@ returns-in-Ok-children c = λ tree h.
     let (named, id, leads, at) = c.in-Ok.ensures.found tree h in
     let it = found letters directory tree h (path_of names) id e leads at in
     let held = subst (λ k. IsHeldAt directory k (inside_of it.object)) (sym c.children_link.ensures) it.held in
-    let prefix = ap chars c.deref-2.ensures ∙ c.in_ok-prefix.ensures.text ∙ ap (λ ns. prefix_text (path_of ns)) c.deref.ensures.value in
-    ((children_shown (path_of names) (inside_of it.object),
-    ap (answer_at letters tree (λ p. read_storage p)) named ∙ read_answer letters tree directory (path_of names) id e at it (sym c.is_stream.ensures ∙ c.if-is_stream.false),
-    ap (map listed_in) c.new.ensures ∙ (c.in-Ok-children.ensures (path_of names) (inside_of it.object) held prefix).0), tt)
+    let prefix = ap chars c.deref-2.ensures ∙ c.in_ok-prefix.ensures.text ∙ ap (λ ns. prefix_text (path_of ns)) c.deref.ensures.value in (
+      (
+        children_shown (path_of names) (inside_of it.object),
+        ap (answer_at letters tree (λ p. read_storage p)) named ∙ read_answer letters tree directory (path_of names) id e at it (sym c.is_stream.ensures ∙ c.if-is_stream.false),
+        ap (map listed_in) c.new.ensures ∙ (c.in-Ok-children.ensures (path_of names) (inside_of it.object) held prefix).0,
+      ),
+      tt,
+    )
 
 pub returns : goal.returns
 returns c = λ tree h.

@@ -1,7 +1,5 @@
-use Rattle.std.proofs.Common.{◌≡◌, ◌+◌, ◌++◌, ◌∷◌, [], chars, string_bytes, take, get_or, arith, sym, ◌∙◌, ap, refl, length, map}
+use Rattle.std.proofs.Common.{chars, string_bytes, arith, ◌∙◌, ap, refl}
 use Rattle.std.proofs.lemmas.Str.{chars-nil, IsUtf8-string_bytes}
-use Rattle.cfb_siblings.specs.Places.{path_of}
-use Rattle.cfb_entries.specs.Listed.{prefix_text}
 use Rattle.cfb_entries.proofs.Texts.{child_chars, longer_prefix}
 use Rattle.cfb_entries.proofs.listing.prefix_of.Goals as goal
 

@@ -1,6 +1,4 @@
-use Rattle.std.proofs.Common.{◌≡◌, ◌∙◌, ◌++◌, ◌∷◌, ◌-◌, ap, arith, refl, take, length, chars}
-use Rattle.cfb_meaning.specs.TreeRules.{parent_of}
-use Rattle.cfb_siblings.specs.Places.{path_of}
+use Rattle.std.proofs.Common.{◌∙◌, ◌++◌, ◌∷◌, ◌-◌, ap, refl, length, chars}
 use Rattle.cfb_tree.specs.EntryViews.{entry_in}
 use Rattle.cfb_entries.specs.Listed.{listed_at, prefix_text}
 use Rattle.cfb_entries.proofs.Telling.{ok_case, parents_of}

@@ -1,4 +1,4 @@
-use Rattle.std.proofs.Common.{map, ◌++◌, ◌∷◌, [], arith, length-append, subst, sym, ap}
+use Rattle.std.proofs.Common.{map, ◌++◌, arith, length-append, subst, sym}
 use Rattle.cfb_siblings.proofs.Entries.{found_in, lost_in}
 use Rattle.cfb_tree.specs.EntryViews.{entry_in}
 use Rattle.cfb_entries.proofs.Sides.{Down, down_room, down_there, down_more}

@@ -1,4 +1,4 @@
-use Rattle.std.proofs.Common.{map, ◌≡◌, ◌++◌, ◌∷◌, [], None, Some, arith, length, refl, subst, sym, ap, ◌∙◌, List, ℕ}
+use Rattle.std.proofs.Common.{map, ◌≡◌, [], None, Some, arith, refl, subst, sym, ◌∙◌}
 use Rattle.cfb_siblings.proofs.Entries.{found_in, lost_in}
 use Rattle.cfb_tree.specs.EntryViews.{entry_in}
 use Rattle.cfb_tree.specs.Directory.{Siblings}

@@ -1,4 +1,4 @@
-use Rattle.std.proofs.Common.{map, ◌≡◌, ◌+◌, ◌++◌, ◌∷◌, [], arith, drop, get_or, length, refl, subst, sym, ap, ◌∙◌, inl, inr}
+use Rattle.std.proofs.Common.{map, ◌+◌, ◌++◌, ◌∷◌, [], arith, drop, get_or, subst, sym, ap, ◌∙◌, inl, inr}
 use Rattle.std.proofs.lemmas.List.{drop_more, drop_all}
 use Rattle.cfb_meaning.specs.TreeRules.{children_shown}
 use Rattle.cfb_siblings.proofs.Entries.{found_in, lost_in}
@@ -44,7 +44,7 @@ returns-in-Err-below c = λ front content held prefix.
     let at = c.in-Some.ensures.lookup in
     let e = c.in-Some.entry.now in
     let named = object_named directory id next.object next.own (entry_in e) next.is_object (found_in c.args.entries.now id e at.3.0 at.1) in
-    (tt, elim c.in-Err-below.ensures.error [ | inl memory ↦ memory | inr (wrong, none_there) ↦ absurd (none_there _ named) ])
+    (tt, elim c.in-Err-below.ensures.error [ inl memory ↦ memory | inr (wrong, none_there) ↦ absurd (none_there _ named) ])
 
 pub loop-id-preserved : goal.loop-id-preserved
 loop-id-preserved c = λ front content held prefix.

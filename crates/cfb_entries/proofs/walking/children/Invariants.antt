@@ -1,4 +1,4 @@
-use Rattle.std.proofs.Common.{◌≡◌, map, drop, chars, List}
+use Rattle.std.proofs.Common.{◌≡◌, map, drop, chars}
 use Rattle.cfb_meaning.specs.TreeRules.{children_shown}
 use Rattle.cfb_tree.specs.EntryViews.{entry_in}
 use Rattle.cfb_tree.specs.Paths.{Path}

@@ -1,15 +1,14 @@
-use Rattle.std.proofs.Common.{map, ◌≡◌, ◌+◌, ◌≤◌, ◌++◌, ◌∷◌, [], None, Some, arith, length, reverse, refl, subst, sym, ap, ◌∙◌, List, ℕ, inl, inr}
-use Rattle.std.specs.Prelude.{slice_get}
+use Rattle.std.proofs.Common.{map, ◌≡◌, ◌≤◌, ◌++◌, ◌∷◌, [], None, Some, arith, length, reverse, refl, subst, sym, ap, ◌∙◌, inl, inr}
 use Rattle.std.proofs.lemmas.List.{length-map}
 use Rattle.cfb_meaning.specs.TreeRules.{all_shown}
 use Rattle.cfb_siblings.proofs.Entries.{found_in, lost_in}
-use Rattle.cfb_tree.specs.Directory.{Siblings, HasName}
+use Rattle.cfb_tree.specs.Directory.{Siblings}
 use Rattle.cfb_tree.specs.EntryViews.{entry_in}
 use Rattle.cfb_tree.proofs.OneContent.{Some_same}
 use Rattle.cfb_entries.specs.Listed.{listed, listed_at, listed_in, prefix_of_listed}
 use Rattle.cfb_entries.specs.Walk.{pending_at}
 use Rattle.cfb_entries.proofs.Items.{listed_found, listed_lost, listed_more, listed_one}
-use Rattle.cfb_entries.proofs.Preorder.{Walked, held_few, walked_first, walked_room, walked_few, popped, walked_more, walked_all, object_there, object_named, inside_held}
+use Rattle.cfb_entries.proofs.Preorder.{Walked, held_few, walked_first, walked_room, walked_few, popped, walked_more, object_there, object_named, inside_held}
 use Rattle.cfb_entries.proofs.walking.walk.Goals as goal
 
 pub returns-in-Err : goal.returns-in-Err
@@ -71,7 +70,7 @@ returns-in-Err-below c = λ front content held prefix.
     let at = c.in-Some-get-2.ensures.lookup in
     let e = c.in-Some-get-2.entry.now in
     let named = object_named directory p.id next.object next.own (entry_in e) next.is_object (found_in c.args.entries.now p.id e at.3.0 at.1) in
-    (tt, elim c.in-Err-below.ensures.error [ | inl memory ↦ memory | inr (wrong, none_there) ↦ absurd (none_there _ named) ])
+    (tt, elim c.in-Err-below.ensures.error [ inl memory ↦ memory | inr (wrong, none_there) ↦ absurd (none_there _ named) ])
 
 pub walk-preserved : goal.walk-preserved
 walk-preserved c = λ front content held prefix.
