@@ -1,0 +1,8 @@
+//! The bytes of a stream, read: from mini sectors where it is short, else from sectors of the file.
+#![tactic(auto)]
+
+mod opening;
+mod reading;
+
+pub use opening::{StreamLinks, open_stream};
+pub use reading::read_stream;
