@@ -3,6 +3,8 @@
 
 mod opening;
 mod reading;
+mod stream;
 
 pub use opening::{StreamLinks, open_stream};
 pub use reading::read_stream;
+pub use stream::ReadStream;
