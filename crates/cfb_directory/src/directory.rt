@@ -167,6 +167,7 @@ impl<F: ReadMedium> Directory<F> {
 }
 
 impl<F: ReadMedium> Directory<F> {
+    ghost use Rattle.cfb_directory.specs.Entries.{entries_in};
     ghost use Rattle.cfb_directory.specs.Views.{entries_held};
 
     /// The number of the entry that these names lead to from the root, which is 0; none where there is none. It goes down the
@@ -180,6 +181,13 @@ impl<F: ReadMedium> Directory<F> {
             (path_of names.now) id) }
     {
         find_path(letters, &self.entries.items, names)
+    }
+
+    /// The entries, by number.
+    pub fn dir_entries(&self) -> &[DirEntry]
+        ensures { entries_in result.now ≡ entries_held self.now }
+    {
+        &self.entries.items
     }
 }
 

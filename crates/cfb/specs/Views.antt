@@ -1,0 +1,31 @@
+-- What a `CompoundFile` shows.
+use Rattle.std.specs.Prelude.{false, Option, Some, None}
+use Rattle.cfb_directory.specs.Views.{entries_held}
+use Rattle.cfb_entries.specs.Rules.{HoldsSizes}
+use Rattle.cfb_meaning.specs.TreeRules.{Answer, yes, Call, tree_step}
+use Rattle.cfb_medium.specs.declared.medium.ReadMedium.{Ghosts}
+use Rattle.cfb_mini.specs.Views as mini
+use Rattle.cfb_mini.specs.declared.mini_allocator.MiniAllocator.{MiniAllocator}
+use Rattle.cfb_tree.specs.LetterViews as letter
+use Rattle.cfb_tree.specs.Names.{Letters}
+use Rattle.cfb_tree.specs.Paths.{Path}
+use Rattle.cfb_tree.specs.Tree.{Tree}
+use Rattle.cfb.specs.declared.compound_file.CompoundFile.{CompoundFile}
+
+-- yes or no: a path above the root is a no
+abbrev pub said_at : Letters → Tree → (Path → Call) → Option Path → Answer
+said_at letters tree call None = yes false
+said_at letters tree call (Some path) = (tree_step letters tree (call path)).1
+
+module _ {F : Type 0} {g : Ghosts F} where
+  -- the layer below
+  abbrev pub mini_of : CompoundFile F g → MiniAllocator F g
+  mini_of it = it.mini
+
+  -- the letter table under which names are compared ([MS-CFB] 2.6.4)
+  abbrev pub letters_in : CompoundFile F g → Letters
+  letters_in it = letter.letters_of it.letters
+
+  -- its entries hold the tree, of whose streams the sizes alone are known ([MS-CFB] 2.6)
+  abbrev pub Shows : CompoundFile F g → Tree → Type 0
+  Shows it tree = HoldsSizes (letters_in it) (entries_held (mini.directory_of (mini_of it))) tree

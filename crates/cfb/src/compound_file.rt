@@ -1,0 +1,161 @@
+//! The file: its objects by their paths.
+ghost use Rattle.cfb_directory.specs.Entries.{entries_in};
+ghost use Rattle.cfb_directory.specs.Views.{entries_held};
+ghost use Rattle.cfb_entries.specs.Lists.{TellsEntries};
+ghost use Rattle.cfb_entries.specs.Rules.{answer_at, names_in, TellsEntry};
+ghost use Rattle.cfb_fat.specs.Tables.{has_failed, medium_of, version_of};
+ghost use Rattle.cfb_meaning.specs.TreeRules.{entry, exists, is_storage, is_stream, read_root_storage, read_storage, root_entry, tree_step, walk, walk_storage, yes};
+ghost use Rattle.cfb_medium.specs.declared.error.Error.TheVariants.{Memory};
+ghost use Rattle.cfb_mini.specs.Views.{allocator_of, directory_of};
+ghost use Rattle.cfb_tree.specs.LetterViews.{letters_of};
+ghost use Rattle.cfb_tree.specs.Tree.{Tree};
+ghost use Rattle.std.specs.Prelude.{IfErr, IfOk, ◌≡◌};
+
+use cfb_entries::{Entries, Entry, children_at, entry_at, is_stream_at, walk_at};
+use cfb_medium::{Error, Medium, ReadMedium, Version};
+use cfb_mini::MiniAllocator;
+use cfb_tree::{CaseMapper, DirEntry};
+use std::alloc::Global;
+
+/// A compound file ([MS-CFB] 1.3): a tree of storages and streams, in the bytes of a medium.
+#[derive(Drop)]
+pub struct CompoundFile<F: ReadMedium> {
+    alloc: Global,
+    pub(crate) mini: MiniAllocator<F>,
+    letters: CaseMapper,
+}
+
+impl<F: ReadMedium> CompoundFile<F> {
+    ghost use Rattle.cfb.specs.Views.{letters_in, mini_of, said_at, Shows};
+
+    /// The file over its layers, whose names are compared under the letter table.
+    pub fn new(alloc: Global, mini: MiniAllocator<F>, letters: CaseMapper) -> CompoundFile<F>
+        ensures mini { mini_of result ≡ mini }
+        ensures letters { letters_in result ≡ letters_of letters }
+    {
+        CompoundFile {
+            alloc,
+            mini,
+            letters,
+        }
+    }
+
+    /// The version.
+    pub fn version(&self) -> Version
+        ensures { result ≡ version_of (allocator_of (mini_of self.now)) }
+    {
+        self.mini.version()
+    }
+
+    /// The medium, without the file.
+    pub fn into_inner(self) -> F
+        ensures { result ≡ medium_of (allocator_of (mini_of self)) }
+    {
+        let CompoundFile {
+            alloc: _,
+            mini,
+            letters: _,
+        } = self;
+        mini.into_inner()
+    }
+
+    // The entries, by number.
+    fn entries(&self) -> &[DirEntry]
+        ensures { entries_in result.now ≡ entries_held (directory_of (mini_of self.now)) }
+    {
+        self.mini.directory().dir_entries()
+    }
+
+    /// The root. The one error is `Memory` ([MS-CFB] 2.6.2).
+    pub fn root_entry(&self) -> Result<Entry, Error>
+        ensures { (tree : Tree) → Shows self.now tree
+            → TellsEntry (tree_step (letters_in self.now) tree root_entry).1 result }
+    {
+        entry_at(self.alloc, &self.letters, self.entries(), "/")
+    }
+
+    /// The object at a path. `InvalidInput` where the path leads above the root, `NotFound` where no object is there. The one
+    /// other error is `Memory`.
+    pub fn entry(&self, path: &str) -> Result<Entry, Error>
+        ensures { (tree : Tree) → Shows self.now tree → TellsEntry
+            (answer_at (letters_in self.now) tree entry (names_in path.now)) result }
+    {
+        entry_at(self.alloc, &self.letters, self.entries(), path)
+    }
+
+    /// Whether an object is at a path; above the root none is. The one error is `Memory`.
+    pub fn exists(&self, path: &str) -> Result<bool, Error>
+        ensures told { (tree : Tree) → Shows self.now tree → IfOk result (λ is. yes is
+            ≡ said_at (letters_in self.now) tree exists (names_in path.now)) }
+        ensures error { IfErr result (λ e. e ≡ Memory) }
+    {
+        let kind = is_stream_at(self.alloc, &self.letters, self.entries(), path)?;
+        Ok(kind.is_some())
+    }
+
+    /// Whether the object at a path is a stream; above the root none is. The one error is `Memory`.
+    pub fn is_stream(&self, path: &str) -> Result<bool, Error>
+        ensures told { (tree : Tree) → Shows self.now tree → IfOk result (λ is. yes is
+            ≡ said_at (letters_in self.now) tree is_stream (names_in path.now)) }
+        ensures error { IfErr result (λ e. e ≡ Memory) }
+    {
+        let kind = is_stream_at(self.alloc, &self.letters, self.entries(), path)?;
+        Ok(kind.unwrap_or(false))
+    }
+
+    /// Whether the object at a path is a storage, as the root is; above the root none is. The one error is `Memory`.
+    pub fn is_storage(&self, path: &str) -> Result<bool, Error>
+        ensures told { (tree : Tree) → Shows self.now tree → IfOk result (λ is. yes is
+            ≡ said_at (letters_in self.now) tree is_storage (names_in path.now)) }
+        ensures error { IfErr result (λ e. e ≡ Memory) }
+    {
+        let kind = is_stream_at(self.alloc, &self.letters, self.entries(), path)?;
+        Ok(!kind.unwrap_or(true))
+    }
+
+    /// The children of the root, in their order. The one error is `Memory` ([MS-CFB] 2.6.4).
+    pub fn read_root_storage(&self) -> Result<Entries, Error>
+        ensures { (tree : Tree) → Shows self.now tree
+            → TellsEntries (tree_step (letters_in self.now) tree read_root_storage).1 result }
+    {
+        children_at(self.alloc, &self.letters, self.entries(), "/")
+    }
+
+    /// The children of the storage at a path, in their order. `InvalidInput` where the path leads above the root, `NotFound`
+    /// where no object is there, `InvalidInput` where it is a stream. The one other error is `Memory` ([MS-CFB] 2.6.4).
+    pub fn read_storage(&self, path: &str) -> Result<Entries, Error>
+        ensures { (tree : Tree) → Shows self.now tree → TellsEntries
+            (answer_at (letters_in self.now) tree read_storage (names_in path.now)) result }
+    {
+        children_at(self.alloc, &self.letters, self.entries(), path)
+    }
+
+    /// The root and all objects in it, each storage before what it holds. The one error is `Memory`.
+    pub fn walk(&self) -> Result<Entries, Error>
+        ensures { (tree : Tree) → Shows self.now tree
+            → TellsEntries (tree_step (letters_in self.now) tree walk).1 result }
+    {
+        walk_at(self.alloc, &self.letters, self.entries(), "/")
+    }
+
+    /// The storage at a path and all objects in it, each storage before what it holds. `InvalidInput` where the path leads
+    /// above the root, `NotFound` where no object is there, `InvalidInput` where it is a stream. The one other error is
+    /// `Memory`.
+    pub fn walk_storage(&self, path: &str) -> Result<Entries, Error>
+        ensures { (tree : Tree) → Shows self.now tree → TellsEntries
+            (answer_at (letters_in self.now) tree walk_storage (names_in path.now)) result }
+    {
+        walk_at(self.alloc, &self.letters, self.entries(), path)
+    }
+}
+
+impl<F: Medium> CompoundFile<F> {
+    ghost use Rattle.cfb.specs.Views.{mini_of};
+
+    /// Whether a fault in a write or a commit has left it, or the medium, in a state in which every call is refused.
+    pub fn has_failed(&self) -> bool
+        ensures { result ≡ has_failed (allocator_of (mini_of self.now)) }
+    {
+        self.mini.has_failed()
+    }
+}

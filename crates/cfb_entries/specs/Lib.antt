@@ -1,0 +1,6 @@
+pub mod Holding
+pub mod Listed
+pub mod Lists
+pub mod Pending
+pub mod Rules
+pub mod Walk

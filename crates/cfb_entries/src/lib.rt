@@ -1,0 +1,14 @@
+//! Objects of a compound file as listings show them, by their entries in memory.
+#![tactic(auto)]
+
+mod entry;
+mod finding;
+mod kinds;
+mod listing;
+mod siblings;
+mod walking;
+
+pub use entry::Entry;
+pub use finding::find_by_path;
+pub use kinds::is_stream_at;
+pub use listing::{Entries, EntriesOrder, children_at, entry_at, walk_at};
