@@ -1,5 +1,5 @@
 -- What a `CompoundFile` shows.
-use Rattle.std.specs.Prelude.{false, Option, Some, None}
+use Rattle.std.specs.Prelude.{false, Bool, Option, Some, None}
 use Rattle.cfb_directory.specs.Views.{entries_held}
 use Rattle.cfb_entries.specs.Rules.{HoldsSizes}
 use Rattle.cfb_meaning.specs.TreeRules.{Answer, yes, Call, tree_step}
@@ -25,6 +25,10 @@ module _ {F : Type 0} {g : Ghosts F} where
   -- the letter table under which names are compared ([MS-CFB] 2.6.4)
   abbrev pub letters_in : CompoundFile F g → Letters
   letters_in it = letter.letters_of it.letters
+
+  -- whether it was judged to be sound
+  abbrev pub sound_of : CompoundFile F g → Bool
+  sound_of it = it.is_sound
 
   -- its entries hold the tree, of whose streams the sizes alone are known ([MS-CFB] 2.6)
   abbrev pub Shows : CompoundFile F g → Tree → Type 0

@@ -20,25 +20,14 @@ use std::alloc::Global;
 /// A compound file ([MS-CFB] 1.3): a tree of storages and streams, in the bytes of a medium.
 #[derive(Drop)]
 pub struct CompoundFile<F: ReadMedium> {
-    alloc: Global,
+    pub(crate) alloc: Global,
     pub(crate) mini: MiniAllocator<F>,
-    letters: CaseMapper,
+    pub(crate) letters: CaseMapper,
+    pub(crate) is_sound: bool,
 }
 
 impl<F: ReadMedium> CompoundFile<F> {
-    ghost use Rattle.cfb.specs.Views.{letters_in, mini_of, said_at, Shows};
-
-    /// The file over its layers, whose names are compared under the letter table.
-    pub fn new(alloc: Global, mini: MiniAllocator<F>, letters: CaseMapper) -> CompoundFile<F>
-        ensures mini { mini_of result ≡ mini }
-        ensures letters { letters_in result ≡ letters_of letters }
-    {
-        CompoundFile {
-            alloc,
-            mini,
-            letters,
-        }
-    }
+    ghost use Rattle.cfb.specs.Views.{letters_in, mini_of, said_at, sound_of, Shows};
 
     /// The version.
     pub fn version(&self) -> Version
@@ -55,8 +44,18 @@ impl<F: ReadMedium> CompoundFile<F> {
             alloc: _,
             mini,
             letters: _,
+            is_sound: _,
         } = self;
         mini.into_inner()
+    }
+
+    /// Whether the file is sound, as it was judged when it was opened: no sector and no mini sector serves two uses, none in use
+    /// is free or missing, each stream's bytes lie in its chain and in the file, and the FAT has an entry for each sector. A
+    /// file that isn't sound can be read, and is changed by no call.
+    pub fn is_sound(&self) -> bool
+        ensures { result ≡ sound_of self.now }
+    {
+        self.is_sound
     }
 
     // The entries, by number.

@@ -1,0 +1,103 @@
+//! Opening a compound file.
+ghost use Rattle.cfb.specs.Opened.{IsOpenedAs};
+ghost use Rattle.cfb.specs.Views.{letters_in, mini_of};
+ghost use Rattle.cfb_meaning.specs.Means.{IsOpenable, IsStrictlyOpenable};
+ghost use Rattle.cfb_medium.specs.Calls.{HasCauseSince, IsFaultUnless};
+ghost use Rattle.cfb_medium.specs.declared.error.Error.TheVariants.{InvalidData};
+ghost use Rattle.cfb_opening.specs.Opened.{CanOpen, OpensAt};
+ghost use Rattle.cfb_opening.specs.Tables.{OnlyReads};
+ghost use Rattle.cfb_sectors.specs.declared.validation.Validation.TheVariants.{Permissive, Strict};
+ghost use Rattle.cfb_tree.specs.LetterViews.{letters_of};
+ghost use Rattle.std.specs.Prelude.{IfErr, IfOk, IsTrue, ◌≡◌, ◌⊎◌};
+
+use crate::CompoundFile;
+use cfb_medium::{Error, ReadMedium};
+use cfb_opening::open_file;
+use cfb_sectors::Validation;
+use cfb_soundness::is_sound;
+use cfb_tree::CaseMapper;
+use std::alloc::Global;
+
+impl<F: ReadMedium> CompoundFile<F> {
+    /// Opens a compound file, whose names are compared under the letter table. `InvalidData` exactly where the bytes mean no
+    /// tree, whatever bytes its streams have ([MS-CFB] 2). It takes time and memory by the length of tables and directory, and
+    /// judges once whether the file is sound. The other errors are `Memory` and `Device`, and `Failed` of a medium that has
+    /// failed. A refusal gives the medium back.
+    pub fn open(
+        alloc: Global,
+        medium: F,
+        letters: CaseMapper,
+    ) -> Result<CompoundFile<F>, (F, Error)>
+        ensures opens { IfOk result (λ it. OpensAt medium (mini_of it)) }
+        ensures letters { IfOk result (λ it. letters_in it ≡ letters_of letters) }
+        ensures opened { IfOk result (λ it. IsTrue (F.honest medium)
+            → IsOpenedAs Permissive (letters_of letters) (F.bytes medium) it) }
+        ensures refused { IfErr result (λ e. e.1 ≡ InvalidData → IsTrue (F.honest medium)
+            → IsOpenable (letters_of letters) (F.bytes medium) → ⊥) }
+        ensures fault { IfErr result (λ e. IsFaultUnless ⊥ e.1 ⊎ (e.1 ≡ InvalidData)) }
+        ensures cause { IfErr result (λ e. HasCauseSince F.continues F.failures F.failed medium
+            e.0 e.1) }
+        ensures left { IfErr result (λ e. OnlyReads F.honest F.bytes F.continues medium e.0) }
+    {
+        open_as(alloc, medium, letters, Validation::Permissive)
+    }
+
+    /// Opens a compound file as a strict reader, who also asks for the header's counts, the DIFAT's end, whole sectors, the
+    /// root's name, and colours ([MS-CFB] 2.2 to 2.6): `InvalidData` exactly where he doesn't take the bytes. All else is as
+    /// for `open`.
+    pub fn open_strict(
+        alloc: Global,
+        medium: F,
+        letters: CaseMapper,
+    ) -> Result<CompoundFile<F>, (F, Error)>
+        ensures opens { IfOk result (λ it. OpensAt medium (mini_of it)) }
+        ensures letters { IfOk result (λ it. letters_in it ≡ letters_of letters) }
+        ensures opened { IfOk result (λ it. IsTrue (F.honest medium)
+            → IsOpenedAs Strict (letters_of letters) (F.bytes medium) it) }
+        ensures refused { IfErr result (λ e. e.1 ≡ InvalidData → IsTrue (F.honest medium)
+            → IsStrictlyOpenable (letters_of letters) (F.bytes medium) → ⊥) }
+        ensures fault { IfErr result (λ e. IsFaultUnless ⊥ e.1 ⊎ (e.1 ≡ InvalidData)) }
+        ensures cause { IfErr result (λ e. HasCauseSince F.continues F.failures F.failed medium
+            e.0 e.1) }
+        ensures left { IfErr result (λ e. OnlyReads F.honest F.bytes F.continues medium e.0) }
+    {
+        open_as(alloc, medium, letters, Validation::Strict)
+    }
+}
+
+// Opens a file in one of the two ways, and judges it.
+fn open_as<F: ReadMedium>(
+    alloc: Global,
+    mut medium: F,
+    letters: CaseMapper,
+    validation: Validation,
+) -> Result<CompoundFile<F>, (F, Error)>
+    ensures opens { IfOk result (λ it. OpensAt medium.entry (mini_of it)) }
+    ensures letters { IfOk result (λ it. letters_in it ≡ letters_of letters) }
+    ensures opened { IfOk result (λ it. IsTrue (F.honest medium.entry)
+        → IsOpenedAs validation (letters_of letters) (F.bytes medium.entry) it) }
+    ensures refused { IfErr result (λ e. e.1 ≡ InvalidData → IsTrue (F.honest medium.entry)
+        → CanOpen validation (letters_of letters) (F.bytes medium.entry) → ⊥) }
+    ensures fault { IfErr result (λ e. IsFaultUnless ⊥ e.1 ⊎ (e.1 ≡ InvalidData)) }
+    ensures cause { IfErr result (λ e. HasCauseSince F.continues F.failures F.failed medium.entry
+        e.0 e.1) }
+    ensures left { IfErr result (λ e. OnlyReads F.honest F.bytes F.continues medium.entry e.0) }
+{
+    let len = match medium.len() {
+        Ok(len) => len,
+        Err(error) => return Err((medium, error)),
+    };
+    let mini = match open_file(alloc, medium, &letters, validation) {
+        Ok(mini) => mini,
+        Err(refused) => return Err(refused),
+    };
+    match is_sound(alloc, &mini, len) {
+        Ok(is_sound) => Ok(CompoundFile {
+            alloc,
+            mini,
+            letters,
+            is_sound,
+        }),
+        Err(error) => Err((mini.into_inner(), error)),
+    }
+}
