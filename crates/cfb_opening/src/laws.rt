@@ -2,13 +2,17 @@
 ghost use Rattle.cfb_directory.specs.Taken.{HasSize};
 ghost use Rattle.cfb_meaning.specs.Means.{HasBytes, IsStrict, Layout, MeansBy};
 ghost use Rattle.cfb_medium.specs.declared.version.Version.{Version};
-ghost use Rattle.cfb_opening.specs.Opened.{CanOpen};
+ghost use Rattle.cfb_mini.specs.Views.{Rests};
+ghost use Rattle.cfb_opening.specs.Opened.{CanOpen, IsOpened, OpensAt};
 ghost use Rattle.cfb_sectors.specs.Sectors.{sectors_in, AreInFile, Chain};
 ghost use Rattle.cfb_sectors.specs.declared.validation.Validation.TheVariants.{Strict};
 ghost use Rattle.cfb_sectors.specs.declared.validation.Validation.{Validation};
 ghost use Rattle.cfb_tree.specs.Names.{Letters};
 ghost use Rattle.cfb_tree.specs.Tree.{Tree};
 ghost use Rattle.std.specs.Prelude.{length, take, List, ℕ, ◌↔◌, ◌≡◌};
+
+use cfb_medium::ReadMedium;
+use cfb_mini::MiniAllocator;
 
 /// The chains of a FAT that is cut to the file's sectors, as memory has it, are those of the whole FAT whose sectors the file
 /// has ([MS-CFB] 2.3).
@@ -25,4 +29,14 @@ pub fn opened_files_can_be_opened()
         → (validation ≡ Strict → IsStrict bytes l) → CanOpen validation letters bytes }
     ensures meant { (letters : Letters) (bytes : List ℕ) (l : Layout) (tree : Tree)
         → MeansBy l (HasBytes bytes l) letters bytes tree → MeansBy l HasSize letters bytes tree }
+{}
+
+/// What opening tells stays while the file is only read.
+pub fn reads_keep_what_opening_tells<F: ReadMedium>()
+    ensures opens { (medium : F) (old new : MiniAllocator F F.ReadMedium) → Rests old new
+        → OpensAt medium old → OpensAt medium new }
+    ensures opened { (validation : Validation) (letters : Letters) (bytes : List ℕ) (l : Layout)
+        (tree : Tree) (old new : MiniAllocator F F.ReadMedium) → Rests old new
+        → IsOpened validation letters bytes old l tree
+        → IsOpened validation letters bytes new l tree }
 {}
