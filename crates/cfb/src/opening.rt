@@ -72,16 +72,16 @@ fn open_as<F: ReadMedium>(
     letters: CaseMapper,
     validation: Validation,
 ) -> Result<CompoundFile<F>, (F, Error)>
-    ensures opens { IfOk result (λ it. OpensAt medium.entry (mini_of it)) }
+    ensures opens { IfOk result (λ it. OpensAt medium (mini_of it)) }
     ensures letters { IfOk result (λ it. letters_in it ≡ letters_of letters) }
-    ensures opened { IfOk result (λ it. IsTrue (F.honest medium.entry)
-        → IsOpenedAs validation (letters_of letters) (F.bytes medium.entry) it) }
-    ensures refused { IfErr result (λ e. e.1 ≡ InvalidData → IsTrue (F.honest medium.entry)
-        → CanOpen validation (letters_of letters) (F.bytes medium.entry) → ⊥) }
+    ensures opened { IfOk result (λ it. IsTrue (F.honest medium)
+        → IsOpenedAs validation (letters_of letters) (F.bytes medium) it) }
+    ensures refused { IfErr result (λ e. e.1 ≡ InvalidData → IsTrue (F.honest medium)
+        → CanOpen validation (letters_of letters) (F.bytes medium) → ⊥) }
     ensures fault { IfErr result (λ e. IsFaultUnless ⊥ e.1 ⊎ (e.1 ≡ InvalidData)) }
-    ensures cause { IfErr result (λ e. HasCauseSince F.continues F.failures F.failed medium.entry
+    ensures cause { IfErr result (λ e. HasCauseSince F.continues F.failures F.failed medium
         e.0 e.1) }
-    ensures left { IfErr result (λ e. OnlyReads F.honest F.bytes F.continues medium.entry e.0) }
+    ensures left { IfErr result (λ e. OnlyReads F.honest F.bytes F.continues medium e.0) }
 {
     let len = match medium.len() {
         Ok(len) => len,

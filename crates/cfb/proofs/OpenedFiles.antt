@@ -1,18 +1,20 @@
 -- What opening tells of a file over a medium whose length was asked for first.
-use Rattle.std.proofs.Common.{◌≡◌, ℕ, Bool, false, List, length, IsTrue, sym, subst, ◌∙◌}
+use Rattle.std.proofs.Common.{◌≡◌, ℕ, Bool, false, List, length, ap, IsTrue, sym, subst, ◌∙◌}
 use Rattle.std.specs.Prelude.{◌↔◌}
 use Rattle.cfb_medium.specs.declared.medium.ReadMedium.{Ghosts}
 use Rattle.cfb_fat.specs.Tables.{bytes_of, has_failed_here, is_honest, medium_of}
 use Rattle.cfb_meaning.specs.Means.{Layout, MeansBy}
 use Rattle.cfb_meaning.specs.Sound.{IsSound}
 use Rattle.cfb_directory.specs.Taken.{HasSize}
-use Rattle.cfb_mini.specs.Views.{allocator_of}
+use Rattle.cfb_directory.specs.Views.{entries_held}
+use Rattle.cfb_mini.specs.Views.{allocator_of, directory_of}
 use Rattle.cfb_mini.specs.declared.mini_allocator.MiniAllocator.{MiniAllocator}
 use Rattle.cfb_opening.specs.Opened.{IsOpened, OpensAt, Shows}
 use Rattle.cfb_opening.specs.Tables.{OnlyReads}
 use Rattle.cfb_sectors.specs.declared.validation.Validation.{Validation}
 use Rattle.cfb_soundness.specs.Views.{LiesSo}
 use Rattle.cfb_tree.specs.Names.{Letters}
+use Rattle.cfb_tree.specs.Objects.{HoldsTree}
 use Rattle.cfb_tree.specs.Tree.{Tree}
 
 module _ {F : Type 0} {g : Ghosts F} where
@@ -43,3 +45,29 @@ module _ {F : Type 0} {g : Ghosts F} where
     mini_fat_sectors = sym shows.mini_fat_sectors;
     mini_stream_sectors = sym shows.mini_stream_sectors;
   }
+
+  -- the entries in memory hold the tree that the bytes mean
+  pub holds_so : (it : MiniAllocator F g) (bytes : List ℕ) (l : Layout) (letters : Letters) (tree : Tree)
+      → Shows it bytes l → MeansBy l HasSize letters bytes tree → HoldsTree letters HasSize (entries_held (directory_of it)) tree
+  holds_so it bytes l letters tree shows means = subst (λ es. HoldsTree letters HasSize es tree) (sym shows.entries) (record {
+    root = l.root;
+    root_found = means.laid_out.root_found;
+    root_kind = means.laid_out.root_kind;
+    facts = means.facts;
+    children = means.children;
+    ids = l.entries;
+    siblings = means.siblings;
+    holds = means.holds;
+    once = means.once;
+    ordered = means.ordered;
+  })
+
+  -- it was judged, by so many bytes, whether the bytes are sound
+  pub judged_so : (old : F) (it : MiniAllocator F g) (l : Layout) (letters : Letters) (tree : Tree) (len : ℕ) (sound : Bool) → IsTrue (g.honest old) → OpensAt old it
+      → Shows it (g.bytes old) l → MeansBy l HasSize letters (g.bytes old) tree → len ≡ length (g.bytes old)
+      → ((letters : Letters) (l : Layout) (tree : Tree) → LiesSo it l → len ≡ length (bytes_of (allocator_of it))
+      → MeansBy l HasSize letters (bytes_of (allocator_of it)) tree → IsTrue sound ↔ IsSound letters (bytes_of (allocator_of it)))
+      → IsTrue sound ↔ IsSound letters (g.bytes old)
+  judged_so old it l letters tree len sound is opens shows means size judged =
+      let same = opens.bytes is in
+      subst (λ b. IsTrue sound ↔ IsSound letters b) same (judged letters l tree (lies_so old it l is opens shows) (size ∙ ap length (sym same)) (subst (λ b. MeansBy l HasSize letters b tree) (sym same) means))
