@@ -9,7 +9,7 @@ ghost use Rattle.cfb_medium.specs.Versions.{sector_len};
 ghost use Rattle.cfb_owned.specs.Chains.{len_of};
 ghost use Rattle.cfb_sectors.specs.Sectors.{Chain};
 ghost use Rattle.cfb_streams.specs.Streams.{sectors_in, IsOfLevel, LiesIn};
-ghost use Rattle.std.specs.Prelude.{length, true, IfErr, IfOk, IsErrOf, List, ℕ, ◌*◌, ◌≡◌, ◌≤◌, ◌⊎◌};
+ghost use Rattle.std.specs.Prelude.{length, true, IfErr, IfOk, IsErrOf, List, ℕ, ◌*◌, ◌≡◌, ◌≤◌, ◌⊎◌, OnOk, ◌<◌, ◌^◌};
 
 use cfb_chains::Links;
 use cfb_medium::{Error, ReadMedium};
@@ -27,7 +27,8 @@ pub enum StreamLinks {
 
 // How many bytes the sectors of a chain have.
 fn chain_len(links: &Links) -> u64
-    ensures { result ≡ len_of links.now }
+    ensures len { result ≡ len_of links.now }
+    ensures small { result < 2 ^ 63 }
 {
     links.sector_ids().len() as u64 * links.version().sector_len() as u64
 }
@@ -61,6 +62,7 @@ fn open_long<F: ReadMedium>(mini: &MiniAllocator<F>, start: u32, size: u64) -> R
     ensures chain { IfOk result (λ links. Chain (fat_of (allocator_of mini.now)) start (ids_of links)
         × (links_version links ≡ version_of (allocator_of mini.now))
         × (size ≤ length (ids_of links) * sector_len (version_of (allocator_of mini.now)))) }
+    ensures small { OnOk result (size < 2 ^ 63) }
     ensures none { IsErrOf result InvalidData → (sectors : List ℕ)
         → Chain (fat_of (allocator_of mini.now)) start sectors
         → size ≤ length sectors * sector_len (version_of (allocator_of mini.now)) → ⊥ }
@@ -86,6 +88,7 @@ pub fn open_stream<F: ReadMedium>(
 ) -> Result<StreamLinks, Error>
     ensures sectors { IfOk result (λ links. LiesIn mini.now start size (sectors_in links)) }
     ensures level { IfOk result (λ links. IsOfLevel mini.now size links) }
+    ensures small { OnOk result (size < 2 ^ 63) }
     ensures none { IsErrOf result InvalidData → (sectors : List ℕ)
         → LiesIn mini.now start size sectors → ⊥ }
     ensures error { IfErr result (λ e. ((e ≡ Failed)

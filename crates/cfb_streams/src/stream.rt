@@ -2,15 +2,18 @@
 ghost use Rattle.cfb_chains.specs.ChainCalls.{IsInvalidPlace};
 ghost use Rattle.cfb_fat.specs.Tables.{has_failed_here, is_honest, HasCauseBelow};
 ghost use Rattle.cfb_medium.specs.Calls.{IsFaultUnless};
-ghost use Rattle.cfb_medium.specs.declared.error.Error.TheVariants.{Failed, InvalidData};
+ghost use Rattle.cfb_medium.specs.declared.error.Error.TheVariants.{Failed, InvalidInput};
 ghost use Rattle.cfb_mini.specs.Views.{allocator_of, Rests};
 ghost use Rattle.cfb_streams.specs.Streams.{joined_in, len_in, HasSectorsOf};
-ghost use Rattle.std.specs.Prelude.{drop, length, min, take, true, IfErr, IfOk, IsErrOf, IsTrue, OnErr, ◌+◌, ◌-◌, ◌==◌, ◌≡◌, ◌≤◌, ◌⊎◌};
+ghost use Rattle.cfb_sectors.specs.Seeking.{Finds};
+ghost use Rattle.std.specs.Prelude.{drop, length, min, take, true, IfErr, IfOk, IsErrOf, IsTrue, OnErr, ◌+◌, ◌-◌, ◌==◌, ◌≡◌, ◌≤◌, ◌⊎◌, ℕ, ◌<◌, ◌^◌};
 
 use crate::StreamLinks;
 use crate::reading::read_stream;
 use cfb_medium::{Error, ReadMedium};
 use cfb_mini::MiniAllocator;
+use cfb_sectors::place_found;
+use std::io::SeekFrom;
 
 /// A stream's bytes, read from a position on. It borrows the layers in which they lie.
 #[derive(Drop)]
@@ -20,6 +23,7 @@ pub struct ReadStream<'a, F: ReadMedium> {
     pub(crate) len: u64,
     pub(crate) position: u64,
     ghost inside: { position ≤ len },
+    ghost small: { len < 2 ^ 63 },
 }
 
 impl<'a, F: ReadMedium> ReadStream<'a, F> {
@@ -31,6 +35,7 @@ impl<'a, F: ReadMedium> ReadStream<'a, F> {
         links: &'a StreamLinks,
         len: u64,
     ) -> ReadStream<'a, F>
+        requires { len < 2 ^ 63 }
         ensures same_reference { result.mini.ghost_name ≡ mini.entry.ghost_name }
         ensures mini { mini_of result ≡ mini.old }
         ensures stream { (links_of result ≡ links.now) × (len_of result ≡ len)
@@ -82,5 +87,23 @@ impl<'a, F: ReadMedium> ReadStream<'a, F> {
         read_stream(self.mini, self.links, self.position, &mut buffer[..count])?;
         self.position += count as u64;
         Ok(count)
+    }
+
+    /// Moves the position to a place of the stream or to its end, and gives it. `InvalidInput` where it is before the stream or
+    /// behind its end; then the position stays.
+    pub fn seek(&mut self, from: SeekFrom) -> Result<u64, Error>
+        ensures ok { IfOk result (λ n. Finds from (len_of self.old) (position_of self.old) n
+            × (position_of self.new ≡ n)) }
+        ensures error { IfErr result (λ e. (e ≡ InvalidInput) × ((n : ℕ)
+            → Finds from (len_of self.old) (position_of self.old) n → ⊥)) }
+        ensures stays { OnErr result (position_of self.new ≡ position_of self.old) }
+        ensures same { IsSame self.old self.new }
+        ensures mini { mini_of self.new ≡ mini_of self.old }
+    {
+        let Some(place) = place_found(from, self.len, self.position) else {
+            return Err(Error::InvalidInput);
+        };
+        self.position = place;
+        Ok(place)
     }
 }

@@ -15,5 +15,5 @@ returns-then-chain_len-size-clause-none g c = λ is sectors chain room.
     let same = c.allocator.ensures ∙ ap directory.allocator_of c.directory.ensures in
     let equal = chain_unique (fat_of layer) c.args.start ids sectors (subst (λ a. Chain (fat_of a) c.args.start ids) same c.in-Ok.ensures.chain) chain in
     let len : c.chain_len.result ≡ length sectors * sector_len (version_of layer) =
-    c.chain_len.ensures ∙ ap (λ v. length ids * sector_len v) (c.in-Ok.ensures.version ∙ ap version_of same) ∙ ap (λ xs. length xs * sector_len (version_of layer)) equal in
+    c.chain_len.ensures.len ∙ ap (λ v. length ids * sector_len v) (c.in-Ok.ensures.version ∙ ap version_of same) ∙ ap (λ xs. length xs * sector_len (version_of layer)) equal in
     omega (arith, room, c.if-chain_len-size.true, len)
