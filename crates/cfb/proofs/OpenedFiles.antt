@@ -1,17 +1,16 @@
 -- What opening tells of a file over a medium whose length was asked for first.
-use Rattle.std.proofs.Common.{◌≡◌, ℕ, Bool, false, List, length, ap, IsTrue, sym, subst, ◌∙◌}
+use Rattle.std.proofs.Common.{◌≡◌, ℕ, Bool, List, length, ap, IsTrue, sym, subst, ◌∙◌}
 use Rattle.std.specs.Prelude.{◌↔◌}
 use Rattle.cfb_medium.specs.declared.medium.ReadMedium.{Ghosts}
-use Rattle.cfb_fat.specs.Tables.{bytes_of, has_failed_here, is_honest, medium_of}
+use Rattle.cfb_fat.specs.Tables.{bytes_of, medium_of}
 use Rattle.cfb_meaning.specs.Means.{Layout, MeansBy}
 use Rattle.cfb_meaning.specs.Sound.{IsSound}
 use Rattle.cfb_directory.specs.Taken.{HasSize}
 use Rattle.cfb_directory.specs.Views.{entries_held}
 use Rattle.cfb_mini.specs.Views.{allocator_of, directory_of}
 use Rattle.cfb_mini.specs.declared.mini_allocator.MiniAllocator.{MiniAllocator}
-use Rattle.cfb_opening.specs.Opened.{IsOpened, OpensAt, Shows}
+use Rattle.cfb_opening.specs.Opened.{OpensAt, Shows}
 use Rattle.cfb_opening.specs.Tables.{OnlyReads}
-use Rattle.cfb_sectors.specs.declared.validation.Validation.{Validation}
 use Rattle.cfb_soundness.specs.Views.{LiesSo}
 use Rattle.cfb_tree.specs.Names.{Letters}
 use Rattle.cfb_tree.specs.Objects.{HoldsTree}

@@ -1,7 +1,7 @@
-use Rattle.std.proofs.Common.{◌≡◌, IsTrue, sym, subst}
+use Rattle.std.proofs.Common.{◌≡◌, ◌∙◌, IsTrue, sym, subst, ⊎_elim}
+use Rattle.cfb_medium.specs.declared.error.Error.TheVariants.{Failed, InvalidData, Memory}
 use Rattle.cfb_opening.specs.Opened.{IsOpened}
 use Rattle.cfb_opening.specs.Tables.{OnlyReads}
-use Rattle.cfb_soundness.specs.Judging.{IsWant}
 use Rattle.cfb_tree.specs.LetterViews.{letters_of}
 use Rattle.cfb.proofs.OpenedFiles.{holds_so, judged_so, opens_since}
 use Rattle.cfb.proofs.opening.open_as.Goals as goal
@@ -15,15 +15,19 @@ returns-in-Ok-is_sound-clause-opened g c = λ is.
     let did = c.in-Ok.ensures in
     let read : OnlyReads G.honest G.bytes G.continues old c.len.new.self = record { as_honest = did.honest; same = did.bytes; extends = did.continues } in
     let told = c.in-Ok-open_file.ensures.opened (subst IsTrue (sym did.honest) is) in
-    let here = subst (λ b. IsOpened c.args.validation letters b it told.0 told.1.0) (did.bytes is) told.1.1 in
+    let here = subst (λ b. IsOpened c.args.validation letters b it told.0 told.1) (did.bytes is) told.2 in
     let opens = opens_since old c.len.new.self it read c.in-Ok-open_file.ensures.opens in
     record {
       layout = told.0;
-      tree = told.1.0;
+      tree = told.1;
       opened = here;
-      shown = holds_so it (G.bytes old) told.0 letters told.1.0 here.shows here.means;
-      sound = judged_so old it told.0 letters told.1.0 c.in-Ok.len c.in-Ok-is_sound.is_sound is opens here.shows here.means (did.length is) c.in-Ok-is_sound.ensures.sound;
+      shown = holds_so it (G.bytes old) told.0 letters told.1 here.shows here.means;
+      sound = judged_so old it told.0 letters told.1 c.in-Ok.len c.in-Ok-is_sound.is_sound is opens here.shows here.means (did.length is) c.in-Ok-is_sound.ensures.sound;
     }
 
 pub returns-in-Err-is_sound-clause-refused : goal.returns-in-Err-is_sound-clause-refused
-returns-in-Err-is_sound-clause-refused g c = λ is. absurd (subst (IsWant _) is c.in-Err-is_sound.ensures.error)
+returns-in-Err-is_sound-clause-refused g c = λ is honest can.
+    ⊎_elim
+    (λ want. let both : Memory ≡ InvalidData = sym want ∙ is in absurd (cc))
+    (λ failed. let both : Failed ≡ InvalidData = sym failed.0 ∙ is in absurd (cc))
+    c.in-Err-is_sound.ensures.error
