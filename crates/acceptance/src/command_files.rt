@@ -1,6 +1,6 @@
 //! Command files from outside: each op once, and refusals.
 use cfb_medium::Error;
-use command_file::{Command, SummaryEdit, read_commands};
+use command_file::{Command, SummaryEdit, read_commands, refusal_in};
 use std::alloc::Global;
 use std::process::Abort;
 use std::test::Fail;
@@ -337,4 +337,47 @@ fn other_texts_are_no_commands(rt: HostRuntime) -> Result<(), Fail> {
         r#"[{"op":"set_summary","field":"codepage","value":null}]"#,
         Error::InvalidInput,
     )
+}
+
+#[test]
+fn wrong_parts_are_named(rt: HostRuntime) -> Result<(), Fail> {
+    let rows = [
+        (r#"{"op":"tables"}"#, "the file is no list of commands"),
+        ("[1]", "command 1 is no object"),
+        (r#"[{"op":"tables"},{"x":1}]"#, "command 2 has no `op`"),
+        (r#"[{"op":"table"}]"#, "command 1 has a wrong `op`"),
+        (
+            r#"[{"op":"tables","x":1}]"#,
+            "command 1 has a `x`, which its op doesn't know",
+        ),
+        (
+            r#"[{"op":"insert","table":"T"}]"#,
+            "command 1 has no `rows`",
+        ),
+        (
+            r#"[{"op":"insert","table":"T","rows":[1]}]"#,
+            "command 1 has a wrong `rows`",
+        ),
+        (
+            r#"[{"op":"select","from":"T","columns":[1]}]"#,
+            "command 1 has a wrong `columns`",
+        ),
+        (
+            r#"[{"op":"select","from":{"join":1}}]"#,
+            "command 1 has a wrong `from`",
+        ),
+        (
+            r#"[{"op":"set_summary","field":"titel","value":"a"}]"#,
+            "command 1 has a wrong `field`",
+        ),
+        (
+            r#"[{"op":"set_summary","field":"title","value":1}]"#,
+            "command 1 has a wrong `value`",
+        ),
+    ];
+    for (text, wanted) in rows {
+        let refusal = refusal_in(rt.alloc(), text)?.ok_or("none")?;
+        assert_eq!(rt; format!(in rt.alloc(); "{refusal}")?.as_str(), wanted);
+    }
+    Ok(())
 }

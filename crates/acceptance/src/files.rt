@@ -121,6 +121,8 @@ fn a_command_file_is_run(rt: HostRuntime) -> Result<(), Fail> {
     let (status, out, _) = ran_commands(&rt, &place)?;
     let rows = b"{\"columns\":[\"Id\"],\"rows\":[[1],[2]]}\n".as_slice();
     assert_eq!(rt; (status, out.as_slice()), (0, rows));
+    let (status, out, _) = ran_on(&rt, "list", place.home.as_str(), place.log.as_str())?;
+    assert_eq!(rt; (status, out.as_slice()), (0, b"[\"T\"]\n[]\n".as_slice()));
     fs::remove_dir_all(&rt, place.folder.as_path())?;
     Ok(())
 }
@@ -166,7 +168,11 @@ fn a_refused_command_file_opens_no_package(rt: HostRuntime) -> Result<(), Fail> 
     let (status, out, err) = ran_commands(&rt, &place)?;
     assert_eq!(rt;
         (status, out.as_slice(), err.as_slice()),
-        (2, b"".as_slice(), b"msidb: invalid input\n".as_slice())
+        (
+            2,
+            b"".as_slice(),
+            b"msidb: invalid input\nmsidb: command 1 has a wrong `op`\n".as_slice()
+        )
     );
     assert!(rt; fs::read(&rt, place.home.as_str())? == package);
     assert!(rt; fs::read(&rt, place.log.as_str()).is_err());
