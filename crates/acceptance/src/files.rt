@@ -121,8 +121,18 @@ fn a_command_file_is_run(rt: HostRuntime) -> Result<(), Fail> {
     let (status, out, _) = ran_commands(&rt, &place)?;
     let rows = b"{\"columns\":[\"Id\"],\"rows\":[[1],[2]]}\n".as_slice();
     assert_eq!(rt; (status, out.as_slice()), (0, rows));
+    fs::remove_dir_all(&rt, place.folder.as_path())?;
+    Ok(())
+}
+
+#[test]
+fn names_are_listed(rt: HostRuntime) -> Result<(), Fail> {
+    let place = new_place(&rt)?;
     let (status, out, _) = ran_on(&rt, "list", place.home.as_str(), place.log.as_str())?;
-    assert_eq!(rt; (status, out.as_slice()), (0, b"[\"T\"]\n[]\n".as_slice()));
+    assert_eq!(rt;
+        (status, out.as_slice()),
+        (0, b"[\"_Columns\",\"_Tables\"]\n[]\n".as_slice())
+    );
     fs::remove_dir_all(&rt, place.folder.as_path())?;
     Ok(())
 }
