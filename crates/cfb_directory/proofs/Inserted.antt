@@ -1,6 +1,7 @@
 -- The tree with a child more, over entries that may have become more.
-use Rattle.std.proofs.Common.{◌≡◌, ℕ, Bool, List, ◌++◌, replicate, refl, sym, ap, subst, ◌∙◌, ⊎_elim}
-use Rattle.std.specs.Prelude.{slice_get, slice_set, Option, Some, None}
+use Rattle.std.proofs.Common.{◌≡◌, ℕ, Bool, false, List, ◌++◌, replicate, refl, sym, ap, subst, ◌∙◌, ⊎_elim}
+use Rattle.std.specs.Prelude.{nat_eq, slice_get, slice_set, Option, Some, None}
+use Rattle.std.proofs.lemmas.Bool.Decides.{eqb_tells}
 use Rattle.cfb_medium.specs.Versions.{dir_entries_per_sector}
 use Rattle.cfb_medium.specs.declared.version.Version.{Version}
 use Rattle.cfb_tree.specs.Changes.{added}
@@ -12,15 +13,17 @@ use Rattle.cfb_tree.specs.Paths.{Path}
 use Rattle.cfb_tree.specs.Tree.{Tree}
 use Rattle.cfb_tree.proofs.OneContent.{Some_same}
 use Rattle.cfb_siblings.specs.Changes.{HoldsOn, IsAlone, IsUnused}
-use Rattle.cfb_siblings.specs.Links.{holder, linked_to, relinked, with_entry}
+use Rattle.cfb_siblings.specs.Links.{holder, joined_by, linked_to, relinked, taken_out, with_entry}
 use Rattle.cfb_siblings.specs.Places.{path_to, IsFree, IsStorageAt}
 use Rattle.cfb_siblings.specs.Reading.{ReadBy}
 use Rattle.cfb_siblings.specs.declared.links.Link.{Link}
+use Rattle.cfb_siblings.specs.declared.links.NewLink.{NewLink}
+use Rattle.cfb_siblings.specs.declared.removal.Removal.{Removal}
 use Rattle.cfb_siblings.specs.declared.links.Link.TheVariants.{Child, Left, Right}
 use Rattle.cfb_siblings.proofs.Adding.{grows}
 use Rattle.cfb_siblings.proofs.Frames.{append_keeps, either_same, holds_stays, set_changes_only, set_found}
 use Rattle.cfb_siblings.proofs.Unused.{read_by_place, same_stay}
-use Rattle.cfb_directory.specs.Children.{HasAt, HoldsMore, IsAs, LinksNew}
+use Rattle.cfb_directory.specs.Children.{AddsAt, HasAt, HoldsMore, IsAs, LinksNew, StayBut}
 use Rattle.cfb_directory.proofs.Longer.{free_more, siblings_more, storage_more}
 
 -- a tree stays where entries are appended, of the same entries
@@ -88,3 +91,44 @@ pub inserted_at : (version : Version) (link : Link) (e : Entry) (old new : List 
 inserted_at version link e old new id links =
     subst (λ l. HasAt l id e) (sym links.entries)
     (relinked_as link id id (slice_set links.grown id e) e (slice_get (slice_set links.grown id e) (holder link)) refl (set_found links.grown id links.unused.entry e links.unused.found))
+
+as_then : (e f h : Entry) → IsAs e f → IsAs f h → IsAs e h
+as_then e f h first second = record {
+  name_units = second.name_units ∙ first.name_units;
+  name_len = second.name_len ∙ first.name_len;
+  kind = second.kind ∙ first.kind;
+  facts = second.facts ∙ first.facts;
+  start = second.start ∙ first.start;
+  size = second.size ∙ first.size;
+}
+
+-- so do two links
+at_then : (es es' : List Entry) (k : ℕ) (e : Entry) → HasAt es k e → ((f : Entry) → slice_get es k ≡ Some f → HasAt es' k f) → HasAt es' k e
+at_then es es' k e (f, found, same) later = let next = later f found in (next.0, next.1, as_then e f next.0 same next.2)
+
+relinked_at : (link : Link) (target k : ℕ) (es : List Entry) (e : Entry) → slice_get es k ≡ Some e → HasAt (relinked link target es) k e
+relinked_at link target k es e found = relinked_as link target k es e (slice_get es (holder link)) refl found
+
+differs : (k id : ℕ) → (k ≡ id → ⊥) → nat_eq id k ≡ false
+differs k id other = ⊎_elim (λ same. absurd (other (sym same.1))) (λ differ. differ.0) (eqb_tells id k)
+
+pub inserted_others : (version : Version) (link : Link) (e : Entry) (old new : List Entry) (id : ℕ) → LinksNew version link e old new id → AddsAt old new id
+inserted_others version link e old new id links =
+    let more = replicate (dir_entries_per_sector version) empty_entry in
+    let keep : (k : ℕ) (x : Entry) → slice_get old k ≡ Some x → slice_get links.grown k ≡ Some x = λ k x found.
+    ⊎_elim (λ same. ap (λ l. slice_get l k) same ∙ found) (λ longer. ap (λ l. slice_get l k) longer ∙ append_keeps old more k x found) links.behind in
+    record {
+      unused = λ x found. ap (λ (y : Entry). y.kind) (Some_same (sym (keep id x found) ∙ links.unused.found)) ∙ links.unused.of_kind;
+      others = λ k x other found. subst (λ l. HasAt l k x) (sym links.entries)
+          (relinked_at link id k (slice_set links.grown id e) x (set_changes_only links.grown id e k x (differs k id other) (keep k x found)));
+    }
+
+joined_at : (joined : Option NewLink) (es : List Entry) (k : ℕ) (e : Entry) → slice_get es k ≡ Some e → HasAt (joined_by joined es) k e
+joined_at None es k e found = (e, found, as_itself e)
+joined_at (Some it) es k e found = relinked_at it.link it.target k es e found
+
+pub taken_others : (removal : Removal) (old new : List Entry) (id : ℕ) (x : Entry) → new ≡ slice_set (taken_out removal old) id x → StayBut old new id
+taken_others removal old new id x is k e other found =
+    let joined = joined_by removal.joined old in
+    let both = at_then joined (taken_out removal old) k e (joined_at removal.joined old k e found) (λ f at. relinked_at removal.replaced.link removal.replaced.target k joined f at) in
+    subst (λ l. HasAt l k e) (sym is) (both.0, set_changes_only (taken_out removal old) id x k both.0 (differs k id other) both.1, both.2)

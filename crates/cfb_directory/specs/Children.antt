@@ -12,7 +12,7 @@ use Rattle.cfb_tree.specs.Names.{Letters}
 use Rattle.cfb_tree.specs.Objects.{HoldsTree}
 use Rattle.cfb_tree.specs.Paths.{Path}
 use Rattle.cfb_tree.specs.Tree.{Tree}
-use Rattle.cfb_tree.specs.Directory.{Entry}
+use Rattle.cfb_tree.specs.Directory.{kind_unallocated, Entry}
 use Rattle.cfb_directory.specs.Growth.{longer}
 
 -- refusals by rule of a new child: the name is taken or invalid, no number is left, or the directory isn't there as it must be
@@ -52,3 +52,12 @@ pub record LinksNew (version : Version) (link : Link) (e : Entry) (old new : Lis
   pub behind : (grown ≡ old) ⊎ (grown ≡ longer version old)
   pub unused : IsUnused grown id
   pub entries : new ≡ relinked link id (slice_set grown id e)
+
+-- each entry but this one is as it was, but for its links and its colour
+abbrev pub StayBut : List Entry → List Entry → ℕ → Type 0
+StayBut old new id = (k : ℕ) (e : Entry) → (k ≡ id → ⊥) → slice_get old k ≡ Some e → HasAt new k e
+
+-- entry `id` is a new one, or was in no use; the others are as they were, but for links and colours
+pub record AddsAt (old new : List Entry) (id : ℕ) : Type 0 where
+  pub unused : (e : Entry) → slice_get old id ≡ Some e → e.kind ≡ kind_unallocated
+  pub others : StayBut old new id

@@ -1,7 +1,7 @@
 //! Entries that come and go: children of storages by name ([MS-CFB] 2.6.4).
 ghost use Rattle.cfb_chains.specs.ChainCalls.{IsInvalid, IsInvalidOrFull};
 ghost use Rattle.cfb_directory.specs.Changes.{HasDirectory, KeepsEntries, LiesBeside, SetsEntry};
-ghost use Rattle.cfb_directory.specs.Children.{HasAt, HoldsMore, HoldsStorage, IsRefusedInsert, IsRefusedRemove, LinksNew};
+ghost use Rattle.cfb_directory.specs.Children.{AddsAt, HasAt, HoldsMore, HoldsStorage, IsRefusedInsert, IsRefusedRemove, LinksNew, StayBut};
 ghost use Rattle.cfb_directory.specs.Growth.{GrowsDirectory};
 ghost use Rattle.cfb_directory.specs.Views.{allocator_of, entries_held, IsDirectory};
 ghost use Rattle.cfb_fat.specs.Calls.{Answers};
@@ -110,6 +110,7 @@ impl<F: Medium> Directory<F> {
             h.holds.ids id) }
         ensures entry { IfOk result (λ id. HasAt (entries_held self.new) id
             (new_entry (chars name.now) (kind_of obj_type) (units_of moment))) }
+        ensures others { IfOk result (AddsAt (entries_held self.old) (entries_held self.new)) }
         ensures taken { IsErrOf result AlreadyExists
             → (reads : ℕ → ℕ → List ℕ → Bool) (tree : Tree) (path : Path)
             → HoldsStorage (letters_of letters.now) reads (entries_held self.old) tree path parent
@@ -196,7 +197,7 @@ impl<F: Medium> Directory<F> {
             × HoldsOneLess (letters_of letters.now) (ReadBy reads) (entries_held self.old)
             (entries_held self.new)
             (removed (letters_of letters.now) (path_to path (chars name.now)) tree)
-            h.holds.ids id own) }
+            h.holds.ids id own × StayBut (entries_held self.old) (entries_held self.new) id) }
         ensures missing { IsErrOf result NotFound
             → (reads : ℕ → ℕ → List ℕ → Bool) (tree : Tree) (path : Path)
             → HoldsStorage (letters_of letters.now) reads (entries_held self.old) tree path parent

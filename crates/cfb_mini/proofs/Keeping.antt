@@ -176,7 +176,7 @@ module _ {F : Type 0} {g : Ghosts F} where
       }
 
   -- memory of the mini FAT over reads
-  over_rests : (a b : Allocator F g) (x y : MiniFat) → AllRests a b → LiesSo x y → numbers_of y.numbers ≡ numbers_of x.numbers → IsOver a x → IsOver b y
+  pub over_rests : (a b : Allocator F g) (x y : MiniFat) → AllRests a b → LiesSo x y → numbers_of y.numbers ≡ numbers_of x.numbers → IsOver a x → IsOver b y
   over_rests a b x y rests lies same over =
       let before : has_failed_here b ≡ false → has_failed_here a ≡ false = λ live. sym rests.sectors.failed ∙ live in
       let honest : IsTrue (is_honest b) → IsTrue (is_honest a) = subst IsTrue rests.sectors.honest in record {

@@ -1,3 +1,4 @@
+pub mod DirectoryChanges
 pub mod Entries
 pub mod Keeping
 pub mod Linking

@@ -7,7 +7,7 @@ use Rattle.cfb_sectors.specs.Sectors.{end_of_chain, free, sector}
 use Rattle.cfb_chains.specs.Changes.{HaveEntry}
 use Rattle.cfb_chains.specs.Owned.{Becomes, Owned, Seen, Stays}
 use Rattle.cfb_fat.specs.Seeing.{seen_of}
-use Rattle.cfb_fat.specs.Tables.{bytes_of, fat_of, has_failed_here, is_honest, tables_of, version_of}
+use Rattle.cfb_fat.specs.Tables.{bytes_of, fat_of, has_failed_here, is_honest, tables_of, version_of, AllRests}
 use Rattle.cfb_fat.specs.declared.allocator.Allocator.{Allocator}
 use Rattle.cfb_owned.specs.Chains.{GoesOn}
 use Rattle.cfb_tree.specs.Directory.{Entry}
@@ -100,3 +100,19 @@ module _ {F : Type 0} {g : Ghosts F} where
     pub mini_fat : mini_fat_of new ≡ mini_fat_of old
     pub root : (e : Entry) → slice_get (directory.entries_held (directory_of old)) 0 ≡ Some e
         → directory.entries_held (directory_of new) ≡ slice_set (directory.entries_held (directory_of old)) 0 (record e { start = slice_index_or (mini_stream_ids new) 0 end_of_chain; size = mini_stream_len new })
+
+  -- The directory took in sectors that were in no use, if any; but for these, its own, and these numbers of the header nothing was
+  -- touched. All else that is owned stays, and the mini FAT.
+  pub record ChangesDirectory (words : List ℕ) (old new : MiniAllocator F g) (own : ℕ → List ℕ) : Type 0 where
+    pub more : List ℕ
+    pub ids : directory.directory_ids (directory_of new) ≡ directory.directory_ids (directory_of old) ++ more
+    pub becomes : Becomes (sector (version_of (allocator_of old))) words (own 0) more (directory.directory_ids (directory_of new)) (seen_of (allocator_of old)) (seen_of (allocator_of new))
+    pub owners : (then : ℕ → List ℕ) → then 0 ≡ directory.directory_ids (directory_of new) → ((k : ℕ) → (k ≡ 0 → ⊥) → then k ≡ own k) → HasOwners new then
+    pub mini_fat : mini_fat_of new ≡ mini_fat_of old
+
+  -- nothing but reads and flushes was done, and each owner has what it had
+  pub record KeepsOwners (old new : MiniAllocator F g) : Type 0 where
+    pub allocator : AllRests (allocator_of old) (allocator_of new)
+    pub entries : directory.entries_held (directory_of new) ≡ directory.entries_held (directory_of old)
+    pub mini_fat : mini_fat_of new ≡ mini_fat_of old
+    pub owners : (own : ℕ → List ℕ) → HasOwners old own → HasOwners new own

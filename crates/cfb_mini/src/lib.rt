@@ -3,6 +3,7 @@
 
 mod changing;
 mod entering;
+mod entries;
 mod growing;
 mod laws;
 mod lending;

@@ -10,7 +10,7 @@ use Rattle.cfb_tree.specs.Objects.{name_of, HoldsTree}
 use Rattle.cfb_directory.specs.Children.{HasAt, HoldsMore, LinksNew}
 use Rattle.cfb_directory.specs.Entries.{entries_in}
 use Rattle.cfb_directory.specs.Views.{allocator_of, entries_held}
-use Rattle.cfb_directory.proofs.Inserted.{inserted_at, inserted_holds_tree}
+use Rattle.cfb_directory.proofs.Inserted.{inserted_at, inserted_holds_tree, inserted_others}
 use Rattle.cfb_directory.proofs.directory.Directory.insert_dir_entry.Goals as goal
 
 pub returns-in-Some-Taken-clause-taken : goal.returns-in-Some-Taken-clause-taken
@@ -50,4 +50,10 @@ returns-clause-entry g c =
     let old = entries_held c.args.self.now in
     let new = entries_held c.add_child.new.self in
     subst (HasAt new id) c.new.ensures (inserted_at v c.in-Some-Free.link (entry_in c.new.result) old new id links))
+    c.add_child.ensures.added
+
+pub returns-clause-others : goal.returns-clause-others
+returns-clause-others g c =
+    if_ok c.add_child.result _ _ (λ id links.
+    inserted_others (version_of (allocator_of c.args.self.now)) c.in-Some-Free.link (entry_in c.new.result) (entries_held c.args.self.now) (entries_held c.add_child.new.self) id links)
     c.add_child.ensures.added

@@ -11,6 +11,7 @@ use Rattle.cfb_tree.specs.LetterViews.{letters_of}
 use Rattle.cfb_tree.specs.Objects.{HoldsTree}
 use Rattle.cfb_directory.specs.Entries.{entries_in}
 use Rattle.cfb_directory.specs.Views.{entries_held}
+use Rattle.cfb_directory.proofs.Inserted.{taken_others}
 use Rattle.cfb_directory.proofs.directory.Directory.remove_dir_entry.Goals as goal
 
 pub returns-in-Some-Free-clause-missing : goal.returns-in-Some-Free-clause-missing
@@ -42,5 +43,6 @@ returns-clause-removed g c =
       subst (λ es. HoldsOneLess l (ReadBy reads) old es (removed l (path_to path name) tree) h.ids c.in-Some-Taken.id out.own)
           (ap (λ es. slice_set (taken_out c.in-Some.removal es) c.in-Some-Taken.id empty_entry) (sym c.note.ensures.same) ∙ sym taken)
           (out.leaves empty_entry),
+      taken_others c.in-Some.removal old _ c.in-Some-Taken.id empty_entry (taken ∙ ap (λ es. slice_set (taken_out c.in-Some.removal es) c.in-Some-Taken.id empty_entry) c.note.ensures.same),
     ))
     c.take_out.ensures.taken

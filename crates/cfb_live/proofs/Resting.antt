@@ -1,0 +1,49 @@
+-- A live file to which only reads happened.
+use Rattle.std.proofs.Common.{◌≡◌, ℕ, List, ap, sym, subst, ◌∙◌, IsTrue}
+use Rattle.cfb_medium.specs.declared.medium.ReadMedium.{Ghosts}
+use Rattle.cfb_medium.specs.declared.version.Version.{Version}
+use Rattle.cfb_fat.specs.Tables.{is_honest}
+use Rattle.cfb_tree.specs.Directory.{Entry}
+use Rattle.cfb_tree.specs.Names.{Letters}
+use Rattle.cfb_tree.specs.Tree.{Tree}
+use Rattle.cfb_mini.specs.Changing.{KeepsOwners}
+use Rattle.cfb_mini.specs.Views.{allocator_of}
+use Rattle.cfb_mini.specs.declared.mini_allocator.MiniAllocator.{MiniAllocator}
+use Rattle.cfb_owners.specs.Held.{MeansHeld}
+use Rattle.cfb_owners.specs.LiveFile.{LiveFile}
+use Rattle.cfb_live.specs.Live.{live_of, Means}
+
+abbrev file_of : Version → List ℕ → ℕ → List ℕ → List ℕ → List ℕ → List ℕ → List Entry → LiveFile
+file_of version bytes count fat fat_sectors difat_sectors mini_fat entries = record {
+  version = version;
+  bytes = bytes;
+  count = count;
+  fat = fat;
+  fat_sectors = fat_sectors;
+  difat_sectors = difat_sectors;
+  mini_fat = mini_fat;
+  entries = entries;
+}
+
+module _ {F : Type 0} {g : Ghosts F} (old new : MiniAllocator F g) (k : KeepsOwners old new) where
+  same_file : IsTrue (is_honest (allocator_of old)) → live_of new ≡ live_of old
+  unfolding live_of
+  same_file honest =
+      let version = k.allocator.sectors.version in
+      let bytes = k.allocator.sectors.bytes honest in
+      let count = k.allocator.sectors.count in
+      let fat = k.allocator.fat in
+      let fat_sectors = k.allocator.fat_sectors in
+      let difat_sectors = k.allocator.difat_sectors in
+      let mini_fat = k.mini_fat in
+      let entries = k.entries in
+      cc
+
+  pub means_stays : (letters : Letters) (tree : Tree) → Means letters old tree → Means letters new tree
+  means_stays letters tree m = record {
+    live = k.allocator.sectors.failed ∙ m.live;
+    orderly = subst IsTrue (sym k.allocator.orderly) m.orderly;
+    who = m.who;
+    owners = k.owners m.who.sectors m.owners;
+    held = subst (λ s. MeansHeld s m.who letters tree) (sym (same_file m.owners.honest)) m.held;
+  }

@@ -1,0 +1,30 @@
+-- What a call that may change a live file's tree does.
+use Rattle.std.specs.Prelude.{◌≡◌, ◌⊎◌, true, Option, Some, Result, IfErr, OnErr, OnOk}
+use Rattle.cfb_entries.specs.Rules.{answer_at}
+use Rattle.cfb_fat.specs.Tables.{has_failed_here}
+use Rattle.cfb_meaning.specs.TreeRules.{done, refused, tree_step, Call}
+use Rattle.cfb_medium.specs.Calls.{IsFaultUnless}
+use Rattle.cfb_medium.specs.declared.error.Error.{Error}
+use Rattle.cfb_medium.specs.declared.medium.ReadMedium.{Ghosts}
+use Rattle.cfb_mini.specs.Changing.{KeepsOwners}
+use Rattle.cfb_mini.specs.Views.{allocator_of}
+use Rattle.cfb_mini.specs.declared.mini_allocator.MiniAllocator.{MiniAllocator}
+use Rattle.cfb_tree.specs.Names.{Letters}
+use Rattle.cfb_tree.specs.Paths.{Path}
+use Rattle.cfb_tree.specs.Tree.{Tree}
+use Rattle.cfb_live.specs.Live.{Means}
+
+module _ {F : Type 0} {g : Ghosts F} where
+  -- the rules answer that the call at the path is done, and the file means the tree that they give
+  pub record IsDone (letters : Letters) (path : Option Path) (call : Path → Call) (tree : Tree) (new : MiniAllocator F g) : Type 0 where
+    pub names : Path
+    pub at_path : path ≡ Some names
+    pub accepted : (tree_step letters tree (call names)).1 ≡ done
+    pub means : Means letters new (tree_step letters tree (call names)).0
+
+  -- Of a file that means a tree: the call at the path is done by the rules, or refused just as these refuse it; else a fault came
+  -- between. After an error nothing is changed, or the file has failed.
+  pub record Does {T : Type 0} (letters : Letters) (path : Option Path) (call : Path → Call) (result : Result T Error) (old new : MiniAllocator F g) : Type 0 where
+    pub done : OnOk result ((tree : Tree) → Means letters old tree → IsDone letters path call tree new)
+    pub refused : IfErr result (λ e. (tree : Tree) → Means letters old tree → IsFaultUnless ⊥ e ⊎ (answer_at letters tree call path ≡ refused e))
+    pub rests : OnErr result ((has_failed_here (allocator_of new) ≡ true) ⊎ KeepsOwners old new)

@@ -1,0 +1,37 @@
+-- Which tree a live file means: its bytes, and what memory has of them ([MS-CFB] 2).
+use Rattle.std.specs.Prelude.{◌≡◌, false, IsTrue}
+use Rattle.cfb_medium.specs.declared.medium.ReadMedium.{Ghosts}
+use Rattle.cfb_sectors.specs.Held.{count_of}
+use Rattle.cfb_fat.specs.Tables.{bytes_of, difat_sectors_of, fat_of, fat_sectors_of, has_failed_here, orderly_of, sectors_of, version_of}
+use Rattle.cfb_tree.specs.Names.{Letters}
+use Rattle.cfb_tree.specs.Tree.{Tree}
+use Rattle.cfb_directory.specs.Views.{entries_held}
+use Rattle.cfb_mini.specs.Changing.{HasOwners}
+use Rattle.cfb_mini.specs.Views.{allocator_of, directory_of, mini_fat_of}
+use Rattle.cfb_mini.specs.declared.mini_allocator.MiniAllocator.{MiniAllocator}
+use Rattle.cfb_owners.specs.Held.{MeansHeld}
+use Rattle.cfb_owners.specs.LiveFile.{LiveFile}
+use Rattle.cfb_owners.specs.Owners.{Owners}
+
+module _ {F : Type 0} {g : Ghosts F} where
+  -- what is seen of it
+  unfoldable pub live_of : MiniAllocator F g → LiveFile
+  live_of it = record {
+    version = version_of (allocator_of it);
+    bytes = bytes_of (allocator_of it);
+    count = count_of (sectors_of (allocator_of it));
+    fat = fat_of (allocator_of it);
+    fat_sectors = fat_sectors_of (allocator_of it);
+    difat_sectors = difat_sectors_of (allocator_of it);
+    mini_fat = mini_fat_of it;
+    entries = entries_held (directory_of it);
+  }
+
+  -- THE LIVE FILE MEANS THE TREE: nothing has failed, its tables can be changed, memory is that of the bytes of an honest medium,
+  -- and each stream of the tree has its bytes in sectors or mini sectors that nothing else owns
+  pub record Means (letters : Letters) (it : MiniAllocator F g) (tree : Tree) : Type 0 where
+    pub live : has_failed_here (allocator_of it) ≡ false
+    pub orderly : IsTrue (orderly_of (allocator_of it))
+    pub who : Owners
+    pub owners : HasOwners it who.sectors
+    pub held : MeansHeld (live_of it) who letters tree

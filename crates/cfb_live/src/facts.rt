@@ -1,0 +1,76 @@
+//! Facts of objects: state bits, class identifiers and times ([MS-CFB] 2.6.1).
+ghost use Rattle.cfb_entries.specs.Rules.{names_in};
+ghost use Rattle.cfb_fat.specs.Calls.{Answers};
+ghost use Rattle.cfb_live.specs.Doing.{Does};
+ghost use Rattle.cfb_live.specs.Facts.{setting, IsRefusedFact};
+ghost use Rattle.cfb_mini.specs.Views.{allocator_of};
+ghost use Rattle.cfb_owned.specs.Chains.{GoesOn};
+ghost use Rattle.cfb_tree.specs.LetterViews.{letters_of};
+
+use crate::finding::find_object;
+use cfb_directory::EntryChange;
+use cfb_medium::{Error, Medium, Timestamp};
+use cfb_mini::MiniAllocator;
+use cfb_sectors::HasSectors;
+use cfb_tree::{CaseMapper, DirEntry, ObjType};
+use std::alloc::Global;
+use uuid::Uuid;
+
+/// What may be told of an object beside its name and what it holds ([MS-CFB] 2.6.1).
+#[derive(Clone, Copy)]
+pub enum Fact {
+    /// The state bits.
+    StateBits(u32),
+    /// A storage's class identifier.
+    ClassId(Uuid),
+    /// When a storage was created.
+    Created(Timestamp),
+    /// When a storage was modified last.
+    Modified(Timestamp),
+}
+
+impl Fact {
+    // The change of an entry that tells it; none of an entry that has no such fact. A stream has no class identifier.
+    fn change_of(self, id: u32, entry: &DirEntry) -> Result<Option<EntryChange>, Error> {
+        let is_stream = matches!(entry.obj_type(), Some(ObjType::Stream));
+        match self {
+            Fact::StateBits(state_bits) => Ok(Some(EntryChange::StateBits(state_bits))),
+            Fact::ClassId(_) if is_stream => Err(Error::InvalidInput),
+            Fact::ClassId(clsid) => Ok(Some(EntryChange::ClassId(clsid))),
+            Fact::Created(_) | Fact::Modified(_) if is_stream || id == 0 => Ok(None),
+            Fact::Created(moment) => Ok(Some(EntryChange::Created(moment))),
+            Fact::Modified(moment) => Ok(Some(EntryChange::Modified(moment))),
+        }
+    }
+}
+
+/// Sets a fact of the object at a path, in its entry. `InvalidInput` where the path leads above the root, `NotFound` where no
+/// object is there, `InvalidInput` where a stream would get a class identifier. Times are those of storages below the root: of
+/// other objects the call changes nothing. `InvalidData` where the file hasn't its directory. The other errors are `Memory`,
+/// `Device`, and `Failed` after an earlier fault. After an error nothing is changed, or the file has failed ([MS-CFB] 2.6.1).
+pub fn set_fact<F: Medium>(
+    alloc: Global,
+    mini: &mut MiniAllocator<F>,
+    letters: &CaseMapper,
+    path: &str,
+    fact: Fact,
+) -> Result<(), Error>
+    ensures does { Does (letters_of letters.now) (names_in path.now) (setting fact) result mini.old
+        mini.new }
+    ensures goes_on { GoesOn (allocator_of mini.old) (allocator_of mini.new) }
+    ensures answers { Answers IsRefusedFact result (allocator_of mini.old)
+        (allocator_of mini.new) }
+{
+    if mini.directory().allocator().is_failed() {
+        return Err(Error::Failed);
+    }
+    let id = match find_object(alloc, letters, mini.directory().dir_entries(), path) {
+        Ok(id) => id,
+        Err(error) => return Err(error),
+    };
+    match fact.change_of(id, mini.directory().dir_entry(id)) {
+        Ok(Some(change)) => mini.with_dir_entry_mut(id, change),
+        Ok(None) => Ok(()),
+        Err(error) => Err(error),
+    }
+}

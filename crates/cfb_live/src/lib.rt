@@ -1,0 +1,9 @@
+//! A live compound file: the tree that it means while it is open, and how calls change it.
+#![tactic(auto)]
+
+mod facts;
+mod finding;
+mod laws;
+
+pub use facts::{Fact, set_fact};
+pub use laws::live_files_mean_their_trees;

@@ -1,0 +1,106 @@
+-- The directory changes over this layer.
+use Rattle.std.proofs.Common.{◌≡◌, ℕ, Bool, true, false, List, [], ◌∷◌, ◌++◌, refl, ap, sym, subst, ◌∙◌, arith, set, zero, suc, IsTrue}
+use Rattle.std.specs.Prelude.{slice_get, slice_index_or, Some}
+use Rattle.cfb_medium.specs.Numbers.{numbers}
+use Rattle.cfb_medium.specs.declared.medium.ReadMedium.{Ghosts}
+use Rattle.cfb_sectors.specs.Sectors.{end_of_chain, fat_in, sector}
+use Rattle.cfb_chains.specs.Changes.{AreNoneOf}
+use Rattle.cfb_chains.specs.LinkViews.{ids_of}
+use Rattle.cfb_chains.specs.Owned.{Becomes, Moves, Owned, Stays}
+use Rattle.cfb_chains.proofs.Owners.{other_left, owned_changed}
+use Rattle.cfb_fat.specs.Seeing.{seen_of}
+use Rattle.cfb_fat.specs.Tables.{bytes_of, difat_sectors_of, fat_of, fat_sectors_of, tables_of, version_of, AllRests}
+use Rattle.cfb_owned.specs.Chains.{GoesOn}
+use Rattle.cfb_tree.specs.Directory.{Entry}
+use Rattle.cfb_directory.specs.Changes.{LiesBeside}
+use Rattle.cfb_directory.specs.Views as directory
+use Rattle.cfb_directory.specs.declared.directory.Directory.{Directory}
+use Rattle.cfb_mini.specs.Changing.{ChangesDirectory, HasOwners, KeepsOwners}
+use Rattle.cfb_mini.specs.Views.{allocator_of, directory_of, mini_stream_ids}
+use Rattle.cfb_mini.specs.declared.mini_allocator.MiniAllocator.{MiniAllocator}
+use Rattle.cfb_mini.proofs.Keeping.{bytes_still, linked_still, over_rests, pick, pick_mine, pick_other}
+
+pub not_failed : (b : Bool) → (b ≡ true → ⊥) → b ≡ false
+not_failed true never = absurd (never refl)
+not_failed false never = refl
+
+-- the first entry keeps where its stream begins, where the one that was set does if it is the first
+pub first_start : (xs : List Entry) (id : ℕ) (e f root : Entry) (start : ℕ) → slice_get xs id ≡ Some e → (id ≡ 0 → f.start ≡ e.start) → ((r : Entry) → slice_get xs 0 ≡ Some r → r.start ≡ start)
+    → slice_get (set xs id f) 0 ≡ Some root → root.start ≡ start
+first_start [] id e f root start found keeps at now = let wrong = found in cc
+first_start (x ∷ xs) zero e f root start found keeps at now =
+    let here : f ≡ root = cc in
+    ap (λ (r : Entry). r.start) (sym here) ∙ keeps refl ∙ at e found
+first_start (x ∷ xs) (suc id) e f root start found keeps at now = at root now
+
+module _ {F : Type 0} {g : Ghosts F} where
+  -- what has the directory's sectors lies beside the tables
+  pub directory_beside : (it : MiniAllocator F g) (own : ℕ → List ℕ) → HasOwners it own → LiesBeside (directory_of it)
+  directory_beside it own h = subst (AreNoneOf (tables_of (allocator_of it))) h.directory (h.owned.beside 0)
+
+  pub directory_changes : (words more : List ℕ) (it : MiniAllocator F g) (d : Directory F g) (own : ℕ → List ℕ) → HasOwners it own → GoesOn (allocator_of it) (directory.allocator_of d)
+      → directory.directory_ids d ≡ directory.directory_ids (directory_of it) ++ more
+      → Becomes (sector (version_of (allocator_of it))) words (directory.directory_ids (directory_of it)) more (directory.directory_ids d) (seen_of (allocator_of it)) (seen_of (directory.allocator_of d))
+      → (directory.IsDirectory (directory_of it) → LiesBeside (directory_of it) → directory.IsDirectory d)
+      → ((root : Entry) → slice_get (directory.entries_held d) 0 ≡ Some root → root.start ≡ slice_index_or (mini_stream_ids it) 0 end_of_chain)
+      → ChangesDirectory words it (record it { directory = d }) own
+  unfolding seen_of
+  directory_changes words more it d own h goes longer becomes remembers root =
+      let a = allocator_of it in
+      let b = directory.allocator_of d in
+      let v = version_of a in
+      let ids = directory.directory_ids d in
+      let mine : Becomes (sector v) words (own 0) more ids (seen_of a) (seen_of b) = subst (λ l. Becomes (sector v) words l more ids (seen_of a) (seen_of b)) (sym h.directory) becomes in
+      let moves : Moves (sector v) words 0 ids more (seen_of a) (seen_of b) own (pick own 0 ids) = record { becomes = mine; mine = pick_mine own 0 ids; others = pick_other own 0 ids } in
+      let stays : (k : ℕ) → (k ≡ 0 → ⊥) → Stays (sector v) (seen_of a) (seen_of b) (own k) = other_left (sector v) (seen_of a) (seen_of b) own (pick own 0 ids) 0 words ids more h.owned moves in
+      let fat_ids = ids_of it.mini_fat.links in
+      let stream_ids = ids_of it.mini_fat.stream in
+      let fat_stays : Stays (sector v) (seen_of a) (seen_of b) fat_ids = subst (Stays (sector v) (seen_of a) (seen_of b)) h.mini_fat (stays 1 (λ same. omega (arith, same))) in
+      let stream_stays : Stays (sector v) (seen_of a) (seen_of b) stream_ids = subst (Stays (sector v) (seen_of a) (seen_of b)) h.mini_stream (stays 2 (λ same. omega (arith, same))) in
+      record {
+        more = more;
+        ids = longer;
+        becomes = mine;
+        owners = λ then first others. record {
+          honest = subst IsTrue (sym goes.honest) h.honest;
+          memory = record {
+            directory = remembers h.memory.directory (directory_beside it own h);
+            over = record {
+              version = h.memory.over.version ∙ sym goes.version;
+              stream_version = h.memory.over.stream_version ∙ sym goes.version;
+              linked = λ live honest. linked_still a b fat_ids fat_stays;
+              stream_linked = λ live honest. linked_still a b stream_ids stream_stays;
+              numbers = λ live honest. h.memory.over.numbers (goes.live live) h.honest ∙ ap numbers (sym (bytes_still a b fat_ids goes fat_stays));
+            };
+            stream_at = root;
+          };
+          owned = owned_changed (sector v) (seen_of a) (seen_of b) own then 0 words ids more h.owned (record { becomes = mine; mine = first; others = others });
+          directory = first;
+          mini_fat = others 1 (λ same. omega (arith, same)) ∙ h.mini_fat;
+          mini_stream = others 2 (λ same. omega (arith, same)) ∙ h.mini_stream;
+        };
+        mini_fat = refl;
+      }
+
+  -- nothing happened but reads
+  pub keeps_owners : (it : MiniAllocator F g) (d : Directory F g) → AllRests (allocator_of it) (directory.allocator_of d) → directory.directory_ids d ≡ directory.directory_ids (directory_of it) → directory.entries_held d ≡ directory.entries_held (directory_of it)
+      → (directory.IsDirectory (directory_of it) → LiesBeside (directory_of it) → directory.IsDirectory d) → KeepsOwners it (record it { directory = d })
+  keeps_owners it d rests ids entries remembers =
+      let a = allocator_of it in
+      let b = directory.allocator_of d in record {
+        allocator = rests;
+        entries = entries;
+        mini_fat = refl;
+        owners = λ own h. record {
+          honest = subst IsTrue (sym rests.sectors.honest) h.honest;
+          memory = record {
+            directory = remembers h.memory.directory (directory_beside it own h);
+            over = over_rests a b it.mini_fat it.mini_fat rests (record { links = refl; stream = refl }) refl h.memory.over;
+            stream_at = λ root found. h.memory.stream_at root (ap (λ l. slice_get l 0) (sym entries) ∙ found);
+          };
+          owned = subst (λ t. Owned t (tables_of b) own) (sym rests.fat) (subst (λ t. Owned (fat_of a) t own) (sym (ap (λ l. l ++ fat_sectors_of a) rests.difat_sectors ∙ ap (λ l. difat_sectors_of b ++ l) rests.fat_sectors)) h.owned);
+          directory = h.directory ∙ sym ids;
+          mini_fat = h.mini_fat;
+          mini_stream = h.mini_stream;
+        };
+      }

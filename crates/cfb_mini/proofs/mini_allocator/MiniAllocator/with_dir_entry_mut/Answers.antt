@@ -1,0 +1,28 @@
+use Rattle.std.proofs.Common.{rules, inl, inr, [], append-nil, refl, ap, sym, subst, ◌∙◌, ⊎_elim}
+use Rattle.std.specs.Prelude.{slice_get}
+use Rattle.cfb_directory.specs.Views as directory
+use Rattle.cfb_directory.proofs.Setting.{has_directory}
+use Rattle.cfb_mini.specs.Views.{directory_of}
+use Rattle.cfb_mini.proofs.DirectoryChanges.{directory_beside, directory_changes, first_start, keeps_owners, not_failed}
+use Rattle.cfb_mini.proofs.mini_allocator.MiniAllocator.with_dir_entry_mut.Goals as goal
+
+pub returns-in-Err-clause-refused : goal.returns-in-Err-clause-refused
+returns-in-Err-clause-refused g c = λ wrong own h.
+    let it = c.args.self.now in
+    let live = not_failed _ (λ failed. let other = (c.in-Err.ensures.answers.failed failed).0 in absurd (cc)) in
+    c.in-Err.ensures.refused wrong (has_directory (directory_of it) live h.honest h.memory.directory (directory_beside it own h))
+
+pub returns-in-Err-clause-rests : goal.returns-in-Err-clause-rests
+returns-in-Err-clause-rests g c =
+    let it = c.args.self.now in
+    let kept = c.in-Err.ensures.kept in
+    ⊎_elim (λ failed. inl failed) (λ rests. inr (keeps_owners it c.with_dir_entry_mut.new.self rests kept.ids kept.entries c.with_dir_entry_mut.ensures.memory)) c.in-Err.ensures.answers.after
+
+pub returns-clause-changes : goal.returns-clause-changes
+returns-clause-changes g c = λ own e h found keeps.
+    let it = c.args.self.now in
+    let d = c.with_dir_entry_mut.new.self in
+    let sets = c.in_default.ensures.set e found in
+    let has = has_directory (directory_of it) c.in_default.ensures.answers.live.0 h.honest h.memory.directory (directory_beside it own h) in
+    directory_changes [] [] it d own h c.with_dir_entry_mut.ensures.goes_on (sets.ids ∙ sym (append-nil (directory.directory_ids (directory_of it)))) (sets.becomes has) c.with_dir_entry_mut.ensures.memory
+    (λ root at. first_start (directory.entries_held (directory_of it)) c.args.id e _ root _ found keeps h.memory.stream_at (ap (λ l. slice_get l 0) (sym sets.entries) ∙ at))
