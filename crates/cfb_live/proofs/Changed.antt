@@ -113,7 +113,7 @@ module _ (s t : LiveFile) (who now : Owners) (letters : Letters) (tree later : T
       }
 
 -- a set entry keeps its place, and all others do
-set_keeps : (xs : List Entry) (id : ℕ) (e f : Entry) → slice_get xs id ≡ Some e → f.kind ≡ e.kind → f.start ≡ e.start → f.size ≡ e.size → (k : ℕ) → KeepsPlace xs (slice_set xs id f) k
+pub set_keeps : (xs : List Entry) (id : ℕ) (e f : Entry) → slice_get xs id ≡ Some e → f.kind ≡ e.kind → f.start ≡ e.start → f.size ≡ e.size → (k : ℕ) → KeepsPlace xs (slice_set xs id f) k
 set_keeps xs id e f found kind start size k x at =
     ⊎_elim
     (λ same.

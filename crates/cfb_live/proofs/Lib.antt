@@ -1,7 +1,9 @@
 pub mod Carried
 pub mod Changed
 pub mod Directories
+pub mod FactRules
 pub mod Headers
 pub mod KeptNow
 pub mod Resting
+pub mod SetFacts
 pub mod Streams

@@ -5,7 +5,11 @@ ghost use Rattle.cfb_live.specs.Doing.{Does};
 ghost use Rattle.cfb_live.specs.Facts.{setting, IsRefusedFact};
 ghost use Rattle.cfb_mini.specs.Views.{allocator_of};
 ghost use Rattle.cfb_owned.specs.Chains.{GoesOn};
+ghost use Rattle.cfb_medium.specs.declared.error.Error.TheVariants.{InvalidInput};
+ghost use Rattle.cfb_tree.specs.Directory.{kind_stream};
+ghost use Rattle.cfb_tree.specs.EntryViews.{entry_in};
 ghost use Rattle.cfb_tree.specs.LetterViews.{letters_of};
+ghost use Rattle.std.specs.Prelude.{IfErr, IfOk, IfSome, IsTrue, None, ◌≡◌, ◌↔◌};
 
 use crate::finding::find_object;
 use cfb_directory::EntryChange;
@@ -30,18 +34,59 @@ pub enum Fact {
 }
 
 impl Fact {
-    // The change of an entry that tells it; none of an entry that has no such fact. A stream has no class identifier.
-    fn change_of(self, id: u32, entry: &DirEntry) -> Result<Option<EntryChange>, Error> {
-        let is_stream = matches!(entry.obj_type(), Some(ObjType::Stream));
+    ghost use Rattle.cfb_live.specs.Facts.{change_for, LacksClassId, LacksTime, MayHave};
+
+    // The change of an entry that sets the fact, where it has such a one. `InvalidInput` where a stream would get a class
+    // identifier.
+    fn change_of(self, id: u32, entry: &DirEntry) -> Result<Option<EntryChange>, Error>
+        ensures some { IfOk result (λ it. IfSome it (λ change. (change ≡ change_for self)
+            × MayHave self id (entry_in entry.now))) }
+        ensures none { IfOk result (λ it. it ≡ None → LacksTime self id (entry_in entry.now)) }
+        ensures refused { IfErr result (λ e. (e ≡ InvalidInput)
+            × LacksClassId self (entry_in entry.now)) }
+    {
         match self {
             Fact::StateBits(state_bits) => Ok(Some(EntryChange::StateBits(state_bits))),
-            Fact::ClassId(_) if is_stream => Err(Error::InvalidInput),
-            Fact::ClassId(clsid) => Ok(Some(EntryChange::ClassId(clsid))),
-            Fact::Created(_) | Fact::Modified(_) if is_stream || id == 0 => Ok(None),
-            Fact::Created(moment) => Ok(Some(EntryChange::Created(moment))),
-            Fact::Modified(moment) => Ok(Some(EntryChange::Modified(moment))),
+            Fact::ClassId(clsid) => {
+                if is_stream(entry) {
+                    return Err(Error::InvalidInput);
+                }
+                Ok(Some(EntryChange::ClassId(clsid)))
+            }
+            Fact::Created(moment) => {
+                if !has_times(id, entry) {
+                    return Ok(None);
+                }
+                Ok(Some(EntryChange::Created(moment)))
+            }
+            Fact::Modified(moment) => {
+                if !has_times(id, entry) {
+                    return Ok(None);
+                }
+                Ok(Some(EntryChange::Modified(moment)))
+            }
         }
     }
+}
+
+// Whether the entry is a stream.
+fn is_stream(entry: &DirEntry) -> bool
+    ensures { IsTrue result ↔ ((entry_in entry.now).kind ≡ kind_stream) }
+{
+    match entry.obj_type() {
+        Some(kind) => kind.as_byte() == ObjType::Stream.as_byte(),
+        None => false,
+    }
+}
+
+// Whether the object has times: a storage below the root has.
+fn has_times(id: u32, entry: &DirEntry) -> bool
+    ensures { IsTrue result ↔ (((entry_in entry.now).kind ≡ kind_stream → ⊥) × (id ≡ 0 → ⊥)) }
+{
+    if id == 0 {
+        return false;
+    }
+    !is_stream(entry)
 }
 
 /// Sets a fact of the object at a path, in its entry. `InvalidInput` where the path leads above the root, `NotFound` where no
@@ -68,9 +113,13 @@ pub fn set_fact<F: Medium>(
         Ok(id) => id,
         Err(error) => return Err(error),
     };
-    match fact.change_of(id, mini.directory().dir_entry(id)) {
-        Ok(Some(change)) => mini.with_dir_entry_mut(id, change),
-        Ok(None) => Ok(()),
-        Err(error) => Err(error),
+    let change = match fact.change_of(id, mini.directory().dir_entry(id)) {
+        Ok(Some(change)) => change,
+        Ok(None) => return Ok(()),
+        Err(error) => return Err(error),
+    };
+    if let Err(error) = mini.with_dir_entry_mut(id, change) {
+        return Err(error);
     }
+    Ok(())
 }

@@ -98,7 +98,7 @@ module _ {F : Type 0} {g : Ghosts F} where
             over = over_rests a b it.mini_fat it.mini_fat rests (record { links = refl; stream = refl }) refl h.memory.over;
             stream_at = λ root found. h.memory.stream_at root (ap (λ l. slice_get l 0) (sym entries) ∙ found);
           };
-          owned = subst (λ t. Owned t (tables_of b) own) (sym rests.fat) (subst (λ t. Owned (fat_of a) t own) (sym (ap (λ l. l ++ fat_sectors_of a) rests.difat_sectors ∙ ap (λ l. difat_sectors_of b ++ l) rests.fat_sectors)) h.owned);
+          owned = subst (λ t. Owned t (tables_of b) own) (sym rests.fat) (subst (λ t. Owned (fat_of a) t own) (ap (λ l. l ++ fat_sectors_of a) (sym rests.difat_sectors) ∙ ap (λ l. difat_sectors_of b ++ l) (sym rests.fat_sectors)) h.owned);
           directory = h.directory ∙ sym ids;
           mini_fat = h.mini_fat;
           mini_stream = h.mini_stream;

@@ -2,8 +2,8 @@
 #![tactic(auto)]
 
 mod changing;
+mod directory_entries;
 mod entering;
-mod entries;
 mod growing;
 mod laws;
 mod lending;

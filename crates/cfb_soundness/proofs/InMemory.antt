@@ -45,20 +45,20 @@ module _ {F : Type 0} {g : Ghosts F} (file : MiniAllocator F g) (file_len : ℕ)
   abbrev count : ℕ
   count = count_of (sectors_of (allocator_of file))
 
-  count_is : sectors_in l.version (length bytes) ≡ count
+  pub count_is : sectors_in l.version (length bytes) ≡ count
   count_is = ap (λ v. sectors_in v (length bytes)) so.version ∙ sym ((sectors_of (allocator_of file)).counted so.live so.honest)
 
-  fat_is : take (sectors_in l.version (length bytes)) (fat_in l.version bytes l.fat_sectors) ≡ fat_of (allocator_of file)
+  pub fat_is : take (sectors_in l.version (length bytes)) (fat_in l.version bytes l.fat_sectors) ≡ fat_of (allocator_of file)
   fat_is = ap (λ n. take n (fat_in l.version bytes l.fat_sectors)) count_is
       ∙ ap (λ v. take count (fat_in v bytes l.fat_sectors)) so.version
       ∙ ap (λ fs. take count (fat_in (version_of (allocator_of file)) bytes fs)) so.fat_sectors
       ∙ sym ((allocator_of file).same so.live so.honest)
 
-  mini_fat_is : fat_in l.version bytes l.mini_fat_sectors ≡ mini_fat_of file
+  pub mini_fat_is : fat_in l.version bytes l.mini_fat_sectors ≡ mini_fat_of file
   mini_fat_is = ap (λ v. fat_in v bytes l.mini_fat_sectors) so.version ∙ ap (fat_in (version_of (allocator_of file)) bytes) so.mini_fat_sectors
       ∙ sym (so.memory.over.numbers so.live so.honest)
 
-  entries_are : directory bytes l ≡ entries_held (directory_of file)
+  pub entries_are : directory bytes l ≡ entries_held (directory_of file)
   entries_are = ap (λ v. entries_of v (joined v bytes l.directory_sectors)) so.version
       ∙ ap (λ ids. entries_of (version_of (allocator_of file)) (joined (version_of (allocator_of file)) bytes ids)) so.directory_sectors
       ∙ sym (so.memory.directory.entries so.live so.honest)

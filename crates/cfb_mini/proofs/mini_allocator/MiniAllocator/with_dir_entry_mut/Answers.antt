@@ -1,8 +1,12 @@
 use Rattle.std.proofs.Common.{rules, inl, inr, [], append-nil, refl, ap, sym, subst, ◌∙◌, ⊎_elim}
 use Rattle.std.specs.Prelude.{slice_get}
+use Rattle.cfb_chains.specs.Owned.{Becomes}
+use Rattle.cfb_fat.specs.Seeing.{seen_of}
+use Rattle.cfb_fat.specs.Tables.{version_of}
+use Rattle.cfb_sectors.specs.Sectors.{sector}
 use Rattle.cfb_directory.specs.Views as directory
 use Rattle.cfb_directory.proofs.Setting.{has_directory}
-use Rattle.cfb_mini.specs.Views.{directory_of}
+use Rattle.cfb_mini.specs.Views.{allocator_of, directory_of}
 use Rattle.cfb_mini.proofs.DirectoryChanges.{directory_beside, directory_changes, first_start, keeps_owners, not_failed}
 use Rattle.cfb_mini.proofs.mini_allocator.MiniAllocator.with_dir_entry_mut.Goals as goal
 
@@ -24,5 +28,5 @@ returns-clause-changes g c = λ own e h found keeps.
     let d = c.with_dir_entry_mut.new.self in
     let sets = c.in_default.ensures.set e found in
     let has = has_directory (directory_of it) c.in_default.ensures.answers.live.0 h.honest h.memory.directory (directory_beside it own h) in
-    directory_changes [] [] it d own h c.with_dir_entry_mut.ensures.goes_on (sets.ids ∙ sym (append-nil (directory.directory_ids (directory_of it)))) (sets.becomes has) c.with_dir_entry_mut.ensures.memory
+    directory_changes [] [] it d own h c.with_dir_entry_mut.ensures.goes_on (sets.ids ∙ sym (append-nil (directory.directory_ids (directory_of it)))) (subst (λ l. Becomes (sector (version_of (allocator_of it))) [] (directory.directory_ids (directory_of it)) [] l (seen_of (allocator_of it)) (seen_of (directory.allocator_of d))) (sym sets.ids) (sets.becomes has)) c.with_dir_entry_mut.ensures.memory
     (λ root at. first_start (directory.entries_held (directory_of it)) c.args.id e _ root _ found keeps h.memory.stream_at (ap (λ l. slice_get l 0) (sym sets.entries) ∙ at))

@@ -1,0 +1,144 @@
+-- A sound file that was opened means a tree while it is live.
+use Rattle.std.proofs.Common.{◌≡◌, ℕ, ◌+◌, ◌-◌, ◌*◌, ◌/◌, ◌<◌, ◌≤◌, false, List, [], ◌∷◌, ◌++◌, length, take, replicate, zero, suc, refl, ap, sym, subst, ◌∙◌, arith, length-append, length-take, IsTrue}
+use Rattle.std.specs.Prelude.{slice_get, Some}
+use Rattle.std.specs.List.{AllByRecursion}
+use Rattle.std.proofs.lemmas.List.{length-replicate}
+use Rattle.cfb_medium.specs.declared.medium.ReadMedium.{Ghosts}
+use Rattle.cfb_sectors.specs.Sectors.{fat_in, free, joined, sectors_in, AreInFile}
+use Rattle.cfb_chains.specs.Changes.{AreOnce}
+use Rattle.cfb_chains.specs.Owned.{Owned}
+use Rattle.cfb_fat.specs.Orderly.{AreBelow, IsOrderly}
+use Rattle.cfb_fat.specs.Tables.{bytes_of, fat_of, orderly_of, tables_of}
+use Rattle.cfb_fat.proofs.DifatChains.{in_file_below}
+use Rattle.cfb_fat.proofs.TableWords.{length-difat}
+use Rattle.cfb_tree.specs.Directory.{entries_of, Entry, Holds, Siblings}
+use Rattle.cfb_tree.specs.Names.{Letters}
+use Rattle.cfb_tree.specs.Tree.{Tree}
+use Rattle.cfb_tree.proofs.OneContent.{siblings_unique}
+use Rattle.cfb_directory.specs.Taken.{HasSize}
+use Rattle.cfb_mini.specs.Views.{allocator_of}
+use Rattle.cfb_mini.specs.declared.mini_allocator.MiniAllocator.{MiniAllocator}
+use Rattle.cfb_meaning.specs.Means.{directory, HasBytes, Layout, MeansBy}
+use Rattle.cfb_meaning.specs.Sound.{IsSound, IsSoundBy}
+use Rattle.cfb_meaning.proofs.OneTree.{directory_same, layout_same, root_same}
+use Rattle.cfb_owners.specs.LiveFile.{live_file, LiveFile}
+use Rattle.cfb_owners.specs.Held.{MeansHeld}
+use Rattle.cfb_owners.proofs.HeldIs.{held_is}
+use Rattle.cfb_owners.proofs.KeysOfParts.{sectors_of_map}
+use Rattle.cfb_owners.proofs.UsesOwned.{owners_of, used}
+use Rattle.cfb_soundness.specs.Views.{LiesSo}
+use Rattle.cfb_soundness.proofs.InMemory.{count_is, entries_are, fat_is, mini_fat_is}
+use Rattle.cfb_soundness.proofs.Judged.{judged_from_sound}
+use Rattle.cfb_soundness.proofs.Refilling.{entries_same}
+use Rattle.cfb_live.specs.Live.{live_of, Means}
+use Rattle.cfb.proofs.OnceByTimes.{once_by_times, times_append}
+
+-- a directory with a root has a sector
+has_sector : (bytes : List ℕ) (l : Layout) → slice_get (directory bytes l) 0 ≡ Some l.root → 0 < length l.directory_sectors
+has_sector bytes l found = some l.directory_sectors found
+  where
+    some : (ids : List ℕ) → slice_get (entries_of l.version (joined l.version bytes ids)) 0 ≡ Some l.root → 0 < length ids
+    unfolding entries_of
+    some [] found = absurd (cc)
+    some (x ∷ ids) found = omega arith
+
+some_there : (bytes : List ℕ) (l : Layout) (ids : List ℕ) → 0 < length ids → AreInFile l.version bytes ids → 0 < sectors_in l.version (length bytes)
+some_there bytes l [] none there = absurd (omega (arith, none))
+some_there bytes l (x ∷ ids) some there = let below = in_file_below l.version bytes x there.0 in omega (arith, below)
+
+below_all : (count : ℕ) (xs : List ℕ) → AllByRecursion (λ n. n < count) xs → AreBelow count xs
+below_all count [] all k inside = absurd (omega (arith, inside))
+below_all count (x ∷ xs) all zero inside = all.0
+below_all count (x ∷ xs) all (suc k) inside = below_all count xs all.1 k (omega (arith, inside))
+
+front : (P : ℕ → Type 0) (xs ys : List ℕ) → AllByRecursion P (xs ++ ys) → AllByRecursion P xs × AllByRecursion P ys
+front P [] ys all = (tt, all)
+front P (x ∷ xs) ys all = let rest = front P xs ys all.1 in ((all.0, rest.0), rest.1)
+
+-- the tables of a sound file can be changed
+module _ (bytes : List ℕ) (l : Layout) (letters : Letters) (tree : Tree) (s : IsSoundBy l letters bytes tree) where
+  abbrev count : ℕ
+  count = sectors_in l.version (length bytes)
+
+  orderly : IsOrderly l.version count (live_file bytes l).fat l.fat_sectors l.difat_sectors
+  orderly =
+      let laid = s.means.laid_out in
+      let judged = judged_from_sound bytes l letters tree s in
+      let rest = l.directory_sectors ++ l.mini_fat_sectors ++ l.mini_stream_sectors in
+      let size = length-replicate count false in
+      let each = front (λ n. n < length (replicate count false)) (l.fat_sectors ++ l.difat_sectors ++ rest) judged.sectors judged.can.there in
+      let tables = front (λ n. n < length (replicate count false)) l.fat_sectors (l.difat_sectors ++ rest) each.0 in
+      let difat = front (λ n. n < length (replicate count false)) l.difat_sectors rest tables.1 in
+      let named = ap length laid.fat_named.1 in
+      let longest = length-difat l.version bytes l.difat_sectors laid.header.whole in
+      let sum = length-append l.fat_sectors (replicate laid.fat_named.0 free) in
+      let within = length-take count (fat_in l.version bytes l.fat_sectors) in
+      let covers = judged.covers in record {
+        once = once_by_times (l.difat_sectors ++ l.fat_sectors) (λ n.
+        let most = judged.can.once n in
+        let one = times_append n (l.fat_sectors ++ l.difat_sectors ++ rest) judged.sectors in
+        let two = times_append n l.fat_sectors (l.difat_sectors ++ rest) in
+        let three = times_append n l.difat_sectors rest in
+        let four = times_append n l.difat_sectors l.fat_sectors in
+        omega (arith, most, one, two, three, four));
+        covered = omega (arith, within, covers);
+        some = some_there bytes l l.directory_sectors (has_sector bytes l laid.root_found) laid.directory_in_file;
+        there = below_all count l.difat_sectors (subst (λ n. AllByRecursion (λ x. x < n) l.difat_sectors) size difat.0);
+        named = omega (arith, named, longest, sum);
+      }
+
+module _ {F : Type 0} {g : Ghosts F} (it : MiniAllocator F g) (letters : Letters) (l : Layout) (tree : Tree) (so : LiesSo it l) (m : MeansBy l HasSize letters (bytes_of (allocator_of it)) tree) where
+  abbrev bytes : List ℕ
+  bytes = bytes_of (allocator_of it)
+
+  -- what memory shows is what the bytes have
+  file_is : live_file bytes l ≡ live_of it
+  unfolding live_of
+  file_is =
+      let version = so.version in
+      let count = count_is it (length bytes) letters l tree so refl m in
+      let fat = fat_is it (length bytes) letters l tree so refl m in
+      let fat_sectors = so.fat_sectors in
+      let difat_sectors = so.difat_sectors in
+      let mini_fat = mini_fat_is it (length bytes) letters l tree so refl m in
+      let entries = entries_are it (length bytes) letters l tree so refl m in
+      cc
+
+  -- a sound file has this layout
+  sound_so : IsSound letters bytes → (other : Tree) × IsSoundBy l letters bytes other
+  sound_so (k, other, s) =
+      let dirs = directory_same bytes l k m.laid_out s.means.laid_out in
+      let roots = root_same bytes l k m.laid_out s.means.laid_out in
+      let siblings : Siblings (directory bytes l) l.root.child s.means.children =
+      subst (λ r. Siblings (directory bytes l) r.child s.means.children) roots (subst (λ d. Siblings d k.root.child s.means.children) dirs s.means.siblings) in
+      let children : s.means.children ≡ m.children = siblings_unique siblings m.siblings in
+      let holds : Holds (directory bytes l) (HasBytes bytes k) m.children other.content k.entries =
+      subst (λ ids. Holds (directory bytes l) (HasBytes bytes k) ids other.content k.entries) children (subst (λ d. Holds d (HasBytes bytes k) s.means.children other.content k.entries) dirs s.means.holds) in
+      let entries = entries_same letters (directory bytes l) (HasBytes bytes k) HasSize other.content tree.content m.children k.entries l.entries holds m.holds in
+      let same = layout_same bytes l k m.laid_out s.means.laid_out entries in
+      (other, subst (λ (x : Layout). IsSoundBy x letters bytes other) same s)
+
+  pub sound_means : IsSound letters bytes → (other : Tree) × Means letters it other
+  unfolding live_of
+  sound_means sound =
+      let s = sound_so sound in
+      let a = allocator_of it in
+      let who = owners_of l (used bytes l letters s.0 s.1) in
+      let held : MeansHeld (live_of it) who letters s.0 = subst (λ (f : LiveFile). MeansHeld f who letters s.0) file_is (held_is bytes l letters s.0 s.1 (orderly bytes l letters s.0 s.1)) in
+      (
+        s.0,
+        record {
+          live = so.live;
+          orderly = (a.listed so.live so.honest).1 (held.kept.tables.orderly, held.kept.tables.listed);
+          who = who;
+          owners = record {
+            honest = so.honest;
+            memory = so.memory;
+            owned = held.kept.owned;
+            directory = sectors_of_map l.directory_sectors ∙ so.directory_sectors;
+            mini_fat = sectors_of_map l.mini_fat_sectors ∙ so.mini_fat_sectors;
+            mini_stream = sectors_of_map l.mini_stream_sectors ∙ so.mini_stream_sectors;
+          };
+          held = held;
+        },
+      )

@@ -1,0 +1,46 @@
+-- Which tree a `CompoundFile` means, and what a call does that may change it.
+use Rattle.std.specs.Prelude.{◌≡◌, ◌⊎◌, true, false, Option, Some, Result, IfErr, IsErrOf, OnErr, OnOk}
+use Rattle.cfb_entries.specs.Rules.{answer_at}
+use Rattle.cfb_fat.specs.Tables.{has_failed_here}
+use Rattle.cfb_live.specs.Live as live
+use Rattle.cfb_meaning.specs.TreeRules.{done, refused, tree_step, Call}
+use Rattle.cfb_medium.specs.Calls.{IsFaultUnless}
+use Rattle.cfb_medium.specs.declared.error.Error.{Error}
+use Rattle.cfb_medium.specs.declared.error.Error.TheVariants.{Failed, InvalidData}
+use Rattle.cfb_medium.specs.declared.medium.ReadMedium.{Ghosts}
+use Rattle.cfb_mini.specs.Changing.{KeepsOwners}
+use Rattle.cfb_mini.specs.Views.{allocator_of}
+use Rattle.cfb_tree.specs.Paths.{Path}
+use Rattle.cfb_tree.specs.Tree.{Tree}
+use Rattle.cfb.specs.Views.{letters_in, mini_of, sound_of}
+use Rattle.cfb.specs.declared.compound_file.CompoundFile.{CompoundFile}
+
+module _ {F : Type 0} {g : Ghosts F} where
+  -- THE FILE MEANS THE TREE: it is sound, nothing has failed, memory is that of the bytes, and these mean the tree ([MS-CFB] 2)
+  pub record Means (it : CompoundFile F g) (tree : Tree) : Type 0 where
+    pub sound : sound_of it ≡ true
+    pub live : live.Means (letters_in it) (mini_of it) tree
+
+  -- nothing but reads and flushes was done
+  pub record Rests (old new : CompoundFile F g) : Type 0 where
+    pub mini : KeepsOwners (mini_of old) (mini_of new)
+    pub letters : letters_in new ≡ letters_in old
+    pub sound : sound_of new ≡ sound_of old
+
+  -- the rules answer that the call at the path is done, and the file means the tree that they give
+  pub record IsDone (path : Option Path) (call : Path → Call) (tree : Tree) (old new : CompoundFile F g) : Type 0 where
+    pub names : Path
+    pub at_path : path ≡ Some names
+    pub accepted : (tree_step (letters_in old) tree (call names)).1 ≡ done
+    pub means : Means new (tree_step (letters_in old) tree (call names)).0
+
+  -- One that has failed answers `Failed`, and one that isn't sound `InvalidData`. Of a file that means a tree the call at the path
+  -- is done by the rules, or refused just as these refuse it; else a fault came between. After an error nothing is changed, or
+  -- the file has failed.
+  pub record Does {T : Type 0} (path : Option Path) (call : Path → Call) (result : Result T Error) (old new : CompoundFile F g) : Type 0 where
+    pub failed : has_failed_here (allocator_of (mini_of old)) ≡ true → IsErrOf result Failed
+    pub unsound : has_failed_here (allocator_of (mini_of old)) ≡ false → sound_of old ≡ false → IsErrOf result InvalidData
+    pub done : OnOk result ((tree : Tree) → Means old tree → IsDone path call tree old new)
+    pub refused : IfErr result (λ e. (tree : Tree) → Means old tree → IsFaultUnless ⊥ e ⊎ (answer_at (letters_in old) tree call path ≡ refused e))
+    pub rests : OnErr result ((has_failed_here (allocator_of (mini_of new)) ≡ true) ⊎ Rests old new)
+    pub seen : (letters_in new ≡ letters_in old) × (sound_of new ≡ sound_of old)

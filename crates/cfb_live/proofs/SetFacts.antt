@@ -1,0 +1,68 @@
+-- The tree that a live file means after a fact of an object was set.
+use Rattle.std.proofs.Common.{◌≡◌, ℕ, ◌+◌, ◌≤◌, ◌⊎◌, false, List, [], ◌∷◌, zero, suc, refl, ap, sym, subst, ◌∙◌, IsTrue}
+use Rattle.std.specs.Prelude.{slice_get, slice_set, Option, Some}
+use Rattle.cfb_medium.specs.declared.medium.ReadMedium.{Ghosts}
+use Rattle.cfb_chains.specs.Owned.{AreBesideWords}
+use Rattle.cfb_fat.specs.Tables.{has_failed_here}
+use Rattle.cfb_owned.specs.Chains.{GoesOn}
+use Rattle.cfb_tree.specs.Directory.{Entry}
+use Rattle.cfb_tree.specs.Names.{Letters}
+use Rattle.cfb_tree.specs.Objects.{Object}
+use Rattle.cfb_tree.specs.Changes.{changed}
+use Rattle.cfb_tree.specs.Paths.{Path}
+use Rattle.cfb_tree.specs.Tree.{Tree}
+use Rattle.cfb_tree.proofs.OneContent.{Some_same}
+use Rattle.cfb_siblings.specs.Changes.{Becomes, HasSameLinks}
+use Rattle.cfb_siblings.specs.Places.{IsEntryAt}
+use Rattle.cfb_siblings.specs.Reading.{ReadBy}
+use Rattle.cfb_directory.specs.Changes.{changed_entry}
+use Rattle.cfb_directory.specs.Views.{entries_held}
+use Rattle.cfb_mini.specs.Changing.{ChangesDirectory}
+use Rattle.cfb_mini.specs.Views.{allocator_of, directory_of}
+use Rattle.cfb_mini.specs.declared.mini_allocator.MiniAllocator.{MiniAllocator}
+use Rattle.cfb_owners.specs.LiveFile.{LiveFile}
+use Rattle.cfb_owners.specs.Owners.{Owners}
+use Rattle.cfb_live.specs.Live.{live_of, Means}
+use Rattle.cfb_live.proofs.Carried.{Carries}
+use Rattle.cfb_live.proofs.Changed.{entry_changed, set_keeps}
+use Rattle.cfb_live.proofs.Directories.{carries, has_owners, kept_later, owners_now}
+use Rattle.cfb_live.proofs.Streams.{reads}
+
+set_same : (xs : List Entry) (id : ℕ) (e : Entry) → slice_get xs id ≡ Some e → xs ≡ slice_set xs id e
+set_same [] id e found = refl
+set_same (x ∷ xs) zero e found = ap (λ y. y ∷ xs) (Some_same found)
+set_same (x ∷ xs) (suc id) e found = ap (λ l. x ∷ l) (set_same xs id e found)
+
+carries_same : (s : LiveFile) (who : Owners) → Carries s s who who
+carries_same s who = record { version = refl; longer = omega arith; sectors = λ k past. refl; minis = refl; joined = λ k past. refl }
+
+module _ {F : Type 0} {g : Ghosts F} (letters : Letters) (old : MiniAllocator F g) (tree : Tree) (m : Means letters old tree) (path : Path) (id : ℕ) (e f : Entry) (change : Object → Object)
+    (at : IsEntryAt (ReadBy (reads (live_of old) m.who)) letters (entries_held (directory_of old)) tree path id) (found : slice_get (entries_held (directory_of old)) id ≡ Some e) where
+  pub set_means : (new : MiniAllocator F g) → HasSameLinks e f → f.start ≡ e.start → f.size ≡ e.size → Becomes (ReadBy (reads (live_of old) m.who)) f at.object (change at.object)
+      → GoesOn (allocator_of old) (allocator_of new) → has_failed_here (allocator_of new) ≡ false → ChangesDirectory [] old new m.who.sectors
+      → entries_held (directory_of new) ≡ slice_set (entries_held (directory_of old)) id f → Means letters new (changed letters change path tree)
+  unfolding live_of
+  set_means new links start size becomes goes live c set =
+      let none : (p n : ℕ) → (p + n ≤ 40) ⊎ (48 ≤ p) → AreBesideWords [] p n = λ p n beside. tt in
+      let place = set_keeps (entries_held (directory_of old)) id e f found links.kind start size 0 m.held.root m.held.kept.root_found in
+      let root_found : slice_get (entries_held (directory_of new)) 0 ≡ Some place.0 = ap (λ l. slice_get l 0) set ∙ place.1 in
+      record {
+        live = live;
+        orderly = subst IsTrue (sym (goes.orderly live)) m.orderly;
+        who = owners_now [] none letters old new tree m goes live c;
+        owners = has_owners [] none letters old new tree m goes live c;
+        held = entry_changed (live_of old) (live_of new) m.who (owners_now [] none letters old new tree m goes live c) letters tree path id e f change at.object m.held at.leads at.at_path found links start size becomes set
+            (carries [] none letters old new tree m goes live c) place.0 (kept_later [] none letters old new tree m goes live c place.0 root_found (place.2 ∙ m.held.kept.root_kind));
+      }
+
+  -- or where nothing is to be set
+  pub same_means : HasSameLinks e e → Becomes (ReadBy (reads (live_of old) m.who)) e at.object (change at.object) → Means letters old (changed letters change path tree)
+  unfolding live_of
+  same_means links becomes = record {
+    live = m.live;
+    orderly = m.orderly;
+    who = m.who;
+    owners = m.owners;
+    held = entry_changed (live_of old) (live_of old) m.who m.who letters tree path id e e change at.object m.held at.leads at.at_path found links refl refl becomes (set_same (entries_held (directory_of old)) id e found)
+        (carries_same (live_of old) m.who) m.held.root m.held.kept;
+  }
