@@ -8,15 +8,17 @@ use Rattle.cfb_sectors.specs.Sectors.{fat_in, free, joined, sectors_in, AreInFil
 use Rattle.cfb_chains.specs.Changes.{AreOnce}
 use Rattle.cfb_chains.specs.Owned.{Owned}
 use Rattle.cfb_fat.specs.Orderly.{AreBelow, IsOrderly}
-use Rattle.cfb_fat.specs.Tables.{bytes_of, fat_of, orderly_of, tables_of}
+use Rattle.cfb_fat.specs.Tables.{bytes_of, fat_of, orderly_of, tables_of, version_of}
 use Rattle.cfb_fat.proofs.DifatChains.{in_file_below}
 use Rattle.cfb_fat.proofs.TableWords.{length-difat}
 use Rattle.cfb_tree.specs.Directory.{entries_of, Entry, Holds, Siblings}
 use Rattle.cfb_tree.specs.Names.{Letters}
 use Rattle.cfb_tree.specs.Tree.{Tree}
 use Rattle.cfb_tree.proofs.OneContent.{siblings_unique}
+use Rattle.cfb_directory.specs.Entries.{SizesFit}
 use Rattle.cfb_directory.specs.Taken.{HasSize}
-use Rattle.cfb_mini.specs.Views.{allocator_of}
+use Rattle.cfb_directory.specs.Views.{entries_held}
+use Rattle.cfb_mini.specs.Views.{allocator_of, directory_of}
 use Rattle.cfb_mini.specs.declared.mini_allocator.MiniAllocator.{MiniAllocator}
 use Rattle.cfb_meaning.specs.Means.{directory, HasBytes, Layout, MeansBy}
 use Rattle.cfb_meaning.specs.Sound.{IsSound, IsSoundBy}
@@ -87,7 +89,7 @@ module _ (bytes : List ℕ) (l : Layout) (letters : Letters) (tree : Tree) (s : 
         named = omega (arith, named, longest, sum);
       }
 
-module _ {F : Type 0} {g : Ghosts F} (it : MiniAllocator F g) (letters : Letters) (l : Layout) (tree : Tree) (so : LiesSo it l) (m : MeansBy l HasSize letters (bytes_of (allocator_of it)) tree) where
+module _ {F : Type 0} {g : Ghosts F} (it : MiniAllocator F g) (letters : Letters) (l : Layout) (tree : Tree) (so : LiesSo it l) (fits : SizesFit (version_of (allocator_of it)) (entries_held (directory_of it))) (m : MeansBy l HasSize letters (bytes_of (allocator_of it)) tree) where
   abbrev bytes : List ℕ
   bytes = bytes_of (allocator_of it)
 
@@ -139,6 +141,7 @@ module _ {F : Type 0} {g : Ghosts F} (it : MiniAllocator F g) (letters : Letters
             mini_fat = sectors_of_map l.mini_fat_sectors ∙ so.mini_fat_sectors;
             mini_stream = sectors_of_map l.mini_stream_sectors ∙ so.mini_stream_sectors;
           };
+          sizes = fits;
           held = held;
         },
       )

@@ -2,6 +2,7 @@ pub mod Bounds
 pub mod Counting
 pub mod EntryBytes
 pub mod EntryPlaces
+pub mod EntrySizes
 pub mod Finding
 pub mod Growing
 pub mod Inserted

@@ -1,5 +1,6 @@
 //! The directory in memory, over the sectors that hold it.
 ghost use Rattle.cfb_chains.specs.LinkViews.{ids_of};
+ghost use Rattle.cfb_directory.specs.Entries.{SizesFit};
 ghost use Rattle.cfb_directory.specs.Search.{path_of, LeadsTo};
 ghost use Rattle.cfb_directory.specs.Taken.{HasAny, HasSize, IsTakenAs};
 ghost use Rattle.cfb_fat.specs.Tables.{bytes_of, fat_of, has_failed as allocator_failed, has_failed_here, is_honest, medium_of, sectors_of, version_of, AllRests, HasCauseBelow};
@@ -73,6 +74,7 @@ impl<F: ReadMedium> Directory<F> {
         ensures memory { IfOk result (λ it. IsDirectory it) }
         ensures tree { IfOk result (λ it. (tree : Tree)
             × IsTakenAs validation (letters_of letters.now) HasSize (entries_held it) tree) }
+        ensures sizes { IfOk result (λ it. SizesFit (version_of allocator) (entries_held it)) }
         ensures refused { IfErr result (λ e. e.1 ≡ InvalidData → IsTrue (is_honest allocator)
             → (ids : List ℕ) → IsChain (fat_of allocator) first_sector ids
             → (tree : Tree) → IsTakenAs validation (letters_of letters.now) HasAny

@@ -1,5 +1,5 @@
 //! The directory as its sectors hold it.
-ghost use Rattle.cfb_directory.specs.Entries.{entries_in};
+ghost use Rattle.cfb_directory.specs.Entries.{entries_in, SizesFit};
 ghost use Rattle.cfb_directory.specs.Taken.{HasAny, HasSize, IsTakenAs};
 ghost use Rattle.cfb_chains.specs.LinkViews.{ids_of, links_version};
 ghost use Rattle.cfb_fat.specs.Tables.{bytes_of, fat_of, has_failed_here, is_honest, sectors_of, version_of, AllRests, HasCauseBelow};
@@ -59,6 +59,7 @@ fn first_entry(version: Version, mut bytes: &[u8]) -> DirEntry
 fn entries_from(alloc: Global, version: Version, bytes: &[u8]) -> Result<Vec<DirEntry>, Error>
     ensures read { IfOk result (λ entries. entries_in entries.items
         ≡ entries_of version bytes.now) }
+    ensures sizes { IfOk result (λ entries. SizesFit version (entries_in entries.items)) }
     ensures error { IfErr result (λ e. e ≡ Memory) }
 {
     let mut entries = Vec::new(alloc);
@@ -88,6 +89,8 @@ pub(crate) fn read_directory<F: ReadMedium>(
     ensures tree { IfOk result (λ it. (tree : Tree)
         × IsTakenAs validation (letters_of letters.now) HasSize
         (entries_in it.1.items.items) tree) }
+    ensures sizes { IfOk result (λ it. SizesFit (version_of allocator.old)
+        (entries_in it.1.items.items)) }
     ensures refused { IsErrOf result InvalidData → IsTrue (is_honest allocator.old)
         → (ids : List ℕ) → IsChain (fat_of allocator.old) first_sector ids
         → (tree : Tree) → IsTakenAs validation (letters_of letters.now) HasAny

@@ -138,6 +138,7 @@ pub entry_changed : (s t : LiveFile) (who now : Owners) (letters : Letters) (tre
     → (h : MeansHeld s who letters tree) → LeadsTo letters s.entries 0 path id → object_at letters tree path ≡ Some object → slice_get s.entries id ≡ Some e
     → HasSameLinks e f → f.start ≡ e.start → f.size ≡ e.size → Becomes (ReadBy (reads s who)) f object (change object) → t.entries ≡ slice_set s.entries id f
     → Carries s t who now → (root : Entry) → Kept t now root → MeansHeld t now letters (changed letters change path tree)
+unfolding tree_held
 entry_changed s t who now letters tree path id e f change object h leads at found links start size becomes set c root kept =
     let held = tree_held s who letters tree h in
     let did : HoldsOn letters (ReadBy (reads s who)) (slice_set s.entries id f) (changed letters change path tree) held.ids =

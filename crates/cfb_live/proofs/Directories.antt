@@ -2,6 +2,7 @@
 use Rattle.std.proofs.Common.{◌≡◌, ℕ, ◌+◌, ◌*◌, ◌<◌, ◌≤◌, ◌⊎◌, inl, inr, false, List, [], ◌∷◌, ◌++◌, length, refl, ap, sym, subst, ◌∙◌, arith, ⊎_elim, IsTrue}
 use Rattle.std.specs.Prelude.{slice_get, slice_index_or, Some}
 use Rattle.std.specs.List.{AllByRecursion}
+use Rattle.cfb_medium.specs.Numbers.{all_pieces, pieces}
 use Rattle.cfb_medium.specs.Versions.{sector_len}
 use Rattle.cfb_medium.specs.declared.medium.ReadMedium.{Ghosts}
 use Rattle.cfb_medium.specs.declared.version.Version.{Version}
@@ -29,9 +30,10 @@ use Rattle.cfb_live.proofs.KeptNow.{kept_now}
 
 -- the chain begins where it began
 first_same : (v : Version) (bytes ids more : List ℕ) (entries : List Entry) (root : Entry) → entries ≡ entries_of v (joined v bytes ids) → slice_get entries 0 ≡ Some root → first_of (ids ++ more) ≡ first_of ids
-unfolding entries_of
+unfolding entries_of all_pieces pieces
 first_same v bytes [] more entries root is found =
-    let none : slice_get {A = Entry} [] 0 ≡ Some root = ap (λ l. slice_get l 0) (sym is) ∙ found in absurd (cc)
+    let empty : List Entry = [] in
+    let none : slice_get empty 0 ≡ Some root = ap (λ l. slice_get l 0) (sym is) ∙ found in absurd (cc)
 first_same v bytes (x ∷ ids) more entries root is found = refl
 
 module _ {F : Type 0} {g : Ghosts F} (words : List ℕ) (spare : (place count : ℕ) → (place + count ≤ 40) ⊎ (48 ≤ place) → AreBesideWords words place count)
@@ -64,7 +66,7 @@ module _ {F : Type 0} {g : Ghosts F} (words : List ℕ) (spare : (place count : 
   keeps_front place count front beside = c.becomes.leaves.header place count front ((⊎_elim (λ before. inl (omega (arith, before))) (λ behind. inr (omega (arith, behind))) beside), spare place count beside)
 
   pub carries : Carries (live_of old) (live_of new) m.who owners_now
-  unfolding live_of
+  unfolding live_of seen_of
   carries = record {
     version = goes.version;
     longer = longer;

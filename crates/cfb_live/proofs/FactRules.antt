@@ -107,7 +107,7 @@ module _ (Reads : ℕ → ℕ → List ℕ → Bool) (letters : Letters) (direct
       of_object (a_stream n bits bytes) (x, is, reads, own) =
           let same : x ≡ e = Some_same (sym is.found ∙ found) in
           stream_becomes Reads fact (name ∷ names) id e n bits bytes (ap (λ (y : Entry). y.kind) (sym same) ∙ is.of_kind) (subst (λ y. ReadBy Reads y bytes) same reads) may
-      of_object (a_storage n facts inside) (x, children, is, rest) =
+      of_object (a_storage n facts inside) (x, children, is, siblings, holds) =
           let same : x ≡ e = Some_same (sym is.found ∙ found) in
           storage_becomes Reads fact name names id e n facts inside (ap (λ (y : Entry). y.facts) (sym same) ∙ is.has_facts)
 
@@ -121,7 +121,7 @@ module _ (Reads : ℕ → ℕ → List ℕ → Bool) (letters : Letters) (direct
       of_object (a_stream n bits bytes) (x, is, reads, own) =
           let same : x ≡ e = Some_same (sym is.found ∙ found) in
           stream_as_was Reads fact (name ∷ names) id e n bits bytes (ap (λ (y : Entry). y.facts.state_bits) (sym same) ∙ is.bits) (subst (λ y. ReadBy Reads y bytes) same reads) lacks
-      of_object (a_storage n facts inside) (x, children, is, rest) =
+      of_object (a_storage n facts inside) (x, children, is, siblings, holds) =
           let same : x ≡ e = Some_same (sym is.found ∙ found) in
           let kind = ap (λ (y : Entry). y.kind) (sym same) ∙ is.of_kind in
           absurd (lacks_never fact id e kind (below kind) lacks)
@@ -137,7 +137,7 @@ module _ (Reads : ℕ → ℕ → List ℕ → Bool) (letters : Letters) (direct
       of_object : (o : Object) → IsObject directory (ReadBy Reads) id o at.own → MatchObject o (e.kind ≡ kind_stream) (e.kind ≡ kind_stream → ⊥)
       of_object (a_stream n bits bytes) (x, is, reads, own) =
           let same : x ≡ e = Some_same (sym is.found ∙ found) in ap (λ (y : Entry). y.kind) (sym same) ∙ is.of_kind
-      of_object (a_storage n facts inside) (x, children, is, rest) =
+      of_object (a_storage n facts inside) (x, children, is, siblings, holds) =
           let same : x ≡ e = Some_same (sym is.found ∙ found) in
           let kind = ap (λ (y : Entry). y.kind) (sym same) ∙ is.of_kind in (λ wrong. omega (arith, kind, wrong))
 
@@ -160,9 +160,9 @@ module _ (letters : Letters) (tree : Tree) (path : Path) (id : ℕ) (e : Entry) 
   step_refused (Created moment) object at kind lacks = absurd lacks
   step_refused (Modified moment) object at kind lacks = absurd lacks
 
-  -- or where nothing is at the path
-  pub step_missing : (fact : Fact) → object_at letters tree path ≡ None → (tree_step letters tree (setting fact path)).1 ≡ refused NotFound
-  step_missing (StateBits b) at = rw at refl
-  step_missing (ClassId clsid) at = rw at refl
-  step_missing (Created moment) at = rw at refl
-  step_missing (Modified moment) at = rw at refl
+-- or where nothing is at the path
+pub step_missing : (letters : Letters) (tree : Tree) (path : Path) (fact : Fact) → object_at letters tree path ≡ None → (tree_step letters tree (setting fact path)).1 ≡ refused NotFound
+step_missing letters tree path (StateBits b) at = rw at refl
+step_missing letters tree path (ClassId clsid) at = rw at refl
+step_missing letters tree path (Created moment) at = rw at refl
+step_missing letters tree path (Modified moment) at = rw at refl

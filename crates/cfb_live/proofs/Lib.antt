@@ -4,6 +4,7 @@ pub mod Directories
 pub mod FactRules
 pub mod Headers
 pub mod KeptNow
+pub mod Objects
 pub mod Resting
 pub mod SetFacts
 pub mod Streams

@@ -1,13 +1,16 @@
 -- A live file to which only reads happened.
-use Rattle.std.proofs.Common.{◌≡◌, ℕ, List, ap, sym, subst, ◌∙◌, IsTrue}
+use Rattle.std.proofs.Common.{◌≡◌, ℕ, List, refl, ap, sym, subst, ◌∙◌, IsTrue}
 use Rattle.cfb_medium.specs.declared.medium.ReadMedium.{Ghosts}
 use Rattle.cfb_medium.specs.declared.version.Version.{Version}
-use Rattle.cfb_fat.specs.Tables.{is_honest}
+use Rattle.cfb_directory.specs.Entries.{SizesFit}
+use Rattle.cfb_directory.specs.Views.{entries_held}
+use Rattle.cfb_fat.specs.Resting.{all_rest_refl}
+use Rattle.cfb_fat.specs.Tables.{is_honest, version_of}
 use Rattle.cfb_tree.specs.Directory.{Entry}
 use Rattle.cfb_tree.specs.Names.{Letters}
 use Rattle.cfb_tree.specs.Tree.{Tree}
 use Rattle.cfb_mini.specs.Changing.{KeepsOwners}
-use Rattle.cfb_mini.specs.Views.{allocator_of}
+use Rattle.cfb_mini.specs.Views.{allocator_of, directory_of}
 use Rattle.cfb_mini.specs.declared.mini_allocator.MiniAllocator.{MiniAllocator}
 use Rattle.cfb_owners.specs.Held.{MeansHeld}
 use Rattle.cfb_owners.specs.LiveFile.{LiveFile}
@@ -45,5 +48,10 @@ module _ {F : Type 0} {g : Ghosts F} (old new : MiniAllocator F g) (k : KeepsOwn
     orderly = subst IsTrue (sym k.allocator.orderly) m.orderly;
     who = m.who;
     owners = k.owners m.who.sectors m.owners;
+    sizes = subst (λ v. SizesFit v (entries_held (directory_of new))) (sym k.allocator.sectors.version) (subst (SizesFit (version_of (allocator_of old))) (sym k.entries) m.sizes);
     held = subst (λ s. MeansHeld s m.who letters tree) (sym (same_file m.owners.honest)) m.held;
   }
+
+module _ {F : Type 0} {g : Ghosts F} where
+  pub keeps_refl : (it : MiniAllocator F g) → KeepsOwners it it
+  keeps_refl it = record { allocator = all_rest_refl (allocator_of it); entries = refl; mini_fat = refl; owners = λ own h. h }

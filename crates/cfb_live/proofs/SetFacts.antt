@@ -1,13 +1,15 @@
 -- The tree that a live file means after a fact of an object was set.
-use Rattle.std.proofs.Common.{◌≡◌, ℕ, ◌+◌, ◌≤◌, ◌⊎◌, false, List, [], ◌∷◌, zero, suc, refl, ap, sym, subst, ◌∙◌, IsTrue}
+use Rattle.std.proofs.Common.{◌≡◌, ℕ, ◌+◌, ◌≤◌, ◌⊎◌, false, List, [], ◌∷◌, zero, suc, refl, ap, sym, subst, ◌∙◌, arith, IsTrue}
 use Rattle.std.specs.Prelude.{slice_get, slice_set, Option, Some}
 use Rattle.cfb_medium.specs.declared.medium.ReadMedium.{Ghosts}
 use Rattle.cfb_chains.specs.Owned.{AreBesideWords}
-use Rattle.cfb_fat.specs.Tables.{has_failed_here}
+use Rattle.cfb_fat.specs.Tables.{has_failed_here, version_of}
+use Rattle.cfb_medium.specs.declared.version.Version.{Version}
+use Rattle.cfb_directory.specs.Entries.{SizesFit}
 use Rattle.cfb_owned.specs.Chains.{GoesOn}
 use Rattle.cfb_tree.specs.Directory.{Entry}
 use Rattle.cfb_tree.specs.Names.{Letters}
-use Rattle.cfb_tree.specs.Objects.{Object}
+use Rattle.cfb_tree.specs.Objects.{HoldsTree, Object}
 use Rattle.cfb_tree.specs.Changes.{changed}
 use Rattle.cfb_tree.specs.Paths.{Path}
 use Rattle.cfb_tree.specs.Tree.{Tree}
@@ -24,7 +26,7 @@ use Rattle.cfb_owners.specs.LiveFile.{LiveFile}
 use Rattle.cfb_owners.specs.Owners.{Owners}
 use Rattle.cfb_live.specs.Live.{live_of, Means}
 use Rattle.cfb_live.proofs.Carried.{Carries}
-use Rattle.cfb_live.proofs.Changed.{entry_changed, set_keeps}
+use Rattle.cfb_live.proofs.Changed.{entry_changed, set_keeps, tree_held}
 use Rattle.cfb_live.proofs.Directories.{carries, has_owners, kept_later, owners_now}
 use Rattle.cfb_live.proofs.Streams.{reads}
 
@@ -33,8 +35,24 @@ set_same [] id e found = refl
 set_same (x ∷ xs) zero e found = ap (λ y. y ∷ xs) (Some_same found)
 set_same (x ∷ xs) (suc id) e found = ap (λ l. x ∷ l) (set_same xs id e found)
 
+set_sizes : (v : Version) (xs : List Entry) (id : ℕ) (e f : Entry) → slice_get xs id ≡ Some e → f.size ≡ e.size → SizesFit v xs → SizesFit v (slice_set xs id f)
+set_sizes v [] id e f found size fits k x at = absurd (cc)
+set_sizes v (y ∷ xs) zero e f found size fits zero x at =
+    let old = fits 0 e found in
+    let same : x.size ≡ e.size = ap (λ (z : Entry). z.size) (sym (Some_same at)) ∙ size in
+    omega (arith, old, same)
+set_sizes v (y ∷ xs) zero e f found size fits (suc k) x at = fits (suc k) x at
+set_sizes v (y ∷ xs) (suc id) e f found size fits zero x at = fits 0 x at
+set_sizes v (y ∷ xs) (suc id) e f found size fits (suc k) x at = set_sizes v xs id e f found size (λ j. fits (suc j)) k x at
+
 carries_same : (s : LiveFile) (who : Owners) → Carries s s who who
 carries_same s who = record { version = refl; longer = omega arith; sectors = λ k past. refl; minis = refl; joined = λ k past. refl }
+
+module _ {F : Type 0} {g : Ghosts F} where
+  -- the entries hold the tree that is meant
+  pub means_held : (letters : Letters) (it : MiniAllocator F g) (tree : Tree) → (m : Means letters it tree) → HoldsTree letters (ReadBy (reads (live_of it) m.who)) (entries_held (directory_of it)) tree
+  unfolding live_of
+  means_held letters it tree m = tree_held (live_of it) m.who letters tree m.held
 
 module _ {F : Type 0} {g : Ghosts F} (letters : Letters) (old : MiniAllocator F g) (tree : Tree) (m : Means letters old tree) (path : Path) (id : ℕ) (e f : Entry) (change : Object → Object)
     (at : IsEntryAt (ReadBy (reads (live_of old) m.who)) letters (entries_held (directory_of old)) tree path id) (found : slice_get (entries_held (directory_of old)) id ≡ Some e) where
@@ -51,6 +69,7 @@ module _ {F : Type 0} {g : Ghosts F} (letters : Letters) (old : MiniAllocator F 
         orderly = subst IsTrue (sym (goes.orderly live)) m.orderly;
         who = owners_now [] none letters old new tree m goes live c;
         owners = has_owners [] none letters old new tree m goes live c;
+        sizes = subst (λ v. SizesFit v (entries_held (directory_of new))) (sym goes.version) (subst (SizesFit (version_of (allocator_of old))) (sym set) (set_sizes (version_of (allocator_of old)) (entries_held (directory_of old)) id e f found size m.sizes));
         held = entry_changed (live_of old) (live_of new) m.who (owners_now [] none letters old new tree m goes live c) letters tree path id e f change at.object m.held at.leads at.at_path found links start size becomes set
             (carries [] none letters old new tree m goes live c) place.0 (kept_later [] none letters old new tree m goes live c place.0 root_found (place.2 ∙ m.held.kept.root_kind));
       }
@@ -63,6 +82,7 @@ module _ {F : Type 0} {g : Ghosts F} (letters : Letters) (old : MiniAllocator F 
     orderly = m.orderly;
     who = m.who;
     owners = m.owners;
+    sizes = m.sizes;
     held = entry_changed (live_of old) (live_of old) m.who m.who letters tree path id e e change at.object m.held at.leads at.at_path found links refl refl becomes (set_same (entries_held (directory_of old)) id e found)
         (carries_same (live_of old) m.who) m.held.root m.held.kept;
   }

@@ -51,11 +51,8 @@ reads_so s who start size bytes is = (bytes_eq-Decides bytes (bytes_from s who s
 
 -- nothing is read of an empty stream
 pub reads_nothing : (s : LiveFile) (who : Owners) (start : ℕ) → IsTrue (reads s who start 0 [])
-reads_nothing s who start = reads_so s who start 0 [] (none s who start)
-  where
-    none : (s : LiveFile) (who : Owners) (start : ℕ) → [] ≡ bytes_from s who start 0
-    unfolding bytes_from
-    none s who start = refl
+unfolding bytes_from
+reads_nothing s who start = reads_so s who start 0 [] refl
 
 module _ (s : LiveFile) (who : Owners) (root : Entry) (kept : Kept s who root) where
   -- what a stream has is what is read of it

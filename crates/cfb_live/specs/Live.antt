@@ -5,6 +5,7 @@ use Rattle.cfb_sectors.specs.Held.{count_of}
 use Rattle.cfb_fat.specs.Tables.{bytes_of, difat_sectors_of, fat_of, fat_sectors_of, has_failed_here, orderly_of, sectors_of, version_of}
 use Rattle.cfb_tree.specs.Names.{Letters}
 use Rattle.cfb_tree.specs.Tree.{Tree}
+use Rattle.cfb_directory.specs.Entries.{SizesFit}
 use Rattle.cfb_directory.specs.Views.{entries_held}
 use Rattle.cfb_mini.specs.Changing.{HasOwners}
 use Rattle.cfb_mini.specs.Views.{allocator_of, directory_of, mini_fat_of}
@@ -28,10 +29,11 @@ module _ {F : Type 0} {g : Ghosts F} where
   }
 
   -- THE LIVE FILE MEANS THE TREE: nothing has failed, its tables can be changed, memory is that of the bytes of an honest medium,
-  -- and each stream of the tree has its bytes in sectors or mini sectors that nothing else owns
+  -- entries can be written as they are, and each stream of the tree has its bytes in sectors or mini sectors that nothing else owns
   pub record Means (letters : Letters) (it : MiniAllocator F g) (tree : Tree) : Type 0 where
     pub live : has_failed_here (allocator_of it) ≡ false
     pub orderly : IsTrue (orderly_of (allocator_of it))
     pub who : Owners
     pub owners : HasOwners it who.sectors
+    pub sizes : SizesFit (version_of (allocator_of it)) (entries_held (directory_of it))
     pub held : MeansHeld (live_of it) who letters tree

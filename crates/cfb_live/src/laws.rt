@@ -13,10 +13,10 @@ use cfb_medium::ReadMedium;
 
 /// The bytes of a live file mean the tree that it means, and are sound; and it goes on to mean it where nothing is changed.
 pub fn live_files_mean_their_trees<F: ReadMedium>()
-    ensures means { (letters : Letters) (it : Mini F.T F.ReadMedium) (tree : Tree)
+    ensures means { (letters : Letters) (it : Mini F F.ReadMedium) (tree : Tree)
         → Means letters it tree → BytesMean letters (bytes_of (allocator_of it)) tree }
-    ensures sound { (letters : Letters) (it : Mini F.T F.ReadMedium) (tree : Tree)
+    ensures sound { (letters : Letters) (it : Mini F F.ReadMedium) (tree : Tree)
         → Means letters it tree → IsSound letters (bytes_of (allocator_of it)) }
-    ensures stays { (letters : Letters) (old new : Mini F.T F.ReadMedium) (tree : Tree)
+    ensures stays { (letters : Letters) (old new : Mini F F.ReadMedium) (tree : Tree)
         → KeepsOwners old new → Means letters old tree → Means letters new tree }
 {}

@@ -8,6 +8,7 @@ use Rattle.cfb_sectors.specs.declared.validation.Validation.TheVariants.{Permiss
 use Rattle.cfb_fat.specs.Tables.{bytes_of, difat_sectors_of, fat_of, fat_sectors_of, has_failed_here, is_honest, medium_of, version_of}
 use Rattle.cfb_tree.specs.Names.{Letters}
 use Rattle.cfb_tree.specs.Tree.{Tree}
+use Rattle.cfb_directory.specs.Entries.{SizesFit}
 use Rattle.cfb_directory.specs.Taken.{HasSize}
 use Rattle.cfb_directory.specs.Views.{directory_ids, entries_held}
 use Rattle.cfb_mini.specs.Views.{allocator_of, directory_of, mini_fat_ids, mini_fat_of, mini_stream_ids, IsMini}
@@ -20,13 +21,14 @@ CanOpen Permissive letters bytes = IsOpenable letters bytes
 CanOpen Strict letters bytes = IsStrictlyOpenable letters bytes
 
 module _ {F : Type 0} {g : Ghosts F} where
-  -- a file was opened over this medium: the medium was read alone, nothing failed, and memory is that of the bytes
+  -- a file was opened over this medium: the medium was read alone, nothing failed, memory is that of the bytes, and sizes fit
   pub record OpensAt (medium : F) (it : MiniAllocator F g) : Type 0 where
     pub honest : is_honest (allocator_of it) ≡ g.honest medium
     pub continues : Extends g.continues medium (medium_of (allocator_of it))
     pub bytes : IsTrue (g.honest medium) → bytes_of (allocator_of it) ≡ g.bytes medium
     pub live : has_failed_here (allocator_of it) ≡ false
     pub memory : IsMini it
+    pub sizes : SizesFit (version_of (allocator_of it)) (entries_held (directory_of it))
 
   -- The layout is that which memory shows, of a file of these bytes: where its parts lie, and what FAT, mini FAT and directory
   -- have. Memory has the FAT's numbers of the file's sectors alone ([MS-CFB] 2.3, 2.4, 2.6).

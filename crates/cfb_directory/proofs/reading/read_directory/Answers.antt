@@ -5,7 +5,7 @@ use Rattle.cfb_sectors.specs.Sectors.{joined, Chain as IsChain}
 use Rattle.cfb_sectors.proofs.OneChain.{chain_unique}
 use Rattle.cfb_tree.specs.Directory.{entries_of}
 use Rattle.cfb_tree.specs.LetterViews.{letters_of}
-use Rattle.cfb_directory.specs.Entries.{entries_in}
+use Rattle.cfb_directory.specs.Entries.{entries_in, SizesFit}
 use Rattle.cfb_directory.specs.Taken.{HasAny, IsTakenAs}
 use Rattle.cfb_sectors.proofs.Causes.{err_same}
 use Rattle.cfb_chains.specs.LinkViews.{ids_of, links_version}
@@ -38,3 +38,6 @@ returns-then-not-branch-clause-refused g c = λ wrong honest ids chain tree it.
     ∙ ap (entries_of v) (c.deref.ensures.value ∙ c.in_ok-bytes.ensures.read has ∙ ap (joined v bytes) same) in
     c.in_ok-is_tree.ensures.none c.if-not-branch.true tree
     (subst (λ es. IsTakenAs c.args.validation (letters_of c.args.letters.now) HasAny es tree) (sym (ap entries_in c.deref-2.ensures.value ∙ entries)) it)
+
+pub returns-clause-sizes : goal.returns-clause-sizes
+returns-clause-sizes g c = subst (λ v. SizesFit v (entries_in c.in_ok-items.items.items)) (c.version.ensures ∙ c.in_ok-bytes.ensures.rests.sectors.version) c.in_ok-items.ensures.sizes

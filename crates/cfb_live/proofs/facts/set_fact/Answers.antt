@@ -1,0 +1,145 @@
+use Rattle.std.proofs.Common.{◌≡◌, inl, inr, refl, ap, sym, subst, ◌∙◌, ⊎_elim, arith}
+use Rattle.std.specs.Prelude.{slice_get, slice_set, Err, IfSome, Some}
+use Rattle.cfb_entries.specs.Rules.{answer_at}
+use Rattle.cfb_meaning.specs.TreeRules.{refused}
+use Rattle.cfb_medium.specs.Calls.{IsFaultUnless}
+use Rattle.cfb_tree.specs.Directory.{Entry}
+use Rattle.cfb_tree.specs.EntryViews.{entry_in}
+use Rattle.cfb_tree.specs.LetterViews.{letters_of}
+use Rattle.cfb_tree.specs.Objects.{HoldsTree}
+use Rattle.cfb_siblings.specs.Places.{IsEntryAt}
+use Rattle.cfb_siblings.specs.Reading.{ReadBy}
+use Rattle.cfb_directory.specs.Changes.{changed_entry}
+use Rattle.cfb_directory.specs.Entries.{entries_in}
+use Rattle.cfb_directory.specs.Views.{entries_held}
+use Rattle.cfb_mini.specs.Views.{directory_of}
+use Rattle.cfb_live.specs.Facts.{change_for, setting, MayHave}
+use Rattle.cfb_live.specs.Live.{live_of, Means}
+use Rattle.cfb_live.proofs.FactRules.{as_was, becomes, links_stay, object_kind, place_stays, rule, same_links, step_done, step_missing, step_refused}
+use Rattle.cfb_live.proofs.Resting.{keeps_refl}
+use Rattle.cfb_live.proofs.SetFacts.{means_held, same_means, set_means}
+use Rattle.cfb_live.proofs.Streams.{reads}
+use Rattle.cfb_live.proofs.facts.set_fact.Goals as goal
+
+pub returns-in-Err-clause-does : goal.returns-in-Err-clause-does
+returns-in-Err-clause-does g c = record {
+  done = tt;
+  refused = λ tree m.
+      let it = c.args.mini.now in
+      let l = letters_of c.args.letters.now in
+      let Reads = reads (live_of it) m.who in
+      let same : entries_in c.dir_entries.result.now ≡ entries_held (directory_of it) = c.dir_entries.ensures ∙ ap entries_held c.directory-2.ensures in
+      ⊎_elim
+      (λ memory. inl (subst (IsFaultUnless ⊥) (sym memory) tt))
+      (λ rest. inr (⊎_elim
+      (λ above. ap (answer_at l tree (setting c.args.fact)) above.1 ∙ ap refused (sym above.0))
+      (λ missing. ap (answer_at l tree (setting c.args.fact)) missing.2 ∙ step_missing l tree missing.1 c.args.fact missing.3 ∙ ap refused (sym missing.0))
+      rest))
+      (c.in-Err.ensures.refused Reads tree (subst (λ es. HoldsTree l (ReadBy Reads) es tree) (sym same) (means_held l it tree m)));
+  rests = inr (keeps_refl c.args.mini.now);
+}
+
+pub returns-in-Ok-None-clause-does : goal.returns-in-Ok-None-clause-does
+returns-in-Ok-None-clause-does g c = record {
+  done = λ tree m.
+      let it = c.args.mini.now in
+      let l = letters_of c.args.letters.now in
+      let Reads = reads (live_of it) m.who in
+      let same : entries_in c.dir_entries.result.now ≡ entries_held (directory_of it) = c.dir_entries.ensures ∙ ap entries_held c.directory-2.ensures in
+      let held = means_held l it tree m in
+      let id = c.in-Ok.id in
+      let e = entry_in c.dir_entry.result.now in
+      let found : slice_get (entries_held (directory_of it)) id ≡ Some e = ap (λ d. slice_get (entries_held d) id) (sym c.directory-3.ensures) ∙ c.dir_entry.ensures in
+      let at = c.in-Ok.ensures.found Reads tree (subst (λ es. HoldsTree l (ReadBy Reads) es tree) (sym same) held) in
+      let here = subst (λ es. IsEntryAt (ReadBy Reads) l es tree at.0 id) same at.2 in
+      let lacks = c.in-Ok-None.ensures.none c.in-Ok-None.field-0-is in
+      let step = step_done l tree at.0 id e c.args.fact here.object here.at_path (object_kind Reads l (entries_held (directory_of it)) tree held id e found at.0 here) (inr lacks) in
+      record {
+        names = at.0;
+        at_path = at.1;
+        accepted = ap (λ o. o.1) step;
+        means = subst (Means l it) (sym (ap (λ o. o.0) step)) (same_means l it tree m at.0 id e e (rule c.args.fact at.0) here found (same_links e) (as_was Reads l (entries_held (directory_of it)) tree held id e found c.args.fact at.0 here lacks));
+      };
+  refused = tt;
+  rests = tt;
+}
+
+pub returns-in-Err-change_of-clause-does : goal.returns-in-Err-change_of-clause-does
+returns-in-Err-change_of-clause-does g c = record {
+  done = tt;
+  refused = λ tree m.
+      let it = c.args.mini.now in
+      let l = letters_of c.args.letters.now in
+      let Reads = reads (live_of it) m.who in
+      let same : entries_in c.dir_entries.result.now ≡ entries_held (directory_of it) = c.dir_entries.ensures ∙ ap entries_held c.directory-2.ensures in
+      let held = means_held l it tree m in
+      let id = c.in-Ok.id in
+      let e = entry_in c.dir_entry.result.now in
+      let found : slice_get (entries_held (directory_of it)) id ≡ Some e = ap (λ d. slice_get (entries_held d) id) (sym c.directory-3.ensures) ∙ c.dir_entry.ensures in
+      let at = c.in-Ok.ensures.found Reads tree (subst (λ es. HoldsTree l (ReadBy Reads) es tree) (sym same) held) in
+      let here = subst (λ es. IsEntryAt (ReadBy Reads) l es tree at.0 id) same at.2 in
+      let told = c.in-Err-change_of.ensures.refused in
+      inr (ap (answer_at l tree (setting c.args.fact)) at.1
+      ∙ step_refused l tree at.0 id e c.args.fact here.object here.at_path (object_kind Reads l (entries_held (directory_of it)) tree held id e found at.0 here) told.1
+      ∙ ap refused (sym told.0));
+  rests = inr (keeps_refl c.args.mini.now);
+}
+
+pub returns-in-Err-with_dir_entry_mut-clause-does : goal.returns-in-Err-with_dir_entry_mut-clause-does
+returns-in-Err-with_dir_entry_mut-clause-does g c = record {
+  done = tt;
+  refused = λ tree m.
+      let it = c.args.mini.now in
+      let id = c.in-Ok.id in
+      let e = entry_in c.dir_entry.result.now in
+      let found : slice_get (entries_held (directory_of it)) id ≡ Some e = ap (λ d. slice_get (entries_held d) id) (sym c.directory-3.ensures) ∙ c.dir_entry.ensures in
+      let did = c.in-Err-with_dir_entry_mut.ensures in
+      ⊎_elim (λ fault. inl fault)
+      (λ wrong. absurd (⊎_elim
+      (λ missing. did.refused (ap Err missing) m.who.sectors m.owners)
+      (λ large.
+      let past = ((did.large e found).0 (ap Err large)).1 in
+      let fits = m.sizes id e found in
+      let told = subst (λ o. IfSome o (λ ch. (ch ≡ change_for c.args.fact) × MayHave c.args.fact c.in-Ok.id (entry_in c.dir_entry.result.now))) c.in-Ok-Some.field-0-is c.in-Ok-Some.ensures.some in
+      let size = ap (λ ch. (changed_entry ch e).size) told.0 ∙ (place_stays c.args.fact e).1 in
+      omega (arith, past, fits, size))
+      wrong))
+      did.answers.fault;
+  rests = c.in-Err-with_dir_entry_mut.ensures.rests;
+}
+
+pub returns-clause-does : goal.returns-clause-does
+returns-clause-does g c = record {
+  done = λ tree m.
+      let it = c.args.mini.now in
+      let new = c.with_dir_entry_mut.new.self in
+      let l = letters_of c.args.letters.now in
+      let Reads = reads (live_of it) m.who in
+      let same : entries_in c.dir_entries.result.now ≡ entries_held (directory_of it) = c.dir_entries.ensures ∙ ap entries_held c.directory-2.ensures in
+      let held = means_held l it tree m in
+      let id = c.in-Ok.id in
+      let fact = c.args.fact in
+      let e = entry_in c.dir_entry.result.now in
+      let f = changed_entry (change_for fact) e in
+      let found : slice_get (entries_held (directory_of it)) id ≡ Some e = ap (λ d. slice_get (entries_held d) id) (sym c.directory-3.ensures) ∙ c.dir_entry.ensures in
+      let at = c.in-Ok.ensures.found Reads tree (subst (λ es. HoldsTree l (ReadBy Reads) es tree) (sym same) held) in
+      let here = subst (λ es. IsEntryAt (ReadBy Reads) l es tree at.0 id) same at.2 in
+      let told = subst (λ o. IfSome o (λ ch. (ch ≡ change_for c.args.fact) × MayHave c.args.fact c.in-Ok.id (entry_in c.dir_entry.result.now))) c.in-Ok-Some.field-0-is c.in-Ok-Some.ensures.some in
+      let change = ap (λ ch. changed_entry ch e) told.0 in
+      let may = told.1 in
+      let step = step_done l tree at.0 id e fact here.object here.at_path (object_kind Reads l (entries_held (directory_of it)) tree held id e found at.0 here) (inl may) in
+      let place = place_stays fact e in
+      let did = c.in_default.ensures in
+      let changes = did.changes m.who.sectors e m.owners found (λ zero. ap (λ (x : Entry). x.start) change ∙ place.0) in
+      let set = did.set e found ∙ ap (slice_set (entries_held (directory_of it)) id) change in
+      record {
+        names = at.0;
+        at_path = at.1;
+        accepted = ap (λ o. o.1) step;
+        means = subst (Means l new) (sym (ap (λ o. o.0) step))
+            (set_means l it tree m at.0 id e f (rule fact at.0) here found new (links_stay fact e) place.0 place.1 (becomes Reads l (entries_held (directory_of it)) tree held id e found fact at.0 here may)
+            c.with_dir_entry_mut.ensures.goes_on did.answers.live.1 changes set);
+      };
+  refused = tt;
+  rests = tt;
+}
