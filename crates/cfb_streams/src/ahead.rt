@@ -1,11 +1,11 @@
 //! Bytes of a stream that are read ahead.
 ghost use Rattle.cfb_chains.specs.ChainCalls.{IsInvalidPlace};
-ghost use Rattle.cfb_fat.specs.Tables.{has_failed_here, HasCauseBelow};
+ghost use Rattle.cfb_fat.specs.Tables.{HasCauseBelow};
 ghost use Rattle.cfb_medium.specs.Calls.{IsFaultUnless};
-ghost use Rattle.cfb_medium.specs.declared.error.Error.TheVariants.{Failed};
+ghost use Rattle.cfb_medium.specs.declared.error.Error.TheVariants.{Memory};
 ghost use Rattle.cfb_mini.specs.Views.{allocator_of, Rests};
 ghost use Rattle.cfb_streams.specs.Content.{ahead_of, count_from, HasContent, IsAheadOf};
-ghost use Rattle.std.specs.Prelude.{[], drop, length, take, true, IfErr, IsErrOf, List, OnOk, ℕ, ◌<◌, ◌≡◌, ◌≤◌, ◌⊎◌, ◌-◌};
+ghost use Rattle.std.specs.Prelude.{[], drop, length, take, IfErr, List, OnErr, OnOk, ℕ, ◌<◌, ◌≡◌, ◌≤◌, ◌⊎◌, ◌-◌};
 
 use crate::StreamLinks;
 use crate::reading::read_stream;
@@ -59,13 +59,18 @@ impl ReadAhead {
         &self.bytes[skipped as usize..]
     }
 
-    // Zeros, where so many bytes will be read from a place on. The one error is `Memory`.
+    // Zeros, where so many bytes will be read from a place on; or none. The one error is `Memory`.
     fn make_room(&mut self, at: u64, count: usize) -> Result<(), Error>
         ensures room { OnOk result ((length (ahead_of self.new) ≡ count) × (self.new.start ≡ at)) }
+        ensures none { OnErr result (ahead_of self.new ≡ []) }
+        ensures error { IfErr result (λ e. e ≡ Memory) }
     {
-        self.bytes.resize(count, 0)?;
+        self.bytes.clear();
         self.start = at;
-        Ok(())
+        match self.bytes.resize(count, 0) {
+            Ok(()) => Ok(()),
+            Err(_) => Err(Error::Memory),
+        }
     }
 }
 
@@ -95,9 +100,11 @@ pub fn read_ahead<F: ReadMedium>(
     if !ahead.from(at).is_empty() {
         return Ok(());
     }
-    ahead.clear();
     let count = (len - at).min(ahead.limit.max(LEAST) as u64) as usize;
-    ahead.make_room(at, count)?;
+    match ahead.make_room(at, count) {
+        Ok(()) => {}
+        Err(error) => return Err(error),
+    }
     match read_stream(mini, links, at, &mut ahead.bytes) {
         Ok(()) => Ok(()),
         Err(error) => {
