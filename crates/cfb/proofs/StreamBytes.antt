@@ -1,7 +1,7 @@
 -- Where a stream lies by the tables in memory it has the bytes that those of the file mean.
 use native.Mathlib.Decide.{dec_lt}
 use mathlib.Core.Logic.{dite}
-use Rattle.std.proofs.Common.{◌≡◌, ◌∙◌, ℕ, ◌+◌, ◌*◌, ◌<◌, ◌≤◌, List, [], ◌∷◌, length, take, suc, IsTrue, ap, arith, refl, subst, sym, inl, inr, ◌⊎◌, length-take}
+use Rattle.std.proofs.Common.{◌≡◌, ◌∙◌, ℕ, ◌+◌, ◌*◌, ◌<◌, ◌≤◌, List, [], ◌∷◌, length, take, suc, zero, IsTrue, ap, arith, refl, subst, sym, inl, inr, ◌⊎◌, length-take}
 use Rattle.std.specs.List.{flat_map, AllByRecursion}
 use Rattle.std.specs.Prelude.{slice_index, slice_range}
 use Rattle.cfb_medium.specs.Versions.{sector_len}
@@ -35,11 +35,11 @@ all_inside len (x ∷ ids) inside = (inside 0 (omega arith), all_inside len ids 
 
 inside_all : (len : ℕ) (ids : List ℕ) → AllByRecursion (λ n. 64 * n + 64 ≤ len) ids → AreInside len ids
 inside_all len [] all = λ k below. absurd (omega (arith, below))
-inside_all len (x ∷ ids) (here, rest) = by_place
+inside_all len (x ∷ ids) (here, rest) = by_place (inside_all len ids rest)
   where
-    by_place : (k : ℕ) → k < length (x ∷ ids) → 64 * slice_index (x ∷ ids) k + 64 ≤ len
-    by_place 0 below = here
-    by_place (suc k) below = inside_all len ids rest k (omega (arith, below))
+    by_place : AreInside len ids → (k : ℕ) → k < length (x ∷ ids) → 64 * slice_index (x ∷ ids) k + 64 ≤ len
+    by_place later zero below = here
+    by_place later (suc k) below = later k (omega (arith, below))
 
 module _ {F : Type 0} {g : Ghosts F} (it : MiniAllocator F g) (l : Layout) (shows : Shows it (bytes_of (allocator_of it)) l) (memory : IsMini it) (e : Entry) where
   abbrev bytes : List ℕ

@@ -73,12 +73,12 @@ module _ {F : Type 0} {g : Ghosts F} where
     pub of_kind : e.kind ≡ kind_stream
 
   -- the second file reads the stream at the path, which has so many bytes, from the sectors in which it lies
-  pub record FindsStream (old new : CompoundFile F g) (text : List ℕ) (len : ℕ) : Type 0 where
+  pub record FindsStream (old new : CompoundFile F g) (text : List ℕ) (size : ℕ) : Type 0 where
     pub entry : Entry
     pub at_path : IsStreamAt old text entry
     pub lies : LiesIn (mini_of old) entry.start entry.size (sectors_in (links_held new))
     pub level : IsOfLevel (mini_of old) entry.size (links_held new)
-    pub len : len ≡ entry.size
+    pub has_size : size ≡ entry.size
 
   -- the chain of the stream at the path breaks: it lies in no sectors
   pub record IsBroken (it : CompoundFile F g) (text : List ℕ) : Type 0 where
