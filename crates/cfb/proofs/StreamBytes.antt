@@ -41,6 +41,17 @@ inside_all len (x ∷ ids) (here, rest) = by_place (inside_all len ids rest)
     by_place later zero below = here
     by_place later (suc k) below = later k (omega (arith, below))
 
+-- a stream has as many bytes as it says
+pub content_len : {F : Type 0} {g : Ghosts F} (it : MiniAllocator F g) (links : StreamLinks) (len : ℕ) (content : List ℕ) → HasContent it links len content → length content ≡ len
+content_len it (Short minis) len content has =
+    let size = length-mini_joined (mini_stream_of it) (minis_of minis) in
+    let room = has.room in
+    ap length has.bytes ∙ omega (arith, length-take len (mini_joined (mini_stream_of it) (minis_of minis)), size, room)
+content_len it (Long links) len content has =
+    let size = length-joined (version_of (allocator_of it)) (bytes_of (allocator_of it)) (ids_of links) ∙ ap (λ v. length (ids_of links) * sector_len v) (sym has.sectors.version) in
+    let room = has.room in
+    ap length has.bytes ∙ omega (arith, length-take len (joined (version_of (allocator_of it)) (bytes_of (allocator_of it)) (ids_of links)), size, room)
+
 module _ {F : Type 0} {g : Ghosts F} (it : MiniAllocator F g) (l : Layout) (shows : Shows it (bytes_of (allocator_of it)) l) (memory : IsMini it) (e : Entry) where
   abbrev bytes : List ℕ
   bytes = bytes_of (allocator_of it)

@@ -1,6 +1,6 @@
 -- A stream that is found by its path, and the bytes that it has in the tree that a file holds.
-use Rattle.std.proofs.Common.{◌≡◌, ◌∙◌, ◌⊎◌, inl, inr, List, [], ℕ, length, take, drop, true, ap, subst, sym}
-use Rattle.std.specs.Prelude.{slice_get, Some}
+use Rattle.std.proofs.Common.{◌≡◌, ◌∙◌, ◌⊎◌, inl, inr, List, [], ℕ, length, take, drop, true, Ok, Err, ap, subst, sym}
+use Rattle.std.specs.Prelude.{IfErr, Result}
 use Rattle.cfb_medium.specs.declared.error.Error.{Error}
 use Rattle.cfb_medium.specs.declared.error.Error.TheVariants.{Failed, InvalidData, Memory}
 use Rattle.cfb_medium.specs.declared.medium.ReadMedium.{Ghosts}
@@ -86,3 +86,12 @@ module _ {F : Type 0} {g : Ghosts F} (it : CompoundFile F g) (text : List ℕ) (
         ap (answer_at (letters_in it) tree (λ p. open_read_stream p)) at.found.0 ∙ held.answer,
         bytes_held (mini_of it) h.layout h.shows h.memory e links lies level h.honest held.bytes held.reads,
       )
+
+-- what is known of an error, told another way
+pub for_error : {T E : Type 0} (P Q : E → Type 0) (r : Result T E) → ((e : E) → P e → Q e) → IfErr r P → IfErr r Q
+for_error P Q (Ok x) so h = h
+for_error P Q (Err e) so h = so e h
+
+-- what holds of a file and a number holds of the same ones
+pub carried : {A : Type 0} (P : A → ℕ → Type 0) (a b : A) (m n : ℕ) → b ≡ a → n ≡ m → P a m → P b n
+carried P a b m n first second h = subst (λ x. P x n) (sym first) (subst (P a) (sym second) h)
