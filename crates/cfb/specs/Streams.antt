@@ -1,5 +1,5 @@
 -- Streams of a file that are read, by their paths.
-use Rattle.std.specs.Prelude.{◌≡◌, ◌⊎◌, ℕ, false, true, List, length, slice_get, IfErr, IfOk, IsTrue, Result}
+use Rattle.std.specs.Prelude.{◌≡◌, ◌⊎◌, ℕ, ◌-◌, min, false, true, List, length, slice_get, IfErr, IfOk, IsTrue, Result}
 use Rattle.cfb_chains.specs.ChainCalls.{IsInvalidPlace}
 use Rattle.cfb_directory.specs.Views.{entries_held}
 use Rattle.cfb_entries.specs.Rules.{IsFoundAt}
@@ -31,6 +31,10 @@ module _ {F : Type 0} {g : Ghosts F} where
 
   abbrev pub position_of : ReadStream F g → ℕ
   position_of it = it.position
+
+  -- so many bytes from the position on were read ahead
+  abbrev pub buffered_of : ReadStream F g → ℕ
+  buffered_of it = min (len_of it - position_of it) (lower.count_from (ahead_held (file_of it)) (position_of it))
 
   -- the stream of so many bytes that the file reads is this content: the file has it in its sectors, and what was read ahead is of it
   pub record HasStream (it : CompoundFile F g) (len : ℕ) (content : List ℕ) : Type 0 where

@@ -4,7 +4,7 @@ ghost use Rattle.cfb_fat.specs.Tables.{HasCauseBelow};
 ghost use Rattle.cfb_medium.specs.declared.error.Error.TheVariants.{InvalidInput};
 ghost use Rattle.cfb_mini.specs.Views.{allocator_of};
 ghost use Rattle.cfb_sectors.specs.Seeking.{Finds};
-ghost use Rattle.std.specs.Prelude.{drop, length, min, take, IfErr, IfOk, List, OnErr, ℕ, ◌+◌, ◌++◌, ◌-◌, ◌<◌, ◌==◌, ◌^◌, ◌≡◌, ◌≤◌, ◌⊎◌};
+ghost use Rattle.std.specs.Prelude.{drop, length, min, take, IfErr, IfOk, List, OnErr, OnOk, ℕ, ◌+◌, ◌++◌, ◌-◌, ◌<◌, ◌==◌, ◌^◌, ◌≡◌, ◌≤◌, ◌⊎◌};
 
 use crate::CompoundFile;
 use cfb_medium::{Error, ReadMedium};
@@ -22,7 +22,7 @@ pub struct ReadStream<'a, F: ReadMedium> {
 }
 
 impl<'a, F: ReadMedium> ReadStream<'a, F> {
-    ghost use Rattle.cfb.specs.Streams.{file_of, len_of, position_of, HasContent, IsFaultOrLost, Stays};
+    ghost use Rattle.cfb.specs.Streams.{buffered_of, file_of, len_of, position_of, HasContent, IsFaultOrLost, Stays};
 
     // The stream of so many bytes whose sectors the file has found, at its first byte.
     pub(crate) fn new(file: &'a mut CompoundFile<F>, len: u64) -> ReadStream<'a, F>
@@ -105,8 +105,31 @@ impl<'a, F: ReadMedium> ReadStream<'a, F> {
         }
     }
 
-    /// The bytes that were read ahead from the position on: at least one but at the end of the stream. `InvalidData` or
+    /// Reads ahead where no byte from the position on was, so that at least one is but at the end of the stream. `InvalidData` or
     /// `InvalidInput` where the file hasn't the bytes; the other errors are faults. The position stays.
+    pub fn fill(&mut self) -> Result<(), Error>
+        ensures some { OnOk result (position_of self.old < len_of self.old
+            → 0 < buffered_of self.new) }
+        ensures unmoved { position_of self.new ≡ position_of self.old }
+        ensures stays { Stays self.old self.new }
+        ensures cause { IfErr result (HasCauseBelow (allocator_of (mini_of (file_of self.old)))
+            (allocator_of (mini_of (file_of self.new)))) }
+        ensures fault { IfErr result (IsFaultOrLost self.old) }
+    {
+        self.file.read_more(self.position, self.len)
+    }
+
+    /// The bytes that were read ahead from the position on.
+    pub fn buffer(&self) -> &[u8]
+        ensures bytes { (content : List ℕ) → HasContent self.now content → result.now
+            ≡ take (length result.now) (drop (position_of self.now) content) }
+        ensures count { length result.now ≡ buffered_of self.now }
+    {
+        self.file.ahead_from(self.position, self.len)
+    }
+
+    /// Reads ahead as `fill` does, and gives the bytes from the position on. What it leaves of the stream is that of `fill`, but
+    /// isn't told: a caller who has to know calls `fill` and `buffer`.
     pub fn fill_buf(&mut self) -> Result<&[u8], Error>
         ensures bytes { (content : List ℕ) → HasContent self.old content → IfOk result (λ b. b.now
             ≡ take (length b.now) (drop (position_of self.old) content)) }
@@ -115,8 +138,8 @@ impl<'a, F: ReadMedium> ReadStream<'a, F> {
             → position_of self.old ≡ len_of self.old) }
         ensures fault { IfErr result (IsFaultOrLost self.old) }
     {
-        match self.file.read_more(self.position, self.len) {
-            Ok(()) => Ok(self.file.ahead_from(self.position, self.len)),
+        match self.fill() {
+            Ok(()) => Ok(self.buffer()),
             Err(error) => Err(error),
         }
     }
