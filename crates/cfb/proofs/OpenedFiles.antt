@@ -25,6 +25,7 @@ module _ {F : Type 0} {g : Ghosts F} where
     bytes = λ is. opens.bytes (subst IsTrue (sym read.as_honest) is) ∙ read.same is;
     live = opens.live;
     memory = opens.memory;
+    sizes = opens.sizes;
   }
 
   -- the medium, given back

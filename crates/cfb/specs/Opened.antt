@@ -7,15 +7,17 @@ use Rattle.cfb_opening.specs.Opened.{IsOpened}
 use Rattle.cfb_sectors.specs.declared.validation.Validation.{Validation}
 use Rattle.cfb_tree.specs.Names.{Letters}
 use Rattle.cfb_tree.specs.Tree.{Tree}
+use Rattle.cfb.specs.Doing.{Means}
 use Rattle.cfb.specs.Views.{mini_of, sound_of, Shows}
 use Rattle.cfb.specs.declared.compound_file.CompoundFile.{CompoundFile}
 
 module _ {F : Type 0} {g : Ghosts F} where
   -- The file of these bytes was opened: they mean a tree, of which the sizes of streams alone are known, and the file shows it;
-  -- and it was judged whether they are sound.
+  -- it was judged whether they are sound, and then the file means a tree.
   pub record IsOpenedAs (validation : Validation) (letters : Letters) (bytes : List ℕ) (it : CompoundFile F g) : Type 0 where
     pub layout : Layout
     pub tree : Tree
     pub opened : IsOpened validation letters bytes (mini_of it) layout tree
     pub shown : Shows it tree
     pub sound : IsTrue (sound_of it) ↔ IsSound letters bytes
+    pub means : IsTrue (sound_of it) → (meant : Tree) × Means it meant

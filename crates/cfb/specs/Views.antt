@@ -1,11 +1,13 @@
 -- What a `CompoundFile` shows.
-use Rattle.std.specs.Prelude.{false, Bool, Option, Some, None}
+use Rattle.std.specs.Prelude.{◌≡◌, false, Bool, Option, Some, None}
 use Rattle.cfb_directory.specs.Views.{entries_held}
 use Rattle.cfb_entries.specs.Rules.{HoldsSizes}
 use Rattle.cfb_meaning.specs.TreeRules.{Answer, yes, Call, tree_step}
 use Rattle.cfb_medium.specs.declared.medium.ReadMedium.{Ghosts}
 use Rattle.cfb_mini.specs.Views as mini
 use Rattle.cfb_mini.specs.declared.mini_allocator.MiniAllocator.{MiniAllocator}
+use Rattle.cfb_streams.specs.declared.ahead.ReadAhead.{ReadAhead}
+use Rattle.cfb_streams.specs.declared.opening.StreamLinks.{StreamLinks}
 use Rattle.cfb_tree.specs.LetterViews as letter
 use Rattle.cfb_tree.specs.Names.{Letters}
 use Rattle.cfb_tree.specs.Paths.{Path}
@@ -33,3 +35,16 @@ module _ {F : Type 0} {g : Ghosts F} where
   -- its entries hold the tree, of whose streams the sizes alone are known ([MS-CFB] 2.6)
   abbrev pub Shows : CompoundFile F g → Tree → Type 0
   Shows it tree = HoldsSizes (letters_in it) (entries_held (mini.directory_of (mini_of it))) tree
+
+  -- the sectors of the stream that is read, and its bytes that were read ahead
+  abbrev pub links_held : CompoundFile F g → StreamLinks
+  links_held it = it.links
+
+  abbrev pub ahead_held : CompoundFile F g → ReadAhead
+  ahead_held it = it.ahead
+
+  -- it was only read: of its layers, letter table and soundness all is as it was
+  pub record Rests (old new : CompoundFile F g) : Type 0 where
+    pub mini : mini.Rests (mini_of old) (mini_of new)
+    pub letters : letters_in new ≡ letters_in old
+    pub sound : sound_of new ≡ sound_of old

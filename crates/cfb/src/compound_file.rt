@@ -14,6 +14,7 @@ ghost use Rattle.std.specs.Prelude.{IfErr, IfOk, ◌≡◌};
 use cfb_entries::{Entries, Entry, children_at, entry_at, is_stream_at, walk_at};
 use cfb_medium::{Error, Medium, ReadMedium, Version};
 use cfb_mini::MiniAllocator;
+use cfb_streams::{ReadAhead, StreamLinks};
 use cfb_tree::{CaseMapper, DirEntry};
 use std::alloc::Global;
 
@@ -24,6 +25,8 @@ pub struct CompoundFile<F: ReadMedium> {
     pub(crate) mini: MiniAllocator<F>,
     pub(crate) letters: CaseMapper,
     pub(crate) is_sound: bool,
+    pub(crate) links: StreamLinks,
+    pub(crate) ahead: ReadAhead,
 }
 
 impl<F: ReadMedium> CompoundFile<F> {
@@ -45,6 +48,8 @@ impl<F: ReadMedium> CompoundFile<F> {
             mini,
             letters: _,
             is_sound: _,
+            links: _,
+            ahead: _,
         } = self;
         mini.into_inner()
     }
@@ -59,7 +64,7 @@ impl<F: ReadMedium> CompoundFile<F> {
     }
 
     // The entries, by number.
-    fn entries(&self) -> &[DirEntry]
+    pub(crate) fn entries(&self) -> &[DirEntry]
         ensures { entries_in result.now ≡ entries_held (directory_of (mini_of self.now)) }
     {
         self.mini.directory().dir_entries()

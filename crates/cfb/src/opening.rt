@@ -12,11 +12,16 @@ ghost use Rattle.std.specs.Prelude.{IfErr, IfOk, IsTrue, ◌≡◌, ◌⊎◌};
 
 use crate::CompoundFile;
 use cfb_medium::{Error, ReadMedium};
+use cfb_mini::MiniLinks;
 use cfb_opening::open_file;
 use cfb_sectors::Validation;
 use cfb_soundness::is_sound;
+use cfb_streams::{ReadAhead, StreamLinks};
 use cfb_tree::CaseMapper;
 use std::alloc::Global;
+
+// So many bytes of a stream are read at once.
+pub(crate) const BUFFER: usize = 65536;
 
 impl<F: ReadMedium> CompoundFile<F> {
     /// Opens a compound file, whose names are compared under the letter table. `InvalidData` exactly where the bytes mean no
@@ -39,7 +44,7 @@ impl<F: ReadMedium> CompoundFile<F> {
             e.0 e.1) }
         ensures left { IfErr result (λ e. OnlyReads F.honest F.bytes F.continues medium e.0) }
     {
-        open_as(alloc, medium, letters, Validation::Permissive)
+        open_as(alloc, medium, letters, Validation::Permissive, BUFFER)
     }
 
     /// Opens a compound file as a strict reader, who also asks for the header's counts, the DIFAT's end, whole sectors, the
@@ -61,16 +66,17 @@ impl<F: ReadMedium> CompoundFile<F> {
             e.0 e.1) }
         ensures left { IfErr result (λ e. OnlyReads F.honest F.bytes F.continues medium e.0) }
     {
-        open_as(alloc, medium, letters, Validation::Strict)
+        open_as(alloc, medium, letters, Validation::Strict, BUFFER)
     }
 }
 
-// Opens a file in one of the two ways, and judges it.
-fn open_as<F: ReadMedium>(
+// Opens a file in one of the two ways, and judges it. So many bytes of streams are read at once.
+pub(crate) fn open_as<F: ReadMedium>(
     alloc: Global,
     mut medium: F,
     letters: CaseMapper,
     validation: Validation,
+    limit: usize,
 ) -> Result<CompoundFile<F>, (F, Error)>
     ensures opens { IfOk result (λ it. OpensAt medium (mini_of it)) }
     ensures letters { IfOk result (λ it. letters_in it ≡ letters_of letters) }
@@ -97,6 +103,8 @@ fn open_as<F: ReadMedium>(
             mini,
             letters,
             is_sound,
+            links: StreamLinks::Short(MiniLinks::new(alloc)),
+            ahead: ReadAhead::new(alloc, limit),
         }),
         Err(error) => Err((mini.into_inner(), error)),
     }

@@ -1,5 +1,5 @@
 -- Sizes that are read fit the version.
-use Rattle.std.proofs.Common.{◌≡◌, ℕ, ◌<◌, ◌≤◌, List, [], ◌∷◌, length, map, take, drop, get_or, zero, suc, subst, ◌/◌, arith}
+use Rattle.std.proofs.Common.{◌≡◌, ℕ, ◌<◌, ◌≤◌, List, [], ◌∷◌, length, map, take, drop, get_or, zero, suc, sym, subst, ◌/◌, arith}
 use Rattle.std.specs.Int.{from_le_bytes, w32, w64}
 use Rattle.std.specs.Prelude.{slice_get, Some}
 use Rattle.cfb_medium.specs.Numbers.{all_pieces, pieces}
@@ -44,3 +44,6 @@ piece_fits v (suc count) bytes all (suc k) e is = piece_fits v count (drop 128 b
 pub sizes_fit : (v : Version) (bytes : List ℕ) → AreBytes bytes → SizesFit v (entries_of v bytes)
 unfolding entries_of all_pieces
 sizes_fit v bytes all = piece_fits v (length bytes / 128) bytes all
+
+pub sizes_same : (v w : Version) (xs ys : List Entry) → w ≡ v → ys ≡ xs → SizesFit v xs → SizesFit w ys
+sizes_same v w xs ys version same fits = subst (λ u. SizesFit u ys) (sym version) (subst (SizesFit v) (sym same) fits)

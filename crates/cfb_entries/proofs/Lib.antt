@@ -4,3 +4,4 @@ pub mod Preorder
 pub mod Sides
 pub mod Telling
 pub mod Texts
+pub mod StreamsHeld

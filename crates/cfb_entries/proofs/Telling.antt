@@ -5,7 +5,7 @@ use Rattle.std.specs.Borrow.{Bor}
 use Rattle.std.specs.Option.{option_map}
 use Rattle.std.proofs.lemmas.List.{length-map, take-map}
 use Rattle.cfb_siblings.specs.Places.{path_of}
-use Rattle.cfb_meaning.specs.TreeRules.{refused, entries, an_entry, Call, tree_step, entry, read_storage, walk_storage, shown, all_shown, children_shown, stored_path, parent_of}
+use Rattle.cfb_meaning.specs.TreeRules.{refused, entries, an_entry, Call, tree_step, entry, open_read_stream, read_storage, walk_storage, shown, all_shown, children_shown, stored_path, parent_of}
 use Rattle.cfb_medium.specs.declared.error.Error.{Error}
 use Rattle.cfb_medium.specs.declared.error.Error.TheVariants.{InvalidInput, Memory, NotFound}
 use Rattle.cfb_tree.specs.Names.{Letters}
@@ -51,6 +51,9 @@ module _ (letters : Letters) (tree : Tree) where
 
   pub read_lost : (names : Path) → object_at letters tree names ≡ None → (tree_step letters tree (read_storage names)).1 ≡ refused NotFound
   read_lost names lost = rw lost refl
+
+  pub stream_lost : (names : Path) → object_at letters tree names ≡ None → (tree_step letters tree (open_read_stream names)).1 ≡ refused NotFound
+  stream_lost names lost = rw lost refl
 
   pub walk_lost : (names : Path) → object_at letters tree names ≡ None → (tree_step letters tree (walk_storage names)).1 ≡ refused NotFound
   walk_lost names lost = rw lost refl
@@ -110,6 +113,9 @@ module _ (letters : Letters) (tree : Tree) where
 
     pub walk_refused : (e.kind == kind_stream) ≡ true → (tree_step letters tree (walk_storage path)).1 ≡ refused InvalidInput
     walk_refused is = let (n, b, x, stream) = is_a_stream is in rw (it.at_path, stream) refl
+
+    pub stream_refused : (e.kind == kind_stream) ≡ false → (tree_step letters tree (open_read_stream path)).1 ≡ refused InvalidInput
+    stream_refused isnt = let (n, f, i, storage) = is_a_storage isnt in rw (it.at_path, storage) refl
 
     pub read_answer : (e.kind == kind_stream) ≡ false → (tree_step letters tree (read_storage path)).1 ≡ entries (children_shown path (inside_of it.object))
     read_answer isnt = let (n, f, i, storage) = is_a_storage isnt in rw (it.at_path, storage) refl

@@ -6,9 +6,11 @@ mod finding;
 mod kinds;
 mod listing;
 mod siblings;
+mod streams;
 mod walking;
 
 pub use entry::Entry;
 pub use finding::find_by_path;
 pub use kinds::is_stream_at;
 pub use listing::{Entries, EntriesOrder, children_at, entry_at, walk_at};
+pub use streams::stream_at;

@@ -5,8 +5,9 @@ ghost use Rattle.cfb_medium.specs.Calls.{IsFaultUnless};
 ghost use Rattle.cfb_medium.specs.declared.error.Error.TheVariants.{Failed, InvalidData, InvalidInput};
 ghost use Rattle.cfb_mini.specs.Views.{allocator_of, Rests};
 ghost use Rattle.cfb_owned.specs.Chains.{content_of, len_of, HasLinks};
+ghost use Rattle.cfb_streams.specs.Content.{HasContent, ReadsPart};
 ghost use Rattle.cfb_streams.specs.Streams.{joined_in, len_in, HasSectorsOf};
-ghost use Rattle.std.specs.Prelude.{drop, false, length, take, true, IfErr, IsErrOf, IsTrue, OnOk, ◌+◌, ◌<◌, ◌≡◌, ◌≤◌, ◌↔◌, ◌⊎◌};
+ghost use Rattle.std.specs.Prelude.{drop, false, length, take, true, IfErr, IsErrOf, IsTrue, List, OnOk, ℕ, ◌+◌, ◌<◌, ◌≡◌, ◌≤◌, ◌↔◌, ◌⊎◌};
 
 use crate::StreamLinks;
 use cfb_chains::Links;
@@ -56,6 +57,9 @@ pub fn read_stream<F: ReadMedium>(
         × (len_in links.now < at + length buffer.old)) }
     ensures refused { IsErrOf result InvalidData → IsTrue (is_honest (allocator_of mini.old))
         → HasSectorsOf mini.old links.now → ⊥ }
+    ensures content { (len : ℕ) (content : List ℕ) → HasContent mini.old links.now len content
+        → HasContent mini.new links.now len content
+        × (at + length buffer.old ≤ len → ReadsPart content at buffer.old buffer.new result) }
     ensures failed { has_failed_here (allocator_of mini.old) ≡ true → IsErrOf result Failed }
     ensures rests { Rests mini.old mini.new }
     ensures cause { IfErr result (HasCauseBelow (allocator_of mini.old) (allocator_of mini.new)) }

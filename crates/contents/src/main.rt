@@ -2,14 +2,8 @@
 #![tactic(auto)]
 
 use anyhow::{Result, bail};
-use cfb_entries::{Entry, find_by_path, walk_at};
+use cfb::{CompoundFile, Entry, OpenOptions};
 use cfb_medium::{Error, ReadMedium};
-use cfb_mini::MiniAllocator;
-use cfb_opening::open_file;
-use cfb_sectors::Validation;
-use cfb_soundness::is_sound;
-use cfb_streams::{ReadStream, open_stream};
-use cfb_tree::CaseMapper;
 use file_device::FileMedium;
 use sha2::{Digest, Sha256};
 use std::alloc::Global;
@@ -19,30 +13,29 @@ use std::env;
 const PIECE: usize = 4096;
 
 fn main(rt: HostRuntime) -> Result<()> {
-    let letters = CaseMapper::ascii(rt.alloc())?;
     for path in env::args(&rt)?.skip(1) {
-        print_file(&rt, path.as_str(), &letters)?;
+        print_file(&rt, path.as_str())?;
     }
     Ok(())
 }
 
 // Prints the objects of a file, each storage before what it holds.
-fn print_file(rt: &HostRuntime, path: &str, letters: &CaseMapper) -> Result<()> {
+fn print_file(rt: &HostRuntime, path: &str) -> Result<()> {
     let mut medium = FileMedium::open(rt, path)?;
     let len = medium.len()?;
-    let mut file = match open_file(rt.alloc(), medium, letters, Validation::Permissive) {
+    let options = OpenOptions::new(rt.alloc())?;
+    let mut file = match options.open_with(rt.alloc(), medium) {
         Ok(file) => file,
         Err((_, error)) => bail!("{path}: {error}"),
     };
-    let state = if is_sound(rt.alloc(), &file, len)? {
+    let state = if file.is_sound() {
         "sound"
     } else {
         "not sound"
     };
     println!(rt; "== {path} ({len} bytes, {state})")?;
-    let entries = walk_at(rt.alloc(), letters, file.directory().dir_entries(), "/")?;
-    for entry in entries {
-        print_entry(rt, &mut file, letters, &entry)?;
+    for entry in file.walk()? {
+        print_entry(rt, &mut file, &entry)?;
     }
     Ok(())
 }
@@ -50,13 +43,12 @@ fn print_file(rt: &HostRuntime, path: &str, letters: &CaseMapper) -> Result<()> 
 // Prints an object, but not the root.
 fn print_entry<F: ReadMedium>(
     rt: &HostRuntime,
-    file: &mut MiniAllocator<F>,
-    letters: &CaseMapper,
+    file: &mut CompoundFile<F>,
     entry: &Entry,
 ) -> Result<()> {
     let path = escaped(rt.alloc(), entry.path())?;
     if entry.is_stream() {
-        let digest = digest_of(rt.alloc(), file, letters, entry.path())?;
+        let digest = digest_of(file, entry.path())?;
         let hex = hex::encode(rt.alloc(), digest)?;
         println!(rt; "{path}\tstream\t{}\t{hex}", entry.len())?;
     } else if !entry.is_root() {
@@ -66,21 +58,11 @@ fn print_entry<F: ReadMedium>(
 }
 
 // The SHA-256 of a stream's bytes.
-fn digest_of<F: ReadMedium>(
-    alloc: Global,
-    file: &mut MiniAllocator<F>,
-    letters: &CaseMapper,
-    path: &str,
-) -> Result<[u8; 32], Error> {
-    let (start, size) = {
-        let (_, entry) = find_by_path(alloc, letters, file.directory().dir_entries(), path)?;
-        (entry.start_sector, entry.stream_len)
-    };
-    let links = open_stream(file, start, size)?;
-    let mut stream = ReadStream::new(file, &links, size);
+fn digest_of<F: ReadMedium>(file: &mut CompoundFile<F>, path: &str) -> Result<[u8; 32], Error> {
+    let mut stream = file.open_read_stream(path)?;
     let mut digest = Sha256::new();
     let mut buffer = [0; PIECE];
-    for _ in 0..=size / PIECE as u64 {
+    for _ in 0..=stream.len() / PIECE as u64 {
         let count = stream.read(&mut buffer)?;
         digest.update(&buffer[..count]);
     }

@@ -4,6 +4,7 @@ use Rattle.cfb_opening.specs.Opened.{IsOpened}
 use Rattle.cfb_opening.specs.Tables.{OnlyReads}
 use Rattle.cfb_tree.specs.LetterViews.{letters_of}
 use Rattle.cfb.proofs.OpenedFiles.{holds_so, judged_so, opens_since}
+use Rattle.cfb.proofs.OpenedMeans.{means_so}
 use Rattle.cfb.proofs.opening.open_as.Goals as goal
 
 pub returns-in-Ok-is_sound-clause-opened : goal.returns-in-Ok-is_sound-clause-opened
@@ -17,12 +18,14 @@ returns-in-Ok-is_sound-clause-opened g c = λ is.
     let told = c.in-Ok-open_file.ensures.opened (subst IsTrue (sym did.honest) is) in
     let here = subst (λ b. IsOpened c.args.validation letters b it told.0 told.1) (did.bytes is) told.2 in
     let opens = opens_since old c.len.new.self it read c.in-Ok-open_file.ensures.opens in
+    let judged = judged_so old it told.0 letters told.1 c.in-Ok.len c.in-Ok-is_sound.is_sound is opens here.shows here.means (did.length is) c.in-Ok-is_sound.ensures.sound in
     record {
       layout = told.0;
       tree = told.1;
       opened = here;
       shown = holds_so it (G.bytes old) told.0 letters told.1 here.shows here.means;
-      sound = judged_so old it told.0 letters told.1 c.in-Ok.len c.in-Ok-is_sound.is_sound is opens here.shows here.means (did.length is) c.in-Ok-is_sound.ensures.sound;
+      sound = judged;
+      means = λ sound. let meant = means_so old it told.0 letters told.1 is opens here.shows here.means (judged.0 sound) in (meant.0, record { sound = sound; live = meant.1 });
     }
 
 pub returns-in-Err-is_sound-clause-refused : goal.returns-in-Err-is_sound-clause-refused

@@ -1,5 +1,9 @@
 use Rattle.std.proofs.Common.{◌≡◌, sym, subst, ◌∙◌, IsTrue}
 use Rattle.std.specs.Prelude.{slice_get, Some}
+use Rattle.cfb_directory.specs.Views.{entries_held}
+use Rattle.cfb_fat.specs.Tables.{version_of}
+use Rattle.cfb_mini.specs.Views.{allocator_of, directory_of}
+use Rattle.cfb_directory.proofs.EntrySizes.{sizes_same}
 use Rattle.cfb_opening.proofs.laws.reads_keep_what_opening_tells.Goals as goal
 
 pub returns-clause-opens : goal.returns-clause-opens
@@ -11,6 +15,7 @@ returns-clause-opens g c = λ medium old new rests at.
       bytes = λ honest. r.bytes (subst IsTrue (sym at.honest) honest) ∙ at.bytes honest;
       live = r.failed ∙ at.live;
       memory = rests.kept at.memory;
+      sizes = sizes_same (version_of (allocator_of old)) (version_of (allocator_of new)) (entries_held (directory_of old)) (entries_held (directory_of new)) r.version rests.directory.entries at.sizes;
     }
 
 pub returns-clause-opened : goal.returns-clause-opened

@@ -1,12 +1,13 @@
-use Rattle.std.proofs.Common.{◌≡◌, refl, sym, subst}
+use Rattle.std.proofs.Common.{◌≡◌, refl, sym, subst, ◌∙◌}
 use Rattle.std.specs.Prelude.{slice_get, Some}
-use Rattle.cfb_fat.specs.Tables.{fat_of, medium_of}
+use Rattle.cfb_fat.specs.Tables.{fat_of, medium_of, version_of}
+use Rattle.cfb_directory.proofs.EntrySizes.{sizes_same}
 use Rattle.cfb_sectors.specs.HeaderViews.{fields_of}
 use Rattle.cfb_sectors.specs.Sectors.{Chain}
 use Rattle.cfb_tree.specs.LetterViews.{letters_of}
 use Rattle.cfb_directory.specs.Taken.{HasSize, IsTakenAs}
 use Rattle.cfb_directory.specs.Views as layer
-use Rattle.cfb_mini.specs.Views.{allocator_of, mini_fat_ids, mini_stream_ids}
+use Rattle.cfb_mini.specs.Views.{allocator_of, directory_of, mini_fat_ids, mini_stream_ids}
 use Rattle.cfb_opening.specs.Tables.{OnlyReads}
 use Rattle.cfb_opening.proofs.ReadsInTurn.{cause_since, reads_then}
 use Rattle.cfb_opening.proofs.Tied.{no_directory, no_mini, not_strict, opened, tied_after, tied_first}
@@ -108,7 +109,14 @@ returns-clause-opens g c =
     let here = c.in-Ok-new-2.ensures in
     let first = tied_after c.args.medium h a a (layer.allocator_of d) (tied_first c.args.medium h a did.live did.rests did.version) c.in-Ok-new.ensures.rests in
     let tied = tied_after c.args.medium h a (layer.allocator_of d) (allocator_of it) first here.rests.allocator in
-    record { honest = tied.reads.as_honest; continues = tied.reads.extends; bytes = tied.reads.same; live = tied.live; memory = here.memory c.in-Ok-new.ensures.memory }
+    record {
+      honest = tied.reads.as_honest;
+      continues = tied.reads.extends;
+      bytes = tied.reads.same;
+      live = tied.live;
+      memory = here.memory c.in-Ok-new.ensures.memory;
+      sizes = sizes_same (version_of a) (version_of (allocator_of it)) (layer.entries_held d) (layer.entries_held (directory_of it)) (here.rests.allocator.sectors.version ∙ c.in-Ok-new.ensures.rests.sectors.version) here.rests.entries c.in-Ok-new.ensures.sizes;
+    }
 
 pub returns-clause-opened : goal.returns-clause-opened
 returns-clause-opened g c = λ honest.

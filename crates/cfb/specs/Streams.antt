@@ -1,0 +1,107 @@
+-- Streams of a file that are read, by their paths.
+use Rattle.std.specs.Prelude.{◌≡◌, ◌⊎◌, ℕ, ◌-◌, min, false, true, List, length, slice_get, IfErr, IfOk, IsTrue, Result}
+use Rattle.cfb_chains.specs.ChainCalls.{IsInvalidPlace}
+use Rattle.cfb_directory.specs.Views.{entries_held}
+use Rattle.cfb_entries.specs.Rules.{IsFoundAt}
+use Rattle.cfb_fat.specs.Tables.{bytes_of, has_failed_here, is_honest}
+use Rattle.cfb_meaning.specs.Means.{HasBytes, Layout, MeansBy}
+use Rattle.cfb_meaning.specs.TreeRules.{Answer, has_bytes, refused}
+use Rattle.cfb_medium.specs.Calls.{IsFaultUnless}
+use Rattle.cfb_medium.specs.declared.error.Error.{Error}
+use Rattle.cfb_medium.specs.declared.error.Error.TheVariants.{Failed, InvalidData, Memory}
+use Rattle.cfb_medium.specs.declared.medium.ReadMedium.{Ghosts}
+use Rattle.cfb_mini.specs.Views.{allocator_of, directory_of, IsMini}
+use Rattle.cfb_opening.specs.Opened as opening
+use Rattle.cfb_streams.specs.Content as lower
+use Rattle.cfb_streams.specs.Streams.{sectors_in, IsOfLevel, LiesIn}
+use Rattle.cfb_tree.specs.Directory.{kind_stream, Entry}
+use Rattle.cfb_tree.specs.Paths.{Path}
+use Rattle.cfb_tree.specs.Tree.{Tree}
+use Rattle.cfb.specs.Views.{ahead_held, letters_in, links_held, mini_of, Rests}
+use Rattle.cfb.specs.declared.compound_file.CompoundFile.{CompoundFile}
+use Rattle.cfb.specs.declared.stream.ReadStream.{ReadStream}
+
+module _ {F : Type 0} {g : Ghosts F} where
+  -- the file, how many bytes the stream has, and the place from which on they are read
+  abbrev pub file_of : ReadStream F g → CompoundFile F g
+  file_of it = it.file.now
+
+  abbrev pub len_of : ReadStream F g → ℕ
+  len_of it = it.len
+
+  abbrev pub position_of : ReadStream F g → ℕ
+  position_of it = it.position
+
+  -- so many bytes from the position on were read ahead
+  abbrev pub buffered_of : ReadStream F g → ℕ
+  buffered_of it = min (len_of it - position_of it) (lower.count_from (ahead_held (file_of it)) (position_of it))
+
+  -- the stream of so many bytes that the file reads is this content: the file has it in its sectors, and what was read ahead is of it
+  pub record HasStream (it : CompoundFile F g) (len : ℕ) (content : List ℕ) : Type 0 where
+    pub lies : lower.HasContent (mini_of it) (links_held it) len content
+    pub ahead : lower.IsAheadOf content (ahead_held it)
+
+  -- the file was only read, and the stream that it reads is what it was
+  pub record KeepsStream (len : ℕ) (old new : CompoundFile F g) : Type 0 where
+    pub rests : Rests old new
+    pub content : (content : List ℕ) → HasStream old len content → HasStream new len content
+
+  -- the stream has these bytes
+  abbrev pub HasContent : ReadStream F g → List ℕ → Type 0
+  HasContent it content = HasStream (file_of it) (len_of it) content
+
+  -- the same stream of the same file, which was only read: it has the bytes that it had
+  pub record Stays (old new : ReadStream F g) : Type 0 where
+    pub file : new.file.ghost_name ≡ old.file.ghost_name
+    pub len : len_of new ≡ len_of old
+    pub keeps : KeepsStream (len_of old) (file_of old) (file_of new)
+
+  -- a fault; or the file hasn't the stream's bytes
+  abbrev pub IsFaultOrLost : ReadStream F g → Error → Type 0
+  IsFaultOrLost it e = IsFaultUnless ⊥ e ⊎ (IsInvalidPlace e × ((content : List ℕ) → HasContent it content → ⊥))
+
+  -- A live file over an honest medium holds the tree: memory is that of the bytes, and in the layout that memory shows they mean it,
+  -- streams with their bytes ([MS-CFB] 2)
+  pub record Holds (it : CompoundFile F g) (tree : Tree) : Type 0 where
+    pub live : has_failed_here (allocator_of (mini_of it)) ≡ false
+    pub honest : IsTrue (is_honest (allocator_of (mini_of it)))
+    pub memory : IsMini (mini_of it)
+    pub layout : Layout
+    pub shows : opening.Shows (mini_of it) (bytes_of (allocator_of (mini_of it))) layout
+    pub means : MeansBy layout (HasBytes (bytes_of (allocator_of (mini_of it))) layout) (letters_in it) (bytes_of (allocator_of (mini_of it))) tree
+
+  -- the path's text leads to the entry of a stream, of so many bytes
+  pub record IsStreamAt (it : CompoundFile F g) (text : List ℕ) (e : Entry) : Type 0 where
+    pub names : Path
+    pub found : IsFoundAt (letters_in it) (entries_held (directory_of (mini_of it))) text names e
+    pub of_kind : e.kind ≡ kind_stream
+
+  -- the second file reads the stream at the path, which has so many bytes, from the sectors in which it lies
+  pub record FindsStream (old new : CompoundFile F g) (text : List ℕ) (size : ℕ) : Type 0 where
+    pub entry : Entry
+    pub at_path : IsStreamAt old text entry
+    pub lies : LiesIn (mini_of old) entry.start entry.size (sectors_in (links_held new))
+    pub level : IsOfLevel (mini_of old) entry.size (links_held new)
+    pub has_size : size ≡ entry.size
+
+  -- the chain of the stream at the path breaks: it lies in no sectors
+  pub record IsBroken (it : CompoundFile F g) (text : List ℕ) : Type 0 where
+    pub entry : Entry
+    pub at_path : IsStreamAt it text entry
+    pub lost : (sectors : List ℕ) → LiesIn (mini_of it) entry.start entry.size sectors → ⊥
+
+  -- want of memory, or the file had failed
+  abbrev pub IsWant : CompoundFile F g → Error → Type 0
+  IsWant it e = (e ≡ Memory) ⊎ ((e ≡ Failed) × (has_failed_here (allocator_of (mini_of it)) ≡ true))
+
+  -- the answer is a stream, which was found, or this refusal; or the stream's chain breaks, or there was a fault
+  abbrev pub TellsStream : {A : Type 0} → CompoundFile F g → List ℕ → (A → CompoundFile F g) → (A → ℕ) → Answer → Result A Error → Type 0
+  TellsStream {A} it text file len answer result =
+      IfOk result (λ s. FindsStream it (file s) text (len s) × (bytes : List ℕ) × (answer ≡ has_bytes bytes) × (len s ≡ length bytes))
+      × IfErr result (λ e. IsWant it e ⊎ (answer ≡ refused e) ⊎ ((e ≡ InvalidData) × IsBroken it text))
+
+  -- the answer is a stream of these bytes, or this refusal; or there was a fault
+  abbrev pub TellsBytes : {A : Type 0} → CompoundFile F g → (A → CompoundFile F g) → (A → ℕ) → Answer → Result A Error → Type 0
+  TellsBytes {A} it file len answer result =
+      IfOk result (λ s. (bytes : List ℕ) × (answer ≡ has_bytes bytes) × HasStream (file s) (len s) bytes)
+      × IfErr result (λ e. IsWant it e ⊎ (answer ≡ refused e))

@@ -1,0 +1,123 @@
+//! How a file is opened.
+ghost use Rattle.cfb.specs.Opened.{IsOpenedAs};
+ghost use Rattle.cfb.specs.Views.{letters_in, mini_of};
+ghost use Rattle.cfb_medium.specs.Calls.{HasCauseSince, IsFaultUnless};
+ghost use Rattle.cfb_medium.specs.declared.error.Error.TheVariants.{InvalidData, Memory};
+ghost use Rattle.cfb_opening.specs.Opened.{CanOpen, OpensAt};
+ghost use Rattle.cfb_opening.specs.Tables.{OnlyReads};
+ghost use Rattle.cfb_sectors.specs.declared.validation.Validation.TheVariants.{Permissive, Strict};
+ghost use Rattle.cfb_tree.specs.LetterViews.{letters_of, ReplaceAlike};
+ghost use Rattle.cfb_tree.specs.Names.{ascii_letters};
+ghost use Rattle.std.specs.Prelude.{IfErr, IfOk, IsTrue, OnOk, ◌≡◌, ◌⊎◌};
+
+use crate::CompoundFile;
+use crate::opening::{BUFFER, open_as};
+use cfb_medium::{Error, ReadMedium};
+use cfb_sectors::Validation;
+use cfb_tree::CaseMapper;
+use std::alloc::Global;
+
+/// How a file is opened: as which reader, under which letter table, and how many bytes of a stream are read at once.
+#[derive(Drop)]
+pub struct OpenOptions {
+    pub(crate) validation: Validation,
+    pub(crate) letters: CaseMapper,
+    limit: usize,
+}
+
+impl OpenOptions {
+    ghost use Rattle.cfb.specs.OptionViews.{letters_asked, validation_asked};
+
+    /// A lenient reader, under the letter table of ASCII, who reads 65536 bytes of a stream at once. The one error is `Memory`.
+    pub fn new(alloc: Global) -> Result<OpenOptions, Error>
+        ensures letters { IfOk result (λ it. ReplaceAlike (letters_asked it) ascii_letters) }
+        ensures lenient { IfOk result (λ it. validation_asked it ≡ Permissive) }
+        ensures error { IfErr result (λ e. e ≡ Memory) }
+    {
+        match CaseMapper::ascii(alloc) {
+            Ok(letters) => Ok(OpenOptions {
+                validation: Validation::Permissive,
+                letters,
+                limit: BUFFER,
+            }),
+            Err(error) => Err(error),
+        }
+    }
+
+    /// Reads at most so many bytes of a stream at once, or 1024 where that is less. It governs nothing else.
+    pub fn max_buffer_size(self, limit: usize) -> OpenOptions
+        ensures letters { letters_asked result ≡ letters_asked self }
+        ensures validation { validation_asked result ≡ validation_asked self }
+    {
+        let OpenOptions {
+            validation,
+            letters,
+            limit: _,
+        } = self;
+        OpenOptions {
+            validation,
+            letters,
+            limit,
+        }
+    }
+
+    /// Opens as a strict reader does.
+    pub fn strict(self) -> OpenOptions
+        ensures letters { letters_asked result ≡ letters_asked self }
+        ensures validation { validation_asked result ≡ Strict }
+    {
+        let OpenOptions {
+            validation: _,
+            letters,
+            limit,
+        } = self;
+        OpenOptions {
+            validation: Validation::Strict,
+            letters,
+            limit,
+        }
+    }
+
+    /// Compares names under another letter table ([MS-CFB] 2.6.4).
+    pub fn case_mapper(self, letters: CaseMapper) -> OpenOptions
+        ensures letters { letters_asked result ≡ letters_of letters }
+        ensures validation { validation_asked result ≡ validation_asked self }
+    {
+        let OpenOptions {
+            validation,
+            letters: _,
+            limit,
+        } = self;
+        OpenOptions {
+            validation,
+            letters,
+            limit,
+        }
+    }
+
+    /// Opens the file in a medium, as `CompoundFile::open` and `open_strict` do: `InvalidData` exactly where such a reader can't
+    /// open the bytes; the other errors are faults. A refusal gives the medium back.
+    pub fn open_with<F: ReadMedium>(
+        self,
+        alloc: Global,
+        medium: F,
+    ) -> Result<CompoundFile<F>, (F, Error)>
+        ensures opens { IfOk result (λ it. OpensAt medium (mini_of it)) }
+        ensures letters { IfOk result (λ it. letters_in it ≡ letters_asked self) }
+        ensures opened { IfOk result (λ it. IsTrue (F.honest medium)
+            → IsOpenedAs (validation_asked self) (letters_asked self) (F.bytes medium) it) }
+        ensures refused { IfErr result (λ e. e.1 ≡ InvalidData → IsTrue (F.honest medium)
+            → CanOpen (validation_asked self) (letters_asked self) (F.bytes medium) → ⊥) }
+        ensures fault { IfErr result (λ e. IsFaultUnless ⊥ e.1 ⊎ (e.1 ≡ InvalidData)) }
+        ensures cause { IfErr result (λ e. HasCauseSince F.continues F.failures F.failed medium
+            e.0 e.1) }
+        ensures left { IfErr result (λ e. OnlyReads F.honest F.bytes F.continues medium e.0) }
+    {
+        let OpenOptions {
+            validation,
+            letters,
+            limit,
+        } = self;
+        open_as(alloc, medium, letters, validation, limit)
+    }
+}
