@@ -2,9 +2,9 @@
 use Rattle.std.specs.Prelude.{◌≡◌, ◌⊎◌, true, false, Option, Some, Result, IfErr, IsErrOf, OnErr, OnOk}
 use Rattle.cfb_entries.specs.Rules.{answer_at}
 use Rattle.cfb_fat.specs.Tables.{has_failed_here}
+use Rattle.cfb_live.specs.Doing.{IsFault}
 use Rattle.cfb_live.specs.Live as live
 use Rattle.cfb_meaning.specs.TreeRules.{done, refused, tree_step, Call}
-use Rattle.cfb_medium.specs.Calls.{IsFaultUnless}
 use Rattle.cfb_medium.specs.declared.error.Error.{Error}
 use Rattle.cfb_medium.specs.declared.error.Error.TheVariants.{Failed, InvalidData}
 use Rattle.cfb_medium.specs.declared.medium.ReadMedium.{Ghosts}
@@ -41,6 +41,6 @@ module _ {F : Type 0} {g : Ghosts F} where
     pub failed : has_failed_here (allocator_of (mini_of old)) ≡ true → IsErrOf result Failed
     pub unsound : has_failed_here (allocator_of (mini_of old)) ≡ false → sound_of old ≡ false → IsErrOf result InvalidData
     pub done : OnOk result ((tree : Tree) → Means old tree → IsDone path call tree old new)
-    pub refused : IfErr result (λ e. (tree : Tree) → Means old tree → IsFaultUnless ⊥ e ⊎ (answer_at (letters_in old) tree call path ≡ refused e))
+    pub refused : IfErr result (λ e. (tree : Tree) → Means old tree → IsFault e ⊎ (answer_at (letters_in old) tree call path ≡ refused e))
     pub rests : OnErr result ((has_failed_here (allocator_of (mini_of new)) ≡ true) ⊎ Rests old new)
     pub seen : (letters_in new ≡ letters_in old) × (sound_of new ≡ sound_of old)

@@ -112,12 +112,13 @@ relinked_at link target k es e found = relinked_as link target k es e (slice_get
 differs : (k id : ℕ) → (k ≡ id → ⊥) → nat_eq id k ≡ false
 differs k id other = ⊎_elim (λ same. absurd (other (sym same.1))) (λ differ. differ.0) (eqb_tells id k)
 
-pub inserted_others : (version : Version) (link : Link) (e : Entry) (old new : List Entry) (id : ℕ) → LinksNew version link e old new id → AddsAt old new id
+pub inserted_others : (version : Version) (link : Link) (e : Entry) (old new : List Entry) (id : ℕ) → LinksNew version link e old new id → AddsAt old new e id
 inserted_others version link e old new id links =
     let more = replicate (dir_entries_per_sector version) empty_entry in
     let keep : (k : ℕ) (x : Entry) → slice_get old k ≡ Some x → slice_get links.grown k ≡ Some x = λ k x found.
     ⊎_elim (λ same. ap (λ l. slice_get l k) same ∙ found) (λ longer. ap (λ l. slice_get l k) longer ∙ append_keeps old more k x found) links.behind in
     record {
+      entry = inserted_at version link e old new id links;
       unused = λ x found. ap (λ (y : Entry). y.kind) (Some_same (sym (keep id x found) ∙ links.unused.found)) ∙ links.unused.of_kind;
       others = λ k x other found. subst (λ l. HasAt l k x) (sym links.entries)
           (relinked_at link id k (slice_set links.grown id e) x (set_changes_only links.grown id e k x (differs k id other) (keep k x found)));

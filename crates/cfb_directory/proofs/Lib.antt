@@ -14,6 +14,7 @@ pub mod Naming
 pub mod Parts
 pub mod Paths
 pub mod ReadTrees
+pub mod Readiness
 pub mod Searching
 pub mod Setting
 pub mod Stages

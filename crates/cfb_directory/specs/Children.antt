@@ -57,7 +57,8 @@ pub record LinksNew (version : Version) (link : Link) (e : Entry) (old new : Lis
 abbrev pub StayBut : List Entry → List Entry → ℕ → Type 0
 StayBut old new id = (k : ℕ) (e : Entry) → (k ≡ id → ⊥) → slice_get old k ≡ Some e → HasAt new k e
 
--- entry `id` is a new one, or was in no use; the others are as they were, but for links and colours
-pub record AddsAt (old new : List Entry) (id : ℕ) : Type 0 where
-  pub unused : (e : Entry) → slice_get old id ≡ Some e → e.kind ≡ kind_unallocated
+-- entry `id`, which was in no use if it was there, is this one; the others are as they were: all but for links and colours
+pub record AddsAt (old new : List Entry) (e : Entry) (id : ℕ) : Type 0 where
+  pub entry : HasAt new id e
+  pub unused : (was : Entry) → slice_get old id ≡ Some was → was.kind ≡ kind_unallocated
   pub others : StayBut old new id

@@ -1,5 +1,5 @@
 -- What a directory is that took in entries in no use ([MS-CFB] 2.6.3).
-use Rattle.std.specs.Prelude.{◌≡◌, ℕ, List, [], ◌∷◌, ◌++◌, ⊤, length, replicate}
+use Rattle.std.specs.Prelude.{◌≡◌, ℕ, List, [], ◌∷◌, ◌++◌, ⊤, length, replicate, IsTrue}
 use Rattle.std.specs.Int.{to_le_bytes, w32}
 use Rattle.cfb_medium.specs.Versions.{dir_entries_per_sector}
 use Rattle.cfb_medium.specs.declared.medium.ReadMedium.{Ghosts}
@@ -8,11 +8,12 @@ use Rattle.cfb_medium.specs.declared.version.Version.TheVariants.{V3, V4}
 use Rattle.cfb_sectors.specs.Sectors.{filled_part, sector}
 use Rattle.cfb_chains.specs.Owned.{Becomes}
 use Rattle.cfb_fat.specs.Seeing.{seen_of}
-use Rattle.cfb_fat.specs.Tables.{bytes_of, version_of}
+use Rattle.cfb_fat.specs.Tables.{bytes_of, orderly_of, version_of}
 use Rattle.cfb_tree.specs.Directory.{Entry}
 use Rattle.cfb_tree.specs.Entries.{empty_entry}
 use Rattle.cfb_directory.specs.Changes.{HasDirectory}
-use Rattle.cfb_directory.specs.Views.{allocator_of, directory_ids}
+use Rattle.cfb_directory.specs.Entries.{SizesFit}
+use Rattle.cfb_directory.specs.Views.{allocator_of, directory_ids, entries_held}
 use Rattle.cfb_directory.specs.declared.directory.Directory.{Directory}
 
 -- the header's number of the directory's sectors, which version 3 has not ([MS-CFB] 2.2)
@@ -38,3 +39,10 @@ module _ {F : Type 0} {g : Ghosts F} where
     pub becomes : Becomes (sector (version_of (allocator_of old))) (count_words (version_of (allocator_of old))) (directory_ids old) more (directory_ids new) (seen_of (allocator_of old)) (seen_of (allocator_of new))
     pub has : HasDirectory new
     pub counted : IsCounted (version_of (allocator_of old)) (bytes_of (allocator_of old)) (length (directory_ids old)) → IsCounted (version_of (allocator_of old)) (bytes_of (allocator_of new)) (length (directory_ids new))
+
+  -- the directory can take in entries: its sectors are a chain beside the tables, which can be changed, and its entries can be
+  -- written as they are
+  pub record IsReady (it : Directory F g) : Type 0 where
+    pub has : HasDirectory it
+    pub orderly : IsTrue (orderly_of (allocator_of it))
+    pub sizes : SizesFit (version_of (allocator_of it)) (entries_held it)

@@ -1,8 +1,9 @@
 //! Entries that come and go: children of storages by name ([MS-CFB] 2.6.4).
 ghost use Rattle.cfb_chains.specs.ChainCalls.{IsInvalid, IsInvalidOrFull};
 ghost use Rattle.cfb_directory.specs.Changes.{HasDirectory, KeepsEntries, LiesBeside, SetsEntry};
-ghost use Rattle.cfb_directory.specs.Children.{AddsAt, HasAt, HoldsMore, HoldsStorage, IsRefusedInsert, IsRefusedRemove, LinksNew, StayBut};
-ghost use Rattle.cfb_directory.specs.Growth.{GrowsDirectory};
+ghost use Rattle.cfb_directory.specs.Children.{AddsAt, HoldsMore, HoldsStorage, IsRefusedInsert, IsRefusedRemove, LinksNew, StayBut};
+ghost use Rattle.cfb_directory.specs.Entries.{SizesFit};
+ghost use Rattle.cfb_directory.specs.Growth.{GrowsDirectory, IsReady};
 ghost use Rattle.cfb_directory.specs.Views.{allocator_of, entries_held, IsDirectory};
 ghost use Rattle.cfb_fat.specs.Calls.{Answers};
 ghost use Rattle.cfb_fat.specs.Tables.{has_failed_here, version_of};
@@ -11,7 +12,7 @@ ghost use Rattle.cfb_medium.specs.declared.error.Error.TheVariants.{AlreadyExist
 ghost use Rattle.cfb_owned.specs.Chains.{GoesOn};
 ghost use Rattle.cfb_siblings.specs.Changes.{HoldsOneLess, IsAlone};
 ghost use Rattle.cfb_siblings.specs.Links.{holder, joined_by, linked_to, taken_out};
-ghost use Rattle.cfb_siblings.specs.Places.{path_to};
+ghost use Rattle.cfb_siblings.specs.Places.{path_to, HasEntry};
 ghost use Rattle.cfb_siblings.specs.Reading.{ReadBy};
 ghost use Rattle.cfb_tree.specs.Changes.{added, removed};
 ghost use Rattle.cfb_tree.specs.Directory.{Entry};
@@ -39,6 +40,9 @@ impl<F: Medium> Directory<F> {
             × SetsEntry (holder link) (linked_to link target e) self.old self.new) }
         ensures kept { OnErr result (KeepsEntries self.old self.new) }
         ensures memory { IsDirectory self.old → LiesBeside self.old → IsDirectory self.new }
+        ensures refused { IsErrOf result InvalidData → HasDirectory self.old
+            → HasEntry (entries_held self.old) (holder link)
+            → SizesFit (version_of (allocator_of self.old)) (entries_held self.old) → ⊥ }
         ensures goes_on { GoesOn (allocator_of self.old) (allocator_of self.new) }
         ensures answers { Answers IsInvalid result (allocator_of self.old)
             (allocator_of self.new) }
@@ -68,6 +72,8 @@ impl<F: Medium> Directory<F> {
         ensures kept { OnErr result (has_failed_here (allocator_of self.new) ≡ false
             → KeepsEntries self.old self.new) }
         ensures memory { IsDirectory self.old → LiesBeside self.old → IsDirectory self.new }
+        ensures refused { IsErrOf result InvalidData → IsReady self.old
+            → HasEntry (entries_held self.old) (holder link) → ⊥ }
         ensures goes_on { GoesOn (allocator_of self.old) (allocator_of self.new) }
         ensures answers { Answers IsInvalidOrFull result (allocator_of self.old)
             (allocator_of self.new) }
@@ -108,14 +114,17 @@ impl<F: Medium> Directory<F> {
             → HoldsMore (letters_of letters.now) (ReadBy reads) (entries_held self.new)
             (added (letters_of letters.now) object (path_to path (chars name.now)) tree)
             h.holds.ids id) }
-        ensures entry { IfOk result (λ id. HasAt (entries_held self.new) id
+        ensures entry { IfOk result (AddsAt (entries_held self.old) (entries_held self.new)
             (new_entry (chars name.now) (kind_of obj_type) (units_of moment))) }
-        ensures others { IfOk result (AddsAt (entries_held self.old) (entries_held self.new)) }
         ensures taken { IsErrOf result AlreadyExists
             → (reads : ℕ → ℕ → List ℕ → Bool) (tree : Tree) (path : Path)
             → HoldsStorage (letters_of letters.now) reads (entries_held self.old) tree path parent
             → object_at (letters_of letters.now) tree (path_to path (chars name.now)) ≡ None → ⊥ }
         ensures named { IsErrOf result InvalidInput → IsTrue (is_name (chars name.now)) → ⊥ }
+        ensures refused { IsErrOf result InvalidData
+            → (reads : ℕ → ℕ → List ℕ → Bool) (tree : Tree) (path : Path)
+            → HoldsStorage (letters_of letters.now) reads (entries_held self.old) tree path parent
+            → IsReady self.old → ⊥ }
         ensures grown { OnOk result (HasDirectory self.old → GrowsDirectory self.old self.new) }
         ensures kept { OnErr result (has_failed_here (allocator_of self.new) ≡ false
             → KeepsEntries self.old self.new) }

@@ -54,6 +54,20 @@ kind_over : (o p : Option Entry) → (o ≡ None → p ≡ None) → ((e : Entry
 kind_over None p none some h = subst (λ q. IfSome q (λ e. e.kind ≡ kind_stream)) (sym (none refl)) tt
 kind_over (Some e) p none some h = let now = some e refl in subst (λ q. IfSome q (λ e. e.kind ≡ kind_stream)) (sym now.1) (now.2 ∙ h)
 
+-- a stream keeps its bytes where its entry keeps its place
+pub moved_stream : (s t : LiveFile) (who now : Owners) (letters : Letters) (tree : Tree) (h : MeansHeld s who letters tree) → Carries s t who now → (id : ℕ) (e f : Entry)
+    → (e.kind ≡ kind_storage) ⊎ ((e.kind ≡ kind_stream) × (bytes : List ℕ) × HasStream s who id e bytes) → f.kind ≡ e.kind → f.start ≡ e.start → f.size ≡ e.size → f.kind ≡ kind_stream
+    → (content : List ℕ) × HasStream t now id f content × (content ≡ bytes_from s who f.start f.size)
+moved_stream s t who now letters tree h c id e f part kinds start size kind =
+    ⊎_elim
+    (λ is_storage. let wrong : kind_storage ≡ kind_stream = sym is_storage ∙ sym kinds ∙ kind in absurd (omega (arith, wrong)))
+    (λ it. (
+      it.1,
+      stream_stays s t who now c id e f it.1 start size it.2,
+      stream_is s who h.root h.kept id e it.1 it.2 ∙ ap (λ n. bytes_from s who n e.size) (sym start) ∙ ap (bytes_from s who f.start) (sym size),
+    ))
+    part
+
 -- the streams stay, and the entries hold another tree with the same numbers
 module _ (s t : LiveFile) (who now : Owners) (letters : Letters) (tree later : Tree) (h : MeansHeld s who letters tree) (c : Carries s t who now) (root : Entry) (kept : Kept t now root)
     (new : HoldsTree letters (ReadBy (reads s who)) t.entries later) (each : (id : ℕ) → KeepsPlace s.entries t.entries id) (count : length t.entries ≡ length s.entries) where
@@ -65,17 +79,7 @@ module _ (s t : LiveFile) (who now : Owners) (letters : Letters) (tree later : T
   still id (e, found, part) f found' kind =
       let place = each id e found in
       let same : place.0 ≡ f = Some_same (sym place.1 ∙ found') in
-      let kinds : f.kind ≡ e.kind = ap (λ (x : Entry). x.kind) (sym same) ∙ place.2 in
-      let start : f.start ≡ e.start = ap (λ (x : Entry). x.start) (sym same) ∙ place.3 in
-      let size : f.size ≡ e.size = ap (λ (x : Entry). x.size) (sym same) ∙ place.4 in
-      ⊎_elim
-      (λ is_storage. let wrong : kind_storage ≡ kind_stream = sym is_storage ∙ sym kinds ∙ kind in absurd (omega (arith, wrong)))
-      (λ it. (
-        it.1,
-        stream_stays s t who now c id e f it.1 start size it.2,
-        stream_is s who h.root h.kept id e it.1 it.2 ∙ ap (λ n. bytes_from s who n e.size) (sym start) ∙ ap (bytes_from s who f.start) (sym size),
-      ))
-      part
+      moved_stream s t who now letters tree h c id e f part (ap (λ (x : Entry). x.kind) (sym same) ∙ place.2) (ap (λ (x : Entry). x.start) (sym same) ∙ place.3) (ap (λ (x : Entry). x.size) (sym same) ∙ place.4) kind
 
   each_still : (xs : List ℕ) → AllByRecursion (IsPart s.entries (HasStream s who)) xs → AllByRecursion IsStreamStill xs
   each_still [] all = tt

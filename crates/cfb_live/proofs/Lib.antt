@@ -1,9 +1,11 @@
 pub mod Carried
 pub mod Changed
+pub mod ChildAdded
 pub mod Directories
 pub mod FactRules
 pub mod Headers
 pub mod KeptNow
+pub mod NewPlaces
 pub mod Objects
 pub mod Resting
 pub mod SetFacts

@@ -5,6 +5,7 @@ use Rattle.cfb_fat.specs.Tables.{has_failed_here}
 use Rattle.cfb_meaning.specs.TreeRules.{done, refused, tree_step, Call}
 use Rattle.cfb_medium.specs.Calls.{IsFaultUnless}
 use Rattle.cfb_medium.specs.declared.error.Error.{Error}
+use Rattle.cfb_medium.specs.declared.error.Error.TheVariants.{Full}
 use Rattle.cfb_medium.specs.declared.medium.ReadMedium.{Ghosts}
 use Rattle.cfb_mini.specs.Changing.{KeepsOwners}
 use Rattle.cfb_mini.specs.Views.{allocator_of}
@@ -13,6 +14,10 @@ use Rattle.cfb_tree.specs.Names.{Letters}
 use Rattle.cfb_tree.specs.Paths.{Path}
 use Rattle.cfb_tree.specs.Tree.{Tree}
 use Rattle.cfb_live.specs.Live.{Means}
+
+-- a fault, or want of a number for an entry or a sector
+abbrev pub IsFault : Error → Type 0
+IsFault e = IsFaultUnless ⊥ e ⊎ (e ≡ Full)
 
 module _ {F : Type 0} {g : Ghosts F} where
   -- the rules answer that the call at the path is done, and the file means the tree that they give
@@ -26,5 +31,5 @@ module _ {F : Type 0} {g : Ghosts F} where
   -- between. After an error nothing is changed, or the file has failed.
   pub record Does {T : Type 0} (letters : Letters) (path : Option Path) (call : Path → Call) (result : Result T Error) (old new : MiniAllocator F g) : Type 0 where
     pub done : OnOk result ((tree : Tree) → Means letters old tree → IsDone letters path call tree new)
-    pub refused : IfErr result (λ e. (tree : Tree) → Means letters old tree → IsFaultUnless ⊥ e ⊎ (answer_at letters tree call path ≡ refused e))
+    pub refused : IfErr result (λ e. (tree : Tree) → Means letters old tree → IsFault e ⊎ (answer_at letters tree call path ≡ refused e))
     pub rests : OnErr result ((has_failed_here (allocator_of new) ≡ true) ⊎ KeepsOwners old new)

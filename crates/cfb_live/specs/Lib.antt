@@ -1,3 +1,4 @@
 pub mod Live
 pub mod Doing
 pub mod Facts
+pub mod Making

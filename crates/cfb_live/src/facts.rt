@@ -69,8 +69,8 @@ impl Fact {
     }
 }
 
-// Whether the entry is a stream.
-fn is_stream(entry: &DirEntry) -> bool
+/// Whether the entry is a stream.
+pub(crate) fn is_stream(entry: &DirEntry) -> bool
     ensures { IsTrue result ↔ ((entry_in entry.now).kind ≡ kind_stream) }
 {
     match entry.obj_type() {

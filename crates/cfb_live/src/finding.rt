@@ -1,18 +1,20 @@
 //! Objects by the text of a path.
 ghost use Rattle.cfb_entries.specs.Rules.{names_in};
-ghost use Rattle.cfb_medium.specs.declared.error.Error.TheVariants.{InvalidInput, Memory, NotFound};
-ghost use Rattle.cfb_siblings.specs.Places.{IsEntryAt};
+ghost use Rattle.cfb_live.specs.Making.{IsFreePlace, IsRefusedPlace};
+ghost use Rattle.cfb_medium.specs.declared.error.Error.TheVariants.{AlreadyExists, InvalidInput, Memory, NotFound};
+ghost use Rattle.cfb_siblings.specs.Places.{path_of, IsEntryAt};
 ghost use Rattle.cfb_siblings.specs.Reading.{ReadBy};
 ghost use Rattle.cfb_tree.specs.EntryViews.{entry_in};
 ghost use Rattle.cfb_tree.specs.LetterViews.{letters_of};
 ghost use Rattle.cfb_tree.specs.Objects.{object_at, HoldsTree};
 ghost use Rattle.cfb_tree.specs.Paths.{Path};
 ghost use Rattle.cfb_tree.specs.Tree.{Tree};
-ghost use Rattle.std.specs.Prelude.{length, map, Bool, IfErr, IfOk, List, None, Some, ℕ, ◌<◌, ◌≡◌, ◌⊎◌};
+ghost use Rattle.std.specs.Prelude.{length, map, Bool, IfErr, IfOk, List, None, OnOk, Some, ℕ, ◌<◌, ◌≡◌, ◌⊎◌};
 
+use crate::facts::is_stream;
 use cfb_medium::Error;
 use cfb_siblings::find_entry;
-use cfb_tree::{CaseMapper, DirEntry, name_chain_from_path};
+use cfb_tree::{CaseMapper, DirEntry, name_chain_from_path, validate_name};
 use std::alloc::Global;
 
 /// The number of the entry to which a path leads. `InvalidInput` where it leads above the root, `NotFound` where the tree has no
@@ -47,4 +49,43 @@ pub(crate) fn find_object(
         return Err(Error::NotFound);
     }
     Ok(id)
+}
+
+/// The storage in which an object can be made at a path of names. `AlreadyExists` where an object is at the path, `NotFound` where
+/// none is at its parent's, `InvalidInput` where that is a stream or the last name is invalid.
+pub(crate) fn find_parent(
+    letters: &CaseMapper,
+    entries: &[DirEntry],
+    names: &[&str],
+) -> Result<u32, Error>
+    ensures some { OnOk result (0 < length names.now) }
+    ensures free { (reads : ℕ → ℕ → List ℕ → Bool) (tree : Tree)
+        → HoldsTree (letters_of letters.now) (ReadBy reads) (map entry_in entries.now) tree
+        → IfOk result (IsFreePlace (letters_of letters.now) (map entry_in entries.now) tree
+        (path_of names.now)) }
+    ensures refused { (reads : ℕ → ℕ → List ℕ → Bool) (tree : Tree)
+        → HoldsTree (letters_of letters.now) (ReadBy reads) (map entry_in entries.now) tree
+        → IfErr result (IsRefusedPlace (letters_of letters.now) tree (path_of names.now)) }
+    ensures error { IfErr result (λ e. (e ≡ AlreadyExists) ⊎ (e ≡ NotFound) ⊎ (e ≡ InvalidInput)) }
+{
+    if let Some(_) = find_entry(letters, entries, names) {
+        return Err(Error::AlreadyExists);
+    }
+    let count = names.len();
+    if count == 0 {
+        return Err(Error::AlreadyExists);
+    }
+    let Some(parent) = find_entry(letters, entries, &names[..count - 1]) else {
+        return Err(Error::NotFound);
+    };
+    let Some(entry) = entries.get(parent as usize) else {
+        return Err(Error::NotFound);
+    };
+    if is_stream(entry) {
+        return Err(Error::InvalidInput);
+    }
+    if let Err(error) = validate_name(names[count - 1]) {
+        return Err(error);
+    }
+    Ok(parent)
 }

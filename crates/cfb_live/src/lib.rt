@@ -4,6 +4,8 @@
 mod facts;
 mod finding;
 mod laws;
+mod making;
 
 pub use facts::{Fact, set_fact};
 pub use laws::live_files_mean_their_trees;
+pub use making::{NewObject, make_object};

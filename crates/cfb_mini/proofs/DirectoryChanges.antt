@@ -1,5 +1,5 @@
 -- The directory changes over this layer.
-use Rattle.std.proofs.Common.{◌≡◌, ℕ, Bool, true, false, List, [], ◌∷◌, ◌++◌, refl, ap, sym, subst, ◌∙◌, arith, set, zero, suc, IsTrue}
+use Rattle.std.proofs.Common.{◌≡◌, ◌⊎◌, inl, inr, ℕ, Bool, true, false, List, [], ◌∷◌, ◌++◌, refl, ap, sym, subst, ◌∙◌, arith, set, zero, suc, IsTrue}
 use Rattle.std.specs.Prelude.{slice_get, slice_index_or, Some}
 use Rattle.cfb_medium.specs.Numbers.{numbers}
 use Rattle.cfb_medium.specs.declared.medium.ReadMedium.{Ghosts}
@@ -12,10 +12,13 @@ use Rattle.cfb_fat.specs.Seeing.{seen_of}
 use Rattle.cfb_fat.specs.Tables.{bytes_of, difat_sectors_of, fat_of, fat_sectors_of, tables_of, version_of, AllRests}
 use Rattle.cfb_owned.specs.Chains.{GoesOn}
 use Rattle.cfb_tree.specs.Directory.{Entry}
+use Rattle.cfb_tree.proofs.OneContent.{Some_same}
 use Rattle.cfb_directory.specs.Changes.{LiesBeside}
+use Rattle.cfb_directory.specs.Children.{AddsAt}
 use Rattle.cfb_directory.specs.Views as directory
 use Rattle.cfb_directory.specs.declared.directory.Directory.{Directory}
 use Rattle.cfb_mini.specs.Changing.{ChangesDirectory, HasOwners, KeepsOwners}
+use Rattle.cfb_mini.specs.Children.{HasRoot}
 use Rattle.cfb_mini.specs.Views.{allocator_of, directory_of, mini_stream_ids}
 use Rattle.cfb_mini.specs.declared.mini_allocator.MiniAllocator.{MiniAllocator}
 use Rattle.cfb_mini.proofs.Keeping.{bytes_still, linked_still, over_rests, pick, pick_mine, pick_other}
@@ -23,6 +26,17 @@ use Rattle.cfb_mini.proofs.Keeping.{bytes_still, linked_still, over_rests, pick,
 pub not_failed : (b : Bool) → (b ≡ true → ⊥) → b ≡ false
 not_failed true never = absurd (never refl)
 not_failed false never = refl
+
+pub either : (b : Bool) → (b ≡ true) ⊎ (b ≡ false)
+either true = inl refl
+either false = inr refl
+
+-- a root keeps where its stream begins where another entry was added
+pub added_start : (old new : List Entry) (e root : Entry) (id start : ℕ) → AddsAt old new e id → HasRoot old → ((r : Entry) → slice_get old 0 ≡ Some r → r.start ≡ start) → slice_get new 0 ≡ Some root → root.start ≡ start
+added_start old new e root id start adds has at now =
+    let apart : 0 ≡ id → ⊥ = λ same. let unused = adds.unused has.root (ap (slice_get old) (sym same) ∙ has.found) in let kind = has.of_kind in omega (arith, unused, kind) in
+    let kept = adds.others 0 has.root apart has.found in
+    ap (λ (x : Entry). x.start) (Some_same (sym now ∙ kept.1)) ∙ kept.2.start ∙ at has.root has.found
 
 -- the first entry keeps where its stream begins, where the one that was set does if it is the first
 pub first_start : (xs : List Entry) (id : ℕ) (e f root : Entry) (start : ℕ) → slice_get xs id ≡ Some e → (id ≡ 0 → f.start ≡ e.start) → ((r : Entry) → slice_get xs 0 ≡ Some r → r.start ≡ start)

@@ -1,4 +1,5 @@
 pub mod Changing
+pub mod Children
 pub mod Entering
 pub mod Growing
 pub mod Layers

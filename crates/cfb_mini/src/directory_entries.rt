@@ -1,20 +1,35 @@
-//! Entries of the directory, changed over this layer.
+//! Entries of the directory, changed and added over this layer.
 ghost use Rattle.cfb_chains.specs.ChainCalls.{IsInvalid};
 ghost use Rattle.cfb_directory.specs.Changes.{changed_entry};
+ghost use Rattle.cfb_directory.specs.Children.{AddsAt, HoldsMore, HoldsStorage, IsRefusedInsert};
+ghost use Rattle.cfb_directory.specs.Growth.{count_words};
 ghost use Rattle.cfb_directory.specs.Views.{entries_held};
 ghost use Rattle.cfb_fat.specs.Calls.{Answers};
 ghost use Rattle.cfb_fat.specs.Tables.{has_failed_here, version_of};
 ghost use Rattle.cfb_medium.specs.Versions.{stream_len_mask};
 ghost use Rattle.cfb_medium.specs.declared.error.Error.TheVariants.{InvalidData, InvalidInput};
+ghost use Rattle.cfb_medium.specs.Times.{units_of};
 ghost use Rattle.cfb_mini.specs.Changing.{ChangesDirectory, HasOwners, KeepsOwners};
+ghost use Rattle.cfb_mini.specs.Children.{HasRoot, IsRefusedChild, IsUsable};
 ghost use Rattle.cfb_mini.specs.Views.{allocator_of, directory_of};
 ghost use Rattle.cfb_owned.specs.Chains.{GoesOn};
+ghost use Rattle.cfb_siblings.specs.Changes.{IsAlone};
+ghost use Rattle.cfb_siblings.specs.Places.{path_to};
+ghost use Rattle.cfb_siblings.specs.Reading.{ReadBy};
+ghost use Rattle.cfb_tree.specs.Changes.{added};
 ghost use Rattle.cfb_tree.specs.Directory.{Entry};
-ghost use Rattle.std.specs.Prelude.{false, length, slice_get, slice_set, true, IsErrOf, List, OnErr, OnOk, [], Some, ℕ, ◌<◌, ◌≡◌, ◌↔◌, ◌⊎◌};
+ghost use Rattle.cfb_tree.specs.Entries.{new_entry};
+ghost use Rattle.cfb_tree.specs.EntryViews.{kind_of};
+ghost use Rattle.cfb_tree.specs.LetterViews.{letters_of};
+ghost use Rattle.cfb_tree.specs.Objects.{name_of, Object};
+ghost use Rattle.cfb_tree.specs.Paths.{Path};
+ghost use Rattle.cfb_tree.specs.Tree.{Tree};
+ghost use Rattle.std.specs.Prelude.{chars, false, length, slice_get, slice_set, true, Bool, IfErr, IfOk, IsErrOf, List, OnErr, OnOk, [], Some, ℕ, ◌<◌, ◌≡◌, ◌↔◌, ◌⊎◌};
 
 use crate::MiniAllocator;
 use cfb_directory::EntryChange;
-use cfb_medium::{Error, Medium};
+use cfb_medium::{Error, Medium, Timestamp};
+use cfb_tree::{CaseMapper, ObjType};
 
 impl<F: Medium> MiniAllocator<F> {
     /// Changes an entry of the directory in its place, as `Directory::with_dir_entry_mut` does. Whoever changes the root's entry
@@ -47,5 +62,49 @@ impl<F: Medium> MiniAllocator<F> {
             return Err(error);
         }
         Ok(())
+    }
+
+    /// Gives the storage `parent` a child of this name and kind, as `Directory::insert_dir_entry` does. After an error nothing is
+    /// changed, or it has failed ([MS-CFB] 2.6.4).
+    pub fn insert_dir_entry(
+        &mut self,
+        letters: &CaseMapper,
+        parent: u32,
+        name: &str,
+        obj_type: ObjType,
+        moment: Timestamp,
+    ) -> Result<u32, Error>
+        ensures added { IfOk result (λ id. (reads : ℕ → ℕ → List ℕ → Bool) (tree : Tree)
+            (path : Path) (object : Object) → (h : HoldsStorage (letters_of letters.now) reads
+            (entries_held (directory_of self.old)) tree path parent) → IsAlone (ReadBy reads)
+            (new_entry (chars name.now) (kind_of obj_type) (units_of moment)) object
+            → name_of object ≡ chars name.now
+            → HoldsMore (letters_of letters.now) (ReadBy reads)
+            (entries_held (directory_of self.new))
+            (added (letters_of letters.now) object (path_to path (chars name.now)) tree)
+            h.holds.ids id) }
+        ensures entry { IfOk result (AddsAt (entries_held (directory_of self.old))
+            (entries_held (directory_of self.new))
+            (new_entry (chars name.now) (kind_of obj_type) (units_of moment))) }
+        ensures changes { OnOk result ((own : ℕ → List ℕ) → HasOwners self.old own
+            → HasRoot (entries_held (directory_of self.old))
+            → ChangesDirectory (count_words (version_of (allocator_of self.old))) self.old
+            self.new own) }
+        ensures refused { IfErr result (λ e. (reads : ℕ → ℕ → List ℕ → Bool) (tree : Tree)
+            (path : Path) (own : ℕ → List ℕ) → HoldsStorage (letters_of letters.now) reads
+            (entries_held (directory_of self.old)) tree path parent → HasOwners self.old own
+            → IsUsable self.old → IsRefusedChild (letters_of letters.now) tree
+            (path_to path (chars name.now)) (chars name.now) e) }
+        ensures rests { OnErr result ((has_failed_here (allocator_of self.new) ≡ true)
+            ⊎ KeepsOwners self.old self.new) }
+        ensures goes_on { GoesOn (allocator_of self.old) (allocator_of self.new) }
+        ensures answers { Answers IsRefusedInsert result (allocator_of self.old)
+            (allocator_of self.new) }
+    {
+        let id = match self.directory.insert_dir_entry(letters, parent, name, obj_type, moment) {
+            Ok(id) => id,
+            Err(error) => return Err(error),
+        };
+        Ok(id)
     }
 }

@@ -30,7 +30,7 @@ returns-in-Err-clause-does g c = record {
       let Reads = reads (live_of it) m.who in
       let same : entries_in c.dir_entries.result.now ≡ entries_held (directory_of it) = c.dir_entries.ensures ∙ ap entries_held c.directory-2.ensures in
       ⊎_elim
-      (λ memory. inl (subst (IsFaultUnless ⊥) (sym memory) tt))
+      (λ memory. inl (inl (subst (IsFaultUnless ⊥) (sym memory) tt)))
       (λ rest. inr (⊎_elim
       (λ above. ap (answer_at l tree (setting c.args.fact)) above.1 ∙ ap refused (sym above.0))
       (λ missing. ap (answer_at l tree (setting c.args.fact)) missing.2 ∙ step_missing l tree missing.1 c.args.fact missing.3 ∙ ap refused (sym missing.0))
@@ -94,7 +94,7 @@ returns-in-Err-with_dir_entry_mut-clause-does g c = record {
       let e = entry_in c.dir_entry.result.now in
       let found : slice_get (entries_held (directory_of it)) id ≡ Some e = ap (λ d. slice_get (entries_held d) id) (sym c.directory-3.ensures) ∙ c.dir_entry.ensures in
       let did = c.in-Err-with_dir_entry_mut.ensures in
-      ⊎_elim (λ fault. inl fault)
+      ⊎_elim (λ fault. inl (inl fault))
       (λ wrong. absurd (⊎_elim
       (λ missing. did.refused (ap Err missing) m.who.sectors m.owners)
       (λ large.

@@ -1,12 +1,15 @@
-use Rattle.std.proofs.Common.{inl, inr, ⊎_elim, rules, []}
+use Rattle.cfb_medium.specs.declared.error.Error.TheVariants.{InvalidData}
+use Rattle.std.proofs.Common.{◌≡◌, ap, Err, inl, inr, ⊎_elim, rules, []}
 use Rattle.std.proofs.lemmas.Option.{slice_get_within}
 use Rattle.cfb_fat.specs.Keeping.{fails_cause}
 use Rattle.cfb_fat.specs.Resting.{all_rest_refl}
+use Rattle.cfb_fat.specs.Tables.{version_of}
 use Rattle.cfb_owned.proofs.GoingOn.{fails_go_on, goes_cause, goes_then}
 use Rattle.cfb_siblings.specs.Links.{holder, linked_to}
 use Rattle.cfb_tree.specs.EntryViews.{entry_in}
 use Rattle.cfb_directory.specs.Views.{allocator_of, entries_held}
 use Rattle.cfb_directory.proofs.Growing.{grown_kept}
+use Rattle.cfb_directory.proofs.Readiness.{holder_there, ready_next}
 use Rattle.cfb_directory.proofs.Setting.{failed_is}
 use Rattle.cfb_directory.proofs.Stages.{grows_then}
 use Rattle.cfb_directory.proofs.directory.Directory.add_child.Goals as goal
@@ -75,3 +78,16 @@ returns-clause-goes_on g c = goes_then _ _ _ (goes_then _ _ _ c.free_entry.ensur
 
 pub returns-clause-memory : goal.returns-clause-memory
 returns-clause-memory g c = grown_kept c.args.self.now c.write_link.new.self (returns-clause-goes_on g c) (returns-clause-grown g c)
+
+pub returns-in-Err-write_link-clause-refused : goal.returns-in-Err-write_link-clause-refused
+returns-in-Err-write_link-clause-refused g c = λ wrong ready has.
+    let old = c.args.self.now in
+    let mid = c.free_entry.new.self in
+    let new = c.write_entry.new.self in
+    let e = entry_in c.args.entry in
+    let grown = c.in-Ok.ensures.grown ready.has in
+    let sets = c.in_default.ensures.set in
+    let same : c.in-Err-write_link.error ≡ InvalidData = cc in
+    let next = ready_next old mid new c.in-Ok.id e ready c.free_entry.ensures.goes_on c.write_entry.ensures.goes_on c.in-Ok.ensures.answers.live.1 c.in_default.ensures.answers.live.1 grown c.in-Ok.ensures.entries sets c.requires in
+    c.in-Err-write_link.ensures.refused (ap Err same) next.has
+    (holder_there (version_of (allocator_of old)) (entries_held old) (entries_held mid) (entries_held new) c.in-Ok.id (holder c.args.link) e c.in-Ok.ensures.entries sets.entries has) next.sizes

@@ -1,16 +1,17 @@
 use Rattle.std.proofs.Common.{◌≡◌, chars, ap, sym, subst, ◌∙◌, Some, None, Ok, Err}
 use Rattle.std.specs.Prelude.{IfOk, Result}
 use Rattle.cfb_fat.specs.Tables.{version_of}
-use Rattle.cfb_siblings.specs.Places.{path_to, IsFree, IsPlace, IsStorageAt}
+use Rattle.cfb_siblings.specs.Places.{path_to, HasEntry, IsFree, IsPlace, IsStorageAt}
+use Rattle.cfb_siblings.specs.Links.{holder}
 use Rattle.cfb_siblings.specs.Reading.{ReadBy}
 use Rattle.cfb_tree.specs.Changes.{added}
 use Rattle.cfb_tree.specs.EntryViews.{entry_in}
 use Rattle.cfb_tree.specs.LetterViews.{letters_of}
 use Rattle.cfb_tree.specs.Objects.{name_of, HoldsTree}
-use Rattle.cfb_directory.specs.Children.{HasAt, HoldsMore, LinksNew}
+use Rattle.cfb_directory.specs.Children.{AddsAt, HoldsMore, LinksNew}
 use Rattle.cfb_directory.specs.Entries.{entries_in}
 use Rattle.cfb_directory.specs.Views.{allocator_of, entries_held}
-use Rattle.cfb_directory.proofs.Inserted.{inserted_at, inserted_holds_tree, inserted_others}
+use Rattle.cfb_directory.proofs.Inserted.{inserted_holds_tree, inserted_others}
 use Rattle.cfb_directory.proofs.directory.Directory.insert_dir_entry.Goals as goal
 
 pub returns-in-Some-Taken-clause-taken : goal.returns-in-Some-Taken-clause-taken
@@ -46,14 +47,21 @@ returns-clause-added g c =
 pub returns-clause-entry : goal.returns-clause-entry
 returns-clause-entry g c =
     if_ok c.add_child.result _ _ (λ id links.
-    let v = version_of (allocator_of c.args.self.now) in
     let old = entries_held c.args.self.now in
     let new = entries_held c.add_child.new.self in
-    subst (HasAt new id) c.new.ensures (inserted_at v c.in-Some-Free.link (entry_in c.new.result) old new id links))
+    subst (λ e. AddsAt old new e id) c.new.ensures (inserted_others (version_of (allocator_of c.args.self.now)) c.in-Some-Free.link (entry_in c.new.result) old new id links))
     c.add_child.ensures.added
 
-pub returns-clause-others : goal.returns-clause-others
-returns-clause-others g c =
-    if_ok c.add_child.result _ _ (λ id links.
-    inserted_others (version_of (allocator_of c.args.self.now)) c.in-Some-Free.link (entry_in c.new.result) (entries_held c.args.self.now) (entries_held c.add_child.new.self) id links)
-    c.add_child.ensures.added
+pub returns-in-None-clause-refused : goal.returns-in-None-clause-refused
+returns-in-None-clause-refused g c = λ wrong reads tree path has ready.
+    let l = letters_of c.args.letters.now in
+    let same : entries_in c.deref.result.now ≡ entries_held c.args.self.now = ap entries_in c.deref.ensures.value in
+    c.in-None.ensures reads tree path (subst (λ es. HoldsTree l (ReadBy reads) es tree) (sym same) has.holds) (subst (λ es. IsStorageAt l es path c.args.parent) (sym same) has.storage)
+
+pub returns-clause-refused : goal.returns-clause-refused
+returns-clause-refused g c = λ wrong reads tree path has ready.
+    let l = letters_of c.args.letters.now in
+    let same : entries_in c.deref.result.now ≡ entries_held c.args.self.now = ap entries_in c.deref.ensures.value in
+    let place = c.in-Some-Free.ensures reads tree path (subst (λ es. HoldsTree l (ReadBy reads) es tree) (sym same) has.holds) (subst (λ es. IsStorageAt l es path c.args.parent) (sym same) has.storage) in
+    let at = subst (IsPlace (ReadBy reads) l (entries_in c.deref.result.now) tree path c.args.parent (chars c.args.name.now)) c.in-Some-Free.field-0-is place in
+    c.add_child.ensures.refused wrong ready (subst (λ es. HasEntry es (holder c.in-Some-Free.link)) same at.1)

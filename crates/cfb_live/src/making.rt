@@ -1,0 +1,93 @@
+//! New objects: storages and streams without content ([MS-CFB] 2.6.2, 2.6.3).
+ghost use Rattle.cfb_entries.specs.Rules.{names_in};
+ghost use Rattle.cfb_fat.specs.Calls.{Answers};
+ghost use Rattle.cfb_live.specs.Doing.{Does};
+ghost use Rattle.cfb_live.specs.Making.{making, IsRefusedMade};
+ghost use Rattle.cfb_mini.specs.Views.{allocator_of};
+ghost use Rattle.cfb_owned.specs.Chains.{GoesOn};
+ghost use Rattle.cfb_medium.specs.Times.{units_of};
+ghost use Rattle.cfb_tree.specs.EntryViews.{kind_of};
+ghost use Rattle.cfb_tree.specs.LetterViews.{letters_of};
+ghost use Rattle.std.specs.Prelude.{◌≡◌};
+
+use crate::finding::find_parent;
+use cfb_medium::{Error, Medium, Timestamp};
+use cfb_mini::MiniAllocator;
+use cfb_sectors::HasSectors;
+use cfb_tree::{CaseMapper, ObjType, name_chain_from_path};
+use std::alloc::Global;
+
+/// An object to be made.
+#[derive(Clone, Copy)]
+pub enum NewObject {
+    /// A stream without bytes.
+    Stream,
+    /// A storage without children, created and modified at the moment.
+    Storage(Timestamp),
+}
+
+impl NewObject {
+    ghost use Rattle.cfb_live.specs.Making.{kind_made, moment_made};
+
+    // Its kind.
+    fn obj_type(self) -> ObjType
+        ensures { kind_of result ≡ kind_made self }
+    {
+        match self {
+            NewObject::Stream => ObjType::Stream,
+            NewObject::Storage(_) => ObjType::Storage,
+        }
+    }
+
+    // Its moment: a stream has none.
+    fn moment(self) -> Timestamp
+        ensures { units_of result ≡ moment_made self }
+    {
+        match self {
+            NewObject::Stream => Timestamp::zero(),
+            NewObject::Storage(moment) => moment,
+        }
+    }
+}
+
+/// Makes an object at a path where none is. `InvalidInput` where the path leads above the root, `AlreadyExists` where an object is
+/// there, `NotFound` where none is at its parent's path, `InvalidInput` where that is a stream or the name is invalid. `Full`
+/// where numbers of entries or sectors are missing, `InvalidData` where the file hasn't its directory. The other errors are
+/// `Memory`, `Device`, and `Failed` after an earlier fault. After an error nothing is changed, or the file has failed
+/// ([MS-CFB] 2.6.4).
+pub fn make_object<F: Medium>(
+    alloc: Global,
+    mini: &mut MiniAllocator<F>,
+    letters: &CaseMapper,
+    path: &str,
+    object: NewObject,
+) -> Result<(), Error>
+    ensures does { Does (letters_of letters.now) (names_in path.now) (making object) result mini.old
+        mini.new }
+    ensures goes_on { GoesOn (allocator_of mini.old) (allocator_of mini.new) }
+    ensures answers { Answers IsRefusedMade result (allocator_of mini.old)
+        (allocator_of mini.new) }
+{
+    if mini.directory().allocator().is_failed() {
+        return Err(Error::Failed);
+    }
+    let names = match name_chain_from_path(alloc, path) {
+        Ok(names) => names,
+        Err(error) => return Err(error),
+    };
+    let parent = match find_parent(letters, mini.directory().dir_entries(), &names) {
+        Ok(parent) => parent,
+        Err(error) => return Err(error),
+    };
+    let name = names[names.len() - 1];
+    if let Err(error) = mini.insert_dir_entry(
+        letters,
+        parent,
+        name,
+        object.obj_type(),
+        object.moment(),
+    ) {
+        return Err(error);
+    }
+    Ok(())
+}
