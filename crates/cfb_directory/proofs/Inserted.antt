@@ -1,5 +1,5 @@
 -- The tree with a child more, over entries that may have become more.
-use Rattle.std.proofs.Common.{◌≡◌, ℕ, Bool, false, List, ◌++◌, replicate, refl, sym, ap, subst, ◌∙◌, ⊎_elim}
+use Rattle.std.proofs.Common.{◌≡◌, ℕ, Bool, false, List, ◌++◌, replicate, refl, sym, ap, subst, ◌∙◌, ⊎_elim, arith}
 use Rattle.std.specs.Prelude.{nat_eq, slice_get, slice_set, Option, Some, None}
 use Rattle.std.proofs.lemmas.Bool.Decides.{eqb_tells}
 use Rattle.cfb_medium.specs.Versions.{dir_entries_per_sector}
@@ -24,6 +24,8 @@ use Rattle.cfb_siblings.proofs.Adding.{grows}
 use Rattle.cfb_siblings.proofs.Frames.{append_keeps, either_same, holds_stays, set_changes_only, set_found}
 use Rattle.cfb_siblings.proofs.Unused.{read_by_place, same_stay}
 use Rattle.cfb_directory.specs.Children.{AddsAt, HasAt, HoldsMore, IsAs, LinksNew, StayBut}
+use Rattle.cfb_directory.specs.Entries.{SizesFit}
+use Rattle.cfb_directory.proofs.Readiness.{sizes_behind, sizes_set}
 use Rattle.cfb_directory.proofs.Longer.{free_more, siblings_more, storage_more}
 
 -- a tree stays where entries are appended, of the same entries
@@ -112,6 +114,13 @@ relinked_at link target k es e found = relinked_as link target k es e (slice_get
 differs : (k id : ℕ) → (k ≡ id → ⊥) → nat_eq id k ≡ false
 differs k id other = ⊎_elim (λ same. absurd (other (sym same.1))) (λ differ. differ.0) (eqb_tells id k)
 
+relinked_sizes : (v : Version) (link : Link) (target : ℕ) (es : List Entry) → SizesFit v es → SizesFit v (relinked link target es)
+relinked_sizes v link target es fits = by_entry (slice_get es (holder link)) refl
+  where
+    by_entry : (at : Option Entry) → slice_get es (holder link) ≡ at → SizesFit v (with_entry es (holder link) (linked_to link target) at)
+    by_entry None is = fits
+    by_entry (Some x) is = sizes_set v es (holder link) (linked_to link target x) (let few = fits (holder link) x is in let same = (as_linked link target x).size in omega (arith, few, same)) fits
+
 pub inserted_others : (version : Version) (link : Link) (e : Entry) (old new : List Entry) (id : ℕ) → LinksNew version link e old new id → AddsAt old new e id
 inserted_others version link e old new id links =
     let more = replicate (dir_entries_per_sector version) empty_entry in
@@ -122,6 +131,8 @@ inserted_others version link e old new id links =
       unused = λ x found. ap (λ (y : Entry). y.kind) (Some_same (sym (keep id x found) ∙ links.unused.found)) ∙ links.unused.of_kind;
       others = λ k x other found. subst (λ l. HasAt l k x) (sym links.entries)
           (relinked_at link id k (slice_set links.grown id e) x (set_changes_only links.grown id e k x (differs k id other) (keep k x found)));
+      sizes = λ v small fits. subst (SizesFit v) (sym links.entries)
+          (relinked_sizes v link id (slice_set links.grown id e) (sizes_set v links.grown id e (omega (arith, small)) (sizes_behind v version old links.grown links.behind fits)));
     }
 
 joined_at : (joined : Option NewLink) (es : List Entry) (k : ℕ) (e : Entry) → slice_get es k ≡ Some e → HasAt (joined_by joined es) k e

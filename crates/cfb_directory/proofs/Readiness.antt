@@ -56,11 +56,11 @@ sizes_set v (x ∷ es) zero f small fits (suc k) e found = fits (suc k) e found
 sizes_set v (x ∷ es) (suc id) f small fits zero e found = fits 0 e found
 sizes_set v (x ∷ es) (suc id) f small fits (suc k) e found = sizes_set v es id f small (λ j. fits (suc j)) k e found
 
-pub sizes_grown : (v : Version) (old new : List Entry) → MayGrow v old new → SizesFit v old → SizesFit v new
-sizes_grown v old new grown fits =
+pub sizes_behind : (v w : Version) (old new : List Entry) → MayGrow w old new → SizesFit v old → SizesFit v new
+sizes_behind v w old new grown fits =
     ⊎_elim
     (λ same. subst (SizesFit v) (sym same) fits)
-    (λ more. subst (SizesFit v) (sym more) (sizes_append v old (replicate (dir_entries_per_sector v) empty_entry) fits (unused_fit v (dir_entries_per_sector v))))
+    (λ more. subst (SizesFit v) (sym more) (sizes_append v old (replicate (dir_entries_per_sector w) empty_entry) fits (unused_fit v (dir_entries_per_sector w))))
     grown
 
 module _ {F : Type 0} {g : Ghosts F} where
@@ -71,5 +71,5 @@ module _ {F : Type 0} {g : Ghosts F} where
         has = sets.has grown.has;
         orderly = subst IsTrue (sym (first.orderly live) ∙ sym (then.orderly alive)) ready.orderly;
         sizes = sizes_same v (version_of (allocator_of new)) (set (entries_held mid) id f) (entries_held new) (then.version ∙ first.version) sets.entries
-            (sizes_set v (entries_held mid) id f (omega (arith, small)) (sizes_grown v (entries_held old) (entries_held mid) more ready.sizes));
+            (sizes_set v (entries_held mid) id f (omega (arith, small)) (sizes_behind v v (entries_held old) (entries_held mid) more ready.sizes));
       }

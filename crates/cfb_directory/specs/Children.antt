@@ -13,6 +13,7 @@ use Rattle.cfb_tree.specs.Objects.{HoldsTree}
 use Rattle.cfb_tree.specs.Paths.{Path}
 use Rattle.cfb_tree.specs.Tree.{Tree}
 use Rattle.cfb_tree.specs.Directory.{kind_unallocated, Entry}
+use Rattle.cfb_directory.specs.Entries.{SizesFit}
 use Rattle.cfb_directory.specs.Growth.{longer}
 
 -- refusals by rule of a new child: the name is taken or invalid, no number is left, or the directory isn't there as it must be
@@ -62,3 +63,4 @@ pub record AddsAt (old new : List Entry) (e : Entry) (id : ℕ) : Type 0 where
   pub entry : HasAt new id e
   pub unused : (was : Entry) → slice_get old id ≡ Some was → was.kind ≡ kind_unallocated
   pub others : StayBut old new id
+  pub sizes : (version : Version) → e.size ≡ 0 → SizesFit version old → SizesFit version new

@@ -40,6 +40,10 @@ tree_held s who letters tree h = record {
   ordered = h.ordered;
 }
 
+pub tree_ids : (s : LiveFile) (who : Owners) (letters : Letters) (tree : Tree) (h : MeansHeld s who letters tree) → (tree_held s who letters tree h).ids ≡ h.ids
+unfolding tree_held
+tree_ids s who letters tree h = refl
+
 lost_past : (xs : List Entry) (i : ℕ) → slice_get xs i ≡ None → length xs ≤ i
 lost_past [] i lost = omega arith
 lost_past (x ∷ xs) zero lost = absurd (cc)

@@ -1,5 +1,5 @@
 -- The tree that a live file means after an entry was added, of an object without content.
-use Rattle.std.proofs.Common.{◌≡◌, ℕ, ◌<◌, ◌≤◌, ◌⊎◌, inl, inr, false, List, [], ◌∷◌, length, get_or, take, zero, suc, refl, ap, sym, subst, ◌∙◌, ⊎_elim, arith}
+use Rattle.std.proofs.Common.{◌≡◌, ℕ, ◌<◌, ◌≤◌, ◌⊎◌, inl, inr, true, false, List, [], ◌∷◌, length, get_or, take, zero, suc, refl, ap, sym, subst, ◌∙◌, ⊎_elim, arith}
 use Rattle.std.specs.Prelude.{nat_eq, slice_get, slice_index_or, IfSome, Option, Some}
 use Rattle.std.specs.List.{AllByRecursion, IsDistinct}
 use Rattle.std.proofs.lemmas.Bool.Decides.{eqb_tells}
@@ -13,7 +13,7 @@ use Rattle.cfb_tree.proofs.OneContent.{Some_same}
 use Rattle.cfb_siblings.specs.Changes.{IsApart}
 use Rattle.cfb_siblings.specs.Reading.{ReadBy}
 use Rattle.cfb_directory.specs.Children.{AddsAt, HoldsMore}
-use Rattle.cfb_owners.specs.Held.{HasStream, IsStreamAmong, LiesIn, MeansHeld}
+use Rattle.cfb_owners.specs.Held.{mini_joined, mini_places_of, HasStream, IsStreamAmong, LiesIn, MeansHeld}
 use Rattle.cfb_owners.specs.Kept.{Kept}
 use Rattle.cfb_owners.specs.LiveFile.{LiveFile}
 use Rattle.cfb_owners.specs.Owners.{mini_stream_owner, stream_owner, Owners, OwnsNothing}
@@ -22,7 +22,7 @@ use Rattle.cfb_owners.proofs.KeysOfParts.{IsOneOf}
 use Rattle.cfb_owners.proofs.UsesOfEntries.{all_from, all_one, one_not_none}
 use Rattle.cfb_live.proofs.Carried.{stream_stays, Carries}
 use Rattle.cfb_live.proofs.Changed.{moved_stream}
-use Rattle.cfb_live.proofs.Streams.{bytes_from, reads, reads_means, stream_is}
+use Rattle.cfb_live.proofs.Streams.{bytes_from, no_bytes, reads, reads_means, stream_is}
 
 none_of : (xs : List ℕ) (n : ℕ) → (IsOneOf xs n → ⊥) → IsNoneOf xs n
 none_of [] n never k below same = absurd (omega (arith, below))
@@ -86,7 +86,6 @@ module _ (s t : LiveFile) (who now : Owners) (letters : Letters) (tree later : T
 
   -- a stream that was made has no bytes
   fresh : IsStreamStill id
-  unfolding bytes_from
   fresh f found kind =
       let at = adds.entry in
       let same : at.0 ≡ f = Some_same (sym at.1 ∙ found) in
@@ -101,14 +100,14 @@ module _ (s t : LiveFile) (who now : Owners) (letters : Letters) (tree later : T
             sectors,
             record {
               start = start ∙ ap (λ l. slice_index_or l 0 end_of_chain) (sym minis);
-              content_is = ap (λ n. take n _) (sym none);
+              content_is = ap (λ n. take n (mini_joined t now (now.minis (stream_owner id)))) (sym none);
               whole = sym none;
-              there = subst (λ n. AllByRecursion (λ p. p < length t.bytes) (take n _)) (sym none) tt;
+              there = subst (λ n. AllByRecursion (λ p. p < length t.bytes) (take n (mini_places_of t now (now.minis (stream_owner id))))) (sym none) tt;
             },
           );
           long = λ up. absurd (omega (arith, none, up));
         },
-        subst (λ n. [] ≡ bytes_from s who f.start n) (sym none) refl,
+        subst (λ n. [] ≡ bytes_from s who f.start n) (sym none) (no_bytes s who f.start),
       )
 
   each_still : (k : ℕ) → IsOneOf more.holds.ids k → IsStreamStill k

@@ -5,6 +5,7 @@ pub mod Directories
 pub mod FactRules
 pub mod Headers
 pub mod KeptNow
+pub mod Made
 pub mod NewPlaces
 pub mod Objects
 pub mod Resting

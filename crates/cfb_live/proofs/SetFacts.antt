@@ -26,7 +26,7 @@ use Rattle.cfb_owners.specs.LiveFile.{LiveFile}
 use Rattle.cfb_owners.specs.Owners.{Owners}
 use Rattle.cfb_live.specs.Live.{live_of, Means}
 use Rattle.cfb_live.proofs.Carried.{Carries}
-use Rattle.cfb_live.proofs.Changed.{entry_changed, set_keeps, tree_held}
+use Rattle.cfb_live.proofs.Changed.{entry_changed, set_keeps, tree_held, tree_ids}
 use Rattle.cfb_live.proofs.Directories.{carries, has_owners, kept_later, owners_now}
 use Rattle.cfb_live.proofs.Streams.{reads}
 
@@ -53,6 +53,10 @@ module _ {F : Type 0} {g : Ghosts F} where
   pub means_held : (letters : Letters) (it : MiniAllocator F g) (tree : Tree) → (m : Means letters it tree) → HoldsTree letters (ReadBy (reads (live_of it) m.who)) (entries_held (directory_of it)) tree
   unfolding live_of
   means_held letters it tree m = tree_held (live_of it) m.who letters tree m.held
+
+  pub means_ids : (letters : Letters) (it : MiniAllocator F g) (tree : Tree) (m : Means letters it tree) → (means_held letters it tree m).ids ≡ m.held.ids
+  unfolding live_of means_held
+  means_ids letters it tree m = tree_ids (live_of it) m.who letters tree m.held
 
 module _ {F : Type 0} {g : Ghosts F} (letters : Letters) (old : MiniAllocator F g) (tree : Tree) (m : Means letters old tree) (path : Path) (id : ℕ) (e f : Entry) (change : Object → Object)
     (at : IsEntryAt (ReadBy (reads (live_of old) m.who)) letters (entries_held (directory_of old)) tree path id) (found : slice_get (entries_held (directory_of old)) id ≡ Some e) where

@@ -49,10 +49,13 @@ pub reads_so : (s : LiveFile) (who : Owners) (start size : ℕ) (bytes : List �
 unfolding reads
 reads_so s who start size bytes is = (bytes_eq-Decides bytes (bytes_from s who start size)).1 is
 
+pub no_bytes : (s : LiveFile) (who : Owners) (start : ℕ) → [] ≡ bytes_from s who start 0
+unfolding bytes_from
+no_bytes s who start = refl
+
 -- nothing is read of an empty stream
 pub reads_nothing : (s : LiveFile) (who : Owners) (start : ℕ) → IsTrue (reads s who start 0 [])
-unfolding bytes_from
-reads_nothing s who start = reads_so s who start 0 [] refl
+reads_nothing s who start = reads_so s who start 0 [] (no_bytes s who start)
 
 module _ (s : LiveFile) (who : Owners) (root : Entry) (kept : Kept s who root) where
   -- what a stream has is what is read of it

@@ -1,5 +1,5 @@
 -- The objects that calls make, and the calls' rules ([MS-CFB] 2.6.2, 2.6.3).
-use Rattle.std.specs.Prelude.{◌≡◌, ◌⊎◌, ℕ, List, [], IsTrue}
+use Rattle.std.specs.Prelude.{◌≡◌, ◌⊎◌, ℕ, List, [], IsTrue, None}
 use Rattle.cfb_meaning.specs.TreeRules.{create_new_stream, create_storage, done, refused, tree_step, Call}
 use Rattle.cfb_medium.specs.Times.{units_of}
 use Rattle.cfb_medium.specs.declared.error.Error.{Error}
@@ -8,7 +8,7 @@ use Rattle.cfb_siblings.specs.Places.{IsStorageAt}
 use Rattle.cfb_tree.specs.Changes.{added, last_of, made_at, parent_of}
 use Rattle.cfb_tree.specs.Directory.{kind_storage, kind_stream, Entry}
 use Rattle.cfb_tree.specs.Names.{is_name, Letters}
-use Rattle.cfb_tree.specs.Objects.{a_storage, a_stream, Object}
+use Rattle.cfb_tree.specs.Objects.{a_storage, a_stream, object_at, Object}
 use Rattle.cfb_tree.specs.Paths.{Path}
 use Rattle.cfb_tree.specs.Tree.{nothing, Tree}
 use Rattle.cfb_live.specs.declared.making.NewObject.{NewObject}
@@ -42,6 +42,7 @@ IsRefusedMade e = (e ≡ AlreadyExists) ⊎ (e ≡ NotFound) ⊎ (e ≡ InvalidI
 -- an object can be made at the path, below the storage of this entry: nothing is at the path, the storage is at its parent's, and
 -- the name is valid; so the rules make it
 pub record IsFreePlace (letters : Letters) (directory : List Entry) (tree : Tree) (path : Path) (parent : ℕ) : Type 0 where
+  pub free : object_at letters tree path ≡ None
   pub storage : IsStorageAt letters directory (parent_of path) parent
   pub valid : IsTrue (is_name (last_of path))
   pub rule : (object : NewObject) → tree_step letters tree (making object path) ≡ (added letters (object_of object (last_of path)) path tree, done)

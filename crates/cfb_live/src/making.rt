@@ -8,7 +8,9 @@ ghost use Rattle.cfb_owned.specs.Chains.{GoesOn};
 ghost use Rattle.cfb_medium.specs.Times.{units_of};
 ghost use Rattle.cfb_tree.specs.EntryViews.{kind_of};
 ghost use Rattle.cfb_tree.specs.LetterViews.{letters_of};
-ghost use Rattle.std.specs.Prelude.{◌≡◌};
+ghost use Rattle.std.specs.Char.{IsScalar};
+ghost use Rattle.std.specs.List.{AllByRecursion};
+ghost use Rattle.std.specs.Prelude.{chars, ◌≡◌};
 
 use crate::finding::find_parent;
 use cfb_medium::{Error, Medium, Timestamp};
@@ -50,6 +52,11 @@ impl NewObject {
     }
 }
 
+// The characters of a text are scalars. It does nothing: a law.
+fn spells_scalars(text: &str)
+    ensures { AllByRecursion IsScalar (chars text.now) }
+{}
+
 /// Makes an object at a path where none is. `InvalidInput` where the path leads above the root, `AlreadyExists` where an object is
 /// there, `NotFound` where none is at its parent's path, `InvalidInput` where that is a stream or the name is invalid. `Full`
 /// where numbers of entries or sectors are missing, `InvalidData` where the file hasn't its directory. The other errors are
@@ -80,6 +87,7 @@ pub fn make_object<F: Medium>(
         Err(error) => return Err(error),
     };
     let name = names[names.len() - 1];
+    spells_scalars(name);
     if let Err(error) = mini.insert_dir_entry(
         letters,
         parent,

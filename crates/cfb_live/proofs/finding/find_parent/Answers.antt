@@ -71,6 +71,7 @@ returns-clause-free c = λ reads tree h.
     let some : 0 < length c.args.names.now = let none = c.if-count-eq0.false in grind (arith, none) in
     let valid = ap is_name (last_is c.args.names.now _ some) ∙ c.in_default-validate_name.ensures.valid.0 refl in
     record {
+      free = c.in_default.ensures reads tree h;
       storage = record { leads = subst (λ p. LeadsTo l directory 0 p id) (parent_is c.args.names.now) at.leads; owner = record { entry = e; found = found; holds = not_stream } };
       valid = valid;
       rule = step_made l tree (path_of c.args.names.now) (c.in_default.ensures reads tree h) is.0 is.1 is.2 (ap (object_at l tree) (sym (parent_is c.args.names.now)) ∙ at.at_path ∙ ap Some is.3) valid;

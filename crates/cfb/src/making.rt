@@ -1,0 +1,63 @@
+//! New objects of a file, by their paths.
+ghost use Rattle.cfb_entries.specs.Rules.{names_in};
+ghost use Rattle.cfb_fat.specs.Calls.{Answers};
+ghost use Rattle.cfb_live.specs.Making.{making, IsRefusedMade};
+ghost use Rattle.cfb_meaning.specs.TreeRules.{create_new_stream, create_storage};
+ghost use Rattle.cfb_medium.specs.Times.{units_of};
+ghost use Rattle.cfb_mini.specs.Views.{allocator_of};
+ghost use Rattle.cfb_owned.specs.Chains.{GoesOn};
+
+use crate::CompoundFile;
+use cfb_live::{NewObject, make_object};
+use cfb_medium::{Error, Medium, Timestamp};
+use cfb_sectors::HasSectors;
+
+impl<F: Medium> CompoundFile<F> {
+    ghost use Rattle.cfb.specs.Doing.{Does};
+    ghost use Rattle.cfb.specs.Views.{mini_of};
+
+    // Makes an object at a path where none is.
+    fn make(&mut self, path: &str, object: NewObject) -> Result<(), Error>
+        ensures does { Does (names_in path.now) (making object) result self.old self.new }
+        ensures goes_on { GoesOn (allocator_of (mini_of self.old))
+            (allocator_of (mini_of self.new)) }
+        ensures answers { Answers IsRefusedMade result (allocator_of (mini_of self.old))
+            (allocator_of (mini_of self.new)) }
+    {
+        if self.mini.directory().allocator().is_failed() {
+            return Err(Error::Failed);
+        }
+        if !self.is_sound {
+            return Err(Error::InvalidData);
+        }
+        make_object(self.alloc, &mut self.mini, &self.letters, path, object)
+    }
+
+    /// Makes a storage at a path, without children, created and modified at the moment. `Failed` after an earlier fault,
+    /// `InvalidData` where the file isn't sound; then `InvalidInput` where the path leads above the root, `AlreadyExists` where
+    /// an object is there, `NotFound` where none is at its parent's path, `InvalidInput` where that is a stream or the name is
+    /// invalid. `Full` where numbers of entries or sectors are missing. The other errors are `Memory` and `Device`. After an
+    /// error nothing is changed, or the file has failed ([MS-CFB] 2.6.2).
+    pub fn create_storage(&mut self, path: &str, moment: Timestamp) -> Result<(), Error>
+        ensures does { Does (names_in path.now) (λ names. create_storage names (units_of moment))
+            result self.old self.new }
+        ensures goes_on { GoesOn (allocator_of (mini_of self.old))
+            (allocator_of (mini_of self.new)) }
+        ensures answers { Answers IsRefusedMade result (allocator_of (mini_of self.old))
+            (allocator_of (mini_of self.new)) }
+    {
+        self.make(path, NewObject::Storage(moment))
+    }
+
+    /// Makes a stream at a path, without bytes. Errors are those of `create_storage` ([MS-CFB] 2.6.3).
+    pub fn create_new_stream(&mut self, path: &str) -> Result<(), Error>
+        ensures does { Does (names_in path.now) (λ names. create_new_stream names) result self.old
+            self.new }
+        ensures goes_on { GoesOn (allocator_of (mini_of self.old))
+            (allocator_of (mini_of self.new)) }
+        ensures answers { Answers IsRefusedMade result (allocator_of (mini_of self.old))
+            (allocator_of (mini_of self.new)) }
+    {
+        self.make(path, NewObject::Stream)
+    }
+}
