@@ -3,6 +3,7 @@ use Rattle.std.proofs.Common.{◌≡◌, ℕ, ◌+◌, ◌-◌, ◌*◌, ◌/◌
 use Rattle.std.specs.Prelude.{slice_get, Some}
 use Rattle.std.specs.List.{AllByRecursion}
 use Rattle.std.proofs.lemmas.List.{length-replicate}
+use Rattle.cfb_medium.specs.Numbers.{all_pieces, pieces}
 use Rattle.cfb_medium.specs.declared.medium.ReadMedium.{Ghosts}
 use Rattle.cfb_sectors.specs.Sectors.{fat_in, free, joined, sectors_in, AreInFile}
 use Rattle.cfb_chains.specs.Changes.{AreOnce}
@@ -39,10 +40,10 @@ use Rattle.cfb.proofs.OnceByTimes.{once_by_times, times_append}
 
 -- a directory with a root has a sector
 has_sector : (bytes : List ℕ) (l : Layout) → slice_get (directory bytes l) 0 ≡ Some l.root → 0 < length l.directory_sectors
+unfolding entries_of all_pieces pieces
 has_sector bytes l found = some l.directory_sectors found
   where
     some : (ids : List ℕ) → slice_get (entries_of l.version (joined l.version bytes ids)) 0 ≡ Some l.root → 0 < length ids
-    unfolding entries_of
     some [] found = absurd (cc)
     some (x ∷ ids) found = omega arith
 
@@ -68,11 +69,15 @@ module _ (bytes : List ℕ) (l : Layout) (letters : Letters) (tree : Tree) (s : 
   orderly =
       let laid = s.means.laid_out in
       let judged = judged_from_sound bytes l letters tree s in
-      let rest = l.directory_sectors ++ l.mini_fat_sectors ++ l.mini_stream_sectors in
+      let P = λ (n : ℕ). n < length (replicate count false) in
+      let f = l.fat_sectors in
+      let d = l.difat_sectors in
       let size = length-replicate count false in
-      let each = front (λ n. n < length (replicate count false)) (l.fat_sectors ++ l.difat_sectors ++ rest) judged.sectors judged.can.there in
-      let tables = front (λ n. n < length (replicate count false)) l.fat_sectors (l.difat_sectors ++ rest) each.0 in
-      let difat = front (λ n. n < length (replicate count false)) l.difat_sectors rest tables.1 in
+      let five = front P (f ++ d ++ l.directory_sectors ++ l.mini_fat_sectors ++ l.mini_stream_sectors) judged.sectors judged.can.there in
+      let four = front P (f ++ d ++ l.directory_sectors ++ l.mini_fat_sectors) l.mini_stream_sectors five.0 in
+      let three = front P (f ++ d ++ l.directory_sectors) l.mini_fat_sectors four.0 in
+      let two = front P (f ++ d) l.directory_sectors three.0 in
+      let difat = front P f d two.0 in
       let named = ap length laid.fat_named.1 in
       let longest = length-difat l.version bytes l.difat_sectors laid.header.whole in
       let sum = length-append l.fat_sectors (replicate laid.fat_named.0 free) in
@@ -80,14 +85,16 @@ module _ (bytes : List ℕ) (l : Layout) (letters : Letters) (tree : Tree) (s : 
       let covers = judged.covers in record {
         once = once_by_times (l.difat_sectors ++ l.fat_sectors) (λ n.
         let most = judged.can.once n in
-        let one = times_append n (l.fat_sectors ++ l.difat_sectors ++ rest) judged.sectors in
-        let two = times_append n l.fat_sectors (l.difat_sectors ++ rest) in
-        let three = times_append n l.difat_sectors rest in
-        let four = times_append n l.difat_sectors l.fat_sectors in
-        omega (arith, most, one, two, three, four));
+        let one = times_append n (f ++ d ++ l.directory_sectors ++ l.mini_fat_sectors ++ l.mini_stream_sectors) judged.sectors in
+        let more = times_append n (f ++ d ++ l.directory_sectors ++ l.mini_fat_sectors) l.mini_stream_sectors in
+        let minis = times_append n (f ++ d ++ l.directory_sectors) l.mini_fat_sectors in
+        let entries = times_append n (f ++ d) l.directory_sectors in
+        let both = times_append n f d in
+        let turned = times_append n d f in
+        omega (arith, most, one, more, minis, entries, both, turned));
         covered = omega (arith, within, covers);
         some = some_there bytes l l.directory_sectors (has_sector bytes l laid.root_found) laid.directory_in_file;
-        there = below_all count l.difat_sectors (subst (λ n. AllByRecursion (λ x. x < n) l.difat_sectors) size difat.0);
+        there = below_all count l.difat_sectors (subst (λ n. AllByRecursion (λ x. x < n) l.difat_sectors) size difat.1);
         named = omega (arith, named, longest, sum);
       }
 
