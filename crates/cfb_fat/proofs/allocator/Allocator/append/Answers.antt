@@ -11,7 +11,7 @@ use Rattle.cfb_fat.specs.Listed.{Lists}
 use Rattle.cfb_chains.specs.Changes.{IsBeside, IsNoneOf}
 use Rattle.cfb_fat.specs.Orderly.{IsOrderly}
 use Rattle.cfb_fat.proofs.Appended.{entry_added, listed_before_end, none_behind, whole_before}
-use Rattle.cfb_fat.proofs.Entering.{others_stay}
+use Rattle.cfb_fat.proofs.Entering.{others_stay, rest_below}
 use Rattle.cfb_fat.proofs.FatEntries.{per, split}
 use Rattle.cfb_fat.proofs.Growth.{below_more, stays_in_front}
 use Rattle.cfb_chains.proofs.Beside.{beside_second}
@@ -190,3 +190,30 @@ returns-in_err-write_number-clause-attempts g c =
     let wrote = c.in_err-write_number.ensures in
     passed_attempts c.from_residual-in_err-write_number.result c.in_err-write_number.field-0.0 it.sectors c.append_sector.new.sectors c.write_number.new.sectors c.from_residual-in_err-write_number.ensures.1
     did.appends.continues (did.live ∙ sym c.requires.live) wrote.err wrote.cause wrote.fault
+
+pub index-holder-requires : goal.index-holder-requires
+index-holder-requires g c =
+    let it = c.args.self.now in
+    let v = version_of it.sectors in
+    let n = length it.fat_sectors.items in
+    let each : c.sector_len-each.result / 4 ≡ per v = ap (λ n. n / 4) c.sector_len-each.ensures in
+    let below = subst (λ e. c.len-index.result / e < n) (sym each) (split v n c.len-index.result (omega (arith, c.len-index.ensures, it.fat.ok.0, c.requires.place.room))).0 in
+    omega (arith, below, it.fat_sectors.ok.0)
+
+pub write_number-requires-clause-there : goal.write_number-requires-clause-there
+write_number-requires-clause-there g c =
+    let it = c.args.self.now in
+    let v = version_of it.sectors in
+    let n = length it.fat_sectors.items in
+    let each : c.sector_len-each.result / 4 ≡ per v = ap (λ n. n / 4) c.sector_len-each.ensures in
+    let below = subst (λ e. c.len-index.result / e < n) (sym each) (split v n c.len-index.result (omega (arith, c.len-index.ensures, it.fat.ok.0, c.requires.place.room))).0 in
+    let holder = get_or_read it.fat_sectors.items _ _ below c.index-holder.ensures 0 in
+    let did = c.in_ok-sector_id.ensures in
+    omega (arith, holder, it.there c.requires.live (c.len-index.result / (c.sector_len-each.result / 4)) below, did.appends.count did.live)
+
+pub write_number-requires-clause-inside : goal.write_number-requires-clause-inside
+write_number-requires-clause-inside g c =
+    let it = c.args.self.now in
+    let did = c.in_ok-sector_id.ensures.appends.version in
+    let each : c.sector_len-each.result / 4 ≡ per (version_of it.sectors) = ap (λ n. n / 4) c.sector_len-each.ensures in
+    subst (λ v. c.len-index.result % (c.sector_len-each.result / 4) < sector_len v / 4) (sym did) (subst (λ e. c.len-index.result % e < per (version_of it.sectors)) (sym each) (rest_below (version_of it.sectors) c.len-index.result))
