@@ -1,5 +1,5 @@
 -- Places that the FAT's sectors have for entries, against the entries that it has.
-use Rattle.std.proofs.Common.{◌≡◌, ℕ, ◌+◌, ◌*◌, ◌/◌, ◌<◌, ◌≤◌, length, true, ap, sym, subst, ◌∙◌, arith}
+use Rattle.std.proofs.Common.{◌≡◌, ℕ, ◌+◌, ◌*◌, ◌/◌, ◌<◌, ◌≤◌, ◌^◌, List, length, true, ap, sym, subst, ◌∙◌, arith}
 use Rattle.std.specs.Prelude.{Result, Ok, Err, IfErr, IsErrAnd, OnErr, OnOk}
 use Rattle.cfb_medium.specs.Calls.{Extends, IsFaultUnless}
 use Rattle.cfb_medium.specs.Versions.{sector_len}
@@ -8,7 +8,8 @@ use Rattle.cfb_medium.specs.declared.medium.ReadMedium.{Ghosts}
 use Rattle.cfb_medium.specs.declared.version.Version.{Version}
 use Rattle.cfb_medium.specs.declared.version.Version.TheVariants.{V3, V4}
 use Rattle.cfb_sectors.specs.Held as held
-use Rattle.cfb_sectors.specs.Sectors.{greatest_regular}
+use Rattle.cfb_sectors.specs.Sectors.{greatest_regular, sector_start}
+use Rattle.cfb_chains.specs.Changes.{IsBeside}
 use Rattle.cfb_sectors.specs.declared.sectors.Sectors.{Sectors}
 use Rattle.cfb_fat.specs.Calls.{Attempts}
 use Rattle.cfb_fat.specs.Growing.{HasMemory}
@@ -41,6 +42,14 @@ some_left V4 size count len is less = some size count (subst (λ l. size / (l / 
 pub few_full : (v : Version) (size count : ℕ) → size ≡ count * (sector_len v / 4) → size ≤ greatest_regular → size + 2 ≤ greatest_regular
 few_full V3 size count full few = omega (arith, full, few)
 few_full V4 size count full few = omega (arith, full, few)
+
+-- the sectors end before place and length overflow
+pub few_bytes : (v : Version) (count place size : ℕ) → place + size ≤ sector_start v count → count ≤ greatest_regular + 1 → place + size < 2 ^ 63
+few_bytes V3 count place size ends few = omega (arith, ends, few)
+few_bytes V4 count place size ends few = omega (arith, ends, few)
+
+pub beside_as : (v w : Version) (xs ys : List ℕ) (place size : ℕ) → v ≡ w → xs ≡ ys → IsBeside v xs place size → IsBeside w ys place size
+beside_as v w xs ys place size version list h = subst (λ u. IsBeside u ys place size) version (subst (λ l. IsBeside v l place size) list h)
 
 module _ {F : Type 0} {g : Ghosts F} where
   -- an error that is passed on after a change, by writes alone

@@ -11,7 +11,7 @@ ghost use Rattle.cfb_sectors.specs.Sectors.{fat_in, joined, sector_start};
 ghost use Rattle.std.specs.Int.{to_le_bytes, w32};
 ghost use Rattle.std.specs.Prelude.{false, length, take, true, IfErr, IfOk, IsErrOf, IsTrue, OnErr, OnOk, ◌*◌, ◌++◌, ◌+◌, ◌/◌, ◌<◌, ◌↔◌, ◌≡◌, ◌≤◌, ◌⊎◌};
 
-use crate::difat::{are_listed, can_name};
+use crate::difat::{are_listed, can_name, write_word};
 use cfb_medium::{Error, Medium, ReadMedium, Version};
 use cfb_sectors::{Sectors, numbers_in};
 use std::alloc::{AllocError, Global};
@@ -86,8 +86,8 @@ pub(crate) fn write_number<F: Medium>(
     ensures cause { IfErr result (HasItsCause sectors.old sectors.new) }
     ensures fault { IfErr result (IsFaultUnless ⊥) }
 {
-    let bytes = number.to_le_bytes();
-    sectors.write_contiguous(sector_id, ENTRY_LEN * index, &bytes)
+    let place = sectors.start(sector_id) + (ENTRY_LEN * index) as u64;
+    write_word(sectors, place, number)
 }
 
 // The numbers of both lists, one after the other.
