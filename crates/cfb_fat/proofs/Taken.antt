@@ -7,7 +7,7 @@ use Rattle.cfb_medium.specs.declared.medium.ReadMedium.{Ghosts}
 use Rattle.cfb_medium.specs.declared.version.Version.{Version}
 use Rattle.cfb_sectors.specs.Held.{count_of}
 use Rattle.cfb_sectors.specs.Sectors.{sector_start, Chain as IsChain}
-use Rattle.cfb_chains.specs.Changes.{IsFreeIn, IsNoneOf}
+use Rattle.cfb_chains.specs.Changes.{IsNoneOf}
 use Rattle.cfb_chains.proofs.Beside.{none_of_two}
 use Rattle.cfb_chains.proofs.Extending.{used_begun, used_extended}
 use Rattle.cfb_chains.proofs.Staying.{apart}
@@ -17,7 +17,7 @@ use Rattle.cfb_sectors.specs.declared.initial.SectorInit.{SectorInit}
 use Rattle.cfb_fat.specs.Calls.{TakesOne}
 use Rattle.cfb_fat.specs.Growing.{TakesIn}
 use Rattle.cfb_fat.specs.Keeping.{grows_then}
-use Rattle.cfb_fat.specs.Tables.{bytes_of, difat_sectors_of, fat_of, fat_sectors_of, has_failed_here, is_honest, medium_of, sectors_of, version_of}
+use Rattle.cfb_fat.specs.Tables.{bytes_of, difat_sectors_of, fat_of, fat_sectors_of, has_failed_here, medium_of, sectors_of, version_of}
 use Rattle.cfb_fat.proofs.Appended.{whole_before}
 use Rattle.cfb_chains.proofs.LongerTables.{never, whole_then}
 use Rattle.cfb_fat.proofs.GrowthSteps.{change_grows, grows_but, grows_failed}

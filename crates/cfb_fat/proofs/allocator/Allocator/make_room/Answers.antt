@@ -1,4 +1,4 @@
-use Rattle.std.proofs.Common.{◌≡◌, [], ◌+◌, ◌/◌, ◌<◌, ◌≤◌, length, ap, sym, subst, ◌∙◌, arith}
+use Rattle.std.proofs.Common.{◌≡◌, [], ◌+◌, ◌/◌, ◌<◌, ◌≤◌, length, ap, sym, subst, arith}
 use Rattle.cfb_sectors.specs.Held.{version_of}
 use Rattle.cfb_fat.proofs.Places.{few_full, memory_for_one, none_left, some_left}
 use Rattle.cfb_fat.specs.Keeping.{grows_then, takes_rest}

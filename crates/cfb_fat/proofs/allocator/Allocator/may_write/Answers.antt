@@ -1,5 +1,4 @@
 use Rattle.std.proofs.Common.{refl, sym}
-use Rattle.cfb_chains.specs.Changes.{IsBeside}
 use Rattle.cfb_fat.proofs.Places.{beside_as, few_bytes}
 use Rattle.cfb_fat.proofs.allocator.Allocator.may_write.Goals as goal
 

@@ -1,15 +1,13 @@
-use Rattle.std.proofs.Common.{◌≡◌, ◌+◌, [], ◌∷◌, ◌++◌, length, get_or, refl, ap, inl, inr, sym, subst, ◌∙◌, arith, ⊎_elim, IsTrue}
+use Rattle.std.proofs.Common.{◌+◌, [], length, get_or, refl, ap, inl, inr, sym, ◌∙◌, arith, ⊎_elim}
 use Rattle.cfb_sectors.specs.Held.{HasItsCause}
-use Rattle.cfb_sectors.specs.Sectors.{end_of_chain, free, sector, sector_start, Chain as IsChain}
+use Rattle.cfb_sectors.specs.Sectors.{end_of_chain, free}
 use Rattle.std.proofs.lemmas.Option.{slice_get-get_or, slice_get_within, get_or_from_slice_get}
 use Rattle.std.proofs.lemmas.List.{get_or-set_same, length-set}
 use Rattle.std.specs.Prelude.{Some}
-use Rattle.cfb_medium.specs.Versions.{sector_len}
-use Rattle.cfb_sectors.specs.Initial.{initial}
 use Rattle.cfb_chains.proofs.Beside.{none_first, none_second}
 use Rattle.cfb_fat.specs.Calls.{EndsBehind, Occupies, TakesOne}
 use Rattle.cfb_fat.specs.Growing.{GrowsFat}
-use Rattle.cfb_fat.specs.Tables.{bytes_of, difat_sectors_of, fat_sectors_of, is_honest}
+use Rattle.cfb_fat.specs.Tables.{difat_sectors_of, fat_sectors_of}
 use Rattle.cfb_chains.specs.Changes.{IsNoneOf}
 use Rattle.std.proofs.lemmas.Bool.Decides.{leb_tells}
 use Rattle.cfb_fat.proofs.EntryChanges.{cause_since}

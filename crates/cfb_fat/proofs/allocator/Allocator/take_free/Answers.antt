@@ -1,9 +1,6 @@
-use Rattle.std.proofs.Common.{rules, ◌+◌, ◌<◌, ◌≤◌, [], ◌∷◌, length, ap, sym, subst, ◌∙◌, arith, IsTrue}
+use Rattle.std.proofs.Common.{◌+◌, ◌<◌, ◌≤◌, [], ◌∷◌, length, ap, sym, subst, ◌∙◌, arith, IsTrue}
 use Rattle.cfb_medium.specs.Versions.{sector_len}
-use Rattle.cfb_medium.specs.Calls.{IsFaultUnless}
-use Rattle.cfb_sectors.proofs.Causes.{passed_on}
-use Rattle.cfb_sectors.specs.Held.{bytes_of, version_of, HasItsCause}
-use Rattle.cfb_fat.proofs.EntryChanges.{cause_since}
+use Rattle.cfb_sectors.specs.Held.{bytes_of, version_of}
 use Rattle.cfb_sectors.specs.Initial.{initial}
 use Rattle.cfb_sectors.specs.Sectors.{filled_part, sector_start}
 use Rattle.cfb_fat.proofs.Places.{passed_attempts}
