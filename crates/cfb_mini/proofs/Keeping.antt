@@ -152,6 +152,7 @@ module _ {F : Type 0} {g : Ghosts F} where
               (λ n none. ap (λ l. mini_sector l n) same ∙ did.others n none) (subst (λ l. IsLinked l (minis_of links)) (sym numbers) mine.linked);
         };
         content = ap (λ l. mini_joined l (minis_of links)) same ∙ did.content;
+        entries = refl;
       }
 
   -- mini sectors were freed
@@ -173,6 +174,7 @@ module _ {F : Type 0} {g : Ghosts F} where
           becomes = becomes_none (mini_seen it) (mini_seen (moved it b mini)) minis refl refl (omega (arith, size)) did.differ (λ n none. ap (λ l. mini_sector l n) same);
         };
         freed = freed;
+        entries = refl;
       }
 
   -- memory of the mini FAT over reads
@@ -288,6 +290,7 @@ module _ {F : Type 0} {g : Ghosts F} where
           becomes = becomes_more (mini_seen it) (mini_seen (moved it b mini)) minis later did.taken refl refl same did.enters.differ did.was_free.found did.minis_are did.linked;
         };
         bytes = same;
+        entries = refl;
       }
 
   -- the mini FAT took in a sector
@@ -328,6 +331,7 @@ module _ {F : Type 0} {g : Ghosts F} where
         numbers = did.numbers;
         stream = ap (λ l. joined (version_of b) (bytes_of b) (ids_of l)) did.stream ∙ bytes_still a b (ids_of it.mini_fat.stream) goes stream_stays;
         told = did.told;
+        entries = refl;
       }
 
   -- only reads happened, and the mini FAT is the same

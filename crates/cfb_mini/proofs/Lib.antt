@@ -1,5 +1,6 @@
 pub mod Entries
 pub mod Keeping
+pub mod Longer
 pub mod Linking
 pub mod LongerTables
 pub mod MiniNumbers
