@@ -1,18 +1,19 @@
 -- Mini chains that become longer, step by step.
 use Rattle.std.proofs.Common.{◌≡◌, ℕ, ◌+◌, ◌*◌, ◌<◌, ◌≤◌, ◌⊎◌, inl, inr, List, [], ◌∷◌, ◌++◌, length, get_or, replicate, set, zero, suc, refl, ap, sym, subst, ◌∙◌, arith, ⊎_elim, append_assoc, append-nil, length-append, IsTrue}
-use Rattle.std.specs.List.{AllByRecursion}
-use Rattle.std.specs.Prelude.{Result, Ok, Err, slice_get, slice_index_or, Some}
+use Rattle.std.specs.List.{count_by, AllByRecursion}
+use Rattle.std.specs.Prelude.{nat_eq, Result, Ok, Err, slice_get, slice_index_or, Some}
 use Rattle.std.proofs.lemmas.Bool.Decides.{eqb_tells, leb_tells}
 use Rattle.std.proofs.lemmas.List.{get_or_append_left, replicate-append-replicate}
 use Rattle.std.proofs.lemmas.Option.{get_or_from_slice_get, slice_get-get_or, slice_get_within}
 use Rattle.cfb_medium.specs.declared.error.Error.{Error}
 use Rattle.cfb_medium.specs.declared.medium.ReadMedium.{Ghosts}
-use Rattle.cfb_medium.specs.Versions.{sector_len}
-use Rattle.cfb_sectors.specs.Sectors.{end_of_chain, free, joined, sector, Chain as IsChain}
+use Rattle.cfb_medium.specs.Versions.{sector_len, stream_len_mask}
+use Rattle.cfb_sectors.specs.Sectors.{end_of_chain, free, greatest_regular, joined, sector, Chain as IsChain}
 use Rattle.cfb_chains.specs.Changes.{AreNoneOf, IsFreeIn, IsNoneOf, StayBut}
 use Rattle.cfb_chains.specs.Grown.{IsLinked}
+use Rattle.cfb_chains.specs.LinkViews.{links_version}
 use Rattle.cfb_chains.specs.Owned.{Owned, Stays}
-use Rattle.cfb_chains.proofs.Beside.{none_first}
+use Rattle.cfb_chains.proofs.Beside.{free_then, none_first}
 use Rattle.cfb_chains.proofs.ChainGrowing.{in_use}
 use Rattle.cfb_fat.specs.Calls.{Answers}
 use Rattle.cfb_fat.specs.Keeping.{rests_cause}
@@ -22,7 +23,8 @@ use Rattle.cfb_fat.specs.Tables.{bytes_of, difat_sectors_of, fat_of, fat_sectors
 use Rattle.cfb_fat.specs.declared.allocator.Allocator.{Allocator}
 use Rattle.cfb_tree.specs.Directory.{Entry}
 use Rattle.cfb_directory.specs.Views as directory
-use Rattle.cfb_mini.specs.Changing.{mini_seen, Extends, GrowsMiniFat, GrowsMiniStream, HasOwners, Lengthens, TellsStream}
+use Rattle.cfb_mini.specs.Changing.{mini_seen, Extends, GrowsMiniFat, GrowsMiniStream, HasOwners, LacksMini, Lengthens, TellsStream}
+use Rattle.cfb_mini.specs.Growing.{LacksMore}
 use Rattle.cfb_mini.specs.Views.{allocator_of, directory_of, mini_fat_ids, mini_fat_of, mini_stream_ids, mini_stream_len, mini_stream_of, IsMini, Rests}
 use Rattle.cfb_mini.specs.declared.mini_allocator.MiniAllocator.{MiniAllocator}
 use Rattle.cfb_mini.proofs.Entries.{content_len}
@@ -66,6 +68,16 @@ was_free a b mid x stays linked found = ⊎_elim
     (λ past. inr past.1)
     (λ below. inl (slice_get-get_or a x 0 below.1 ∙ ap Some (sym (stays.others x below.1 (in_use b (slice_index_or mid 0 end_of_chain) mid x linked (inl found))) ∙ get_or_from_slice_get b x free 0 found)))
     (leb_tells (length a) x)
+
+was_loose : (a b mid : List ℕ) (x : ℕ) → StayBut mid a b → IsLinked b mid → IsFreeIn b x → IsFreeIn a x
+was_loose a b mid x stays linked loose = ⊎_elim (λ found. was_free a b mid x stays linked found) (λ past. inr (let longer = stays.size in omega (arith, past, longer))) loose
+
+were_free_both : (a b mid taken more : List ℕ) → StayBut mid a b → IsLinked b mid → AllByRecursion (IsFreeIn a) taken → AllByRecursion (IsFreeIn b) more → AllByRecursion (IsFreeIn a) (taken ++ more)
+were_free_both a b mid taken more stays linked = free_then a b taken more (λ n. was_loose a b mid n stays linked)
+
+all_both : (P : ℕ → Type 0) (xs ys : List ℕ) → AllByRecursion P xs → AllByRecursion P ys → AllByRecursion P (xs ++ ys)
+all_both P [] ys h k = k
+all_both P (x ∷ xs) ys h k = (h.0, all_both P xs ys h.1 k)
 
 -- the same owners
 owned_same : (table tables : List ℕ) (own then : ℕ → List ℕ) → ((k : ℕ) → then k ≡ own k) → Owned table tables own → Owned table tables then
@@ -146,7 +158,7 @@ module _ {F : Type 0} {g : Ghosts F} where
     stream = sym (append-nil (mini_stream_of it));
     owners = λ then fat stream others. owners_same it own then (λ k. now_same it own then fat stream others k ∙ sym (now_same it own own h.mini_fat h.mini_stream (λ n one two. refl) k)) h;
     others = λ k past. stays_same (allocator_of it) (own k) (h.owned.linked k) (h.owned.beside k);
-    entries = inl refl;
+    entries = inl (refl, refl);
   }
 
   -- who owns what then
@@ -155,7 +167,7 @@ module _ {F : Type 0} {g : Ghosts F} where
 
   tells_kept : (a b c : MiniAllocator F g) → directory.entries_held (directory_of c) ≡ directory.entries_held (directory_of b) → mini_stream_ids c ≡ mini_stream_ids b → mini_stream_len c ≡ mini_stream_len b → TellsStream a b → TellsStream a c
   tells_kept a b c entries ids len h = ⊎_elim
-      (λ same. inl (entries ∙ same))
+      (λ same. inl (entries ∙ same.0, ids ∙ same.1))
       (λ told. inr (λ e found. entries ∙ told e found
       ∙ ap (λ l. set (directory.entries_held (directory_of a)) 0 (record e { start = slice_index_or l 0 end_of_chain; size = mini_stream_len b })) (sym ids)
       ∙ ap (λ n. set (directory.entries_held (directory_of a)) 0 (record e { start = slice_index_or (mini_stream_ids c) 0 end_of_chain; size = n })) (sym len)))
@@ -242,7 +254,7 @@ module _ {F : Type 0} {g : Ghosts F} where
             (eqb_tells n 1));
         others = λ n past. stays_then (allocator_of a) (allocator_of b) (allocator_of c) (own n) (mine n) version (now_other b own n (λ same. omega (arith, same, past)) (λ same. omega (arith, same, past))) (h.others n past) (k.others n past);
         entries = ⊎_elim
-            (λ same. inr (λ e found. k.root e (ap (λ l. slice_get l 0) same ∙ found) ∙ ap (λ l. set l 0 (record e { start = slice_index_or (mini_stream_ids c) 0 end_of_chain; size = mini_stream_len c })) same))
+            (λ same. inr (λ e found. k.root e (ap (λ l. slice_get l 0) same.0 ∙ found) ∙ ap (λ l. set l 0 (record e { start = slice_index_or (mini_stream_ids c) 0 end_of_chain; size = mini_stream_len c })) same.0))
             (λ told. inr (λ e found.
             let mid_root = record e { start = slice_index_or (mini_stream_ids b) 0 end_of_chain; size = mini_stream_len b } in
             let held = directory.entries_held (directory_of a) in
@@ -331,3 +343,63 @@ module _ {F : Type 0} {g : Ghosts F} where
     cause = rests_cause a b c e rests k.cause;
     fault = k.fault;
   }
+
+  -- as many sectors have as many bytes
+  len_same : (b c : MiniAllocator F g) → version_of (allocator_of c) ≡ version_of (allocator_of b) → IsMini b → IsMini c → mini_stream_ids c ≡ mini_stream_ids b → mini_stream_len c ≡ mini_stream_len b
+  len_same b c version is now ids =
+      ap (λ v. length (mini_stream_ids c) * sector_len v) (now.over.stream_version ∙ version ∙ sym is.over.stream_version) ∙ ap (λ l. length l * sector_len (links_version b.mini_fat.stream)) ids
+
+  lacks_more_rest : (b c : Allocator F g) (n m : ℕ) → AllRests b c → m ≡ n → LacksMore c m → LacksMore b n
+  lacks_more_rest b c n m rests same = ⊎_elim (λ numbers. inl (subst (λ l. greatest_regular + 1 + count_by (λ entry. nat_eq entry free) l < length l + 1) rests.fat numbers)) (λ long. inr (omega (arith, long, same)))
+
+  -- what is lacking after reads was lacking before
+  pub lacks_rest : (b c : MiniAllocator F g) → IsMini b → Rests b c → LacksMini c → LacksMini b
+  lacks_rest b c is rests lacks =
+      let layer = rests.directory.allocator in
+      let ids = ap length rests.mini_stream_ids in
+      let version = layer.sectors.version in
+      let now = rests.kept is in
+      let len = len_same b c version is now rests.mini_stream_ids in
+      ⊎_elim (λ fat. inl (lacks_more_rest (allocator_of b) (allocator_of c) _ _ layer (ap length rests.mini_fat_ids) fat))
+      (λ rest. inr (⊎_elim (λ stream. inl (lacks_more_rest (allocator_of b) (allocator_of c) _ _ layer ids stream))
+      (λ size. inr (subst (λ v. stream_len_mask v < mini_stream_len b + sector_len v) version (subst (λ n. stream_len_mask (version_of (allocator_of c)) < n + sector_len (version_of (allocator_of c))) len size))) rest)) lacks
+
+  tells_then : (a b c : MiniAllocator F g) → (mini_stream_ids c ≡ mini_stream_ids b → mini_stream_len c ≡ mini_stream_len b) → TellsStream a b → TellsStream b c → TellsStream a c
+  tells_then a b c len h k = ⊎_elim
+      (λ same. tells_kept a b c same.0 same.1 (len same.1) h)
+      (λ told. ⊎_elim
+      (λ same. inr (λ e found. told e (ap (λ l. slice_get l 0) same.0 ∙ found) ∙ ap (λ l. set l 0 (record e { start = slice_index_or (mini_stream_ids c) 0 end_of_chain; size = mini_stream_len c })) same.0))
+      (λ before. inr (λ e found.
+      let mid_root = record e { start = slice_index_or (mini_stream_ids b) 0 end_of_chain; size = mini_stream_len b } in
+      let held = directory.entries_held (directory_of a) in
+      told mid_root (ap (λ l. slice_get l 0) (before e found) ∙ set_found held e mid_root found)
+      ∙ ap (λ l. set l 0 (record mid_root { start = slice_index_or (mini_stream_ids c) 0 end_of_chain; size = mini_stream_len c })) (before e found)
+      ∙ set_again held mid_root (record e { start = slice_index_or (mini_stream_ids c) 0 end_of_chain; size = mini_stream_len c })))
+      h)
+      k
+
+  -- two steps
+  pub lengthens_then : (a b c : MiniAllocator F g) (minis mid later : List ℕ) (own : ℕ → List ℕ) → version_of (allocator_of b) ≡ version_of (allocator_of a) → Lengthens a b minis mid own → Lengthens b c mid later (own_now b own) → version_of (allocator_of c) ≡ version_of (allocator_of b) → Lengthens a c minis later own
+  lengthens_then a b c minis mid later own version h k next =
+      let mid_size = h.numbers.size in
+      let new_size = k.numbers.size in
+      let was = lengthened_owners a b minis mid own h in
+      let new = lengthened_owners b c mid later (own_now b own) k in
+      let longer : mini_stream_len b ≤ mini_stream_len c =
+      let one = stream_size c (own_now c (own_now b own)) new in let two = stream_size b (own_now b own) was in let sum = ap length k.stream ∙ length-append (mini_stream_of b) (replicate k.zeros 0) in omega (arith, one, two, sum) in
+      record {
+        taken = h.taken ++ k.taken;
+        minis_are = k.minis_are ∙ ap (λ l. l ++ k.taken) h.minis_are ∙ append_assoc minis h.taken k.taken;
+        were_free = were_free_both (mini_fat_of a) (mini_fat_of b) mid h.taken k.taken h.numbers h.linked h.were_free k.were_free;
+        inside = all_both (λ n. 64 * n + 64 ≤ mini_stream_len c) h.taken k.taken (all_less (mini_stream_len b) (mini_stream_len c) h.taken longer h.inside) k.inside;
+        linked = k.linked;
+        numbers = record {
+          size = omega (arith, mid_size, new_size);
+          others = λ n below none. k.numbers.others n (omega (arith, below, mid_size)) none ∙ h.numbers.others n below (none_first mid k.taken n (subst (λ l. IsNoneOf l n) k.minis_are none));
+        };
+        zeros = h.zeros + k.zeros;
+        stream = k.stream ∙ ap (λ l. l ++ replicate k.zeros 0) h.stream ∙ append_assoc (mini_stream_of a) (replicate h.zeros 0) (replicate k.zeros 0) ∙ ap (λ l. mini_stream_of a ++ l) (replicate-append-replicate h.zeros k.zeros 0);
+        owners = λ then fat stream others. k.owners then fat stream (λ n one two. others n one two ∙ sym (now_other b own n one two));
+        others = λ n past. stays_then (allocator_of a) (allocator_of b) (allocator_of c) (own n) (own_now b own n) version (now_other b own n (λ same. omega (arith, same, past)) (λ same. omega (arith, same, past))) (h.others n past) (k.others n past);
+        entries = tells_then a b c (len_same b c next was.memory new.memory) h.entries k.entries;
+      }

@@ -1,8 +1,8 @@
 -- Who owns which sectors beside the mini FAT and the mini stream, and what a change of mini chains leaves.
 use Rattle.std.specs.List.{AllByRecursion}
-use Rattle.std.specs.Prelude.{◌≡◌, ℕ, ◌+◌, ◌*◌, ◌<◌, ◌≤◌, ◌⊎◌, List, [], ◌∷◌, ◌++◌, ◌/◌, false, replicate, slice_get, slice_index_or, slice_set, IsTrue, Some}
+use Rattle.std.specs.Prelude.{◌≡◌, ℕ, ◌+◌, ◌*◌, ◌<◌, ◌≤◌, ◌⊎◌, List, [], ◌∷◌, ◌++◌, ◌/◌, false, length, replicate, slice_get, slice_index_or, slice_set, IsTrue, Some}
 use Rattle.cfb_medium.specs.Bytes.{overwritten}
-use Rattle.cfb_medium.specs.Versions.{sector_len}
+use Rattle.cfb_medium.specs.Versions.{sector_len, stream_len_mask}
 use Rattle.cfb_medium.specs.declared.medium.ReadMedium.{Ghosts}
 use Rattle.cfb_sectors.specs.Sectors.{end_of_chain, free, sector}
 use Rattle.cfb_chains.specs.Changes as changes
@@ -15,7 +15,7 @@ use Rattle.cfb_fat.specs.declared.allocator.Allocator.{Allocator}
 use Rattle.cfb_owned.specs.Chains.{GoesOn}
 use Rattle.cfb_tree.specs.Directory.{Entry}
 use Rattle.cfb_directory.specs.Views as directory
-use Rattle.cfb_mini.specs.Growing.{TellsMiniFat}
+use Rattle.cfb_mini.specs.Growing.{LacksMore, TellsMiniFat}
 use Rattle.cfb_mini.specs.LinkViews.{minis_of}
 use Rattle.cfb_mini.specs.Minis.{all_words, mini_sector}
 use Rattle.cfb_mini.specs.Taking.{HasNoneBelow, IsFreeIn}
@@ -108,9 +108,10 @@ module _ {F : Type 0} {g : Ghosts F} where
     pub root : (e : Entry) → slice_get (directory.entries_held (directory_of old)) 0 ≡ Some e
         → directory.entries_held (directory_of new) ≡ slice_set (directory.entries_held (directory_of old)) 0 (record e { start = slice_index_or (mini_stream_ids new) 0 end_of_chain; size = mini_stream_len new })
 
-  -- the root's entry tells where the mini stream begins and how many bytes it has, or it says what it said; all others stay
+  -- the root's entry tells where the mini stream begins and how many bytes it has, and all other entries stay; or all do, and the
+  -- mini stream has the sectors that it had
   abbrev pub TellsStream : MiniAllocator F g → MiniAllocator F g → Type 0
-  TellsStream old new = (directory.entries_held (directory_of new) ≡ directory.entries_held (directory_of old))
+  TellsStream old new = ((directory.entries_held (directory_of new) ≡ directory.entries_held (directory_of old)) × (mini_stream_ids new ≡ mini_stream_ids old))
       ⊎ ((e : Entry) → slice_get (directory.entries_held (directory_of old)) 0 ≡ Some e
       → directory.entries_held (directory_of new) ≡ slice_set (directory.entries_held (directory_of old)) 0 (record e { start = slice_index_or (mini_stream_ids new) 0 end_of_chain; size = mini_stream_len new }))
 
@@ -129,3 +130,8 @@ module _ {F : Type 0} {g : Ghosts F} where
     pub owners : (then : ℕ → List ℕ) → then 1 ≡ mini_fat_ids new → then 2 ≡ mini_stream_ids new → ((k : ℕ) → (k ≡ 1 → ⊥) → (k ≡ 2 → ⊥) → then k ≡ own k) → HasOwners new then
     pub others : (k : ℕ) → 2 < k → Stays (sector (version_of (allocator_of old))) (seen_of (allocator_of old)) (seen_of (allocator_of new)) (own k)
     pub entries : TellsStream old new
+
+  -- nothing is left for a mini sector more: no number of a sector for the mini FAT or for the mini stream, or no room for its size
+  abbrev pub LacksMini : MiniAllocator F g → Type 0
+  LacksMini it = LacksMore (allocator_of it) (length (mini_fat_ids it)) ⊎ LacksMore (allocator_of it) (length (mini_stream_ids it))
+      ⊎ (stream_len_mask (version_of (allocator_of it)) < mini_stream_len it + sector_len (version_of (allocator_of it)))

@@ -5,7 +5,7 @@ use Rattle.cfb_owned.proofs.GoingOn.{goes_then, rests_go_on}
 use Rattle.cfb_mini.specs.Changing.{Lengthens}
 use Rattle.cfb_mini.specs.LinkViews.{minis_of}
 use Rattle.cfb_mini.specs.Views.{allocator_of}
-use Rattle.cfb_mini.proofs.Longer.{answers_after, lengthened_owners, lengthens_begun, lengthens_by_fat, lengthens_by_one, lengthens_by_stream, lengthens_rest, mini_rests_then, own_now, owners_rest}
+use Rattle.cfb_mini.proofs.Longer.{answers_after, lacks_rest, lengthened_owners, lengthens_begun, lengthens_by_fat, lengthens_by_one, lengthens_by_stream, lengthens_rest, mini_rests_then, own_now, owners_rest}
 use Rattle.cfb_mini.proofs.Results.{on_err}
 use Rattle.cfb_mini.proofs.mini_allocator.MiniAllocator.take_or_grow.Goals as goal
 
@@ -55,3 +55,8 @@ pub returns-in-Ok-false-clause-answers : goal.returns-in-Ok-false-clause-answers
 returns-in-Ok-false-clause-answers g c =
     let none = c.in-Ok-false.ensures.none c.in-Ok-false.field-0-test in
     answers_after IsInvalidOrFull c.grow_tables.result (allocator_of c.args.self.now) (allocator_of c.extend_mini_chain.new.self) (allocator_of c.grow_tables.new.self) none.0.directory.allocator c.grow_tables.ensures.answers
+
+pub returns-in-Ok-false-clause-full : goal.returns-in-Ok-false-clause-full
+returns-in-Ok-false-clause-full g c = λ wrong live is.
+    let none = c.in-Ok-false.ensures.none c.in-Ok-false.field-0-test in
+    inl (lacks_rest c.args.self.now c.extend_mini_chain.new.self is none.0 (c.grow_tables.ensures.full wrong live (none.0.kept is)))
