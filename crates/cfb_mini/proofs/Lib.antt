@@ -1,3 +1,4 @@
+pub mod Cutting
 pub mod Entries
 pub mod Keeping
 pub mod Longer
