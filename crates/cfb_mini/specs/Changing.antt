@@ -1,6 +1,6 @@
 -- Who owns which sectors beside the mini FAT and the mini stream, and what a change of mini chains leaves.
 use Rattle.std.specs.List.{AllByRecursion}
-use Rattle.std.specs.Prelude.{◌≡◌, ℕ, ◌+◌, ◌*◌, ◌<◌, ◌≤◌, ◌⊎◌, List, [], ◌∷◌, ◌++◌, ◌/◌, false, length, replicate, slice_get, slice_index_or, slice_set, IsTrue, Some}
+use Rattle.std.specs.Prelude.{◌≡◌, ℕ, ◌+◌, ◌*◌, ◌<◌, ◌≤◌, ◌⊎◌, List, [], ◌∷◌, ◌++◌, ◌/◌, drop, false, length, replicate, slice_get, slice_index_or, slice_set, take, IsTrue, Some}
 use Rattle.cfb_medium.specs.Bytes.{overwritten}
 use Rattle.cfb_medium.specs.Versions.{sector_len, stream_len_mask}
 use Rattle.cfb_medium.specs.declared.medium.ReadMedium.{Ghosts}
@@ -72,6 +72,15 @@ module _ {F : Type 0} {g : Ghosts F} where
   pub record Frees (minis : List ℕ) (old new : MiniAllocator F g) (own : ℕ → List ℕ) : Type 0 where
     pub changes : Changes minis [] [] old new own own
     pub freed : HaveEntry free (mini_fat_of new) minis
+    pub entries : directory.entries_held (directory_of new) ≡ directory.entries_held (directory_of old)
+
+  -- The mini chain keeps so many mini sectors, those at its front, and the others are free. The mini stream's bytes are those that
+  -- they were.
+  pub record Shortens (count : ℕ) (old new : MiniAllocator F g) (minis later : List ℕ) (own : ℕ → List ℕ) : Type 0 where
+    pub minis_are : later ≡ take count minis
+    pub changes : Changes minis [] later old new own own
+    pub freed : HaveEntry free (mini_fat_of new) (drop count minis)
+    pub bytes : mini_stream_of new ≡ mini_stream_of old
     pub entries : directory.entries_held (directory_of new) ≡ directory.entries_held (directory_of old)
 
   -- The mini chain took in the first mini sector that was free, behind its last one; the mini stream has it. The mini stream's bytes are those
