@@ -188,7 +188,7 @@ impl<F: ReadMedium> Directory<F> {
     pub fn dir_entries(&self) -> &[DirEntry]
         ensures { entries_in result.now ≡ entries_held self.now }
     {
-        &self.entries.items
+        self.entries.items.as_slice()
     }
 }
 
