@@ -1,5 +1,5 @@
 -- Mini chains that become longer, step by step.
-use Rattle.std.proofs.Common.{◌≡◌, ℕ, ◌+◌, ◌*◌, ◌<◌, ◌≤◌, ◌⊎◌, inl, inr, List, [], ◌∷◌, ◌++◌, length, get_or, replicate, set, zero, suc, refl, ap, sym, subst, ◌∙◌, arith, ⊎_elim, append_assoc, append-nil, length-append, IsTrue}
+use Rattle.std.proofs.Common.{◌≡◌, ℕ, ◌+◌, ◌*◌, ◌<◌, ◌≤◌, inl, inr, List, [], ◌∷◌, ◌++◌, length, get_or, replicate, set, refl, ap, sym, subst, ◌∙◌, arith, ⊎_elim, append_assoc, append-nil, length-append, IsTrue}
 use Rattle.std.specs.List.{count_by, AllByRecursion}
 use Rattle.std.specs.Prelude.{nat_eq, Result, Ok, Err, slice_get, slice_index_or, Some}
 use Rattle.std.proofs.lemmas.Bool.Decides.{eqb_tells, leb_tells}
@@ -21,7 +21,6 @@ use Rattle.cfb_fat.specs.Resting.{all_rest_then}
 use Rattle.cfb_fat.specs.Seeing.{seen_of}
 use Rattle.cfb_fat.specs.Tables.{bytes_of, difat_sectors_of, fat_of, fat_sectors_of, is_honest, tables_of, version_of, AllRests}
 use Rattle.cfb_fat.specs.declared.allocator.Allocator.{Allocator}
-use Rattle.cfb_tree.specs.Directory.{Entry}
 use Rattle.cfb_directory.specs.Views as directory
 use Rattle.cfb_mini.specs.Changing.{mini_seen, Extends, GrowsMiniFat, GrowsMiniStream, HasOwners, LacksMini, Lengthens, TellsStream}
 use Rattle.cfb_mini.specs.Growing.{LacksMore}

@@ -1,7 +1,5 @@
-use Rattle.std.proofs.Common.{◌≡◌, ◌≤◌, length, refl, subst, sym}
+use Rattle.std.proofs.Common.{◌≤◌, length, subst, sym}
 use Rattle.std.proofs.lemmas.List.{take_all}
-use Rattle.cfb_sectors.proofs.Appending.{on_ok}
-use Rattle.cfb_chains.specs.Grown.{IsLinked}
 use Rattle.cfb_owned.proofs.Owning.{none_dropped}
 use Rattle.cfb_mini.specs.LinkViews.{minis_of}
 use Rattle.cfb_mini.specs.NumberViews.{numbers_of}

@@ -1,4 +1,4 @@
-use Rattle.std.proofs.Common.{◌≡◌, ◌-◌, ◌<◌, ◌≤◌, [], ◌∷◌, ap, arith, drop, get_or, length, set, subst, suc, sym, take}
+use Rattle.std.proofs.Common.{◌≡◌, ◌-◌, ◌<◌, [], ◌∷◌, ap, arith, drop, get_or, length, set, subst, suc, sym, take}
 use Rattle.cfb_sectors.specs.Sectors.{end_of_chain, free}
 use Rattle.cfb_chains.specs.Changes.{AreAmong, DifferAt, HaveEntry}
 use Rattle.cfb_chains.specs.Grown.{IsLinked}

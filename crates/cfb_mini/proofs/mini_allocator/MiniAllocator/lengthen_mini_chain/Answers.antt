@@ -1,4 +1,4 @@
-use Rattle.std.proofs.Common.{◌≡◌, ◌+◌, ◌<◌, ◌≤◌, inl, length, max, ap, sym, subst, arith, IsTrue}
+use Rattle.std.proofs.Common.{◌<◌, inl, length, sym, subst, arith, IsTrue}
 use Rattle.std.proofs.lemmas.Result.{IfErr-weaker}
 use Rattle.cfb_sectors.proofs.Appending.{on_ok}
 use Rattle.cfb_mini.proofs.Results.{on_err}

@@ -1,4 +1,4 @@
-use Rattle.std.proofs.Common.{◌≡◌, ◌+◌, ◌<◌, ◌≤◌, length, max, ap, sym, subst, arith, IsTrue}
+use Rattle.std.proofs.Common.{◌<◌, length, sym, subst, arith, IsTrue}
 use Rattle.cfb_fat.specs.Resting.{all_rest_refl}
 use Rattle.cfb_owned.proofs.GoingOn.{goes_then, rests_go_on}
 use Rattle.cfb_mini.specs.LinkViews.{minis_of}

@@ -1,4 +1,4 @@
-use Rattle.std.proofs.Common.{◌≡◌, ◌+◌, ◌≤◌, ◌⊎◌, inl, inr, ⊎_elim, [], ◌∷◌, length, refl, ap, sym, subst, ◌∙◌, arith, length-append, IsTrue}
+use Rattle.std.proofs.Common.{inl, inr, ⊎_elim, [], ◌∷◌, length, refl, ap, sym, subst, ◌∙◌, arith, length-append, IsTrue}
 use Rattle.cfb_sectors.proofs.Appending.{on_ok}
 use Rattle.cfb_chains.specs.ChainCalls.{IsInvalidOrFull}
 use Rattle.cfb_owned.proofs.GoingOn.{goes_then, rests_go_on}
