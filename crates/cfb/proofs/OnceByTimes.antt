@@ -13,7 +13,7 @@ times_at (x ∷ xs) zero n below is = let here = times_here n xs in let same : t
 times_at (x ∷ xs) (suc k) n below is = let later = times_at xs k n (omega (arith, below)) is in let more = times_rest n x xs in omega (arith, later, more)
 
 pub once_by_times : (xs : List ℕ) → ((n : ℕ) → times n xs ≤ 1) → AreOnce xs
-once_by_times [] few k l inside = absurd (omega (arith, inside))
+once_by_times [] few k l inside there same = absurd (omega (arith, inside))
 once_by_times (x ∷ xs) few zero zero inside there same = refl
 once_by_times (x ∷ xs) few zero (suc l) inside there same =
     let here = times_here x xs in let later = times_at xs l x (omega (arith, there)) (sym same) in let most = few x in absurd (omega (arith, here, later, most))

@@ -1,27 +1,28 @@
 //! The directory in memory, over the sectors that hold it.
 ghost use Rattle.cfb_chains.specs.LinkViews.{ids_of};
 ghost use Rattle.cfb_directory.specs.Entries.{SizesFit};
-ghost use Rattle.cfb_directory.specs.Search.{path_of, LeadsTo};
 ghost use Rattle.cfb_directory.specs.Taken.{HasAny, HasSize, IsTakenAs};
 ghost use Rattle.cfb_fat.specs.Tables.{bytes_of, fat_of, has_failed as allocator_failed, has_failed_here, is_honest, medium_of, sectors_of, version_of, AllRests, HasCauseBelow};
 ghost use Rattle.cfb_medium.specs.Calls.{Extends, HasCauseSince, IsFaultUnless};
 ghost use Rattle.cfb_medium.specs.Versions.{sector_len};
 ghost use Rattle.cfb_medium.specs.declared.error.Error.TheVariants.{Failed, InvalidData};
 ghost use Rattle.cfb_sectors.specs.Sectors.{joined, Chain as IsChain};
+ghost use Rattle.cfb_siblings.specs.Places.{path_of, IsEntryAt};
+ghost use Rattle.cfb_siblings.specs.Reading.{ReadBy};
 ghost use Rattle.cfb_tree.specs.Directory.{entries_of, no_entry};
 ghost use Rattle.cfb_tree.specs.EntryViews.{entry_in};
 ghost use Rattle.cfb_tree.specs.LetterViews.{letters_of};
 ghost use Rattle.cfb_tree.specs.Objects.{object_at, HoldsTree};
 ghost use Rattle.cfb_tree.specs.Tree.{Tree};
 ghost use Rattle.cfb_sectors.specs.Held.{LeavesOldOrBytes};
-ghost use Rattle.std.specs.Prelude.{false, length, slice_get, slice_set, true, IfErr, IfOk, IsErrOf, IsTrue, List, MatchOption, None, OnErr, OnOk, Some, ℕ, ◌<◌, ◌||◌, ◌≡◌, ◌≤◌, ◌↔◌, ◌⊎◌};
+ghost use Rattle.std.specs.Prelude.{Bool, false, length, slice_get, slice_set, true, IfErr, IfOk, IsErrOf, IsTrue, List, MatchOption, None, OnErr, OnOk, Some, ℕ, ◌<◌, ◌||◌, ◌≡◌, ◌≤◌, ◌↔◌, ◌⊎◌};
 
 use crate::reading::read_directory;
-use crate::search::find_path;
 use cfb_chains::Links;
 use cfb_fat::Allocator;
 use cfb_medium::{Error, Medium, ReadMedium, Version};
 use cfb_sectors::Validation;
+use cfb_siblings::find_entry;
 use cfb_tree::{CaseMapper, DirEntry};
 use std::alloc::Global;
 
@@ -172,24 +173,24 @@ impl<F: ReadMedium> Directory<F> {
     ghost use Rattle.cfb_directory.specs.Entries.{entries_in};
     ghost use Rattle.cfb_directory.specs.Views.{entries_held};
 
-    /// The number of the entry that these names lead to from the root, which is 0; none where there is none. It goes down the
-    /// trees of siblings, and takes no memory.
+    /// The number of the entry to which these names lead from the root, whose own is 0; none where the tree has no object
+    /// there. It goes down the trees of siblings, and takes no memory ([MS-CFB] 2.6.4).
     pub fn stream_id_for_name_chain(&self, letters: &CaseMapper, names: &[&str]) -> Option<u32>
-        ensures found { (tree : Tree)
-            → HoldsTree (letters_of letters.now) HasAny (entries_held self.now) tree
+        ensures found { (reads : ℕ → ℕ → List ℕ → Bool) (tree : Tree)
+            → HoldsTree (letters_of letters.now) (ReadBy reads) (entries_held self.now) tree
             → MatchOption result
             (object_at (letters_of letters.now) tree (path_of names.now) ≡ None)
-            (λ id. LeadsTo (letters_of letters.now) (entries_held self.now) tree
+            (λ id. IsEntryAt (ReadBy reads) (letters_of letters.now) (entries_held self.now) tree
             (path_of names.now) id) }
     {
-        find_path(letters, &self.entries.items, names)
+        find_entry(letters, &self.entries.items, names)
     }
 
     /// The entries, by number.
     pub fn dir_entries(&self) -> &[DirEntry]
         ensures { entries_in result.now ≡ entries_held self.now }
     {
-        &self.entries.items
+        self.entries.items.as_slice()
     }
 }
 

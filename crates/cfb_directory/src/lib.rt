@@ -7,7 +7,6 @@ mod directory;
 mod free;
 mod lending;
 mod reading;
-mod search;
 mod walk;
 
 pub use changes::EntryChange;

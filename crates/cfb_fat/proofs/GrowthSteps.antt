@@ -1,5 +1,5 @@
 -- Growing calls one after the other, and changes of the FAT among them.
-use Rattle.std.proofs.Common.{◌≡◌, ℕ, ◌+◌, ◌-◌, ◌<◌, ◌≤◌, true, List, [], ◌∷◌, ◌++◌, length, get_or, refl, ap, sym, subst, ◌∙◌, arith, length-append, ⊎_elim, inl, inr, ◌*◌, ◌/◌}
+use Rattle.std.proofs.Common.{IsTrue, ◌≡◌, ℕ, ◌+◌, ◌-◌, ◌<◌, ◌≤◌, true, List, [], ◌∷◌, ◌++◌, length, get_or, refl, ap, sym, subst, ◌∙◌, arith, length-append, ⊎_elim, inl, inr, ◌*◌, ◌/◌}
 use Rattle.std.proofs.Math.ListN.{set}
 use Rattle.std.proofs.lemmas.Bool.Decides.{eqb_tells}
 use Rattle.std.proofs.lemmas.List.{length-set, get_or_append_left, get_or-set_same, get_or-set_other}
@@ -12,9 +12,12 @@ use Rattle.std.proofs.Math.Seq.{get_or-append_right}
 use Rattle.std.proofs.lemmas.Option.{slice_get-get_or}
 use Rattle.cfb_medium.specs.declared.medium.ReadMedium.{Ghosts}
 use Rattle.cfb_medium.specs.declared.error.Error.{Error}
-use Rattle.cfb_sectors.specs.Sectors.{end_of_chain, filled_part, free, greatest_regular, sector_start, Chain as IsChain}
+use Rattle.cfb_sectors.specs.Initial.{initial}
+use Rattle.cfb_sectors.specs.Sectors.{end_of_chain, filled_part, free, greatest_regular, sector, sector_start, Chain as IsChain}
+use Rattle.cfb_sectors.specs.declared.initial.SectorInit.{SectorInit}
+use Rattle.cfb_fat.specs.Calls.{Occupies}
 use Rattle.cfb_fat.specs.declared.allocator.Allocator.{Allocator}
-use Rattle.cfb_fat.specs.Changing.{ChangesFat, WritesBeside}
+use Rattle.cfb_fat.specs.Changing.{ChangesFat, MayWrite, WritesBeside}
 use Rattle.cfb_fat.specs.Growing.{GrowsFat}
 use Rattle.cfb_chains.specs.Changes.{IsBeside, IsNoneOf}
 use Rattle.cfb_fat.specs.Tables.{bytes_of, difat_sectors_of, fat_of, fat_sectors_of, has_failed_here, medium_of, sectors_of, tables_of, version_of}
@@ -153,9 +156,20 @@ module _ {F : Type 0} {g : Ghosts F} where
   pub grows_again : (a b c : Allocator F g) → GrowsFat [] [] a b → GrowsFat [] [] b c → GrowsFat [] [] a c
   grows_again = grows_then [] [] [] []
 
-  -- tables became longer, and then a sector behind all others was taken
-  pub grows_taken : (n : ℕ) (a b c : Allocator F g) → GrowsFat [] [] a b → GrowsFat (n ∷ []) [] b c → GrowsFat (n ∷ []) (n ∷ []) a c
-  grows_taken n a b c h k = grows_but (n ∷ []) [] (n ∷ []) (n ∷ []) a c (λ m below none i inside same. absurd (omega (arith, inside))) (λ p m aside. aside) (grows_then [] [] (n ∷ []) [] a b c h k)
+  -- tables became longer, and then a sector came into use
+  pub occupies_after : (init : SectorInit) (a b c : Allocator F g) (n : ℕ) → GrowsFat [] [] a b → Occupies init b c n → Occupies init a c n
+  occupies_after init a b c n h k = record {
+    grows = grows_then [] [] (n ∷ []) (n ∷ []) a b c h k.grows;
+    fresh = record {
+      filled = λ honest. subst (λ v. sector v (bytes_of c) n ≡ initial init (sector_len v)) h.version (k.fresh.filled (subst IsTrue (sym h.honest) honest));
+      writable = subst (λ v. MayWrite c (sector_start v n) (sector_len v)) h.version k.fresh.writable;
+    };
+    whole = λ honest. k.whole (subst IsTrue (sym h.honest) honest);
+  }
+
+pub ok_two : {T : Type 0} (r : Result T Error) (P Q R : T → Type 0) → IfOk r P → IfOk r Q → ((x : T) → P x → Q x → R x) → IfOk r R
+ok_two (Ok x) P Q R p q f = f x p q
+ok_two (Err e) P Q R p q f = tt
 
 pub ok_map : {T : Type 0} (r : Result T Error) (P Q : T → Type 0) → IfOk r P → ((x : T) → P x → Q x) → IfOk r Q
 ok_map (Ok x) P Q h f = f x h
@@ -164,18 +178,6 @@ ok_map (Err e) P Q h f = tt
 pub err_map : {T : Type 0} (r : Result T Error) (P Q : Error → Type 0) → IfErr r P → ((e : Error) → P e → Q e) → IfErr r Q
 err_map (Ok x) P Q h f = tt
 err_map (Err e) P Q h f = f e h
-
-pub ok_three : {T : Type 0} (r : Result T Error) (P Q : T → Type 0) (X Y : Type 0) → IfOk r P → OnOk r X → OnOk r Y → ((x : T) → P x → X → Y → Q x) → IfOk r Q
-ok_three (Ok x) P Q X Y p s t f = f x p s t
-ok_three (Err e) P Q X Y p s t f = tt
-
-pub ok_five : {T : Type 0} (r : Result T Error) (P Q R S X : T → Type 0) (Y : Type 0) → IfOk r P → IfOk r Q → IfOk r R → IfOk r S → OnOk r Y → ((x : T) → P x → Q x → R x → S x → Y → X x) → IfOk r X
-ok_five (Ok x) P Q R S X Y p q r s y f = f x p q r s y
-ok_five (Err e) P Q R S X Y p q r s y f = tt
-
-pub ok_four : {T : Type 0} (r : Result T Error) (P Q R S X : T → Type 0) → IfOk r P → IfOk r Q → IfOk r R → IfOk r S → ((x : T) → P x → Q x → R x → S x → X x) → IfOk r X
-ok_four (Ok x) P Q R S X p q r s f = f x p q r s
-ok_four (Err e) P Q R S X p q r s f = tt
 
 pub err_both : {T : Type 0} (r : Result T Error) (P : Error → Type 0) (X : Type 0) (Q : Error → Type 0) → IfErr r P → OnErr r X → ((e : Error) → P e → X → Q e) → IfErr r Q
 err_both (Ok x) P X Q h k f = tt

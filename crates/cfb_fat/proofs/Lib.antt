@@ -14,6 +14,7 @@ pub mod ListedStays
 pub mod Listing
 pub mod ListsNow
 pub mod Packed
+pub mod Places
 pub mod Sparing
 pub mod TableWords
 pub mod Taken

@@ -7,15 +7,17 @@ use Rattle.cfb_medium.specs.declared.medium.ReadMedium.{Ghosts}
 use Rattle.cfb_medium.specs.declared.version.Version.{Version}
 use Rattle.cfb_sectors.specs.Held.{count_of}
 use Rattle.cfb_sectors.specs.Sectors.{sector_start, Chain as IsChain}
-use Rattle.cfb_chains.specs.Changes.{IsFreeIn, IsNoneOf}
+use Rattle.cfb_chains.specs.Changes.{IsNoneOf}
 use Rattle.cfb_chains.proofs.Beside.{none_of_two}
 use Rattle.cfb_chains.proofs.Extending.{used_begun, used_extended}
 use Rattle.cfb_chains.proofs.Staying.{apart}
 use Rattle.cfb_fat.specs.declared.allocator.Allocator.{Allocator}
 use Rattle.cfb_fat.specs.Changing.{ChangesFat, MayWrite}
-use Rattle.cfb_fat.specs.Growing.{GrowsFat, HasWhole, MarksBehind, TakesIn}
+use Rattle.cfb_sectors.specs.declared.initial.SectorInit.{SectorInit}
+use Rattle.cfb_fat.specs.Calls.{TakesOne}
+use Rattle.cfb_fat.specs.Growing.{TakesIn}
 use Rattle.cfb_fat.specs.Keeping.{grows_then}
-use Rattle.cfb_fat.specs.Tables.{bytes_of, difat_sectors_of, fat_of, fat_sectors_of, has_failed_here, is_honest, medium_of, sectors_of, version_of}
+use Rattle.cfb_fat.specs.Tables.{bytes_of, difat_sectors_of, fat_of, fat_sectors_of, has_failed_here, medium_of, sectors_of, version_of}
 use Rattle.cfb_fat.proofs.Appended.{whole_before}
 use Rattle.cfb_chains.proofs.LongerTables.{never, whole_then}
 use Rattle.cfb_fat.proofs.GrowthSteps.{change_grows, grows_but, grows_failed}
@@ -47,30 +49,29 @@ module _ {F : Type 0} {g : Ghosts F} where
         whole = never (has_failed_here b) failed;
       }
 
-  pub takes_begun : (n : ℕ) (a b : Allocator F g) → IsFreeIn (fat_of a) n → MarksBehind (n ∷ []) (n ∷ []) a b → (IsTrue (is_honest a) → HasWhole (n ∷ []) b) → GrowsFat (n ∷ []) (n ∷ []) a b → TakesIn (n ∷ []) (n ∷ []) a b
-  takes_begun n a b loose marked whole grows = record {
-    grows = grows;
-    free = λ live. (loose, tt);
-    used = λ live. used_begun (fat_of a) (fat_of b) n loose (grows.fat live);
-    behind = λ live. marked;
-    whole = λ live. whole;
+  pub takes_begun : (init : SectorInit) (n : ℕ) (a b : Allocator F g) → TakesOne init a b n → TakesIn (n ∷ []) (n ∷ []) a b
+  takes_begun init n a b one = record {
+    grows = one.occupies.grows;
+    free = λ live. (one.free, tt);
+    used = λ live. used_begun (fat_of a) (fat_of b) n one.free (one.occupies.grows.fat live);
+    behind = λ live. one.behind;
+    whole = λ live. one.occupies.whole;
   }
 
-  pub takes_extended : (ids : List ℕ) (start last n : ℕ) (a m b : Allocator F g) → IsChain (fat_of a) start (ids ++ last ∷ []) → IsFreeIn (fat_of a) n → has_failed_here m ≡ false
-      → MarksBehind (n ∷ []) (n ∷ []) a m → (IsTrue (is_honest a) → HasWhole (n ∷ []) m)
-      → GrowsFat (n ∷ []) (n ∷ []) a m → IsChain (fat_of m) n (n ∷ []) → ChangesFat (last ∷ []) m b → (has_failed_here b ≡ false → fat_of b ≡ set (fat_of m) last n) → TakesIn (n ∷ []) (last ∷ n ∷ []) a b
-  takes_extended ids start last n a m b was loose live marked whole grows one changes is = record {
+  pub takes_extended : (init : SectorInit) (ids : List ℕ) (start last n : ℕ) (a m b : Allocator F g) → IsChain (fat_of a) start (ids ++ last ∷ []) → has_failed_here m ≡ false → TakesOne init a m n
+      → ChangesFat (last ∷ []) m b → (has_failed_here b ≡ false → fat_of b ≡ set (fat_of m) last n) → TakesIn (n ∷ []) (last ∷ n ∷ []) a b
+  takes_extended init ids start last n a m b was live one changes is = record {
     grows = grows_but (n ∷ []) (n ∷ last ∷ []) (n ∷ []) (last ∷ n ∷ []) a b
         (λ k below none. none_of_two n last k (none 1 (omega arith)) (none 0 (omega arith))) (λ p k aside. aside)
-        (grows_then (n ∷ []) (n ∷ []) [] (last ∷ []) a m b grows (change_grows (last ∷ []) m b changes));
-    free = λ now. (loose, tt);
-    used = λ now. used_extended (fat_of a) (fat_of m) (fat_of b) ids start last n was loose (grows.fat live) one (is now);
+        (grows_then (n ∷ []) (n ∷ []) [] (last ∷ []) a m b one.occupies.grows (change_grows (last ∷ []) m b changes));
+    free = λ now. (one.free, tt);
+    used = λ now. used_extended (fat_of a) (fat_of m) (fat_of b) ids start last n was one.free (one.occupies.grows.fat live) one.chain (is now);
     behind = λ now k past below none unset.
         let size = (changes.fat now).size in
         let same = (changes.fat now).others k (λ i inside equal. unset 0 (omega arith) (only_one last i k inside equal)) in
         ⊎_elim
         (λ told. inl ((λ beside. told.0 (subst (λ l. IsNoneOf l k) changes.difat_sectors beside)), same ∙ told.1))
         (λ told. inr ((λ beside. told.0 (subst (λ l. IsNoneOf l k) changes.fat_sectors beside)), same ∙ told.1))
-        (marked k past (omega (arith, below, size)) none (λ i inside equal. unset 1 (omega arith) (only_one n i k inside equal)));
-    whole = λ now honest. whole_then (version_of m) (version_of b) (n ∷ []) [] (bytes_of m) (bytes_of b) changes.version (changes.longer now (subst IsTrue (sym grows.honest) honest)) (whole honest) tt;
+        (one.behind k past (omega (arith, below, size)) none (λ i inside equal. unset 1 (omega arith) (only_one n i k inside equal)));
+    whole = λ now honest. whole_then (version_of m) (version_of b) (n ∷ []) [] (bytes_of m) (bytes_of b) changes.version (changes.longer now (subst IsTrue (sym one.occupies.grows.honest) honest)) (one.occupies.whole honest) tt;
   }

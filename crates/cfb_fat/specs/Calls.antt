@@ -7,15 +7,16 @@ use Rattle.cfb_medium.specs.declared.error.Error.TheVariants.{Failed, Full}
 use Rattle.cfb_medium.specs.declared.medium.ReadMedium.{Ghosts}
 use Rattle.cfb_sectors.specs.Held as held
 use Rattle.cfb_sectors.specs.Initial.{initial}
-use Rattle.cfb_sectors.specs.Sectors.{end_of_chain, free, joined, sector, sector_start}
+use Rattle.cfb_sectors.specs.Sectors.{end_of_chain, free, greatest_regular, joined, sector, sector_start, Chain as IsChain}
 use Rattle.cfb_sectors.specs.declared.initial.SectorInit.{SectorInit}
 use Rattle.cfb_sectors.specs.declared.sectors.Sectors.{Sectors}
 use Rattle.cfb_sectors.specs.Copies.{copies}
-use Rattle.cfb_chains.specs.Changes.{IsNoneOf}
+use Rattle.cfb_chains.specs.Changes.{IsFreeIn, IsNoneOf}
 use Rattle.cfb_chains.specs.Grown.{AreWritable, IsLinked}
 use Rattle.cfb_chains.specs.LinkViews.{ids_of, links_version}
 use Rattle.cfb_chains.specs.declared.links.Links.{Links}
 use Rattle.cfb_fat.specs.Changing.{MayWrite}
+use Rattle.cfb_fat.specs.Growing.{GrowsFat, HasWhole, MarksBehind}
 use Rattle.cfb_fat.specs.Tables.{bytes_of, capacity_of, difat_sectors_of, fat_of, fat_sectors_of, has_failed_here, is_honest, orderly_of, tables_of, version_of, AllRests, HasCauseBelow}
 use Rattle.cfb_fat.specs.declared.allocator.Allocator.{Allocator}
 
@@ -71,15 +72,32 @@ module _ {F : Type 0} {g : Ghosts F} where
   abbrev pub places_of : Allocator F g → ℕ
   places_of it = length (fat_sectors_of it) * (sector_len (version_of it) / 4)
 
-  -- the FAT has a place, and memory, for one sector more
+  -- the FAT has a place, memory and a number for one sector more
   pub record HasPlace (it : Allocator F g) : Type 0 where
     pub room : length (fat_of it) < places_of it
     pub memory : length (fat_of it) < capacity_of it
+    pub few : length (fat_of it) ≤ greatest_regular
 
-  -- the FAT has the end of a chain behind its entries, and the same sectors as the DIFAT had
-  pub record EndsBehind (old new : Allocator F g) : Type 0 where
+  -- the FAT has the end of a chain behind its entries, for this sector, and the same sectors as the DIFAT had
+  pub record EndsBehind (old new : Allocator F g) (n : ℕ) : Type 0 where
+    pub number : n ≡ length (fat_of old)
     pub fat : fat_of new ≡ fat_of old ++ end_of_chain ∷ []
     pub tables : (difat_sectors_of new ≡ difat_sectors_of old) × (fat_sectors_of new ≡ fat_sectors_of old)
+
+  -- the sector came into use, lies in the file whole, and holds what one of this kind does at first; of the old FAT's entries
+  -- and sectors this one alone is changed
+  pub record Occupies (init : SectorInit) (old new : Allocator F g) (n : ℕ) : Type 0 where
+    pub grows : GrowsFat (n ∷ []) (n ∷ []) old new
+    pub fresh : IsFresh init old new n
+    pub whole : IsTrue (is_honest old) → HasWhole (n ∷ []) new
+
+  -- so it did as a chain of its own; it had been in no use, or where none was spare, was none of the file
+  pub record TakesOne (init : SectorInit) (old new : Allocator F g) (n : ℕ) : Type 0 where
+    pub free : IsFreeIn (fat_of old) n
+    pub chain : IsChain (fat_of new) n (n ∷ [])
+    pub occupies : Occupies init old new n
+    pub appended : IsLastResort old n
+    pub behind : MarksBehind (n ∷ []) (n ∷ []) old new
 
   -- the bytes of a linked and writable chain of an honest file are longer by those of new sectors of this kind
   abbrev pub FillsBehind : SectorInit → Links → Links → Allocator F g → Allocator F g → Type 0

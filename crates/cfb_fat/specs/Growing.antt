@@ -75,6 +75,10 @@ module _ {F : Type 0} {g : Ghosts F} where
   abbrev pub Spends : {T : Type 0} → ℕ → (Error → Type 0) → Result T Error → Allocator F g → Allocator F g → Type 0
   Spends left refuses result old new = (n : ℕ) → HasMemory old 0 (n + 1) → OnOk result (HasMemory new left n) × IfErr result (λ e. (has_failed_here new ≡ true) ⊎ refuses e)
 
+  -- the same where no error is left to come but a fault in a write
+  abbrev pub SpendsOne : {T : Type 0} → ℕ → Result T Error → Allocator F g → Allocator F g → Type 0
+  SpendsOne left result old new = (n : ℕ) → HasMemory old 0 (n + 1) → OnOk result (HasMemory new left n)
+
   -- what there is memory for stays
   abbrev pub KeepsMemory : Allocator F g → Allocator F g → Type 0
   KeepsMemory old new = (entries n : ℕ) → HasMemory old entries n → HasMemory new entries n

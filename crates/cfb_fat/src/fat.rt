@@ -11,7 +11,7 @@ ghost use Rattle.cfb_sectors.specs.Sectors.{fat_in, joined, sector_start};
 ghost use Rattle.std.specs.Int.{to_le_bytes, w32};
 ghost use Rattle.std.specs.Prelude.{false, length, take, true, IfErr, IfOk, IsErrOf, IsTrue, OnErr, OnOk, ◌*◌, ◌++◌, ◌+◌, ◌/◌, ◌<◌, ◌↔◌, ◌≡◌, ◌≤◌, ◌⊎◌};
 
-use crate::difat::{are_listed, can_name};
+use crate::difat::{are_listed, can_name, write_word};
 use cfb_medium::{Error, Medium, ReadMedium, Version};
 use cfb_sectors::{Sectors, numbers_in};
 use std::alloc::{AllocError, Global};
@@ -86,8 +86,8 @@ pub(crate) fn write_number<F: Medium>(
     ensures cause { IfErr result (HasItsCause sectors.old sectors.new) }
     ensures fault { IfErr result (IsFaultUnless ⊥) }
 {
-    let bytes = number.to_le_bytes();
-    sectors.write_contiguous(sector_id, ENTRY_LEN * index, &bytes)
+    let place = sectors.start(sector_id) + (ENTRY_LEN * index) as u64;
+    write_word(sectors, place, number)
 }
 
 // The numbers of both lists, one after the other.
@@ -100,16 +100,20 @@ pub(crate) fn both(alloc: Global, first: &[u32], second: &[u32]) -> Result<Vec<u
     Ok(all)
 }
 
-// Whether no number stands twice.
-pub(crate) fn are_once(ids: &[u32]) -> bool
-    ensures { IsTrue result ↔ AreOnce ids.now }
+// Whether no number stands twice among these below a limit. It sets a mark for each that it meets.
+fn are_once(alloc: Global, limit: u32, ids: &[u32]) -> Result<bool, AllocError>
+    requires { AreBelow limit ids.now }
+    ensures { IfOk result (λ once. IsTrue once ↔ AreOnce ids.now) }
 {
-    for i in 0..ids.len() {
-        if ids[..i].contains(&ids[i]) {
-            return false;
+    let mut marks = vec![in alloc; false; limit as usize]?;
+    for id in ids {
+        let index = *id as usize;
+        if marks[index] {
+            return Ok(false);
         }
+        marks[index] = true;
     }
-    true
+    Ok(true)
 }
 
 // Whether each is below a limit.
@@ -145,26 +149,28 @@ pub(crate) fn is_none_of(ids: &[u32], number: u32) -> bool
 
 // Whether the tables of a file of so many sectors can be changed, if header and DIFAT list them.
 fn are_orderly(
+    alloc: Global,
     version: Version,
     count: u32,
     fat: &[u32],
     fat_sectors: &[u32],
     difat_sectors: &[u32],
-    ids: &[u32],
-) -> bool
-    requires { ids.now ≡ difat_sectors.now ++ fat_sectors.now }
-    ensures { IsTrue result ↔ IsOrderly version count fat.now fat_sectors.now difat_sectors.now }
+) -> Result<bool, AllocError>
+    requires { AreBelow count fat_sectors.now }
+    ensures { IfOk result (λ orderly. IsTrue orderly
+        ↔ IsOrderly version count fat.now fat_sectors.now difat_sectors.now) }
 {
     if count == 0 || fat.len() != count as usize {
-        return false;
+        return Ok(false);
     }
     if !can_name(version, difat_sectors.len(), fat_sectors.len()) {
-        return false;
+        return Ok(false);
     }
     if !are_below(count, difat_sectors) {
-        return false;
+        return Ok(false);
     }
-    are_once(ids)
+    let ids = both(alloc, difat_sectors, fat_sectors)?;
+    are_once(alloc, count, &ids)
 }
 
 // The FAT in some sectors, for as many sectors as the file has, and whether it can be changed.
@@ -198,9 +204,8 @@ pub(crate) fn read_parts<F: ReadMedium>(
     let mut fat = read_table(alloc, sectors, fat_sectors)?;
     let count = sectors.num_sectors();
     fat.truncate(count as usize);
-    let ids = both(alloc, difat_sectors, fat_sectors)?;
     let version = sectors.version();
-    if !are_orderly(version, count, &fat, fat_sectors, difat_sectors, &ids) {
+    if !are_orderly(alloc, version, count, &fat, fat_sectors, difat_sectors)? {
         return Ok((fat, false));
     }
     let is_listed = are_listed(alloc, sectors, difat_sectors, fat_sectors)?;

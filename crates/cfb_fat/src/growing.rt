@@ -1,6 +1,6 @@
 //! Tables that become longer, and the file with them.
-ghost use Rattle.cfb_fat.specs.Calls.{places_of, Attempts, EndsBehind, HasNoneBelow, HasPlace, IsFresh};
-ghost use Rattle.cfb_fat.specs.Growing.{GrowsFat, HasMemory, HasWhole, IsFull, MarksBehind, Spends};
+ghost use Rattle.cfb_fat.specs.Calls.{places_of, Attempts, EndsBehind, HasNoneBelow, HasPlace, IsTheLast, Occupies, Tries};
+ghost use Rattle.cfb_fat.specs.Growing.{GrowsFat, HasMemory, IsFull, KeepsMemory, MarksBehind, Spends, SpendsOne};
 ghost use Rattle.cfb_fat.specs.Orderly.{named_at_most};
 ghost use Rattle.cfb_medium.specs.Calls.{IsFaultUnless};
 ghost use Rattle.cfb_medium.specs.Versions.{sector_len};
@@ -16,34 +16,42 @@ use cfb_medium::{Error, Medium};
 use cfb_sectors::{
     DIFAT_SECTOR, END_OF_CHAIN, FAT_SECTOR, FREE_SECTOR, MAX_REGULAR_SECTOR, SectorInit,
 };
+use std::alloc::AllocError;
 
 impl<F: Medium> Allocator<F> {
     ghost use Rattle.cfb_fat.specs.Tables.{capacity_of, difat_sectors_of, fat_of, fat_sectors_of, has_failed_here, is_honest, orderly_of, sectors_of, version_of, AllRests, HasCauseBelow};
 
-    // Makes the FAT longer by a sector that the DIFAT has a place for. Its own entry is "free" still. `Memory` with nothing
-    // changed; after a fault in a write it has failed.
+    // Asks for the memory that the tables may need for so many sectors more. Nothing is changed.
+    pub(crate) fn reserve_growth(&mut self, count: usize) -> Result<(), AllocError>
+        ensures memory { OnOk result (HasMemory self.new 0 count) }
+        ensures keeps { KeepsMemory self.old self.new }
+        ensures enough { HasMemory self.old 0 count → OnErr result ⊥ }
+        ensures rests { AllRests self.old self.new }
+    {
+        self.fat.reserve(count.saturating_mul(3))?;
+        self.fat_sectors.reserve(count)?;
+        self.difat_sectors.reserve(count)?;
+        Ok(())
+    }
+
+    // Makes the FAT longer by a sector that the DIFAT has a place for. Its own entry is "free" still. After a fault it has
+    // failed.
     fn grow_fat(&mut self) -> Result<(), Error>
         requires live { has_failed_here self.old ≡ false }
         requires orderly { IsTrue (orderly_of self.old) }
-        requires full { length (fat_of self.old)
-            ≡ length (fat_sectors_of self.old) * (sector_len (version_of self.old) / 4) }
+        requires full { length (fat_of self.old) ≡ places_of self.old }
         requires few { count_of (sectors_of self.old) ≤ greatest_regular }
         requires room { length (fat_sectors_of self.old)
             < named_at_most (version_of self.old) (length (difat_sectors_of self.old)) }
+        requires memory { HasMemory self.old 0 1 }
         ensures grows { GrowsFat [] [] self.old self.new }
-        ensures fat { OnOk result (fat_of self.new ≡ fat_of self.old ++ free ∷ []) }
-        ensures tables { OnOk result ((difat_sectors_of self.new ≡ difat_sectors_of self.old)
+        ensures tables { OnOk result ((fat_of self.new ≡ fat_of self.old ++ free ∷ [])
+            × (difat_sectors_of self.new ≡ difat_sectors_of self.old)
             × (fat_sectors_of self.new ≡ fat_sectors_of self.old
             ++ length (fat_of self.old) ∷ [])) }
-        ensures memory { capacity_of self.old ≤ capacity_of self.new }
-        ensures spends { Spends 1 (λ _. ⊥) result self.old self.new }
-        ensures live { OnOk result (has_failed_here self.new ≡ false) }
-        ensures cause { IfErr result (HasCauseBelow self.old self.new) }
-        ensures fault { IfErr result (λ e. IsFaultUnless ⊥ e
-            × ((has_failed_here self.new ≡ true) ⊎ AllRests self.old self.new)) }
+        ensures spends { SpendsOne 1 result self.old self.new }
+        ensures attempts { Attempts result (sectors_of self.old) (sectors_of self.new) }
     {
-        self.fat_sectors.reserve(1)?;
-        self.fat.reserve(1)?;
         self.is_orderly = false;
         let sector_id = add_fat_sector(
             &mut self.sectors,
@@ -56,32 +64,25 @@ impl<F: Medium> Allocator<F> {
         Ok(())
     }
 
-    // Makes the DIFAT longer by a sector, and the FAT by one that it names. Their own entries are "free" still. `Memory` with
-    // nothing changed; after a fault in a write it has failed.
+    // Makes the DIFAT longer by a sector, and the FAT by one that it names. Their own entries are "free" still. After a fault
+    // it has failed.
     fn grow_both(&mut self) -> Result<(), Error>
         requires live { has_failed_here self.old ≡ false }
         requires orderly { IsTrue (orderly_of self.old) }
-        requires full { length (fat_of self.old)
-            ≡ length (fat_sectors_of self.old) * (sector_len (version_of self.old) / 4) }
+        requires full { length (fat_of self.old) ≡ places_of self.old }
         requires few { count_of (sectors_of self.old) < greatest_regular }
         requires crowded { named_at_most (version_of self.old) (length (difat_sectors_of self.old))
             ≤ length (fat_sectors_of self.old) }
+        requires memory { HasMemory self.old 0 1 }
         ensures grows { GrowsFat [] [] self.old self.new }
-        ensures fat { OnOk result (fat_of self.new ≡ fat_of self.old ++ free ∷ free ∷ []) }
-        ensures tables { OnOk result ((difat_sectors_of self.new
-            ≡ difat_sectors_of self.old ++ length (fat_of self.old) ∷ [])
+        ensures tables { OnOk result ((fat_of self.new ≡ fat_of self.old ++ free ∷ free ∷ [])
+            × (difat_sectors_of self.new ≡ difat_sectors_of self.old
+            ++ length (fat_of self.old) ∷ [])
             × (fat_sectors_of self.new ≡ fat_sectors_of self.old
             ++ (length (fat_of self.old) + 1) ∷ [])) }
-        ensures memory { capacity_of self.old ≤ capacity_of self.new }
-        ensures spends { Spends 1 (λ _. ⊥) result self.old self.new }
-        ensures live { OnOk result (has_failed_here self.new ≡ false) }
-        ensures cause { IfErr result (HasCauseBelow self.old self.new) }
-        ensures fault { IfErr result (λ e. IsFaultUnless ⊥ e
-            × ((has_failed_here self.new ≡ true) ⊎ AllRests self.old self.new)) }
+        ensures spends { SpendsOne 1 result self.old self.new }
+        ensures attempts { Attempts result (sectors_of self.old) (sectors_of self.new) }
     {
-        self.difat_sectors.reserve(1)?;
-        self.fat_sectors.reserve(1)?;
-        self.fat.reserve(2)?;
         self.is_orderly = false;
         let difat_sector = add_difat_sector(&mut self.sectors, &self.difat_sectors)?;
         self.difat_sectors.push_reserved(difat_sector);
@@ -97,24 +98,19 @@ impl<F: Medium> Allocator<F> {
         Ok(())
     }
 
-    // Makes the tables longer, so that the FAT has a place for a sector more, and marks their new sectors. `Memory` with nothing
-    // changed; after a fault in a write it has failed.
+    // Makes the tables longer, so that the FAT has a place for a sector more, and marks their new sectors. After a fault it has
+    // failed.
     fn lengthen(&mut self) -> Result<(), Error>
         requires live { has_failed_here self.old ≡ false }
         requires orderly { IsTrue (orderly_of self.old) }
         requires full { length (fat_of self.old) ≡ places_of self.old }
         requires few { count_of (sectors_of self.old) < greatest_regular }
-        requires memory { length (fat_of self.old) + 3 ≤ capacity_of self.old }
+        requires memory { HasMemory self.old 0 1 }
         ensures grows { GrowsFat [] [] self.old self.new }
         ensures added { OnOk result (MarksBehind [] [] self.old self.new) }
-        ensures memory { capacity_of self.old ≤ capacity_of self.new }
-        ensures spends { Spends 1 (λ _. ⊥) result self.old self.new }
-        ensures room { OnOk result ((length (fat_of self.new) ≤ length (fat_of self.old) + 2)
-            × (length (fat_of self.new) < places_of self.new)) }
-        ensures live { OnOk result (has_failed_here self.new ≡ false) }
-        ensures cause { IfErr result (HasCauseBelow self.old self.new) }
-        ensures fault { IfErr result (λ e. IsFaultUnless ⊥ e
-            × ((has_failed_here self.new ≡ true) ⊎ AllRests self.old self.new)) }
+        ensures spends { SpendsOne 1 result self.old self.new }
+        ensures place { OnOk result (HasPlace self.new) }
+        ensures attempts { Attempts result (sectors_of self.old) (sectors_of self.new) }
     {
         let count = self.num_sectors();
         if can_name(
@@ -139,23 +135,16 @@ impl<F: Medium> Allocator<F> {
         requires live { has_failed_here self.old ≡ false }
         requires orderly { IsTrue (orderly_of self.old) }
         ensures grows { GrowsFat [] [] self.old self.new }
-        ensures memory { OnOk result (length (fat_of self.new) < capacity_of self.new) }
-        ensures room { OnOk result (length (fat_of self.new)
-            < length (fat_sectors_of self.new) * (sector_len (version_of self.new) / 4)) }
-        ensures few { OnOk result (length (fat_of self.new) ≤ greatest_regular) }
+        ensures place { OnOk result (HasPlace self.new) }
         ensures added { OnOk result (MarksBehind [] [] self.old self.new) }
-        ensures spends { Spends 1 (λ e. e ≡ Full) result self.old self.new }
-        ensures live { OnOk result (has_failed_here self.new ≡ false) }
+        ensures spends { Spends 1 IsTheLast result self.old self.new }
         ensures full { IsErrOf result Full → IsFull self.old × AllRests self.old self.new }
-        ensures cause { IfErr result (HasCauseBelow self.old self.new) }
-        ensures fault { IfErr result (λ e. (IsFaultUnless ⊥ e
-            × ((has_failed_here self.new ≡ true) ⊎ AllRests self.old self.new)) ⊎ (e ≡ Full)) }
+        ensures tries { Tries IsTheLast result self.old self.new }
     {
-        let count = self.num_sectors();
-        if count > MAX_REGULAR_SECTOR {
+        if self.num_sectors() > MAX_REGULAR_SECTOR {
             return Err(Error::Full);
         }
-        self.fat.reserve(3)?;
+        self.reserve_growth(1)?;
         let each = self.sectors.sector_len() / ENTRY_LEN;
         if self.fat.len() / each < self.fat_sectors.len() {
             return Ok(());
@@ -164,26 +153,20 @@ impl<F: Medium> Allocator<F> {
         Ok(())
     }
 
-    // Appends a sector, for which the FAT has a place and memory, as a chain of its own, where none is free. After a fault in a write it has
-    // failed.
+    // Appends a sector, for which the FAT has a place and memory, as a chain of its own, where none is free. After a fault in
+    // a write it has failed.
     pub(crate) fn append(&mut self, init: SectorInit) -> Result<u32, Error>
         requires live { has_failed_here self.old ≡ false }
         requires orderly { IsTrue (orderly_of self.old) }
         requires place { HasPlace self.old }
-        requires few { count_of (sectors_of self.old) ≤ greatest_regular }
         requires crowded { HasNoneBelow self.old (length (fat_of self.old)) }
-        ensures number { IfOk result (λ n. n ≡ length (fat_of self.old)) }
-        ensures grows { IfOk result (λ n. GrowsFat (n ∷ []) [] self.old self.new) }
-        ensures ends { OnOk result (EndsBehind self.old self.new) }
-        ensures fresh { IfOk result (IsFresh init self.old self.new) }
-        ensures whole { IfOk result (λ n. IsTrue (is_honest self.old)
-            → HasWhole (n ∷ []) self.new) }
+        ensures ends { IfOk result (EndsBehind self.old self.new) }
+        ensures occupies { IfOk result (Occupies init self.old self.new) }
         ensures none { OnErr result (GrowsFat [] [] self.old self.new) }
         ensures spends { (n : ℕ) → HasMemory self.old 1 n
             → OnOk result (HasMemory self.new 0 n) }
         ensures attempts { Attempts result (sectors_of self.old) (sectors_of self.new) }
     {
-        self.fat.reserve(1)?;
         let index = self.fat.len();
         let each = self.sectors.sector_len() / ENTRY_LEN;
         let holder = self.fat_sectors[index / each];

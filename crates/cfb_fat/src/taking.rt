@@ -1,5 +1,5 @@
 //! Sectors that are taken into use, for chains that begin or become longer ([MS-CFB] 2.3).
-ghost use Rattle.cfb_fat.specs.Calls.{Answers, Attempts, ChangesTables, FillsBehind, HasNoneBelow, IsFresh, IsLastResort, IsTheLast, Tries};
+ghost use Rattle.cfb_fat.specs.Calls.{Answers, Attempts, ChangesTables, FillsBehind, HasNoneBelow, IsFresh, IsLastResort, IsTheLast, Occupies, TakesOne, Tries};
 ghost use Rattle.cfb_chains.specs.ChainCalls.{IsInvalidOrFull};
 ghost use Rattle.cfb_chains.specs.Changes.{AreAmong, IsFreeIn, IsNoneOf};
 ghost use Rattle.cfb_chains.specs.Grown.{AreWritable, IsLinked};
@@ -58,12 +58,7 @@ impl<F: Medium> Allocator<F> {
             ⊎ (e ≡ InvalidData) ⊎ (e ≡ Memory) ⊎ (e ≡ Full)) }
     {
         self.check_growth(start, count)?;
-        let Some(entries) = count.checked_mul(3) else {
-            return Err(Error::Memory);
-        };
-        self.fat.reserve(entries)?;
-        self.fat_sectors.reserve(count)?;
-        self.difat_sectors.reserve(count)?;
+        self.reserve_growth(count)?;
         Ok(())
     }
 
@@ -152,12 +147,9 @@ impl<F: Medium> Allocator<F> {
         requires no_difat { IsNoneOf (difat_sectors_of self.old) sector_id }
         requires no_fat { IsNoneOf (fat_sectors_of self.old) sector_id }
         requires lowest { HasNoneBelow self.old sector_id }
-        ensures grows { OnOk result (GrowsFat (sector_id ∷ []) (sector_id ∷ []) self.old self.new) }
+        ensures occupies { OnOk result (Occupies init self.old self.new sector_id) }
         ensures fat { OnOk result (fat_of self.new
             ≡ slice_set (fat_of self.old) sector_id end_of_chain) }
-        ensures whole { OnOk result (IsTrue (is_honest self.old)
-            → HasWhole (sector_id ∷ []) self.new) }
-        ensures fresh { OnOk result (IsFresh init self.old self.new sector_id) }
         ensures none { OnErr result (GrowsFat [] [] self.old self.new) }
         ensures memory { OnOk result (KeepsMemory self.old self.new) }
         ensures attempts { Attempts result (sectors_of self.old) (sectors_of self.new) }
@@ -172,14 +164,7 @@ impl<F: Medium> Allocator<F> {
     fn take(&mut self, init: SectorInit) -> Result<u32, Error>
         requires live { has_failed_here self.old ≡ false }
         requires orderly { IsTrue (orderly_of self.old) }
-        ensures free { IfOk result (IsFreeIn (fat_of self.old)) }
-        ensures chain { IfOk result (λ n. IsChain (fat_of self.new) n (n ∷ [])) }
-        ensures grows { IfOk result (λ n. GrowsFat (n ∷ []) (n ∷ []) self.old self.new) }
-        ensures fresh { IfOk result (IsFresh init self.old self.new) }
-        ensures appended { IfOk result (IsLastResort self.old) }
-        ensures whole { IfOk result (λ n. IsTrue (is_honest self.old)
-            → HasWhole (n ∷ []) self.new) }
-        ensures behind { IfOk result (λ n. MarksBehind (n ∷ []) (n ∷ []) self.old self.new) }
+        ensures takes { IfOk result (TakesOne init self.old self.new) }
         ensures full { IsErrOf result Full → IsFull self.old × AllRests self.old self.new }
         ensures none { OnErr result (GrowsFat [] [] self.old self.new) }
         ensures spends { Spends 0 (λ e. e ≡ Full) result self.old self.new }

@@ -6,7 +6,7 @@ use Rattle.std.specs.Prelude.{slice_get, slice_index, slice_index_or, Some}
 use Rattle.cfb_medium.specs.Numbers.{numbers}
 use Rattle.cfb_medium.specs.declared.medium.ReadMedium.{Ghosts}
 use Rattle.cfb_sectors.specs.Sectors.{end_of_chain, fat_in, free, joined, sector, Chain as IsChain}
-use Rattle.cfb_chains.specs.Changes.{AreNoneOf, HaveEntry}
+use Rattle.cfb_chains.specs.Changes.{AreAmong, AreNoneOf, HaveEntry}
 use Rattle.cfb_chains.specs.Grown.{IsLinked}
 use Rattle.cfb_chains.specs.LinkViews.{ids_of, links_version}
 use Rattle.cfb_chains.specs.Owned.{Becomes, Moves, Owned, Seen, Stays}
@@ -16,13 +16,14 @@ use Rattle.cfb_fat.specs.Tables.{bytes_of, fat_of, has_failed_here, is_honest, t
 use Rattle.cfb_fat.specs.declared.allocator.Allocator.{Allocator}
 use Rattle.cfb_owned.specs.Chains.{content_of, GoesOn, HasChain, HasLinks}
 use Rattle.cfb_owned.proofs.GoingOn.{rests_go_on}
+use Rattle.cfb_owned.proofs.Owning.{among_start}
 use Rattle.cfb_directory.proofs.ReadTrees.{linked_of}
 use Rattle.cfb_directory.specs.Lent as lent
 use Rattle.cfb_tree.specs.Directory.{Entry, entries_of}
 use Rattle.cfb_directory.specs.Views as directory
 use Rattle.cfb_directory.specs.declared.directory.Directory.{Directory}
-use Rattle.cfb_mini.specs.Changing.{mini_seen, Extends, Frees, GrowsMiniFat, HasOwners, IsKeptOver, Overwrites}
-use Rattle.cfb_mini.specs.Entering.{Enters, LiesSo}
+use Rattle.cfb_mini.specs.Changing.{mini_seen, Extends, Frees, GrowsMiniFat, HasOwners, IsKeptOver, Overwrites, Shortens}
+use Rattle.cfb_mini.specs.Entering.{CutsMinis, Enters, LiesSo}
 use Rattle.cfb_mini.specs.Growing.{mini_fat_words, GrowsTable}
 use Rattle.cfb_mini.specs.Layers.{IsOver}
 use Rattle.cfb_mini.specs.LinkViews.{minis_of}
@@ -35,7 +36,7 @@ use Rattle.cfb_mini.specs.declared.links.MiniLinks.{MiniLinks}
 use Rattle.cfb_mini.specs.declared.mini_allocator.MiniAllocator.{MiniAllocator}
 use Rattle.cfb_mini.specs.declared.mini_fat.MiniFat.{MiniFat}
 use Rattle.cfb_mini.proofs.Entries.{content_len}
-use Rattle.cfb_mini.proofs.MiniOwners.{becomes_more, becomes_none, becomes_same}
+use Rattle.cfb_mini.proofs.MiniOwners.{becomes_fewer, becomes_more, becomes_none, becomes_same}
 
 -- where a chain starts
 starts_at : (table : List ℕ) (start : ℕ) (ids : List ℕ) → IsChain table start ids → start ≡ slice_index_or ids 0 end_of_chain
@@ -152,6 +153,7 @@ module _ {F : Type 0} {g : Ghosts F} where
               (λ n none. ap (λ l. mini_sector l n) same ∙ did.others n none) (subst (λ l. IsLinked l (minis_of links)) (sym numbers) mine.linked);
         };
         content = ap (λ l. mini_joined l (minis_of links)) same ∙ did.content;
+        entries = refl;
       }
 
   -- mini sectors were freed
@@ -173,6 +175,32 @@ module _ {F : Type 0} {g : Ghosts F} where
           becomes = becomes_none (mini_seen it) (mini_seen (moved it b mini)) minis refl refl (omega (arith, size)) did.differ (λ n none. ap (λ l. mini_sector l n) same);
         };
         freed = freed;
+        entries = refl;
+      }
+
+  -- a mini chain ended sooner
+  pub shortens_is : (count : ℕ) (minis later : List ℕ) (it : MiniAllocator F g) (b : Allocator F g) (mini : MiniFat) (own : ℕ → List ℕ) → HasOwners it own → IsLinked (numbers_of it.mini_fat.numbers) minis → GoesOn (allocator_of it) b → lent.IsKeptOver (directory_of it)
+      → LiesSo it.mini_fat mini → CutsMinis count (allocator_of it) b it.mini_fat mini minis later → Shortens count it (moved it b mini) minis later own
+  unfolding mini_seen
+  shortens_is count minis later it b mini own h linked goes kept lies did =
+      let a = allocator_of it in
+      let becomes = subst (λ l. Becomes (sector (version_of a)) [] l [] l (seen_of a) (seen_of b)) (sym h.mini_fat) did.enters.becomes in
+      let stream = subst (Stays (sector (version_of a)) (seen_of a) (seen_of b)) h.mini_stream (others_stay a b own 1 h.owned becomes 2 (λ same. omega (arith, same))) in
+      let over = entered_over minis a b it.mini_fat mini h.honest h.memory.over goes lies stream did.enters in
+      let same : mini_stream_of (moved it b mini) ≡ mini_stream_of it = ap (λ l. joined (version_of b) (bytes_of b) (ids_of l)) lies.stream ∙ bytes_still a b (ids_of it.mini_fat.stream) goes stream in
+      let size = ap length same in
+      record {
+        minis_are = did.minis_are;
+        changes = record {
+          owners = owners_kept it b mini own 1 (omega arith) h goes lies kept becomes over;
+          same = λ k past. refl;
+          others = λ k past. others_stay a b own 1 h.owned becomes k (λ same. omega (arith, past, same));
+          becomes = becomes_fewer (mini_seen it) (mini_seen (moved it b mini)) minis refl refl (omega (arith, size)) did.enters.differ (λ n none. ap (λ l. mini_sector l n) same) later
+              (subst (AreAmong minis) (sym did.minis_are) (among_start minis count)) (did.linked linked);
+        };
+        freed = did.freed;
+        bytes = same;
+        entries = refl;
       }
 
   -- memory of the mini FAT over reads
@@ -288,6 +316,7 @@ module _ {F : Type 0} {g : Ghosts F} where
           becomes = becomes_more (mini_seen it) (mini_seen (moved it b mini)) minis later did.taken refl refl same did.enters.differ did.was_free.found did.minis_are did.linked;
         };
         bytes = same;
+        entries = refl;
       }
 
   -- the mini FAT took in a sector
@@ -328,6 +357,7 @@ module _ {F : Type 0} {g : Ghosts F} where
         numbers = did.numbers;
         stream = ap (λ l. joined (version_of b) (bytes_of b) (ids_of l)) did.stream ∙ bytes_still a b (ids_of it.mini_fat.stream) goes stream_stays;
         told = did.told;
+        entries = refl;
       }
 
   -- only reads happened, and the mini FAT is the same

@@ -1,14 +1,16 @@
+pub mod Cutting
 pub mod DirectoryChanges
 pub mod Entries
 pub mod Keeping
 pub mod Linking
+pub mod Longer
 pub mod LongerTables
 pub mod MiniNumbers
 pub mod MiniOwners
 pub mod MiniParts
 pub mod MiniSteps
 pub mod MiniWrites
+pub mod Parts
 pub mod Resting
 pub mod Results
 pub mod StreamGrowth
-pub mod Parts

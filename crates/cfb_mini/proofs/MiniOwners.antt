@@ -2,7 +2,7 @@
 use Rattle.std.proofs.Common.{◌≡◌, ℕ, ◌+◌, ◌<◌, ◌≤◌, ◌⊎◌, inl, List, [], ◌∷◌, ◌++◌, length, refl, zero, ap, sym, subst, arith, ⊎_elim}
 use Rattle.std.specs.Prelude.{slice_get, Some}
 use Rattle.cfb_sectors.specs.Sectors.{filled_part, free}
-use Rattle.cfb_chains.specs.Changes.{DifferAt, IsNoneOf}
+use Rattle.cfb_chains.specs.Changes.{AreAmong, DifferAt, IsNoneOf}
 use Rattle.cfb_chains.specs.Grown.{IsLinked}
 use Rattle.cfb_chains.specs.Owned.{AreBesideWords, Becomes, Leaves, Seen}
 use Rattle.cfb_chains.proofs.Beside.{none_first}
@@ -77,3 +77,7 @@ module _ (s t : Seen) (minis : List ℕ) (none_s : s.tables ≡ []) (none_t : t.
   -- it has those that it had
   pub becomes_same : IsLinked t.table minis → Becomes mini_sector all_words minis [] minis s t
   becomes_same linked = record { leaves = mini_leaves; were_free = tt; spare = tt; linked = linked; among = among_more minis [] minis (λ n none. none) }
+
+  -- it has some that it had
+  pub becomes_fewer : (later : List ℕ) → AreAmong minis later → IsLinked t.table later → Becomes mini_sector all_words minis [] later s t
+  becomes_fewer later among linked = record { leaves = mini_leaves; were_free = tt; spare = tt; linked = linked; among = among_more minis [] later among }

@@ -1,10 +1,13 @@
 -- Who owns which sectors beside the mini FAT and the mini stream, and what a change of mini chains leaves.
-use Rattle.std.specs.Prelude.{◌≡◌, ℕ, ◌<◌, List, [], ◌∷◌, ◌++◌, ◌/◌, false, replicate, slice_get, slice_index_or, slice_set, IsTrue, Some}
+use Rattle.std.specs.List.{AllByRecursion}
+use Rattle.std.specs.Prelude.{◌≡◌, ℕ, ◌+◌, ◌*◌, ◌<◌, ◌≤◌, ◌⊎◌, List, [], ◌∷◌, ◌++◌, ◌/◌, drop, false, length, replicate, slice_get, slice_index_or, slice_set, take, IsTrue, Some}
 use Rattle.cfb_medium.specs.Bytes.{overwritten}
-use Rattle.cfb_medium.specs.Versions.{sector_len}
+use Rattle.cfb_medium.specs.Versions.{sector_len, stream_len_mask}
 use Rattle.cfb_medium.specs.declared.medium.ReadMedium.{Ghosts}
 use Rattle.cfb_sectors.specs.Sectors.{end_of_chain, free, sector}
-use Rattle.cfb_chains.specs.Changes.{HaveEntry}
+use Rattle.cfb_chains.specs.Changes as changes
+use Rattle.cfb_chains.specs.Changes.{HaveEntry, StayBut}
+use Rattle.cfb_chains.specs.Grown.{IsLinked}
 use Rattle.cfb_chains.specs.Owned.{Becomes, Owned, Seen, Stays}
 use Rattle.cfb_fat.specs.Seeing.{seen_of}
 use Rattle.cfb_fat.specs.Tables.{bytes_of, fat_of, has_failed_here, is_honest, tables_of, version_of, AllRests}
@@ -12,7 +15,7 @@ use Rattle.cfb_fat.specs.declared.allocator.Allocator.{Allocator}
 use Rattle.cfb_owned.specs.Chains.{GoesOn}
 use Rattle.cfb_tree.specs.Directory.{Entry}
 use Rattle.cfb_directory.specs.Views as directory
-use Rattle.cfb_mini.specs.Growing.{TellsMiniFat}
+use Rattle.cfb_mini.specs.Growing.{LacksMore, TellsMiniFat}
 use Rattle.cfb_mini.specs.LinkViews.{minis_of}
 use Rattle.cfb_mini.specs.Minis.{all_words, mini_sector}
 use Rattle.cfb_mini.specs.Taking.{HasNoneBelow, IsFreeIn}
@@ -63,11 +66,22 @@ module _ {F : Type 0} {g : Ghosts F} where
   pub record Overwrites (at : ℕ) (bytes : List ℕ) (old new : MiniAllocator F g) (links : MiniLinks) (own : ℕ → List ℕ) : Type 0 where
     pub changes : Changes (minis_of links) [] (minis_of links) old new own own
     pub content : mini_content_of new links ≡ overwritten (mini_content_of old links) at bytes
+    pub entries : directory.entries_held (directory_of new) ≡ directory.entries_held (directory_of old)
 
   -- these mini sectors are free
   pub record Frees (minis : List ℕ) (old new : MiniAllocator F g) (own : ℕ → List ℕ) : Type 0 where
     pub changes : Changes minis [] [] old new own own
     pub freed : HaveEntry free (mini_fat_of new) minis
+    pub entries : directory.entries_held (directory_of new) ≡ directory.entries_held (directory_of old)
+
+  -- The mini chain keeps so many mini sectors, those at its front, and the others are free. The mini stream's bytes are those that
+  -- they were.
+  pub record Shortens (count : ℕ) (old new : MiniAllocator F g) (minis later : List ℕ) (own : ℕ → List ℕ) : Type 0 where
+    pub minis_are : later ≡ take count minis
+    pub changes : Changes minis [] later old new own own
+    pub freed : HaveEntry free (mini_fat_of new) (drop count minis)
+    pub bytes : mini_stream_of new ≡ mini_stream_of old
+    pub entries : directory.entries_held (directory_of new) ≡ directory.entries_held (directory_of old)
 
   -- The mini chain took in the first mini sector that was free, behind its last one; the mini stream has it. The mini stream's bytes are those
   -- that they were.
@@ -78,6 +92,7 @@ module _ {F : Type 0} {g : Ghosts F} where
     pub minis_are : later ≡ minis ++ taken ∷ []
     pub changes : Changes minis (taken ∷ []) later old new own own
     pub bytes : mini_stream_of new ≡ mini_stream_of old
+    pub entries : directory.entries_held (directory_of new) ≡ directory.entries_held (directory_of old)
 
   -- The mini FAT took in a sector that was in no use, of "free" numbers, and the header tells of it; all else that is owned stays.
   pub record GrowsMiniFat (old new : MiniAllocator F g) (own : ℕ → List ℕ) : Type 0 where
@@ -88,6 +103,7 @@ module _ {F : Type 0} {g : Ghosts F} where
     pub numbers : mini_fat_of new ≡ mini_fat_of old ++ replicate (sector_len (version_of (allocator_of old)) / 4) free
     pub stream : mini_stream_of new ≡ mini_stream_of old
     pub told : TellsMiniFat (bytes_of (allocator_of new)) (mini_fat_ids new)
+    pub entries : directory.entries_held (directory_of new) ≡ directory.entries_held (directory_of old)
 
   -- The mini stream took in a sector that was in no use, of zeros, and the root's entry tells where it begins and how many bytes it
   -- has. All other entries stay, and all else that is owned.
@@ -116,3 +132,31 @@ module _ {F : Type 0} {g : Ghosts F} where
     pub entries : directory.entries_held (directory_of new) ≡ directory.entries_held (directory_of old)
     pub mini_fat : mini_fat_of new ≡ mini_fat_of old
     pub owners : (own : ℕ → List ℕ) → HasOwners old own → HasOwners new own
+
+  -- the root's entry tells where the mini stream begins and how many bytes it has, and all other entries stay; or all do, and the
+  -- mini stream has the sectors that it had
+  abbrev pub TellsStream : MiniAllocator F g → MiniAllocator F g → Type 0
+  TellsStream old new = ((directory.entries_held (directory_of new) ≡ directory.entries_held (directory_of old)) × (mini_stream_ids new ≡ mini_stream_ids old))
+      ⊎ ((e : Entry) → slice_get (directory.entries_held (directory_of old)) 0 ≡ Some e
+      → directory.entries_held (directory_of new) ≡ slice_set (directory.entries_held (directory_of old)) 0 (record e { start = slice_index_or (mini_stream_ids new) 0 end_of_chain; size = mini_stream_len new }))
+
+  -- The mini chain took in mini sectors that were in no use, behind its last one. For them mini FAT and mini stream may have taken
+  -- in sectors that were in no use, of "free" numbers and of zeros. All other mini sectors keep their numbers, each its bytes, and
+  -- all other owners of sectors what they had, with its bytes.
+  pub record Lengthens (old new : MiniAllocator F g) (minis later : List ℕ) (own : ℕ → List ℕ) : Type 0 where
+    pub taken : List ℕ
+    pub minis_are : later ≡ minis ++ taken
+    pub were_free : AllByRecursion (changes.IsFreeIn (mini_fat_of old)) taken
+    pub inside : AllByRecursion (λ n. 64 * n + 64 ≤ mini_stream_len new) taken
+    pub linked : IsLinked (mini_fat_of new) later
+    pub numbers : StayBut later (mini_fat_of old) (mini_fat_of new)
+    pub zeros : ℕ
+    pub stream : mini_stream_of new ≡ mini_stream_of old ++ replicate zeros 0
+    pub owners : (then : ℕ → List ℕ) → then 1 ≡ mini_fat_ids new → then 2 ≡ mini_stream_ids new → ((k : ℕ) → (k ≡ 1 → ⊥) → (k ≡ 2 → ⊥) → then k ≡ own k) → HasOwners new then
+    pub others : (k : ℕ) → 2 < k → Stays (sector (version_of (allocator_of old))) (seen_of (allocator_of old)) (seen_of (allocator_of new)) (own k)
+    pub entries : TellsStream old new
+
+  -- nothing is left for a mini sector more: no number of a sector for the mini FAT or for the mini stream, or no room for its size
+  abbrev pub LacksMini : MiniAllocator F g → Type 0
+  LacksMini it = LacksMore (allocator_of it) (length (mini_fat_ids it)) ⊎ LacksMore (allocator_of it) (length (mini_stream_ids it))
+      ⊎ (stream_len_mask (version_of (allocator_of it)) < mini_stream_len it + sector_len (version_of (allocator_of it)))

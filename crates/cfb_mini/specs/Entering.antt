@@ -1,8 +1,9 @@
 -- What a change of the mini FAT's numbers does ([MS-CFB] 2.4).
-use Rattle.std.specs.Prelude.{◌≡◌, ℕ, List, []}
+use Rattle.std.specs.Prelude.{◌≡◌, ℕ, List, [], drop, take}
 use Rattle.cfb_medium.specs.declared.medium.ReadMedium.{Ghosts}
-use Rattle.cfb_sectors.specs.Sectors.{fat_in, sector}
-use Rattle.cfb_chains.specs.Changes.{DifferAt}
+use Rattle.cfb_sectors.specs.Sectors.{fat_in, free, sector}
+use Rattle.cfb_chains.specs.Changes.{DifferAt, HaveEntry}
+use Rattle.cfb_chains.specs.Grown.{IsLinked}
 use Rattle.cfb_chains.specs.LinkViews.{ids_of}
 use Rattle.cfb_chains.specs.Owned.{Becomes}
 use Rattle.cfb_fat.specs.Seeing.{seen_of}
@@ -25,3 +26,11 @@ module _ {F : Type 0} {g : Ghosts F} where
     pub differ : DifferAt minis (numbers_of before.numbers) (numbers_of after.numbers)
     pub same : numbers_of before.numbers ≡ fat_in (version_of old) (bytes_of old) (ids_of before.links)
         → numbers_of after.numbers ≡ fat_in (version_of new) (bytes_of new) (ids_of before.links)
+
+  -- The mini chain keeps so many mini sectors, those at its front, and the numbers of the others are "free". The mini FAT's sectors
+  -- are those that they were.
+  pub record CutsMinis (count : ℕ) (old new : Allocator F g) (before after : MiniFat) (minis later : List ℕ) : Type 0 where
+    pub enters : Enters minis old new before after
+    pub minis_are : later ≡ take count minis
+    pub freed : HaveEntry free (numbers_of after.numbers) (drop count minis)
+    pub linked : IsLinked (numbers_of before.numbers) minis → IsLinked (numbers_of after.numbers) later

@@ -6,7 +6,7 @@ ghost use Rattle.cfb_fat.specs.Orderly.{AreBelow};
 ghost use Rattle.cfb_fat.specs.Tables.{bytes_of, has_failed as allocator_failed, has_failed_here, is_honest, medium_of, orderly_of, sectors_of, HasCauseBelow};
 ghost use Rattle.cfb_medium.specs.Calls.{IsFaultUnless};
 ghost use Rattle.cfb_medium.specs.declared.error.Error.TheVariants.{Failed, Full, InvalidData, InvalidInput};
-ghost use Rattle.cfb_mini.specs.Changing.{Extends, Frees, GrowsMiniFat, HasOwners, Overwrites};
+ghost use Rattle.cfb_mini.specs.Changing.{Extends, Frees, GrowsMiniFat, HasOwners, Overwrites, Shortens};
 ghost use Rattle.cfb_mini.specs.Growing.{LacksMore};
 ghost use Rattle.cfb_mini.specs.LinkViews.{minis_of};
 ghost use Rattle.cfb_mini.specs.Minis.{IsMiniChain};
@@ -17,7 +17,7 @@ ghost use Rattle.cfb_sectors.specs.Held.{LeavesOldOrBytes};
 ghost use Rattle.cfb_sectors.specs.Sectors.{greatest_regular};
 ghost use Rattle.std.specs.Prelude.{false, length, true, IfErr, IfOk, IsErrOf, IsTrue, List, OnErr, OnOk, [], ℕ, ◌*◌, ◌+◌, ◌<◌, ◌≡◌, ◌≤◌, ◌↔◌, ◌⊎◌};
 
-use crate::entering::free_minis;
+use crate::entering::{cut_minis, free_minis};
 use crate::growing::grow_table;
 use crate::taking::extend_minis;
 use crate::writing::overwrite_minis;
@@ -162,5 +162,29 @@ impl<F: Medium> MiniAllocator<F> {
             (allocator_of self.new) }
     {
         free_minis(self.directory.allocator_mut(), &mut self.mini_fat, links)
+    }
+
+    /// Leaves a mini chain so many mini sectors, those at its front, and frees the others; one that has no more stays.
+    /// `InvalidData` where the mini FAT hasn't one of its mini sectors, and then nothing is changed, or where the FAT hasn't
+    /// the mini FAT's chain. After any other error it has failed ([MS-CFB] 2.4).
+    pub fn shorten_mini_chain(&mut self, links: &mut MiniLinks, count: usize) -> Result<(), Error>
+        ensures shortened { OnOk result ((own : ℕ → List ℕ) → HasOwners self.old own
+            → IsLinked (mini_fat_of self.old) (minis_of links.old)
+            → Shortens count self.old self.new (minis_of links.old) (minis_of links.new) own) }
+        ensures refused { IsErrOf result InvalidData → (own : ℕ → List ℕ) → HasOwners self.old own
+            → AreBelow (length (mini_fat_of self.old)) (minis_of links.old) → ⊥ }
+        ensures kept { OnErr result (minis_of links.new ≡ minis_of links.old) }
+        ensures rests { OnErr result ((has_failed_here (allocator_of self.new) ≡ true)
+            ⊎ Rests self.old self.new) }
+        ensures goes_on { GoesOn (allocator_of self.old) (allocator_of self.new) }
+        ensures answers { Answers IsInvalid result (allocator_of self.old)
+            (allocator_of self.new) }
+    {
+        cut_minis(
+            self.directory.allocator_mut(),
+            &mut self.mini_fat,
+            links,
+            count,
+        )
     }
 }

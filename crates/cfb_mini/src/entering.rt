@@ -6,7 +6,7 @@ ghost use Rattle.cfb_fat.specs.Orderly.{AreBelow};
 ghost use Rattle.cfb_fat.specs.Tables.{has_failed_here, HasCauseBelow};
 ghost use Rattle.cfb_medium.specs.Calls.{IsFaultUnless};
 ghost use Rattle.cfb_medium.specs.declared.error.Error.TheVariants.{InvalidData};
-ghost use Rattle.cfb_mini.specs.Entering.{Enters, LiesSo};
+ghost use Rattle.cfb_mini.specs.Entering.{CutsMinis, Enters, LiesSo};
 ghost use Rattle.cfb_mini.specs.LinkViews.{minis_of};
 ghost use Rattle.cfb_mini.specs.NumberViews.{numbers_of};
 ghost use Rattle.cfb_owned.specs.Chains.{GoesOn, HasChain};
@@ -18,7 +18,7 @@ use crate::mini_fat::MiniFat;
 use cfb_fat::Allocator;
 use cfb_medium::{Error, Medium};
 use cfb_owned::overwrite_chain;
-use cfb_sectors::{FREE_SECTOR, HasSectors};
+use cfb_sectors::{END_OF_CHAIN, FREE_SECTOR, HasSectors};
 
 // Whether each is below a limit.
 fn are_below(limit: usize, ids: &[u32]) -> bool
@@ -130,4 +130,75 @@ pub(crate) fn free_minis<F: Medium>(
     }
     links.clear();
     Ok(())
+}
+
+// Ends a mini chain behind so many mini sectors, and frees those behind them. `InvalidData` where the FAT hasn't the mini
+// FAT's chain. After an error it has failed.
+fn end_behind<F: Medium>(
+    allocator: &mut Allocator<F>,
+    mini_fat: &mut MiniFat,
+    links: &mut MiniLinks,
+    count: usize,
+) -> Result<(), Error>
+    requires live { has_failed_here allocator.old ≡ false }
+    requires there { AreBelow (length (numbers_of mini_fat.old.numbers)) (minis_of links.old) }
+    requires some { 0 < count }
+    requires fewer { count < length (minis_of links.old) }
+    ensures cuts { OnOk result (HasChain allocator.old mini_fat.old.links
+        → CutsMinis count allocator.old allocator.new mini_fat.old mini_fat.new
+        (minis_of links.old) (minis_of links.new)) }
+    ensures kept { OnErr result (minis_of links.new ≡ minis_of links.old) }
+    ensures lies { LiesSo mini_fat.old mini_fat.new }
+    ensures refused { IsErrOf result InvalidData → HasChain allocator.old mini_fat.old.links → ⊥ }
+    ensures live { OnOk result (has_failed_here allocator.new ≡ false) }
+    ensures failed { OnErr result (has_failed_here allocator.new ≡ true) }
+    ensures goes_on { GoesOn allocator.old allocator.new }
+    ensures cause { IfErr result (HasCauseBelow allocator.old allocator.new) }
+    ensures fault { IfErr result (λ e. IsFaultUnless ⊥ e ⊎ (e ≡ InvalidData)) }
+{
+    let last = links.mini_sector_ids()[count - 1];
+    if let Err(error) = set_number(allocator, mini_fat, last, END_OF_CHAIN) {
+        return Err(error);
+    }
+    let rest = &links.mini_sector_ids()[count..];
+    if let Err(error) = set_numbers(allocator, mini_fat, rest, FREE_SECTOR) {
+        return Err(error);
+    }
+    links.truncate(count);
+    Ok(())
+}
+
+// Leaves a mini chain so many mini sectors, those at its front, and frees the others. `InvalidData` where the mini FAT hasn't
+// one of them, and then nothing is changed, or where the FAT hasn't the mini FAT's chain. After any other error it has failed.
+pub(crate) fn cut_minis<F: Medium>(
+    allocator: &mut Allocator<F>,
+    mini_fat: &mut MiniFat,
+    links: &mut MiniLinks,
+    count: usize,
+) -> Result<(), Error>
+    ensures cuts { OnOk result (HasChain allocator.old mini_fat.old.links
+        → CutsMinis count allocator.old allocator.new mini_fat.old mini_fat.new
+        (minis_of links.old) (minis_of links.new)) }
+    ensures kept { OnErr result (minis_of links.new ≡ minis_of links.old) }
+    ensures lies { LiesSo mini_fat.old mini_fat.new }
+    ensures refused { IsErrOf result InvalidData → HasChain allocator.old mini_fat.old.links
+        → AreBelow (length (numbers_of mini_fat.old.numbers)) (minis_of links.old) → ⊥ }
+    ensures rests { OnErr result ((has_failed_here allocator.new ≡ true)
+        ⊎ (numbers_of mini_fat.new.numbers ≡ numbers_of mini_fat.old.numbers)) }
+    ensures goes_on { GoesOn allocator.old allocator.new }
+    ensures answers { Answers IsInvalid result allocator.old allocator.new }
+{
+    if count == 0 {
+        return free_minis(allocator, mini_fat, links);
+    }
+    if allocator.is_failed() {
+        return Err(Error::Failed);
+    }
+    if count >= links.mini_sector_ids().len() {
+        return Ok(());
+    }
+    if !are_below(mini_fat.numbers.items().len(), links.mini_sector_ids()) {
+        return Err(Error::InvalidData);
+    }
+    end_behind(allocator, mini_fat, links, count)
 }

@@ -7,6 +7,7 @@ mod entering;
 mod growing;
 mod laws;
 mod lending;
+mod lengthening;
 mod links;
 mod mini_allocator;
 mod mini_fat;

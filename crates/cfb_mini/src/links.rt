@@ -1,7 +1,7 @@
 //! The mini sectors of a chain, in order.
 ghost use Rattle.cfb_medium.specs.declared.error.Error.TheVariants.{Full, Memory};
 ghost use Rattle.cfb_sectors.specs.Sectors.{end_of_chain, greatest_regular};
-ghost use Rattle.std.specs.Prelude.{length, slice_index, slice_index_or, vec_len, IfErr, MatchOption, OnOk, [], ◌*◌, ◌+◌, ◌++◌, ◌-◌, ◌<◌, ◌∷◌, ◌≡◌, ◌≤◌, ◌⊎◌};
+ghost use Rattle.std.specs.Prelude.{length, slice_index, slice_index_or, take, vec_len, IfErr, MatchOption, OnOk, [], ◌*◌, ◌+◌, ◌++◌, ◌-◌, ◌<◌, ◌∷◌, ◌≡◌, ◌≤◌, ◌⊎◌};
 
 use cfb_medium::Error;
 use cfb_sectors::{END_OF_CHAIN, MAX_REGULAR_SECTOR, MINI_SECTOR_LEN};
@@ -63,6 +63,13 @@ impl MiniLinks {
         ensures { minis_of self.new ≡ [] }
     {
         self.mini_sector_ids.clear();
+    }
+
+    // Keeps so many mini sectors, those at the front.
+    pub(crate) fn truncate(&mut self, count: usize)
+        ensures { minis_of self.new ≡ take count (minis_of self.old) }
+    {
+        self.mini_sector_ids.truncate(count);
     }
 
     // The last mini sector.

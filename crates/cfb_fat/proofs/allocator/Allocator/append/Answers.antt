@@ -11,7 +11,7 @@ use Rattle.cfb_fat.specs.Listed.{Lists}
 use Rattle.cfb_chains.specs.Changes.{IsBeside, IsNoneOf}
 use Rattle.cfb_fat.specs.Orderly.{IsOrderly}
 use Rattle.cfb_fat.proofs.Appended.{entry_added, listed_before_end, none_behind, whole_before}
-use Rattle.cfb_fat.proofs.Entering.{others_stay}
+use Rattle.cfb_fat.proofs.Entering.{others_stay, rest_below}
 use Rattle.cfb_fat.proofs.FatEntries.{per, split}
 use Rattle.cfb_fat.proofs.Growth.{below_more, stays_in_front}
 use Rattle.cfb_chains.proofs.Beside.{beside_second}
@@ -19,6 +19,7 @@ use Rattle.cfb_fat.proofs.ListedStays.{behind_header, entry_aside, listed_still,
 use Rattle.cfb_fat.proofs.Listing.{header_whole}
 use Rattle.cfb_chains.proofs.Staying.{apart}
 use Rattle.cfb_chains.proofs.LongerTables.{holds_then}
+use Rattle.cfb_fat.proofs.Places.{passed_attempts}
 use Rattle.cfb_fat.proofs.Packed.{behind_one, packed_more}
 use Rattle.cfb_fat.proofs.Taken.{whole_writable}
 use Rattle.cfb_fat.proofs.allocator.Allocator.append.Goals as goal
@@ -40,13 +41,13 @@ invariant_of-self-2 g c =
     let counted : count_of b ≡ count_of a + 1 = wrote.count ∙ more in
     let version : version_of b ≡ v = wrote.changes.version ∙ did.appends.version in
     let index = c.len-index.result in
-    let at : index ≡ count_of a = omega (arith, c.len-index.ensures, c.in_ok-reserve.ensures.len, it.fat.ok.0, order.covered) in
+    let at : index ≡ count_of a = omega (arith, c.len-index.ensures, it.fat.ok.0, order.covered) in
     let each : c.sector_len-each.result / 4 ≡ per v = ap (λ n. n / 4) c.sector_len-each.ensures in
     let fits : index < length fs * per v = omega (arith, at, order.covered, c.requires.place.room) in
     let parts = split v (length fs) index fits in
     let below : index / (c.sector_len-each.result / 4) < length fs = subst (λ e. index / e < length fs) (sym each) parts.0 in
     let holder = get_or_read fs _ _ below c.index-holder.ensures 0 in
-    let fat : it.fat.items ++ end_of_chain ∷ [] ≡ c.push_reserved.new.self.items = sym (c.push_reserved.ensures.items ∙ ap (λ l. l ++ end_of_chain ∷ []) c.in_ok-reserve.ensures.items) in
+    let fat : it.fat.items ++ end_of_chain ∷ [] ≡ c.push_reserved.new.self.items = sym c.push_reserved.ensures.items in
     let size : length c.push_reserved.new.self.items ≡ length it.fat.items + 1 = ap length (sym fat) ∙ length-append it.fat.items (end_of_chain ∷ []) in
     let now : IsOrderly (version_of b) (count_of b) c.push_reserved.new.self.items fs ds = record {
       once = order.once;
@@ -84,95 +85,135 @@ invariant_of-self-2 g c =
           ((λ holds. (now, ∥∥₁_map had.1 (λ listed. both.0 (subst (λ u. Lists u (bytes_of m) ds fs) (sym did.appends.version) (kept listed))))), λ has. refl);
     }
 
-pub returns-clause-grows : goal.returns-clause-grows
-returns-clause-grows g c =
-    let it = c.args.self.now in
-    let a = it.sectors in
-    let m = c.append_sector.new.sectors in
-    let v = version_of a in
-    let ds = it.difat_sectors.items in
-    let fs = it.fat_sectors.items in
-    let did = c.in_ok-sector_id.ensures in
-    let wrote = c.in_ok-write_number.ensures in
-    let order = it.orderly c.requires.orderly in
-    let more = did.appends.count did.live in
-    let index = c.len-index.result in
-    let at : index ≡ count_of a = omega (arith, c.len-index.ensures, c.in_ok-reserve.ensures.len, it.fat.ok.0, order.covered) in
-    let each : c.sector_len-each.result / 4 ≡ per v = ap (λ n. n / 4) c.sector_len-each.ensures in
-    let parts = split v (length fs) index (omega (arith, at, order.covered, c.requires.place.room)) in
-    let below : index / (c.sector_len-each.result / 4) < length fs = subst (λ e. index / e < length fs) (sym each) parts.0 in
-    let holder = get_or_read fs _ _ below c.index-holder.ensures 0 in
-    record {
-      honest = wrote.changes.honest ∙ did.appends.honest;
-      continues = λ start from. wrote.changes.continues start (did.appends.continues start from);
-      version = wrote.changes.version ∙ did.appends.version;
-      live = λ live. c.requires.live;
-      count = λ live. omega (arith, wrote.count, more);
-      orderly = λ live. sym c.requires.orderly;
-      fat = λ live. stays_in_front [] it.fat.items (end_of_chain ∷ []) c.push_reserved.new.self.items (c.push_reserved.ensures.items ∙ ap (λ l. l ++ end_of_chain ∷ []) c.in_ok-reserve.ensures.items);
-      tables = λ live p n fits beside. beside;
-      still = λ live n. ((λ none. none), (λ none. none));
-      longer = λ live honest.
-          let first = did.appends.longer did.live honest in
-          let second = longer_over (bytes_of m) (bytes_of c.write_number.new.sectors) (to_le_bytes w32 end_of_chain) _ (wrote.changes.bytes live (subst IsTrue (sym did.appends.honest) honest)) in
-          omega (arith, first, second);
-      told = λ live honest. holds_then (ds ++ fs) (ds ++ fs) refl (λ told.
-          let mid = subst IsTrue (sym did.appends.honest) honest in
-          let whole = header_whole v (bytes_of a) (count_of a) (a.counted c.requires.live honest) order.some in
-          let first = did.appends.longer did.live honest in
-          let in_mid : 512 ≤ length (bytes_of m) = omega (arith, whole, first) in
-          let far = behind_header v (count_of a) in
-          told_in (version_of m) (bytes_of m) (bytes_of c.write_number.new.sectors) (to_le_bytes w32 end_of_chain) ds fs _ _ (wrote.changes.bytes live mid) in_mid
-          (told_kept (bytes_of a) (bytes_of m) ds fs whole in_mid (did.appends.before did.live honest 44 4 (omega (arith, far)) tt) (did.appends.before did.live honest 72 4 (omega (arith, far)) tt) told));
-      beside = λ live honest p n fits beside words taken.
-          let mid = subst IsTrue (sym did.appends.honest) honest in
-          others_stay (version_of m) (bytes_of m) (bytes_of c.write_number.new.sectors) fs index end_of_chain c.index-holder.result.now (c.sector_len-each.result / 4) (each ∙ ap per (sym did.appends.version)) holder below (wrote.changes.bytes live mid) p n
-          (subst (λ u. IsBeside u fs p n) (sym did.appends.version) (beside_second v ds fs p n beside))
-          ∙ did.appends.before did.live honest p n fits tt;
-    }
-
-pub returns-clause-fresh : goal.returns-clause-fresh
-returns-clause-fresh g c = record {
-  filled = λ honest.
+pub returns-clause-occupies : goal.returns-clause-occupies
+returns-clause-occupies g c = record {
+  grows =
       let it = c.args.self.now in
       let a = it.sectors in
       let m = c.append_sector.new.sectors in
       let v = version_of a in
+      let ds = it.difat_sectors.items in
       let fs = it.fat_sectors.items in
       let did = c.in_ok-sector_id.ensures in
       let wrote = c.in_ok-write_number.ensures in
       let order = it.orderly c.requires.orderly in
+      let more = did.appends.count did.live in
       let index = c.len-index.result in
-      let at : index ≡ count_of a = omega (arith, c.len-index.ensures, c.in_ok-reserve.ensures.len, it.fat.ok.0, order.covered) in
+      let at : index ≡ count_of a = omega (arith, c.len-index.ensures, it.fat.ok.0, order.covered) in
       let each : c.sector_len-each.result / 4 ≡ per v = ap (λ n. n / 4) c.sector_len-each.ensures in
       let parts = split v (length fs) index (omega (arith, at, order.covered, c.requires.place.room)) in
       let below : index / (c.sector_len-each.result / 4) < length fs = subst (λ e. index / e < length fs) (sym each) parts.0 in
       let holder = get_or_read fs _ _ below c.index-holder.ensures 0 in
-      let mid = subst IsTrue (sym did.appends.honest) honest in
-      let aside = apart v fs (count_of a) (none_behind (count_of a) fs (it.there c.requires.live)) in
-      ap (λ n. sector v (bytes_of c.write_number.new.sectors) n) did.number
-      ∙ others_stay (version_of m) (bytes_of m) (bytes_of c.write_number.new.sectors) fs index end_of_chain c.index-holder.result.now (c.sector_len-each.result / 4) (each ∙ ap per (sym did.appends.version)) holder below (wrote.changes.bytes wrote.live mid)
-      (sector_start v (count_of a)) (sector_len v) (subst (λ u. IsBeside u fs (sector_start v (count_of a)) (sector_len v)) (sym did.appends.version) aside)
-      ∙ did.content did.live honest;
-  writable =
+      record {
+        honest = wrote.changes.honest ∙ did.appends.honest;
+        continues = λ start from. wrote.changes.continues start (did.appends.continues start from);
+        version = wrote.changes.version ∙ did.appends.version;
+        live = λ live. c.requires.live;
+        count = λ live. omega (arith, wrote.count, more);
+        orderly = λ live. sym c.requires.orderly;
+        fat = λ live. stays_in_front (c.in_ok-sector_id.sector_id ∷ []) it.fat.items (end_of_chain ∷ []) c.push_reserved.new.self.items c.push_reserved.ensures.items;
+        tables = λ live p n fits beside. beside;
+        still = λ live n. ((λ none. none), (λ none. none));
+        longer = λ live honest.
+            let first = did.appends.longer did.live honest in
+            let second = longer_over (bytes_of m) (bytes_of c.write_number.new.sectors) (to_le_bytes w32 end_of_chain) _ (wrote.changes.bytes live (subst IsTrue (sym did.appends.honest) honest)) in
+            omega (arith, first, second);
+        told = λ live honest. holds_then (ds ++ fs) (ds ++ fs) refl (λ told.
+            let mid = subst IsTrue (sym did.appends.honest) honest in
+            let whole = header_whole v (bytes_of a) (count_of a) (a.counted c.requires.live honest) order.some in
+            let first = did.appends.longer did.live honest in
+            let in_mid : 512 ≤ length (bytes_of m) = omega (arith, whole, first) in
+            let far = behind_header v (count_of a) in
+            told_in (version_of m) (bytes_of m) (bytes_of c.write_number.new.sectors) (to_le_bytes w32 end_of_chain) ds fs _ _ (wrote.changes.bytes live mid) in_mid
+            (told_kept (bytes_of a) (bytes_of m) ds fs whole in_mid (did.appends.before did.live honest 44 4 (omega (arith, far)) tt) (did.appends.before did.live honest 72 4 (omega (arith, far)) tt) told));
+        beside = λ live honest p n fits beside words taken.
+            let mid = subst IsTrue (sym did.appends.honest) honest in
+            others_stay (version_of m) (bytes_of m) (bytes_of c.write_number.new.sectors) fs index end_of_chain c.index-holder.result.now (c.sector_len-each.result / 4) (each ∙ ap per (sym did.appends.version)) holder below (wrote.changes.bytes live mid) p n
+            (subst (λ u. IsBeside u fs p n) (sym did.appends.version) (beside_second v ds fs p n beside))
+            ∙ did.appends.before did.live honest p n fits tt;
+      };
+  fresh = record {
+    filled = λ honest.
+        let it = c.args.self.now in
+        let a = it.sectors in
+        let m = c.append_sector.new.sectors in
+        let v = version_of a in
+        let fs = it.fat_sectors.items in
+        let did = c.in_ok-sector_id.ensures in
+        let wrote = c.in_ok-write_number.ensures in
+        let order = it.orderly c.requires.orderly in
+        let index = c.len-index.result in
+        let at : index ≡ count_of a = omega (arith, c.len-index.ensures, it.fat.ok.0, order.covered) in
+        let each : c.sector_len-each.result / 4 ≡ per v = ap (λ n. n / 4) c.sector_len-each.ensures in
+        let parts = split v (length fs) index (omega (arith, at, order.covered, c.requires.place.room)) in
+        let below : index / (c.sector_len-each.result / 4) < length fs = subst (λ e. index / e < length fs) (sym each) parts.0 in
+        let holder = get_or_read fs _ _ below c.index-holder.ensures 0 in
+        let mid = subst IsTrue (sym did.appends.honest) honest in
+        let aside = apart v fs (count_of a) (none_behind (count_of a) fs (it.there c.requires.live)) in
+        ap (λ n. sector v (bytes_of c.write_number.new.sectors) n) did.number
+        ∙ others_stay (version_of m) (bytes_of m) (bytes_of c.write_number.new.sectors) fs index end_of_chain c.index-holder.result.now (c.sector_len-each.result / 4) (each ∙ ap per (sym did.appends.version)) holder below (wrote.changes.bytes wrote.live mid)
+        (sector_start v (count_of a)) (sector_len v) (subst (λ u. IsBeside u fs (sector_start v (count_of a)) (sector_len v)) (sym did.appends.version) aside)
+        ∙ did.content did.live honest;
+    writable =
+        let it = c.args.self.now in
+        let did = c.in_ok-sector_id.ensures in
+        let wrote = c.in_ok-write_number.ensures in
+        let order = it.orderly c.requires.orderly in
+        let more = did.appends.count did.live in
+        whole_writable _ (version_of it.sectors) c.in_ok-sector_id.sector_id (wrote.changes.version ∙ did.appends.version) (omega (arith, wrote.count, more, did.number))
+        (subst (IsNoneOf it.difat_sectors.items) (sym did.number) (none_behind (count_of it.sectors) it.difat_sectors.items order.there))
+        (subst (IsNoneOf it.fat_sectors.items) (sym did.number) (none_behind (count_of it.sectors) it.fat_sectors.items (it.there c.requires.live)));
+  };
+  whole = λ honest.
       let it = c.args.self.now in
+      let v = version_of it.sectors in
+      let b = bytes_of c.write_number.new.sectors in
       let did = c.in_ok-sector_id.ensures in
       let wrote = c.in_ok-write_number.ensures in
-      let order = it.orderly c.requires.orderly in
-      let more = did.appends.count did.live in
-      whole_writable _ (version_of it.sectors) c.in_ok-sector_id.sector_id (wrote.changes.version ∙ did.appends.version) (omega (arith, wrote.count, more, did.number))
-      (subst (IsNoneOf it.difat_sectors.items) (sym did.number) (none_behind (count_of it.sectors) it.difat_sectors.items order.there))
-      (subst (IsNoneOf it.fat_sectors.items) (sym did.number) (none_behind (count_of it.sectors) it.fat_sectors.items (it.there c.requires.live)));
+      let first = did.whole did.live honest in
+      let second = longer_over (bytes_of c.append_sector.new.sectors) b (to_le_bytes w32 end_of_chain) _ (wrote.changes.bytes wrote.live (subst IsTrue (sym did.appends.honest) honest)) in
+      let all : sector_start v (count_of it.sectors) + sector_len v ≤ length b = omega (arith, first, second) in
+      (subst (λ u. sector_start u c.in_ok-sector_id.sector_id + sector_len u ≤ length b) (sym (wrote.changes.version ∙ did.appends.version)) (subst (λ n. sector_start v n + sector_len v ≤ length b) (sym did.number) all), tt);
 }
 
-pub returns-clause-whole : goal.returns-clause-whole
-returns-clause-whole g c = λ honest.
+pub returns-clause-ends : goal.returns-clause-ends
+returns-clause-ends g c = record {
+  number = omega (arith, c.in_ok-sector_id.ensures.number, (c.args.self.now.orderly c.requires.orderly).covered);
+  fat = c.push_reserved.ensures.items;
+  tables = (refl, refl);
+}
+
+pub returns-in_err-write_number-clause-attempts : goal.returns-in_err-write_number-clause-attempts
+returns-in_err-write_number-clause-attempts g c =
+    let it = c.args.self.now in
+    let did = c.in_ok-sector_id.ensures in
+    let wrote = c.in_err-write_number.ensures in
+    passed_attempts c.from_residual-in_err-write_number.result c.in_err-write_number.field-0.0 it.sectors c.append_sector.new.sectors c.write_number.new.sectors c.from_residual-in_err-write_number.ensures.1
+    did.appends.continues (did.live ∙ sym c.requires.live) wrote.err wrote.cause wrote.fault
+
+pub index-holder-requires : goal.index-holder-requires
+index-holder-requires g c =
     let it = c.args.self.now in
     let v = version_of it.sectors in
-    let b = bytes_of c.write_number.new.sectors in
+    let n = length it.fat_sectors.items in
+    let each : c.sector_len-each.result / 4 ≡ per v = ap (λ n. n / 4) c.sector_len-each.ensures in
+    let below = subst (λ e. c.len-index.result / e < n) (sym each) (split v n c.len-index.result (omega (arith, c.len-index.ensures, it.fat.ok.0, c.requires.place.room))).0 in
+    omega (arith, below, it.fat_sectors.ok.0)
+
+pub write_number-requires-clause-there : goal.write_number-requires-clause-there
+write_number-requires-clause-there g c =
+    let it = c.args.self.now in
+    let v = version_of it.sectors in
+    let n = length it.fat_sectors.items in
+    let each : c.sector_len-each.result / 4 ≡ per v = ap (λ n. n / 4) c.sector_len-each.ensures in
+    let below = subst (λ e. c.len-index.result / e < n) (sym each) (split v n c.len-index.result (omega (arith, c.len-index.ensures, it.fat.ok.0, c.requires.place.room))).0 in
+    let holder = get_or_read it.fat_sectors.items _ _ below c.index-holder.ensures 0 in
     let did = c.in_ok-sector_id.ensures in
-    let wrote = c.in_ok-write_number.ensures in
-    let first = did.whole did.live honest in
-    let second = longer_over (bytes_of c.append_sector.new.sectors) b (to_le_bytes w32 end_of_chain) _ (wrote.changes.bytes wrote.live (subst IsTrue (sym did.appends.honest) honest)) in
-    let all : sector_start v (count_of it.sectors) + sector_len v ≤ length b = omega (arith, first, second) in
-    (subst (λ u. sector_start u c.in_ok-sector_id.sector_id + sector_len u ≤ length b) (sym (wrote.changes.version ∙ did.appends.version)) (subst (λ n. sector_start v n + sector_len v ≤ length b) (sym did.number) all), tt)
+    omega (arith, holder, it.there c.requires.live (c.len-index.result / (c.sector_len-each.result / 4)) below, did.appends.count did.live)
+
+pub write_number-requires-clause-inside : goal.write_number-requires-clause-inside
+write_number-requires-clause-inside g c =
+    let it = c.args.self.now in
+    let did = c.in_ok-sector_id.ensures.appends.version in
+    let each : c.sector_len-each.result / 4 ≡ per (version_of it.sectors) = ap (λ n. n / 4) c.sector_len-each.ensures in
+    subst (λ v. c.len-index.result % (c.sector_len-each.result / 4) < sector_len v / 4) (sym did) (subst (λ e. c.len-index.result % e < per (version_of it.sectors)) (sym each) (rest_below (version_of it.sectors) c.len-index.result))

@@ -19,12 +19,12 @@ set_entry-requires-clause-there g c =
     let it = c.args.self.now in
     let was = c.in_ok-last.ensures.chain in
     let took = c.in_ok-sector_id.ensures in
-    last_below it.fat.items c.take.new.self.fat.items _ was.0 c.args.start c.in_ok-last.last c.in_ok-sector_id.sector_id was.1 took.free (took.grows.fat took.tries.live) took.chain refl
+    last_below it.fat.items c.take.new.self.fat.items _ was.0 c.args.start c.in_ok-last.last c.in_ok-sector_id.sector_id was.1 took.takes.free (took.takes.occupies.grows.fat took.tries.live) took.takes.chain refl
 
 pub returns-in_err-set_entry-clause-none : goal.returns-in_err-set_entry-clause-none
 returns-in_err-set_entry-clause-none g c =
     let it = c.args.self.now in
-    let took = c.in_ok-sector_id.ensures.grows in
+    let took = c.in_ok-sector_id.ensures.takes.occupies.grows in
     let set = c.in_err-set_entry.ensures in
     on_err c.from_residual-in_err-set_entry.result (TakesIn [] [] it c.set_entry.new.self)
     (takes_failed [] [] it c.set_entry.new.self (set.changes.honest ∙ took.honest) (λ start from. set.changes.continues start (took.continues start from)) (set.changes.version ∙ took.version) set.err)
@@ -43,8 +43,8 @@ returns-clause-extends g c =
       front,
       last,
       was,
-      chain_extended it.fat.items mid.fat.items now.fat.items front c.args.start last n was took.free (took.grows.fat took.tries.live) took.chain (set.entry set.live),
-      takes_extended front c.args.start last n it mid now was took.free took.tries.live took.behind took.whole took.grows took.chain set.changes set.entry,
+      chain_extended it.fat.items mid.fat.items now.fat.items front c.args.start last n was took.takes.free (took.takes.occupies.grows.fat took.tries.live) took.takes.chain (set.entry set.live),
+      takes_extended c.args.init front c.args.start last n it mid now was took.tries.live took.takes set.changes set.entry,
     )
 
 pub returns-clause-fresh : goal.returns-clause-fresh
@@ -57,8 +57,8 @@ returns-clause-fresh g c =
     let took = c.in_ok-sector_id.ensures in
     let set = c.in_ok-set_entry.ensures in
     record {
-      filled = λ honest. set.changes.beside set.live (subst IsTrue (sym took.grows.honest) honest) (sector_start v n) (sector_len v) took.fresh.writable.fat ∙ took.fresh.filled honest;
-      writable = may_still mid now set.changes.version set.changes.count set.changes.fat_sectors set.changes.difat_sectors (sector_start v n) (sector_len v) took.fresh.writable;
+      filled = λ honest. set.changes.beside set.live (subst IsTrue (sym took.takes.occupies.grows.honest) honest) (sector_start v n) (sector_len v) took.takes.occupies.fresh.writable.fat ∙ took.takes.occupies.fresh.filled honest;
+      writable = may_still mid now set.changes.version set.changes.count set.changes.fat_sectors set.changes.difat_sectors (sector_start v n) (sector_len v) took.takes.occupies.fresh.writable;
     }
 
 pub returns-in_err-last-clause-none : goal.returns-in_err-last-clause-none
@@ -72,7 +72,7 @@ returns-in_err-set_entry-clause-changes g c =
       live = search rules;
       failed = search rules;
       cause = passed_on c.from_residual-in_err-set_entry.result c.in_err-set_entry.field-0.0 (HasItsCause it.sectors c.set_entry.new.self.sectors) c.from_residual-in_err-set_entry.ensures.1
-          (cause_since it.sectors c.take.new.self.sectors c.set_entry.new.self.sectors c.in_err-set_entry.field-0.0 took.grows.continues (took.tries.live ∙ sym c.in_ok-last.ensures.live) c.in_err-set_entry.ensures.cause);
+          (cause_since it.sectors c.take.new.self.sectors c.set_entry.new.self.sectors c.in_err-set_entry.field-0.0 took.takes.occupies.grows.continues (took.tries.live ∙ sym c.in_ok-last.ensures.live) c.in_err-set_entry.ensures.cause);
       fault = search rules;
     }
 

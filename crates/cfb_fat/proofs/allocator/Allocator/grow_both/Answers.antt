@@ -13,9 +13,7 @@ use Rattle.cfb_fat.proofs.Grown.{order_grown, same_grown, there_grown, whole_gro
 use Rattle.cfb_chains.proofs.Beside.{beside_both, beside_first, beside_second, none_first, start_later}
 use Rattle.cfb_fat.proofs.Growth.{below_both, below_more, below_one_more, beside_more, fat_same, fat_sectors_stay, once_few, once_front, once_middle, room_more, stays_in_front}
 use Rattle.cfb_fat.proofs.Packed.{behind_two, not_none, packed_more}
-use Rattle.cfb_fat.proofs.EntryChanges.{cause_since}
-use Rattle.cfb_sectors.proofs.Causes.{passed_on}
-use Rattle.cfb_sectors.specs.Held.{HasItsCause}
+use Rattle.cfb_fat.proofs.Places.{passed_attempts}
 use Rattle.cfb_fat.proofs.allocator.Allocator.grow_both.Given.{Over}
 use Rattle.cfb_fat.proofs.allocator.Allocator.grow_both.Goals as goal
 
@@ -26,7 +24,7 @@ add_fat_sector-requires-clause-fewer g c =
     let did = c.in_ok-difat_sector.ensures in
     let ds = it.difat_sectors.items in
     let few = once_few (count_of it.sectors) ds (once_front ds it.fat_sectors.items order.once) order.there in
-    let size = ap length (c.deref-2.ensures.value ∙ c.push_reserved.ensures.items ∙ ap (λ l. l ++ c.in_ok-difat_sector.difat_sector ∷ []) c.in_ok-reserve.ensures.items) ∙ length-append ds (c.in_ok-difat_sector.difat_sector ∷ []) in
+    let size = ap length (c.deref-2.ensures.value ∙ c.push_reserved.ensures.items) ∙ length-append ds (c.in_ok-difat_sector.difat_sector ∷ []) in
     let more = did.appends.count did.live in
     omega (arith, few, size, more)
 
@@ -37,15 +35,16 @@ add_fat_sector-requires-clause-there g c =
     let did = c.in_ok-difat_sector.ensures in
     let more = did.appends.count did.live in
     subst (AreBelow (count_of c.add_difat_sector.new.sectors))
-    (sym (c.deref-2.ensures.value ∙ c.push_reserved.ensures.items ∙ ap (λ l. l ++ c.in_ok-difat_sector.difat_sector ∷ []) c.in_ok-reserve.ensures.items ∙ ap (λ n. it.difat_sectors.items ++ n ∷ []) did.number))
+    (sym (c.deref-2.ensures.value ∙ c.push_reserved.ensures.items ∙ ap (λ n. it.difat_sectors.items ++ n ∷ []) did.number))
     (below_one_more (count_of it.sectors) (count_of c.add_difat_sector.new.sectors) it.difat_sectors.items (omega (arith, more)) order.there)
 
-pub returns-in_err-fat_sector-clause-cause : goal.returns-in_err-fat_sector-clause-cause
-returns-in_err-fat_sector-clause-cause g c =
+pub returns-in_err-fat_sector-clause-attempts : goal.returns-in_err-fat_sector-clause-attempts
+returns-in_err-fat_sector-clause-attempts g c =
     let it = c.args.self.now in
     let did = c.in_ok-difat_sector.ensures in
-    passed_on c.from_residual-in_err-fat_sector.result c.in_err-fat_sector.field-0.0 (HasItsCause it.sectors c.add_fat_sector.new.sectors) c.from_residual-in_err-fat_sector.ensures.1
-    (cause_since it.sectors c.add_difat_sector.new.sectors c.add_fat_sector.new.sectors c.in_err-fat_sector.field-0.0 did.appends.continues (did.live ∙ sym c.requires.live) c.in_err-fat_sector.ensures.attempts.cause)
+    let then = c.in_err-fat_sector.ensures.attempts in
+    passed_attempts c.from_residual-in_err-fat_sector.result c.in_err-fat_sector.field-0.0 it.sectors c.add_difat_sector.new.sectors c.add_fat_sector.new.sectors c.from_residual-in_err-fat_sector.ensures.1
+    did.appends.continues (did.live ∙ sym c.requires.live) then.err then.cause then.fault
 
 -- what was appended
 pub record Both (g : Over) (c : goal.After-push_reserved-4 g) : Type 0 where
@@ -67,14 +66,14 @@ both g c =
     let did = c.in_ok-difat_sector.ensures in
     let then = c.in_ok-fat_sector.ensures in
     let order = it.orderly c.requires.orderly in
-    let is_ds : ds ++ count_of a ∷ [] ≡ c.push_reserved.new.self.items = sym (c.push_reserved.ensures.items ∙ ap (λ l. l ++ c.in_ok-difat_sector.difat_sector ∷ []) c.in_ok-reserve.ensures.items ∙ ap (λ n. ds ++ n ∷ []) did.number) in
-    let first = subst (λ l. Appends (IsBesideDifat a l) a m) (c.deref.ensures.value ∙ c.in_ok-reserve.ensures.items) did.appends in
+    let is_ds : ds ++ count_of a ∷ [] ≡ c.push_reserved.new.self.items = sym (c.push_reserved.ensures.items ∙ ap (λ n. ds ++ n ∷ []) did.number) in
+    let first = subst (λ l. Appends (IsBesideDifat a l) a m) c.deref.ensures.value did.appends in
     let more = first.count did.live in
     let below_fs = it.there c.requires.live in
     record {
       is_ds = is_ds;
-      is_fs = sym (c.push_reserved-2.ensures.items ∙ ap (λ l. l ++ c.in_ok-fat_sector.fat_sector ∷ []) c.in_ok-reserve-2.ensures.items ∙ ap (λ n. fs ++ n ∷ []) then.number);
-      is_fat = sym (c.push_reserved-4.ensures.items ∙ ap (λ l. l ++ free ∷ []) (c.push_reserved-3.ensures.items ∙ ap (λ l. l ++ free ∷ []) c.in_ok-reserve-3.ensures.items) ∙ append_assoc it.fat.items (free ∷ []) (free ∷ []));
+      is_fs = sym (c.push_reserved-2.ensures.items ∙ ap (λ n. fs ++ n ∷ []) then.number);
+      is_fat = sym (c.push_reserved-4.ensures.items ∙ ap (λ l. l ++ free ∷ []) c.push_reserved-3.ensures.items ∙ append_assoc it.fat.items (free ∷ []) (free ∷ []));
       first = first;
       second = record {
         appends = subst (λ l. Appends (IsBesideDifat m l) m b) (c.deref-2.ensures.value ∙ sym is_ds) then.appends;
@@ -135,13 +134,13 @@ invariant_of-self-2 g c =
           let was = subst IsTrue all.first.honest mid in
           let old = it.orderly c.requires.orderly in
           let had = (it.listed c.requires.live was).0 c.requires.orderly in
-          let linked = subst (λ l. AreOnce l → (xs : List ℕ) → Lists (version_of a) (bytes_of a) l xs → Lists (version_of a) (bytes_of m) (l ++ count_of a ∷ []) xs) (c.deref.ensures.value ∙ c.in_ok-reserve.ensures.items) (did.listed did.live was) in
+          let linked = subst (λ l. AreOnce l → (xs : List ℕ) → Lists (version_of a) (bytes_of a) l xs → Lists (version_of a) (bytes_of m) (l ++ count_of a ∷ []) xs) c.deref.ensures.value (did.listed did.live was) in
           let named = subst (λ l. AreOnce l → (xs : List ℕ) → length xs ≡ c.len.result → Lists (version_of m) (bytes_of m) l xs → Lists (version_of m) (bytes_of b) l (xs ++ count_of m ∷ [])) (c.deref-2.ensures.value ∙ sym all.is_ds) (then.listed live mid) in (
             λ now. (
               order,
               ∥∥₁_map had.1 (λ listed.
                   subst (λ l. Lists (version_of b) (bytes_of b) l new_fs) all.is_ds (subst (λ l. Lists (version_of b) (bytes_of b) ds l) all.is_fs (subst (λ v. Lists v (bytes_of b) ds fs) (sym h.appends.version)
-                  (named (once_front ds it.fat_sectors.items h.once) it.fat_sectors.items (omega (arith, c.len.ensures, c.in_ok-reserve-2.ensures.len, it.fat_sectors.ok.0))
+                  (named (once_front ds it.fat_sectors.items h.once) it.fat_sectors.items (omega (arith, c.len.ensures, it.fat_sectors.ok.0))
                   (subst (λ v. Lists v (bytes_of m) ds it.fat_sectors.items) (sym all.first.version) (linked (once_front it.difat_sectors.items it.fat_sectors.items old.once) it.fat_sectors.items listed)))))),
             ),
             λ has. refl,
@@ -158,10 +157,10 @@ returns-clause-grows g c =
     let then = c.in_ok-fat_sector.ensures in
     let ds = it.difat_sectors.items in
     let fs = it.fat_sectors.items in
-    let is_ds : ds ++ count_of a ∷ [] ≡ c.push_reserved.new.self.items = sym (c.push_reserved.ensures.items ∙ ap (λ l. l ++ c.in_ok-difat_sector.difat_sector ∷ []) c.in_ok-reserve.ensures.items ∙ ap (λ n. ds ++ n ∷ []) did.number) in
-    let is_fs : fs ++ count_of m ∷ [] ≡ c.push_reserved-2.new.self.items = sym (c.push_reserved-2.ensures.items ∙ ap (λ l. l ++ c.in_ok-fat_sector.fat_sector ∷ []) c.in_ok-reserve-2.ensures.items ∙ ap (λ n. fs ++ n ∷ []) then.number) in
-    let is_fat : c.push_reserved-4.new.self.items ≡ it.fat.items ++ free ∷ free ∷ [] = c.push_reserved-4.ensures.items ∙ ap (λ l. l ++ free ∷ []) (c.push_reserved-3.ensures.items ∙ ap (λ l. l ++ free ∷ []) c.in_ok-reserve-3.ensures.items) ∙ append_assoc it.fat.items (free ∷ []) (free ∷ []) in
-    let first = subst (λ l. Appends (IsBesideDifat a l) a m) (c.deref.ensures.value ∙ c.in_ok-reserve.ensures.items) did.appends in
+    let is_ds : ds ++ count_of a ∷ [] ≡ c.push_reserved.new.self.items = sym (c.push_reserved.ensures.items ∙ ap (λ n. ds ++ n ∷ []) did.number) in
+    let is_fs : fs ++ count_of m ∷ [] ≡ c.push_reserved-2.new.self.items = sym (c.push_reserved-2.ensures.items ∙ ap (λ n. fs ++ n ∷ []) then.number) in
+    let is_fat : c.push_reserved-4.new.self.items ≡ it.fat.items ++ free ∷ free ∷ [] = c.push_reserved-4.ensures.items ∙ ap (λ l. l ++ free ∷ []) c.push_reserved-3.ensures.items ∙ append_assoc it.fat.items (free ∷ []) (free ∷ []) in
+    let first = subst (λ l. Appends (IsBesideDifat a l) a m) c.deref.ensures.value did.appends in
     let second = subst (λ l. Appends (IsBesideDifat m l) m c.add_fat_sector.new.sectors) (c.deref-2.ensures.value ∙ sym is_ds) then.appends in
     let more = first.count did.live in
     let later : (p : ℕ) → p ≤ sector_start v (count_of a) → p ≤ sector_start v (count_of m) = λ p fits. start_later v (count_of a) (count_of m) p (omega (arith, more)) fits in
@@ -183,7 +182,7 @@ returns-clause-grows g c =
       told = λ live honest any.
           let size = ap length is_fs in
           let long = length-append fs (count_of m ∷ []) in
-          let same : c.len.result + 1 ≡ length c.push_reserved-2.new.self.items = omega (arith, size, long, c.len.ensures, c.in_ok-reserve-2.ensures.len, it.fat_sectors.ok.0) in
+          let same : c.len.result + 1 ≡ length c.push_reserved-2.new.self.items = omega (arith, size, long, c.len.ensures, it.fat_sectors.ok.0) in
           let told = then.told live (subst IsTrue (sym first.honest) honest) in
           record { difat_count = told.1 ∙ ap length c.deref-2.ensures.value; fat_count = told.0 ∙ same };
       beside = λ live honest p n fits apart words taken.

@@ -35,10 +35,10 @@ lengthens g c =
     }
 
 is_fs : (g : Over) (c : goal.After-push_reserved-2 g) → c.args.self.now.fat_sectors.items ++ count_of c.args.self.now.sectors ∷ [] ≡ c.push_reserved.new.self.items
-is_fs g c = sym (c.push_reserved.ensures.items ∙ ap (λ l. l ++ c.in_ok-sector_id.sector_id ∷ []) c.in_ok-reserve.ensures.items ∙ ap (λ n. c.args.self.now.fat_sectors.items ++ n ∷ []) c.in_ok-sector_id.ensures.number)
+is_fs g c = sym (c.push_reserved.ensures.items ∙ ap (λ n. c.args.self.now.fat_sectors.items ++ n ∷ []) c.in_ok-sector_id.ensures.number)
 
 is_fat : (g : Over) (c : goal.After-push_reserved-2 g) → c.args.self.now.fat.items ++ free ∷ [] ≡ c.push_reserved-2.new.self.items
-is_fat g c = sym (c.push_reserved-2.ensures.items ∙ ap (λ l. l ++ free ∷ []) c.in_ok-reserve-2.ensures.items)
+is_fat g c = sym c.push_reserved-2.ensures.items
 
 pub invariant_of-self-2 : goal.invariant_of-self-2
 invariant_of-self-2 g c =
@@ -75,7 +75,7 @@ invariant_of-self-2 g c =
             λ now. (
               order,
               ∥∥₁_map had.1 (λ listed. subst (λ l. Lists (version_of b) (bytes_of b) ds l) has_fs (subst (λ v. Lists v (bytes_of b) ds fs) (sym did.appends.version)
-                  (named (once_front ds it.fat_sectors.items h.once) it.fat_sectors.items (omega (arith, c.len.ensures, c.in_ok-reserve.ensures.len, it.fat_sectors.ok.0)) listed))),
+                  (named (once_front ds it.fat_sectors.items h.once) it.fat_sectors.items (omega (arith, c.len.ensures, it.fat_sectors.ok.0)) listed))),
             ),
             λ has. refl,
           );
@@ -89,7 +89,7 @@ returns-clause-grows g c =
     let v = version_of it.sectors in
     let ds = it.difat_sectors.items in
     let fs = it.fat_sectors.items in
-    let has_fs : fs ++ count_of it.sectors ∷ [] ≡ c.push_reserved.new.self.items = sym (c.push_reserved.ensures.items ∙ ap (λ l. l ++ c.in_ok-sector_id.sector_id ∷ []) c.in_ok-reserve.ensures.items ∙ ap (λ n. fs ++ n ∷ []) did.number) in
+    let has_fs : fs ++ count_of it.sectors ∷ [] ≡ c.push_reserved.new.self.items = sym (c.push_reserved.ensures.items ∙ ap (λ n. fs ++ n ∷ []) did.number) in
     record {
       honest = did.appends.honest;
       continues = did.appends.continues;
@@ -97,16 +97,16 @@ returns-clause-grows g c =
       live = λ live. c.requires.live;
       count = λ live. let more = did.appends.count live in omega (arith, more);
       orderly = λ live. sym c.requires.orderly;
-      fat = λ live. stays_in_front [] it.fat.items (free ∷ []) c.push_reserved-2.new.self.items (c.push_reserved-2.ensures.items ∙ ap (λ l. l ++ free ∷ []) c.in_ok-reserve-2.ensures.items);
+      fat = λ live. stays_in_front [] it.fat.items (free ∷ []) c.push_reserved-2.new.self.items c.push_reserved-2.ensures.items;
       still = λ live n. ((λ none. none), (λ none. none_first fs (count_of it.sectors ∷ []) n (subst (λ l. IsNoneOf l n) (sym has_fs) none)));
       longer = appends.longer;
       told = λ live honest any.
           let size = ap length has_fs in
           let long = length-append fs (count_of it.sectors ∷ []) in
-          let same : c.len.result + 1 ≡ length c.push_reserved.new.self.items = omega (arith, size, long, c.len.ensures, c.in_ok-reserve.ensures.len, it.fat_sectors.ok.0) in
+          let same : c.len.result + 1 ≡ length c.push_reserved.new.self.items = omega (arith, size, long, c.len.ensures, it.fat_sectors.ok.0) in
           let told = did.told live honest in
           record { difat_count = told.1 ∙ ap length c.deref.ensures.value; fat_count = told.0 ∙ same };
-      tables = λ live p n fits apart. subst (λ l. IsBeside v (ds ++ l) p n) (sym (c.push_reserved.ensures.items ∙ ap (λ l. l ++ c.in_ok-sector_id.sector_id ∷ []) c.in_ok-reserve.ensures.items ∙ ap (λ n. fs ++ n ∷ []) did.number))
+      tables = λ live p n fits apart. subst (λ l. IsBeside v (ds ++ l) p n) (sym (c.push_reserved.ensures.items ∙ ap (λ n. fs ++ n ∷ []) did.number))
           (subst (λ l. IsBeside v l p n) (append_assoc ds fs (count_of it.sectors ∷ [])) (beside_more v (ds ++ fs) p n (count_of it.sectors) (count_of it.sectors) apart fits (omega arith)));
       beside = λ live honest p n fits apart words taken. appends.before live honest p n fits (beside_first v ds fs p n apart, words);
     }

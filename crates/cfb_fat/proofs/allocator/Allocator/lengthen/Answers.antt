@@ -1,13 +1,10 @@
 use Rattle.std.proofs.Common.{◌≡◌, ◌+◌, ◌*◌, ◌/◌, ◌<◌, [], ◌∷◌, length, get_or, inl, inr, ap, sym, subst, ◌∙◌, arith, ⊎_elim, length-append}
 use Rattle.std.proofs.Math.ListN.{set}
 use Rattle.cfb_medium.specs.Versions.{sector_len}
-use Rattle.cfb_sectors.specs.Held.{HasItsCause}
 use Rattle.cfb_sectors.specs.Sectors.{difat_sector, fat_sector, free}
-use Rattle.cfb_sectors.proofs.Causes.{passed_on}
-use Rattle.cfb_fat.proofs.EntryChanges.{cause_since}
+use Rattle.cfb_fat.proofs.Places.{few_full, passed_attempts}
 use Rattle.std.proofs.lemmas.Bool.Decides.{eqb_tells}
 use Rattle.cfb_fat.proofs.GrowthSteps.{grows_failed, grows_marked, marked_one, marked_two, named_last, room_after}
-use Rattle.cfb_fat.proofs.Sparing.{exit_spends}
 use Rattle.cfb_fat.proofs.allocator.Allocator.lengthen.Goals as goal
 
 pub returns-then-can_name-clause-grows : goal.returns-then-can_name-clause-grows
@@ -22,44 +19,30 @@ returns-then-can_name-clause-added g c =
     let order = it.orderly c.requires.orderly in
     let did = c.in_ok-set_entry.ensures in
     let grown = c.in_ok-grow_fat.ensures in
-    let size = (did.changes.fat did.live).size ∙ ap length grown.fat ∙ length-append it.fat.items (free ∷ []) in
+    let size = (did.changes.fat did.live).size ∙ ap length grown.tables.0 ∙ length-append it.fat.items (free ∷ []) in
     let new = c.set_entry.new.self.fat.items in
     λ n past below none unset.
     let here : n ≡ length it.fat.items = omega (arith, size, past, below) in inr (
-      (λ beside. named_last it.fat_sectors.items _ n (length it.fat.items) (did.changes.fat_sectors ∙ grown.tables.1) here beside),
-      ap (λ k. get_or new k 0) here ∙ marked_one it.fat.items new c.num_sectors-count.result fat_sector (c.num_sectors-count.ensures ∙ sym order.covered) (did.entry did.live ∙ ap (λ l. set l c.num_sectors-count.result fat_sector) grown.fat),
+      (λ beside. named_last it.fat_sectors.items _ n (length it.fat.items) (did.changes.fat_sectors ∙ grown.tables.2) here beside),
+      ap (λ k. get_or new k 0) here ∙ marked_one it.fat.items new c.num_sectors-count.result fat_sector (c.num_sectors-count.ensures ∙ sym order.covered) (did.entry did.live ∙ ap (λ l. set l c.num_sectors-count.result fat_sector) grown.tables.0),
     )
 
-pub returns-then-can_name-clause-room : goal.returns-then-can_name-clause-room
-returns-then-can_name-clause-room g c = (
-  let it = c.args.self.now in
-      let did = c.in_ok-set_entry.ensures in
-      let size : length c.set_entry.new.self.fat.items ≡ length it.fat.items + 1 = (did.changes.fat did.live).size ∙ ap length c.in_ok-grow_fat.ensures.fat ∙ length-append it.fat.items (free ∷ []) in
-      omega (arith, size),
-  let it = c.args.self.now in
-      let did = c.in_ok-set_entry.ensures in
-      let grown = c.in_ok-grow_fat.ensures in
-      let version = did.changes.version ∙ grown.grows.version in
-      let size : length c.set_entry.new.self.fat.items ≡ length it.fat.items + 1 = (did.changes.fat did.live).size ∙ ap length grown.fat ∙ length-append it.fat.items (free ∷ []) in
-      let sectors : length c.set_entry.new.self.fat_sectors.items ≡ length it.fat_sectors.items + 1 = ap length (did.changes.fat_sectors ∙ grown.tables.1) ∙ length-append it.fat_sectors.items (length it.fat.items ∷ []) in
-      subst (λ v. length c.set_entry.new.self.fat.items < length c.set_entry.new.self.fat_sectors.items * (sector_len v / 4)) (sym version)
-      (room_after it.sectors.version (length it.fat.items) (length it.fat_sectors.items) 1 _ _ c.requires.full (omega arith) size sectors),
-)
-
-pub returns-in_err-set_entry-2-clause-cause : goal.returns-in_err-set_entry-2-clause-cause
-returns-in_err-set_entry-2-clause-cause g c =
+pub returns-then-can_name-clause-place : goal.returns-then-can_name-clause-place
+returns-then-can_name-clause-place g c =
     let it = c.args.self.now in
-    let grown = c.in_ok-grow_both.ensures in
-    passed_on c.from_residual-in_err-set_entry-2.result c.in_err-set_entry-2.field-0.0 (HasItsCause it.sectors c.set_entry-2.new.self.sectors) c.from_residual-in_err-set_entry-2.ensures.1
-    (cause_since it.sectors c.grow_both.new.self.sectors c.set_entry-2.new.self.sectors c.in_err-set_entry-2.field-0.0 grown.grows.continues (grown.live ∙ sym c.requires.live) c.in_err-set_entry-2.ensures.cause)
-
-pub returns-in_err-set_entry-3-clause-cause : goal.returns-in_err-set_entry-3-clause-cause
-returns-in_err-set_entry-3-clause-cause g c =
-    let it = c.args.self.now in
-    let grown = c.in_ok-grow_both.ensures in
-    let first = c.in_ok-set_entry-2.ensures in
-    passed_on c.from_residual-in_err-set_entry-3.result c.in_err-set_entry-3.field-0.0 (HasItsCause it.sectors c.set_entry-3.new.self.sectors) c.from_residual-in_err-set_entry-3.ensures.1
-    (cause_since it.sectors c.set_entry-2.new.self.sectors c.set_entry-3.new.self.sectors c.in_err-set_entry-3.field-0.0 (λ start from. first.changes.continues start (grown.grows.continues start from)) (first.live ∙ sym c.requires.live) c.in_err-set_entry-3.ensures.cause)
+    let did = c.in_ok-set_entry.ensures in
+    let grown = c.in_ok-grow_fat.ensures in
+    let version = did.changes.version ∙ grown.grows.version in
+    let size : length c.set_entry.new.self.fat.items ≡ length it.fat.items + 1 = (did.changes.fat did.live).size ∙ ap length grown.tables.0 ∙ length-append it.fat.items (free ∷ []) in
+    let sectors : length c.set_entry.new.self.fat_sectors.items ≡ length it.fat_sectors.items + 1 = ap length (did.changes.fat_sectors ∙ grown.tables.2) ∙ length-append it.fat_sectors.items (length it.fat.items ∷ []) in
+    let memory = (did.memory 1 0 (grown.spends 0 c.requires.memory)).fat in
+    let less = few_full it.sectors.version (length it.fat.items) (length it.fat_sectors.items) c.requires.full (omega (arith, c.requires.few, (it.orderly c.requires.orderly).covered)) in
+    record {
+      room = subst (λ v. length c.set_entry.new.self.fat.items < length c.set_entry.new.self.fat_sectors.items * (sector_len v / 4)) (sym version)
+          (room_after it.sectors.version (length it.fat.items) (length it.fat_sectors.items) 1 _ _ c.requires.full (omega arith) size sectors);
+      memory = omega (arith, memory);
+      few = omega (arith, less, size);
+    }
 
 pub returns-clause-grows : goal.returns-clause-grows
 returns-clause-grows g c =
@@ -77,39 +60,39 @@ returns-clause-added g c =
     let second = c.in_ok-set_entry-3.ensures in
     let k = c.num_sectors-count.result in
     let grown = c.in_ok-grow_both.ensures in
-    let size = (second.changes.fat second.live).size ∙ (first.changes.fat first.live).size ∙ ap length grown.fat ∙ length-append it.fat.items (free ∷ free ∷ []) in
+    let size = (second.changes.fat second.live).size ∙ (first.changes.fat first.live).size ∙ ap length grown.tables.0 ∙ length-append it.fat.items (free ∷ free ∷ []) in
     let new = c.set_entry-3.new.self.fat.items in
     let marks = marked_two it.fat.items new k difat_sector fat_sector (c.num_sectors-count.ensures ∙ sym order.covered)
-    (second.entry second.live ∙ ap (λ l. set l (k + 1) fat_sector) (first.entry first.live ∙ ap (λ l. set l k difat_sector) grown.fat)) in
+    (second.entry second.live ∙ ap (λ l. set l (k + 1) fat_sector) (first.entry first.live ∙ ap (λ l. set l k difat_sector) grown.tables.0)) in
     λ n past below none unset. ⊎_elim
     (λ here. inl (
-      (λ beside. named_last it.difat_sectors.items _ n (length it.fat.items) (second.changes.difat_sectors ∙ first.changes.difat_sectors ∙ grown.tables.0) here.1 beside),
+      (λ beside. named_last it.difat_sectors.items _ n (length it.fat.items) (second.changes.difat_sectors ∙ first.changes.difat_sectors ∙ grown.tables.1) here.1 beside),
       ap (λ m. get_or new m 0) here.1 ∙ marks.0,
     ))
     (λ off. let differ = off.1 in let there : n ≡ length it.fat.items + 1 = omega (arith, size, past, below, differ) in inr (
-      (λ beside. named_last it.fat_sectors.items _ n (length it.fat.items + 1) (second.changes.fat_sectors ∙ first.changes.fat_sectors ∙ grown.tables.1) there beside),
+      (λ beside. named_last it.fat_sectors.items _ n (length it.fat.items + 1) (second.changes.fat_sectors ∙ first.changes.fat_sectors ∙ grown.tables.2) there beside),
       ap (λ m. get_or new m 0) there ∙ marks.1,
     ))
     (eqb_tells n (length it.fat.items))
 
-pub returns-clause-room : goal.returns-clause-room
-returns-clause-room g c = (
-  let it = c.args.self.now in
-      let first = c.in_ok-set_entry-2.ensures in
-      let second = c.in_ok-set_entry-3.ensures in
-      let size : length c.set_entry-3.new.self.fat.items ≡ length it.fat.items + 2 = (second.changes.fat second.live).size ∙ (first.changes.fat first.live).size ∙ ap length c.in_ok-grow_both.ensures.fat ∙ length-append it.fat.items (free ∷ free ∷ []) in
-      omega (arith, size),
-  let it = c.args.self.now in
-      let first = c.in_ok-set_entry-2.ensures in
-      let second = c.in_ok-set_entry-3.ensures in
-      let grown = c.in_ok-grow_both.ensures in
-      let version = second.changes.version ∙ first.changes.version ∙ grown.grows.version in
-      let size : length c.set_entry-3.new.self.fat.items ≡ length it.fat.items + 2 = (second.changes.fat second.live).size ∙ (first.changes.fat first.live).size ∙ ap length grown.fat ∙ length-append it.fat.items (free ∷ free ∷ []) in
-      let sectors : length c.set_entry-3.new.self.fat_sectors.items ≡ length it.fat_sectors.items + 1 =
-      ap length (second.changes.fat_sectors ∙ first.changes.fat_sectors ∙ grown.tables.1) ∙ length-append it.fat_sectors.items ((length it.fat.items + 1) ∷ []) in
-      subst (λ v. length c.set_entry-3.new.self.fat.items < length c.set_entry-3.new.self.fat_sectors.items * (sector_len v / 4)) (sym version)
-      (room_after it.sectors.version (length it.fat.items) (length it.fat_sectors.items) 2 _ _ c.requires.full (omega arith) size sectors),
-)
+pub returns-clause-place : goal.returns-clause-place
+returns-clause-place g c =
+    let it = c.args.self.now in
+    let first = c.in_ok-set_entry-2.ensures in
+    let second = c.in_ok-set_entry-3.ensures in
+    let grown = c.in_ok-grow_both.ensures in
+    let version = second.changes.version ∙ first.changes.version ∙ grown.grows.version in
+    let size : length c.set_entry-3.new.self.fat.items ≡ length it.fat.items + 2 = (second.changes.fat second.live).size ∙ (first.changes.fat first.live).size ∙ ap length grown.tables.0 ∙ length-append it.fat.items (free ∷ free ∷ []) in
+    let sectors : length c.set_entry-3.new.self.fat_sectors.items ≡ length it.fat_sectors.items + 1 =
+    ap length (second.changes.fat_sectors ∙ first.changes.fat_sectors ∙ grown.tables.2) ∙ length-append it.fat_sectors.items ((length it.fat.items + 1) ∷ []) in
+    let memory = (second.memory 1 0 (first.memory 1 0 (grown.spends 0 c.requires.memory))).fat in
+    let less = few_full it.sectors.version (length it.fat.items) (length it.fat_sectors.items) c.requires.full (omega (arith, c.requires.few, (it.orderly c.requires.orderly).covered)) in
+    record {
+      room = subst (λ v. length c.set_entry-3.new.self.fat.items < length c.set_entry-3.new.self.fat_sectors.items * (sector_len v / 4)) (sym version)
+          (room_after it.sectors.version (length it.fat.items) (length it.fat_sectors.items) 2 _ _ c.requires.full (omega arith) size sectors);
+      memory = omega (arith, memory);
+      few = omega (arith, less, size);
+    }
 
 pub returns-in_err-set_entry-clause-grows : goal.returns-in_err-set_entry-clause-grows
 returns-in_err-set_entry-clause-grows g c =
@@ -128,7 +111,7 @@ set_entry-requires-3-clause-there g c =
     let it = c.args.self.now in
     let first = c.in_ok-set_entry-2.ensures in
     let order = it.orderly c.requires.orderly in
-    let size = (first.changes.fat first.live).size ∙ ap length c.in_ok-grow_both.ensures.fat ∙ length-append it.fat.items (free ∷ free ∷ []) in
+    let size = (first.changes.fat first.live).size ∙ ap length c.in_ok-grow_both.ensures.tables.0 ∙ length-append it.fat.items (free ∷ free ∷ []) in
     omega (arith, size, order.covered, c.num_sectors-count.ensures)
 
 pub returns-in_err-set_entry-3-clause-grows : goal.returns-in_err-set_entry-3-clause-grows
@@ -138,14 +121,33 @@ returns-in_err-set_entry-3-clause-grows g c =
     let set = c.in_err-set_entry-3.ensures in
     grows_failed [] [] c.args.self.now c.set_entry-3.new.self (set.changes.honest ∙ first.honest ∙ grown.honest) (λ start from. set.changes.continues start (first.continues start (grown.continues start from))) (set.changes.version ∙ first.version ∙ grown.version) set.err
 
-pub returns-in_err-grow_fat-clause-spends : goal.returns-in_err-grow_fat-clause-spends
-returns-in_err-grow_fat-clause-spends g c = λ n memory. exit_spends c.from_residual.result c.in_err-grow_fat.field-0.0 _ _ c.from_residual.ensures.1 (c.in_err-grow_fat.ensures.spends n memory).1
-
 pub returns-then-can_name-clause-spends : goal.returns-then-can_name-clause-spends
-returns-then-can_name-clause-spends g c = λ n memory. (c.in_ok-set_entry.ensures.memory 1 n (c.in_ok-grow_fat.ensures.spends n memory).0, tt)
-
-pub returns-in_err-grow_both-clause-spends : goal.returns-in_err-grow_both-clause-spends
-returns-in_err-grow_both-clause-spends g c = λ n memory. exit_spends c.from_residual-in_err-grow_both.result c.in_err-grow_both.field-0.0 _ _ c.from_residual-in_err-grow_both.ensures.1 (c.in_err-grow_both.ensures.spends n memory).1
+returns-then-can_name-clause-spends g c = λ n memory. c.in_ok-set_entry.ensures.memory 1 n (c.in_ok-grow_fat.ensures.spends n memory)
 
 pub returns-clause-spends : goal.returns-clause-spends
-returns-clause-spends g c = λ n memory. (c.in_ok-set_entry-3.ensures.memory 1 n (c.in_ok-set_entry-2.ensures.memory 1 n (c.in_ok-grow_both.ensures.spends n memory).0), tt)
+returns-clause-spends g c = λ n memory. c.in_ok-set_entry-3.ensures.memory 1 n (c.in_ok-set_entry-2.ensures.memory 1 n (c.in_ok-grow_both.ensures.spends n memory))
+
+pub returns-in_err-set_entry-clause-attempts : goal.returns-in_err-set_entry-clause-attempts
+returns-in_err-set_entry-clause-attempts g c =
+    let it = c.args.self.now in
+    let grown = c.in_ok-grow_fat.ensures in
+    let set = c.in_err-set_entry.ensures in
+    passed_attempts c.from_residual-in_err-set_entry.result c.in_err-set_entry.field-0.0 it.sectors c.grow_fat.new.self.sectors c.set_entry.new.self.sectors c.from_residual-in_err-set_entry.ensures.1
+    grown.grows.continues (grown.attempts.live ∙ sym c.requires.live) set.err set.cause set.fault
+
+pub returns-in_err-set_entry-2-clause-attempts : goal.returns-in_err-set_entry-2-clause-attempts
+returns-in_err-set_entry-2-clause-attempts g c =
+    let it = c.args.self.now in
+    let grown = c.in_ok-grow_both.ensures in
+    let set = c.in_err-set_entry-2.ensures in
+    passed_attempts c.from_residual-in_err-set_entry-2.result c.in_err-set_entry-2.field-0.0 it.sectors c.grow_both.new.self.sectors c.set_entry-2.new.self.sectors c.from_residual-in_err-set_entry-2.ensures.1
+    grown.grows.continues (grown.attempts.live ∙ sym c.requires.live) set.err set.cause set.fault
+
+pub returns-in_err-set_entry-3-clause-attempts : goal.returns-in_err-set_entry-3-clause-attempts
+returns-in_err-set_entry-3-clause-attempts g c =
+    let it = c.args.self.now in
+    let grown = c.in_ok-grow_both.ensures in
+    let first = c.in_ok-set_entry-2.ensures in
+    let set = c.in_err-set_entry-3.ensures in
+    passed_attempts c.from_residual-in_err-set_entry-3.result c.in_err-set_entry-3.field-0.0 it.sectors c.set_entry-2.new.self.sectors c.set_entry-3.new.self.sectors c.from_residual-in_err-set_entry-3.ensures.1
+    (λ start from. first.changes.continues start (grown.grows.continues start from)) (first.live ∙ sym c.requires.live) set.err set.cause set.fault

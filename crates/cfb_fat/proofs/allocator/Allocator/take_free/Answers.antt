@@ -1,11 +1,9 @@
-use Rattle.std.proofs.Common.{rules, ◌+◌, ◌<◌, ◌≤◌, [], ◌∷◌, length, ap, sym, subst, ◌∙◌, arith, IsTrue}
+use Rattle.std.proofs.Common.{◌+◌, ◌<◌, ◌≤◌, [], ◌∷◌, length, ap, sym, subst, ◌∙◌, arith, IsTrue}
 use Rattle.cfb_medium.specs.Versions.{sector_len}
-use Rattle.cfb_medium.specs.Calls.{IsFaultUnless}
-use Rattle.cfb_sectors.proofs.Causes.{passed_on}
-use Rattle.cfb_sectors.specs.Held.{bytes_of, version_of, HasItsCause}
-use Rattle.cfb_fat.proofs.EntryChanges.{cause_since}
+use Rattle.cfb_sectors.specs.Held.{bytes_of, version_of}
 use Rattle.cfb_sectors.specs.Initial.{initial}
 use Rattle.cfb_sectors.specs.Sectors.{filled_part, sector_start}
+use Rattle.cfb_fat.proofs.Places.{passed_attempts}
 use Rattle.cfb_fat.proofs.Taken.{whole_writable}
 use Rattle.cfb_fat.proofs.Fresh.{length-initial, some_bytes}
 use Rattle.cfb_fat.proofs.GrowthSteps.{change_grows, grows_failed, on_err, write_grows}
@@ -16,56 +14,6 @@ use Rattle.cfb_chains.proofs.Staying.{apart}
 use Rattle.cfb_chains.specs.Changes.{IsBeside, IsNoneOf}
 use Rattle.cfb_fat.proofs.allocator.Allocator.take_free.Goals as goal
 
-pub returns-clause-grows : goal.returns-clause-grows
-returns-clause-grows g c =
-    let it = c.args.self.now in
-    let n = c.args.sector_id in
-    grows_then (n ∷ []) [] [] (n ∷ []) it c.init_beside.new.self c.set_entry.new.self
-    (write_grows n _ it c.init_beside.new.self (it.orderly c.requires.orderly).some (length-initial c.args.init (version_of it.sectors)) c.in_ok-init_beside.ensures.writes)
-    (change_grows (n ∷ []) c.init_beside.new.self c.set_entry.new.self c.in_ok-set_entry.ensures.changes)
-
-pub returns-clause-fresh : goal.returns-clause-fresh
-returns-clause-fresh g c = record {
-  filled = λ honest.
-      let it = c.args.self.now in
-      let v = version_of it.sectors in
-      let n = c.args.sector_id in
-      let first = c.in_ok-init_beside.ensures in
-      let then = c.in_ok-set_entry.ensures in
-      let changes = first.writes.sectors.0 in
-      let fresh = initial c.args.init (sector_len v) in
-      then.changes.beside then.live (subst IsTrue (sym changes.honest) honest) (sector_start v n) (sector_len v)
-      (subst (λ u. IsBeside u c.init_beside.new.self.fat_sectors.items (sector_start v n) (sector_len v)) (sym changes.version)
-      (subst (λ l. IsBeside v l (sector_start v n) (sector_len v)) (sym first.writes.fat_sectors) (apart v it.fat_sectors.items n c.requires.no_fat)))
-      ∙ ap (λ l. filled_part l (sector_start v n) (sector_len v)) (changes.bytes first.live honest)
-      ∙ ap (filled_part _ (sector_start v n)) (sym (length-initial c.args.init v)) ∙ written (bytes_of it.sectors) fresh (sector_start v n);
-  writable =
-      let it = c.args.self.now in
-      let n = c.args.sector_id in
-      let order = it.orderly c.requires.orderly in
-      let first = c.in_ok-init_beside.ensures.writes in
-      let then = c.in_ok-set_entry.ensures.changes in
-      whole_writable c.set_entry.new.self (version_of it.sectors) n (then.version ∙ first.sectors.0.version) (omega (arith, c.requires.there, order.covered, then.count, first.sectors.1))
-      (subst (λ l. IsNoneOf l n) (sym (then.difat_sectors ∙ first.difat_sectors)) c.requires.no_difat) (subst (λ l. IsNoneOf l n) (sym (then.fat_sectors ∙ first.fat_sectors)) c.requires.no_fat);
-}
-
-pub returns-clause-whole : goal.returns-clause-whole
-returns-clause-whole g c = λ honest.
-    let it = c.args.self.now in
-    let v = version_of it.sectors in
-    let n = c.args.sector_id in
-    let now = bytes_of c.set_entry.new.self.sectors in
-    let first = c.in_ok-init_beside.ensures in
-    let then = c.in_ok-set_entry.ensures in
-    let changes = first.writes.sectors.0 in
-    let fresh = initial c.args.init (sector_len v) in
-    let long = length-initial c.args.init v in
-    let reach = over_reaches (bytes_of it.sectors) fresh (sector_start v n) (subst (λ k. 0 < k) (sym long) (some_bytes v)) in
-    let at = ap length (changes.bytes first.live honest) in
-    let more = then.changes.longer then.live (subst IsTrue (sym changes.honest) honest) in
-    let all : sector_start v n + sector_len v ≤ length now = omega (arith, reach, long, at, more) in
-    (subst (λ u. sector_start u n + sector_len u ≤ length now) (sym (then.changes.version ∙ changes.version)) all, tt)
-
 pub returns-in_err-set_entry-clause-none : goal.returns-in_err-set_entry-clause-none
 returns-in_err-set_entry-clause-none g c =
     let it = c.args.self.now in
@@ -74,21 +22,61 @@ returns-in_err-set_entry-clause-none g c =
     on_err c.from_residual-in_err-set_entry.result (GrowsFat [] [] it c.set_entry.new.self)
     (grows_failed [] [] it c.set_entry.new.self (set.changes.honest ∙ first.honest) (λ start from. set.changes.continues start (first.continues start from)) (set.changes.version ∙ first.version) set.err)
 
-pub returns-in_err-set_entry-clause-attempts : goal.returns-in_err-set_entry-clause-attempts
-returns-in_err-set_entry-clause-attempts g c =
-    let a = c.args.self.now.sectors in
-    let mid = c.init_beside.new.self.sectors in
-    let b = c.set_entry.new.self.sectors in
-    let e = c.in_err-set_entry.field-0.0 in
-    let first = c.in_ok-init_beside.ensures in
-    let set = c.in_err-set_entry.ensures in
-    let back = c.from_residual-in_err-set_entry in
-    record {
-      live = search rules;
-      err = on_err back.result _ set.err;
-      cause = passed_on back.result e (HasItsCause a b) back.ensures.1 (cause_since a mid b e first.writes.sectors.0.continues (first.live ∙ sym c.requires.live) set.cause);
-      fault = passed_on back.result e (IsFaultUnless ⊥) back.ensures.1 set.fault;
-    }
-
 pub returns-clause-memory : goal.returns-clause-memory
 returns-clause-memory g c = λ entries n memory. c.in_ok-set_entry.ensures.memory entries n (c.in_ok-init_beside.ensures.memory entries n memory)
+
+pub returns-clause-occupies : goal.returns-clause-occupies
+returns-clause-occupies g c = record {
+  grows =
+      let it = c.args.self.now in
+      let n = c.args.sector_id in
+      grows_then (n ∷ []) [] [] (n ∷ []) it c.init_beside.new.self c.set_entry.new.self
+      (write_grows n _ it c.init_beside.new.self (it.orderly c.requires.orderly).some (length-initial c.args.init (version_of it.sectors)) c.in_ok-init_beside.ensures.writes)
+      (change_grows (n ∷ []) c.init_beside.new.self c.set_entry.new.self c.in_ok-set_entry.ensures.changes);
+  fresh = record {
+    filled = λ honest.
+        let it = c.args.self.now in
+        let v = version_of it.sectors in
+        let n = c.args.sector_id in
+        let first = c.in_ok-init_beside.ensures in
+        let then = c.in_ok-set_entry.ensures in
+        let changes = first.writes.sectors.0 in
+        let fresh = initial c.args.init (sector_len v) in
+        then.changes.beside then.live (subst IsTrue (sym changes.honest) honest) (sector_start v n) (sector_len v)
+        (subst (λ u. IsBeside u c.init_beside.new.self.fat_sectors.items (sector_start v n) (sector_len v)) (sym changes.version)
+        (subst (λ l. IsBeside v l (sector_start v n) (sector_len v)) (sym first.writes.fat_sectors) (apart v it.fat_sectors.items n c.requires.no_fat)))
+        ∙ ap (λ l. filled_part l (sector_start v n) (sector_len v)) (changes.bytes first.live honest)
+        ∙ ap (filled_part _ (sector_start v n)) (sym (length-initial c.args.init v)) ∙ written (bytes_of it.sectors) fresh (sector_start v n);
+    writable =
+        let it = c.args.self.now in
+        let n = c.args.sector_id in
+        let order = it.orderly c.requires.orderly in
+        let first = c.in_ok-init_beside.ensures.writes in
+        let then = c.in_ok-set_entry.ensures.changes in
+        whole_writable c.set_entry.new.self (version_of it.sectors) n (then.version ∙ first.sectors.0.version) (omega (arith, c.requires.there, order.covered, then.count, first.sectors.1))
+        (subst (λ l. IsNoneOf l n) (sym (then.difat_sectors ∙ first.difat_sectors)) c.requires.no_difat) (subst (λ l. IsNoneOf l n) (sym (then.fat_sectors ∙ first.fat_sectors)) c.requires.no_fat);
+  };
+  whole = λ honest.
+      let it = c.args.self.now in
+      let v = version_of it.sectors in
+      let n = c.args.sector_id in
+      let now = bytes_of c.set_entry.new.self.sectors in
+      let first = c.in_ok-init_beside.ensures in
+      let then = c.in_ok-set_entry.ensures in
+      let changes = first.writes.sectors.0 in
+      let fresh = initial c.args.init (sector_len v) in
+      let long = length-initial c.args.init v in
+      let reach = over_reaches (bytes_of it.sectors) fresh (sector_start v n) (subst (λ k. 0 < k) (sym long) (some_bytes v)) in
+      let at = ap length (changes.bytes first.live honest) in
+      let more = then.changes.longer then.live (subst IsTrue (sym changes.honest) honest) in
+      let all : sector_start v n + sector_len v ≤ length now = omega (arith, reach, long, at, more) in
+      (subst (λ u. sector_start u n + sector_len u ≤ length now) (sym (then.changes.version ∙ changes.version)) all, tt);
+}
+
+pub returns-in_err-set_entry-clause-attempts : goal.returns-in_err-set_entry-clause-attempts
+returns-in_err-set_entry-clause-attempts g c =
+    let it = c.args.self.now in
+    let first = c.in_ok-init_beside.ensures in
+    let set = c.in_err-set_entry.ensures in
+    passed_attempts c.from_residual-in_err-set_entry.result c.in_err-set_entry.field-0.0 it.sectors c.init_beside.new.self.sectors c.set_entry.new.self.sectors c.from_residual-in_err-set_entry.ensures.1
+    first.writes.sectors.0.continues (first.live ∙ sym c.requires.live) set.err set.cause set.fault

@@ -1,4 +1,4 @@
-use Rattle.std.proofs.Common.{◌+◌, ◌≤◌, ◌⊎◌, inl, inr, length, refl, sym, subst, arith, ⊎_elim}
+use Rattle.std.proofs.Common.{length, refl, sym, subst, arith, ⊎_elim}
 use Rattle.std.specs.Int.{to_le_bytes, w32}
 use Rattle.cfb_fat.specs.Changing.{MayWrite, WritesBeside}
 use Rattle.cfb_fat.proofs.GrowthSteps.{on_ok_map}
