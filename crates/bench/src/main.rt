@@ -2,6 +2,7 @@
 #![tactic(auto)]
 
 mod chains;
+mod files;
 mod inserts;
 mod joins;
 mod pools;
@@ -18,6 +19,7 @@ insert-one ROWS   inserts one row into a table of so many
 join ROWS         joins two tables of so many rows by equal numbers
 pool TEXTS        counts a use of each of so many texts, and then another one of each
 pool-insert ROWS  inserts so many rows, an insert each, over a pool of 65535 texts
+read FILE         opens the compound file of that path, lists it, and reads each stream whole
 ";
 
 fn main(rt: HostRuntime) -> Result<()> {
@@ -27,6 +29,7 @@ fn main(rt: HostRuntime) -> Result<()> {
     }
     match words.as_slice() {
         [] => print!(rt; "{LIST}")?,
+        [name, path] if name.as_str() == "read" => files::read(&rt, path.as_str())?,
         [name, size] => run(&rt, name.as_str(), size.as_str().parse::<usize>()?)?,
         _ => bail!("a benchmark and its size are wanted"),
     }

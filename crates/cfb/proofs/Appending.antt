@@ -1,5 +1,5 @@
 -- A list that was made longer, whose new part was read.
-use Rattle.std.proofs.Common.{◌≡◌, ◌∙◌, ℕ, ◌+◌, ◌-◌, ◌≤◌, min, List, [], ◌++◌, drop, length, take, replicate, ap, arith, sym, length-append, length-drop, length-take}
+use Rattle.std.proofs.Common.{◌≡◌, ◌∙◌, ℕ, ◌+◌, ◌-◌, min, List, [], ◌++◌, drop, length, take, replicate, ap, arith, sym, length-append, length-drop, length-take}
 use Rattle.std.proofs.lemmas.List.{append-nil, drop_all, length-replicate, take-append-le, take_all}
 use borrow.Rule.Slice.PartMut.{post_of}
 

@@ -1,9 +1,9 @@
 -- The tree that a file holds, streams with their bytes.
-use Rattle.std.proofs.Common.{◌≡◌, ◌∙◌, List, ℕ, length, ap, sym, subst, IsTrue}
+use Rattle.std.proofs.Common.{◌≡◌, ◌∙◌, List, ℕ, sym, subst, IsTrue}
 use Rattle.std.specs.Prelude.{slice_get, Some}
 use Rattle.cfb_medium.specs.declared.medium.ReadMedium.{Ghosts}
 use Rattle.cfb_sectors.specs.declared.validation.Validation.{Validation}
-use Rattle.cfb_fat.specs.Tables.{bytes_of, medium_of}
+use Rattle.cfb_fat.specs.Tables.{bytes_of}
 use Rattle.cfb_tree.specs.Names.{Letters}
 use Rattle.cfb_tree.specs.Directory.{Entry, Holds as HoldsContent, Siblings}
 use Rattle.cfb_tree.specs.Objects.{HoldsTree}

@@ -1,27 +1,26 @@
 -- Where a stream lies by the tables in memory it has the bytes that those of the file mean.
 use native.Mathlib.Decide.{dec_lt}
 use mathlib.Core.Logic.{dite}
-use Rattle.std.proofs.Common.{◌≡◌, ◌∙◌, ℕ, ◌+◌, ◌*◌, ◌<◌, ◌≤◌, List, [], ◌∷◌, length, take, suc, zero, IsTrue, ap, arith, refl, subst, sym, inl, inr, ◌⊎◌, length-take}
+use Rattle.std.proofs.Common.{◌≡◌, ◌∙◌, ℕ, ◌+◌, ◌*◌, ◌<◌, ◌≤◌, List, [], ◌∷◌, length, take, suc, zero, IsTrue, ap, arith, subst, sym, inl, inr, ◌⊎◌, length-take}
 use Rattle.std.specs.List.{flat_map, AllByRecursion}
-use Rattle.std.specs.Prelude.{slice_index, slice_range}
+use Rattle.std.specs.Prelude.{slice_index}
 use Rattle.cfb_medium.specs.Versions.{sector_len}
 use Rattle.cfb_medium.specs.declared.medium.ReadMedium.{Ghosts}
 use Rattle.cfb_sectors.specs.Header.{mini_cutoff}
-use Rattle.cfb_sectors.specs.Sectors.{joined, sectors_in, AreInFile, Chain}
+use Rattle.cfb_sectors.specs.Sectors.{joined, sectors_in, Chain}
 use Rattle.cfb_sectors.proofs.OneChain.{chain_unique}
 use Rattle.cfb_chains.proofs.ChainWriting.{length-joined}
-use Rattle.cfb_chains.specs.Grown.{IsLinked}
-use Rattle.cfb_chains.specs.LinkViews.{ids_of, links_version}
+use Rattle.cfb_chains.specs.LinkViews.{ids_of}
 use Rattle.cfb_fat.specs.Tables.{bytes_of, fat_of, is_honest, version_of}
 use Rattle.cfb_directory.proofs.ReadTrees.{linked_of}
 use Rattle.cfb_tree.specs.Directory.{Entry}
 use Rattle.cfb_mini.specs.LinkViews.{minis_of}
 use Rattle.cfb_mini.specs.Minis.{mini_joined, AreInside}
-use Rattle.cfb_mini.specs.Views.{allocator_of, mini_fat_of, mini_stream_ids, mini_stream_len, mini_stream_of, IsMini}
+use Rattle.cfb_mini.specs.Views.{allocator_of, mini_stream_ids, mini_stream_len, mini_stream_of, IsMini}
 use Rattle.cfb_mini.specs.declared.mini_allocator.MiniAllocator.{MiniAllocator}
 use Rattle.cfb_mini.proofs.MiniParts.{length-mini_joined}
 use Rattle.cfb_mini.proofs.Parts.{parts_are}
-use Rattle.cfb_meaning.specs.Means.{fat, mini_fat, mini_sector, mini_stream, HasBytes, IsInMiniSectors, IsInMiniStream, IsInSectors, Layout}
+use Rattle.cfb_meaning.specs.Means.{fat, mini_fat, mini_sector, mini_stream, HasBytes, Layout}
 use Rattle.cfb_opening.specs.Opened.{Shows}
 use Rattle.cfb_opening.proofs.CutChains.{chain_of_cut, cut_in_file, cut_of_chain}
 use Rattle.cfb_streams.specs.Content.{HasContent}

@@ -1,14 +1,17 @@
 -- A stream that is found by its path, and the bytes that it has in the tree that a file holds.
 use Rattle.std.proofs.Common.{◌≡◌, ◌∙◌, ◌⊎◌, inl, inr, List, [], ℕ, length, take, drop, true, Ok, Err, ap, subst, sym}
-use Rattle.std.specs.Prelude.{IfErr, Result}
+use Rattle.std.specs.Prelude.{IfErr, Result, ◌||◌}
+use Rattle.cfb_medium.specs.Calls.{HasCause}
 use Rattle.cfb_medium.specs.declared.error.Error.{Error}
 use Rattle.cfb_medium.specs.declared.error.Error.TheVariants.{Failed, InvalidData, Memory}
 use Rattle.cfb_medium.specs.declared.medium.ReadMedium.{Ghosts}
-use Rattle.cfb_fat.specs.Tables.{bytes_of, has_failed_here}
+use Rattle.cfb_fat.specs.Tables.{bytes_of, has_failed_here, medium_of, HasCauseBelow}
 use Rattle.cfb_tree.specs.Directory.{Entry}
 use Rattle.cfb_tree.specs.Tree.{Tree}
 use Rattle.cfb_directory.specs.Views.{entries_held}
+use Rattle.cfb_mini.specs.Views as mini
 use Rattle.cfb_mini.specs.Views.{allocator_of, directory_of}
+use Rattle.cfb_mini.specs.declared.mini_allocator.MiniAllocator.{MiniAllocator}
 use Rattle.cfb_meaning.specs.Means.{HasBytes}
 use Rattle.cfb_meaning.specs.TreeRules.{has_bytes, open_read_stream, refused, Answer}
 use Rattle.cfb_entries.specs.Rules.{answer_at, names_in}
@@ -95,3 +98,9 @@ for_error P Q (Err e) so h = so e h
 -- what holds of a file and a number holds of the same ones
 pub carried : {A : Type 0} (P : A → ℕ → Type 0) (a b : A) (m n : ℕ) → b ≡ a → n ≡ m → P a m → P b n
 carried P a b m n first second h = subst (λ x. P x n) (sym first) (subst (P a) (sym second) h)
+
+-- a cause since a later read is one since an earlier state
+pub cause_since : {F : Type 0} {g : Ghosts F} (a b c : MiniAllocator F g) (e : Error) → mini.Rests a b → HasCauseBelow (allocator_of b) (allocator_of c) e → HasCauseBelow (allocator_of a) (allocator_of c) e
+cause_since {F} {g} a b c e rests cause = λ start from.
+    let below = rests.directory.allocator.sectors in
+    subst (λ f. HasCause g.failures (λ m. f || g.failed m) start (medium_of (allocator_of c)) e) below.failed (cause start (below.continues start from))

@@ -1,5 +1,5 @@
 -- Streams of a file that are read, by their paths.
-use Rattle.std.specs.Prelude.{◌≡◌, ◌⊎◌, ℕ, ◌-◌, min, false, true, List, length, slice_get, IfErr, IfOk, IsTrue, Result}
+use Rattle.std.specs.Prelude.{◌≡◌, ◌⊎◌, ℕ, ◌-◌, min, false, true, List, length, IfErr, IfOk, IsTrue, Result}
 use Rattle.cfb_chains.specs.ChainCalls.{IsInvalidPlace}
 use Rattle.cfb_directory.specs.Views.{entries_held}
 use Rattle.cfb_entries.specs.Rules.{IsFoundAt}

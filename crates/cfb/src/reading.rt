@@ -21,6 +21,9 @@ use cfb_medium::{Error, ReadMedium};
 use cfb_sectors::END_OF_CHAIN;
 use cfb_streams::{open_stream, read_ahead, read_stream};
 
+// A read of fewer bytes reads ahead first.
+const SMALL: usize = 1024;
+
 impl<F: ReadMedium> CompoundFile<F> {
     // Refuses every call after a fault.
     fn check_live(&self) -> Result<(), Error>
@@ -106,8 +109,9 @@ impl<F: ReadMedium> CompoundFile<F> {
         }
     }
 
-    // Fills the buffer with bytes of the stream of so many bytes that is read, from a place on.
-    pub(crate) fn read_part(&mut self, at: u64, len: u64, buffer: &mut [u8]) -> Result<(), Error>
+    // Fills the buffer with bytes of the stream of so many bytes that is read, from a place on: with what was read ahead, where
+    // that is enough.
+    fn read_part(&mut self, at: u64, len: u64, buffer: &mut [u8]) -> Result<(), Error>
         requires { at + length buffer.old ≤ len }
         ensures part { (content : List ℕ) → HasStream self.old len content
             → ReadsPart content at buffer.old buffer.new result }
@@ -116,8 +120,45 @@ impl<F: ReadMedium> CompoundFile<F> {
             (allocator_of (mini_of self.new))) }
         ensures fault { IfErr result (λ e. IsFaultUnless ⊥ e ⊎ IsInvalidPlace e) }
     {
-        let _len = len;
+        let held = self.ahead_from(at, len);
+        if held.len() >= buffer.len() {
+            buffer.copy_from_slice(&held[..buffer.len()]);
+            return Ok(());
+        }
         read_stream(&mut self.mini, &self.links, at, buffer)
+    }
+
+    // So, after some bytes from the place on were read ahead.
+    fn read_small(&mut self, at: u64, len: u64, buffer: &mut [u8]) -> Result<(), Error>
+        requires { at + length buffer.old ≤ len }
+        ensures part { (content : List ℕ) → HasStream self.old len content
+            → ReadsPart content at buffer.old buffer.new result }
+        ensures keeps { KeepsStream len self.old self.new }
+        ensures cause { IfErr result (HasCauseBelow (allocator_of (mini_of self.old))
+            (allocator_of (mini_of self.new))) }
+        ensures fault { IfErr result (λ e. IsFaultUnless ⊥ e ⊎ IsInvalidPlace e) }
+    {
+        match self.read_more(at, len) {
+            Ok(()) => self.read_part(at, len, buffer),
+            Err(error) => Err(error),
+        }
+    }
+
+    // Fills the buffer with bytes of the stream of so many bytes that is read, from a place on. A small one is served from what
+    // was read ahead.
+    pub(crate) fn read_bytes(&mut self, at: u64, len: u64, buffer: &mut [u8]) -> Result<(), Error>
+        requires { at + length buffer.old ≤ len }
+        ensures part { (content : List ℕ) → HasStream self.old len content
+            → ReadsPart content at buffer.old buffer.new result }
+        ensures keeps { KeepsStream len self.old self.new }
+        ensures cause { IfErr result (HasCauseBelow (allocator_of (mini_of self.old))
+            (allocator_of (mini_of self.new))) }
+        ensures fault { IfErr result (λ e. IsFaultUnless ⊥ e ⊎ IsInvalidPlace e) }
+    {
+        if buffer.len() < SMALL {
+            return self.read_small(at, len, buffer);
+        }
+        self.read_part(at, len, buffer)
     }
 
     // Reads ahead from a place of the stream of so many bytes on, where nothing from there on was.

@@ -54,7 +54,8 @@ impl<'a, F: ReadMedium> ReadStream<'a, F> {
 
     /// Reads what the buffer takes of the bytes from the position on, and moves the position behind that. 0 bytes are read at
     /// the end alone, or into an empty buffer. `InvalidData` or `InvalidInput` where the file hasn't the bytes; the other errors
-    /// are faults. After an error the position stays, and the buffer holds any bytes.
+    /// are faults. After an error the position stays, and the buffer holds any bytes. A read of less than 1024 bytes is served
+    /// from what was read ahead, where that is enough.
     pub fn read(&mut self, buffer: &mut [u8]) -> Result<usize, Error>
         ensures read { (content : List ℕ) → HasContent self.old content → IfOk result (λ n.
             take n buffer.new ≡ take n (drop (position_of self.old) content)) }
@@ -70,7 +71,7 @@ impl<'a, F: ReadMedium> ReadStream<'a, F> {
     {
         let count = (self.len - self.position).min(buffer.len() as u64) as usize;
         self.file
-            .read_part(self.position, self.len, &mut buffer[..count])?;
+            .read_bytes(self.position, self.len, &mut buffer[..count])?;
         self.position += count as u64;
         Ok(count)
     }

@@ -1,5 +1,5 @@
 -- Parts of what was read ahead.
-use Rattle.std.proofs.Common.{◌≡◌, ◌∙◌, ℕ, ◌+◌, ◌-◌, ◌<◌, ◌≤◌, List, [], drop, length, take, ap, arith, refl, sym, subst, length-drop}
+use Rattle.std.proofs.Common.{◌≡◌, ◌∙◌, ℕ, ◌+◌, ◌-◌, ◌≤◌, List, drop, length, take, ap, arith, sym, length-drop}
 use Rattle.std.proofs.lemmas.List.{drop-drop, drop-take, length-take-le, take-take, take_rest}
 
 -- those from a later place on are of the same stream

@@ -1,5 +1,5 @@
 -- A stream's bytes over reads.
-use Rattle.std.proofs.Common.{◌≡◌, ℕ, ◌+◌, ◌-◌, ◌*◌, ◌<◌, ◌≤◌, ◌⊎◌, inl, inr, List, drop, length, take, IsTrue, Ok, Err, true, false, ap, sym, subst, ◌∙◌, arith}
+use Rattle.std.proofs.Common.{◌≡◌, ℕ, ◌+◌, ◌-◌, ◌*◌, ◌<◌, ◌≤◌, ◌⊎◌, inl, inr, List, drop, length, take, IsTrue, Ok, Err, false, ap, sym, subst, ◌∙◌, arith}
 use Rattle.std.specs.Prelude.{IfErr, IsErrOf, OnOk, Result, ◌↔◌}
 use Rattle.std.proofs.lemmas.List.{drop-take, take-take}
 use Rattle.cfb_medium.specs.Calls.{IsFaultUnless}

@@ -8,9 +8,13 @@ use file_device::FileMedium;
 use sha2::{Digest, Sha256};
 use std::alloc::Global;
 use std::env;
+use std::io::SeekFrom;
 
 // How much of a stream is read at once.
-const PIECE: usize = 4096;
+const PIECE: usize = 100;
+
+// Paths at which no file has an object, the last above the root.
+const NOWHERE: [&str; 2] = ["/no such object", "/one/../../one"];
 
 fn main(rt: HostRuntime) -> Result<()> {
     for path in env::args(&rt)?.skip(1) {
@@ -37,36 +41,70 @@ fn print_file(rt: &HostRuntime, path: &str) -> Result<()> {
     for entry in file.walk()? {
         print_entry(rt, &mut file, &entry)?;
     }
+    for path in NOWHERE {
+        println!(rt; "{path}\t{}", kind_at(&file, path)?)?;
+    }
     Ok(())
 }
 
-// Prints an object, but not the root.
+// Prints an object: a storage with how many objects it holds at once and in all.
 fn print_entry<F: ReadMedium>(
     rt: &HostRuntime,
     file: &mut CompoundFile<F>,
-    entry: &Entry,
+    listed: &Entry,
 ) -> Result<()> {
-    let path = escaped(rt.alloc(), entry.path())?;
-    if entry.is_stream() {
-        let digest = digest_of(file, entry.path())?;
-        let hex = hex::encode(rt.alloc(), digest)?;
-        println!(rt; "{path}\tstream\t{}\t{hex}", entry.len())?;
-    } else if !entry.is_root() {
-        println!(rt; "{path}\tstorage")?;
+    let path = listed.path();
+    let shown = escaped(rt.alloc(), path)?;
+    let kind = kind_at(file, path)?;
+    if kind == "stream" {
+        let len = file.entry(path)?.len();
+        let hex = hex::encode(rt.alloc(), digest_of(rt.alloc(), file, path)?)?;
+        println!(rt; "{shown}\t{kind}\t{len}\t{hex}")?;
+    } else {
+        let children = file.read_storage(path)?.len();
+        let all = file.walk_storage(path)?.len();
+        println!(rt; "{shown}\t{kind}\t{children}\t{all}")?;
     }
     Ok(())
 }
 
-// The SHA-256 of a stream's bytes.
-fn digest_of<F: ReadMedium>(file: &mut CompoundFile<F>, path: &str) -> Result<[u8; 32], Error> {
+// What is at a path.
+fn kind_at<F: ReadMedium>(file: &CompoundFile<F>, path: &str) -> Result<&'static str, Error> {
+    if file.is_stream(path)? {
+        return Ok("stream");
+    }
+    if file.is_storage(path)? {
+        return Ok("storage");
+    }
+    if file.exists(path)? {
+        return Ok("neither");
+    }
+    Ok("missing")
+}
+
+// The SHA-256 of a stream's bytes, which are read in pieces and whole.
+fn digest_of<F: ReadMedium>(
+    alloc: Global,
+    file: &mut CompoundFile<F>,
+    path: &str,
+) -> Result<[u8; 32], Error> {
     let mut stream = file.open_read_stream(path)?;
-    let mut digest = Sha256::new();
+    let mut pieces = Sha256::new();
     let mut buffer = [0; PIECE];
     for _ in 0..=stream.len() / PIECE as u64 {
         let count = stream.read(&mut buffer)?;
-        digest.update(&buffer[..count]);
+        pieces.update(&buffer[..count]);
     }
-    Ok(digest.finalize())
+    stream.seek(SeekFrom::Start(0))?;
+    let mut bytes = Vec::new(alloc);
+    stream.read_to_end(&mut bytes)?;
+    let mut whole = Sha256::new();
+    whole.update(&bytes);
+    let digest = whole.finalize();
+    if pieces.finalize() != digest {
+        return Err(Error::InvalidData);
+    }
+    Ok(digest)
 }
 
 // A path in ASCII: all else as its number.
