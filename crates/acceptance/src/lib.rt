@@ -3,19 +3,7 @@
 #![tactic(auto)]
 
 #[cfg(test)]
-mod chains;
-#[cfg(test)]
-mod changes;
-#[cfg(test)]
-mod command_files;
-#[cfg(test)]
 mod commits;
-#[cfg(test)]
-mod container;
-#[cfg(test)]
-mod directory;
-#[cfg(test)]
-mod directory_changes;
 #[cfg(test)]
 mod expressions;
 #[cfg(test)]
@@ -23,23 +11,7 @@ mod faults;
 #[cfg(test)]
 mod faulty;
 #[cfg(test)]
-mod files;
-#[cfg(test)]
-mod lists;
-#[cfg(test)]
 mod logs;
-#[cfg(test)]
-mod mini_sectors;
-#[cfg(test)]
-mod names;
-#[cfg(test)]
-mod opening;
-#[cfg(test)]
-mod pool;
-#[cfg(test)]
-mod properties;
-#[cfg(test)]
-mod queries;
 #[cfg(test)]
 mod sectors;
 #[cfg(test)]
@@ -48,15 +20,7 @@ mod session_stops;
 mod sessions;
 pub mod shelf;
 #[cfg(test)]
-mod siblings;
-#[cfg(test)]
-mod soundness;
-#[cfg(test)]
 mod stops;
 pub mod survivor;
 #[cfg(test)]
-mod tables;
-#[cfg(test)]
 mod tears;
-#[cfg(test)]
-mod texts;
