@@ -1,5 +1,4 @@
-//! Tests from outside: of the store and of sessions over a device that fails one of its calls, of sectors and their chains, of names,
-//! entries and directories, of texts, values and pools, of expressions, and of tables.
+//! Tests that are no rows of data: of the store and of sessions over a device that fails one of its calls, or stops after it.
 #![tactic(auto)]
 
 #[cfg(test)]

@@ -1,6 +1,6 @@
 //! Sectors, FAT and chains of files in memory.
 use crate::shapes::{has_tables_of, init_of, part_of, word_of};
-use cfb_chains::Chain;
+use cfb_chains::{Chain, Links};
 use cfb_fat::{Allocator, read_difat, use_a_chain};
 use cfb_medium::{Error, MemoryMedium, Version};
 use cfb_owned::{free_chain, overwrite_chain, read_chain, set_chain_len, write_chain, write_word};
@@ -178,25 +178,54 @@ fn chain_call(
     chain: &mut Chain<'_, Allocator<MemoryMedium>>,
     call: &Row,
 ) -> Result<String, Error> {
-    let number = u64::try_from(call.number(1)).unwrap_or(u64::MAX);
     match call.call() {
-        "read" => {
-            let mut buffer = bytes_at(alloc, call, 1)?;
-            let count = chain.read(&mut buffer)?;
-            return Ok(format!(in alloc; "{count} {}", runs(alloc, &buffer)?)?);
+        "read" => chain_bytes(alloc, chain, call),
+        "seek" | "seek end" | "write" => {
+            let number = chain_moved(alloc, chain, call)?;
+            Ok(format!(in alloc; "{number}")?)
         }
-        "seek" => return Ok(format!(in alloc; "{}", chain.seek(SeekFrom::Start(number))?)?),
-        "seek end" => return Ok(format!(in alloc;
-            "{}",
-            chain.seek(SeekFrom::End(call.number(1)))?
-        )?),
-        "write" => return Ok(format!(in alloc; "{}", chain.write(&bytes_at(alloc, call, 1)?)?)?),
-        "set len" => chain.set_len(number)?,
-        "zero tail" => chain.zero_tail(number)?,
-        "free" => chain.free()?,
-        _ => {}
+        _ => {
+            chain_resized(chain, call)?;
+            Ok(format!(in alloc; "{} bytes in {}", chain.len(), chain.num_sectors())?)
+        }
     }
-    Ok(format!(in alloc; "{} bytes in {}", chain.len(), chain.num_sectors())?)
+}
+
+fn chain_bytes(
+    alloc: Global,
+    chain: &mut Chain<'_, Allocator<MemoryMedium>>,
+    call: &Row,
+) -> Result<String, Error> {
+    let mut buffer = bytes_at(alloc, call, 1)?;
+    let count = chain.read(&mut buffer)?;
+    Ok(format!(in alloc; "{count} {}", runs(alloc, &buffer)?)?)
+}
+
+// A number of a call: of the second cell, which is the greatest where it is none.
+fn number_of(call: &Row) -> u64 {
+    u64::try_from(call.number(1)).unwrap_or(u64::MAX)
+}
+
+fn chain_moved(
+    alloc: Global,
+    chain: &mut Chain<'_, Allocator<MemoryMedium>>,
+    call: &Row,
+) -> Result<u64, Error> {
+    match call.call() {
+        "seek" => chain.seek(SeekFrom::Start(number_of(call))),
+        "seek end" => chain.seek(SeekFrom::End(call.number(1))),
+        _ => Ok(chain.write(&bytes_at(alloc, call, 1)?)? as u64),
+    }
+}
+
+fn chain_resized(chain: &mut Chain<'_, Allocator<MemoryMedium>>, call: &Row) -> Result<(), Error> {
+    match call.call() {
+        "set len" => chain.set_len(number_of(call)),
+        "zero tail" => chain.zero_tail(number_of(call)),
+        "free" => chain.free(),
+        "tell" => Ok(()),
+        _ => Err(Error::NotFound),
+    }
 }
 
 // Calls in a row on one chain as a list of bytes.
@@ -205,19 +234,29 @@ fn of_owned(alloc: Global, file: &mut Allocator<MemoryMedium>, row: &Row) -> Res
     let mut text = copied(alloc, "chain:")?;
     for cell in row.list(2) {
         let call = Row::of(alloc, cell)?;
-        let at = u64::try_from(call.number(1)).unwrap_or(0);
         let mut bytes = bytes_at(alloc, &call, 2)?;
-        match call.call() {
-            "write" => write_chain(file, &mut links, at, &bytes, SectorInit::Zero)?,
-            "overwrite" => overwrite_chain(file, &links, at, &bytes)?,
-            "read" => read_chain(file, &links, at, &mut bytes)?,
-            "set len" => set_chain_len(file, &mut links, at, SectorInit::Zero)?,
-            _ => free_chain(file, &mut links)?,
-        }
+        owned_call(file, &mut links, &call, &mut bytes)?;
         let told = format!(in alloc; " {} {:?}", shown(alloc, &bytes)?, links.sector_ids())?;
         text.push_str(told.as_str())?;
     }
     Ok(text)
+}
+
+fn owned_call(
+    file: &mut Allocator<MemoryMedium>,
+    links: &mut Links,
+    call: &Row,
+    bytes: &mut [u8],
+) -> Result<(), Error> {
+    let at = number_of(call);
+    match call.call() {
+        "write" => write_chain(file, links, at, bytes, SectorInit::Zero),
+        "overwrite" => overwrite_chain(file, links, at, bytes),
+        "read" => read_chain(file, links, at, bytes),
+        "set len" => set_chain_len(file, links, at, SectorInit::Zero),
+        "free" => free_chain(file, links),
+        _ => Err(Error::NotFound),
+    }
 }
 
 // What the plain reader makes of the bytes: whether its tables are those in memory, and the mini stream.

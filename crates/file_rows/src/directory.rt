@@ -65,34 +65,64 @@ fn of_directory(
     row: &Row,
 ) -> Result<String, Error> {
     match row.call() {
+        "find" | "has" | "bytes" => found(alloc, letters, directory, row),
+        "insert" => {
+            let id = inserted(letters, directory, row)?;
+            Ok(format!(in alloc; "{id}")?)
+        }
+        "begin" => {
+            let start = directory.allocator_mut().begin_chain(SectorInit::Zero)?;
+            Ok(format!(in alloc; "{start}")?)
+        }
+        "strict" | "lenient" | "tell" => {
+            directory_told(alloc, directory, version_at(row, 1) == directory.version())
+        }
+        _ => {
+            changed(letters, directory, row)?;
+            copied(alloc, "done")
+        }
+    }
+}
+
+fn found(
+    alloc: Global,
+    letters: &CaseMapper,
+    directory: &Directory<MemoryMedium>,
+    row: &Row,
+) -> Result<String, Error> {
+    match row.call() {
         "find" => {
             let names = texts_at(alloc, row, 1)?;
             let found = directory.stream_id_for_name_chain(letters, &names);
             Ok(format!(in alloc; "{found:?}")?)
         }
         "has" => told(alloc, directory.has_dir_entry(id_at(row))),
-        "bytes" => part_of(alloc, directory.inner().bytes(), row),
-        "insert" => {
-            let (name, kind) = (row.text(2), kind_of(row.text(3)));
-            let (parent, moment) = (id_at(row), Timestamp::zero());
-            let id = directory.insert_dir_entry(letters, parent, name, kind, moment)?;
-            Ok(format!(in alloc; "{id}")?)
-        }
-        "remove" => {
-            directory.remove_dir_entry(letters, id_at(row), row.text(2))?;
-            copied(alloc, "done")
-        }
-        "change" => changed(alloc, directory, row),
-        "begin" => {
-            let start = directory.allocator_mut().begin_chain(SectorInit::Zero)?;
-            Ok(format!(in alloc; "{start}")?)
-        }
+        _ => part_of(alloc, directory.inner().bytes(), row),
+    }
+}
+
+fn inserted(
+    letters: &CaseMapper,
+    directory: &mut Directory<MemoryMedium>,
+    row: &Row,
+) -> Result<u32, Error> {
+    let kind = kind_of(row.text(3));
+    directory.insert_dir_entry(letters, id_at(row), row.text(2), kind, Timestamp::zero())
+}
+
+fn changed(
+    letters: &CaseMapper,
+    directory: &mut Directory<MemoryMedium>,
+    row: &Row,
+) -> Result<(), Error> {
+    match row.call() {
+        "remove" => directory.remove_dir_entry(letters, id_at(row), row.text(2)),
+        "change" => entry_changed(directory, row),
         "commit" => {
             directory.flush()?;
-            directory.commit()?;
-            copied(alloc, "done")
+            directory.commit()
         }
-        _ => directory_told(alloc, directory, version_at(row, 1) == directory.version()),
+        _ => Err(Error::NotFound),
     }
 }
 
@@ -121,22 +151,16 @@ fn directory_told(
 }
 
 // Changes an entry that is there; the root, where the number is negative.
-fn changed(
-    alloc: Global,
-    directory: &mut Directory<MemoryMedium>,
-    row: &Row,
-) -> Result<String, Error> {
+fn entry_changed(directory: &mut Directory<MemoryMedium>, row: &Row) -> Result<(), Error> {
     let change = change_of(row);
     if row.number(1) < 0 {
-        directory.with_root_dir_entry_mut(change)?;
-        return copied(alloc, "done");
+        return directory.with_root_dir_entry_mut(change);
     }
     let id = id_at(row);
     if !directory.has_dir_entry(id) {
         return Err(Error::NotFound);
     }
-    directory.with_dir_entry_mut(id, change)?;
-    copied(alloc, "done")
+    directory.with_dir_entry_mut(id, change)
 }
 
 fn change_of(row: &Row) -> EntryChange {

@@ -44,27 +44,40 @@ fn of_file(
     row: &Row,
 ) -> Result<String, Error> {
     match row.call() {
-        "none" => {
-            let none = MiniLinks::new(alloc);
-            let mut buffer = bytes_at(alloc, row, 1)?;
-            let start = none.start_sector_id();
-            let read = file.read_mini_chain(&none, 0, &mut buffer);
-            Ok(format!(in alloc; "from {start:x}: {read:?}")?)
-        }
+        "none" => none_told(alloc, file, row),
         "open" => links_told(alloc, &links_of(file, row)?),
-        "read" => {
-            let links = links_of(file, row)?;
-            let mut buffer = bytes_at(alloc, row, 3)?;
-            let at = u64::try_from(row.number(2)).unwrap_or(0);
-            file.read_mini_chain(&links, at, &mut buffer)?;
-            runs(alloc, &buffer)
-        }
+        "read" => bytes_read(alloc, file, row),
         "sound" => {
             let len = file.inner().bytes().len() as u64;
             told(alloc, is_sound(alloc, file, len)?)
         }
-        _ => file_told(alloc, file),
+        "strict" | "lenient" => file_told(alloc, file),
+        _ => Err(Error::NotFound),
     }
+}
+
+// A chain of no mini sectors.
+fn none_told(
+    alloc: Global,
+    file: &mut MiniAllocator<MemoryMedium>,
+    row: &Row,
+) -> Result<String, Error> {
+    let none = MiniLinks::new(alloc);
+    let mut buffer = bytes_at(alloc, row, 1)?;
+    let read = file.read_mini_chain(&none, 0, &mut buffer);
+    Ok(format!(in alloc; "from {:x}: {read:?}", none.start_sector_id())?)
+}
+
+fn bytes_read(
+    alloc: Global,
+    file: &mut MiniAllocator<MemoryMedium>,
+    row: &Row,
+) -> Result<String, Error> {
+    let links = links_of(file, row)?;
+    let mut buffer = bytes_at(alloc, row, 3)?;
+    let at = u64::try_from(row.number(2)).unwrap_or(0);
+    file.read_mini_chain(&links, at, &mut buffer)?;
+    runs(alloc, &buffer)
 }
 
 fn links_of(file: &MiniAllocator<MemoryMedium>, row: &Row) -> Result<MiniLinks, Error> {

@@ -4,7 +4,7 @@ ghost use Rattle.std.specs.Rc.{rc_value};
 ghost use Rattle.msi_tables.specs.Held.{heading_of};
 ghost use Rattle.msi_tables.specs.Row.{ValueRow};
 
-use crate::database::rows_text;
+use crate::pool::rows_text;
 use cfb_medium::Error;
 use command_file::{Command, read_commands};
 use json_parts::value_of;

@@ -1,5 +1,5 @@
 //! Tables in memory, and commands on them.
-use crate::pool::{cell_text, of_pool};
+use crate::pool::{of_pool, rows_text};
 use acceptance::shelf::Shelf;
 use cfb_medium::Error;
 use command_file::{Command, read_commands};
@@ -144,19 +144,5 @@ fn values_text(alloc: Global, pool: &StringPool, row: &[ValueRef]) -> Result<Str
         text.push_str(format!(in alloc; " {value}")?.as_str())?;
     }
     text.push_str(" )")?;
-    Ok(text)
-}
-
-/// Rows of cells as a text.
-pub fn rows_text(alloc: Global, rows: &[Vec<ValueRef>]) -> Result<String, Error> {
-    let mut text = copied(alloc, "rows:")?;
-    for row in rows {
-        text.push_str(" (")?;
-        for cell in row.iter() {
-            text.push(' ')?;
-            text.push_str(cell_text(alloc, *cell)?.as_str())?;
-        }
-        text.push_str(" )")?;
-    }
     Ok(text)
 }

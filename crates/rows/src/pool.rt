@@ -183,8 +183,8 @@ fn of_cell(alloc: Global, pool: &mut StringPool, row: &Row) -> Result<String, Er
     Ok(format!(in alloc; "{value}")?)
 }
 
-/// A cell as a text: a text by its place in the pool.
-pub fn cell_text(alloc: Global, cell: ValueRef) -> Result<String, Error> {
+// A cell as a text: a text by its place in the pool.
+fn cell_text(alloc: Global, cell: ValueRef) -> Result<String, Error> {
     Ok(match cell {
         ValueRef::Null => format!(in alloc; "NULL")?,
         ValueRef::Int(number) => format!(in alloc; "{number}")?,
@@ -201,4 +201,18 @@ fn stream(alloc: Global, pool: &StringPool, row: &Row) -> Result<String, Error> 
         pool.write_data(&mut bytes)?;
     }
     shown(alloc, &bytes)
+}
+
+/// Rows of cells as a text.
+pub fn rows_text(alloc: Global, rows: &[Vec<ValueRef>]) -> Result<String, Error> {
+    let mut text = copied(alloc, "rows:")?;
+    for row in rows {
+        text.push_str(" (")?;
+        for cell in row.iter() {
+            text.push(' ')?;
+            text.push_str(cell_text(alloc, *cell)?.as_str())?;
+        }
+        text.push_str(" )")?;
+    }
+    Ok(text)
 }

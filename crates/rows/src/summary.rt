@@ -62,21 +62,21 @@ fn set_told(alloc: Global, set: &PropertySet) -> Result<String, Error> {
     Ok(format!(in alloc; "{count} properties, {sections} sections, texts give back {gives}")?)
 }
 
-// The value of a cell, of the type that the cell before names.
-fn value_at(alloc: Global, row: &Row, place: usize) -> Result<PropertyValue, Error> {
-    let number = row.number(place);
-    Ok(match row.text(place - 1) {
+// The value of a property, of the type that the row names before it.
+fn value_of(alloc: Global, row: &Row) -> Result<PropertyValue, Error> {
+    let number = row.number(3);
+    Ok(match row.text(2) {
         "I1" => PropertyValue::I1(i8::try_from(number).unwrap_or(0)),
         "I2" => PropertyValue::I2(i16::try_from(number).unwrap_or(0)),
         "I4" => PropertyValue::I4(i32::try_from(number).unwrap_or(0)),
-        _ => PropertyValue::LpStr(copied(alloc, row.text(place))?),
+        _ => PropertyValue::LpStr(copied(alloc, row.text(3))?),
     })
 }
 
 fn changed_set(alloc: Global, set: &mut PropertySet, row: &Row) -> Result<String, Error> {
     let number = u32::try_from(row.number(1)).unwrap_or(0);
     match row.call() {
-        "put" => set.set(number, value_at(alloc, row, 3)?)?,
+        "put" => set.set(number, value_of(alloc, row)?)?,
         "set page" => set.set_codepage(page_of(row)?)?,
         _ => set.remove(number),
     }
