@@ -36,22 +36,17 @@ impl<'a> Programs<'a> {
 impl Subject for Programs<'_> {
     fn answer(&mut self, alloc: Global, row: &Row) -> Result<String, Error> {
         match row.call() {
-            "msidb" => ran(self.rt, &self.folder, row, &mut Vec::new(alloc)),
+            "msidb" => ran(self.rt, &self.folder, row),
             "msidb unheard" => unheard(self.rt, &self.folder, row),
             "keep" => {
                 self.kept = self.folder.read(self.rt, row.text(1))?;
                 copied(alloc, "done")
             }
-            "is as kept" => {
-                let bytes = self.folder.read(self.rt, row.text(1))?;
-                told(alloc, bytes == self.kept)
-            }
+            "is as kept" => told(alloc, self.folder.read(self.rt, row.text(1))? == self.kept),
             "use" => {
-                let home = self.folder.path_of(self.rt, row.text(1))?;
-                let log = self.folder.path_of(self.rt, row.text(2))?;
-                self.device = Some(FileDevice::create(self.rt, home.as_str(), log.as_str())?);
-                let used = FileDevice::in_use(self.rt, home.as_str(), log.as_str());
-                Ok(format!(in alloc; "{used:?}")?)
+                let (device, used) = used(self.rt, &self.folder, row)?;
+                self.device = Some(device);
+                Ok(used)
             }
             "leave" => {
                 self.device = None;
@@ -59,13 +54,18 @@ impl Subject for Programs<'_> {
             }
             "answer" => answer(alloc, row),
             "streams" => streams(alloc, &self.folder.read(self.rt, row.text(1))?),
-            "end" => {
-                self.folder.remove(self.rt)?;
-                copied(alloc, "done")
-            }
             _ => of_files(self.rt, &self.folder, row),
         }
     }
+}
+
+// A device over two files, and what another program finds in use of them.
+fn used(rt: &HostRuntime, folder: &Folder, row: &Row) -> Result<(FileDevice, String), Error> {
+    let home = folder.path_of(rt, row.text(1))?;
+    let log = folder.path_of(rt, row.text(2))?;
+    let device = FileDevice::create(rt, home.as_str(), log.as_str())?;
+    let used = FileDevice::in_use(rt, home.as_str(), log.as_str());
+    Ok((device, format!(in rt.alloc(); "{used:?}")?))
 }
 
 // Files are written, shown and taken away.
@@ -75,6 +75,7 @@ fn of_files(rt: &HostRuntime, folder: &Folder, row: &Row) -> Result<String, Erro
         "text" => folder.write(rt, name, row.text(2).as_bytes())?,
         "bytes" => folder.write(rt, name, &bytes_at(rt.alloc(), row, 2)?)?,
         "remove" => folder.take(rt, name)?,
+        "end" => folder.remove(rt)?,
         "show" => return runs(rt.alloc(), &folder.read(rt, name)?),
         "length" => return Ok(format!(in rt.alloc(); "{}", folder.read(rt, name)?.len())?),
         _ => return Err(Error::NotFound),
@@ -94,22 +95,22 @@ fn words_of(rt: &HostRuntime, folder: &Folder, row: &Row) -> Result<Vec<String>,
 }
 
 // The status of the program, what it answers, and what it says went wrong.
-fn ran(rt: &HostRuntime, folder: &Folder, row: &Row, out: &mut Vec<u8>) -> Result<String, Error> {
+fn ran(rt: &HostRuntime, folder: &Folder, row: &Row) -> Result<String, Error> {
     let words = words_of(rt, folder, row)?;
-    let mut err = Vec::new(rt.alloc());
-    let status = msidb(rt, &words, out, &mut err, false);
-    let said = said(rt, folder, &err)?;
+    let (mut out, mut err) = (Vec::new(rt.alloc()), Vec::new(rt.alloc()));
+    let status = msidb(rt, &words, &mut out, &mut err, false);
     if row.flag(3) {
         let (is_answer, is_said) = (!out.is_empty(), !err.is_empty());
         return Ok(format!(in rt.alloc(); "{status}, answers {is_answer}, says {is_said}")?);
     }
-    let answered = std::str::from_utf8(out).unwrap_or("no text");
+    let said = said(rt, folder, &err)?;
+    let answered = str::from_utf8(&out).unwrap_or("no text");
     Ok(format!(in rt.alloc(); "{status} {answered:?} {said:?}")?)
 }
 
 // What went wrong, with the names of files alone.
 fn said(rt: &HostRuntime, folder: &Folder, err: &[u8]) -> Result<String, Error> {
-    let text = std::str::from_utf8(err).unwrap_or("no text");
+    let text = str::from_utf8(err).unwrap_or("no text");
     let front = folder.path_of(rt, "")?;
     Ok(text.replace(rt.alloc(), front.as_str(), "")?)
 }
