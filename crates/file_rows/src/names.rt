@@ -109,14 +109,14 @@ fn new_entry(name: &str, obj_type: ObjType) -> Result<DirEntry, Error> {
     Ok(DirEntry::new(name, obj_type, Timestamp::from_unix(0, 0)))
 }
 
+// The entry that bytes begin with: with none behind it, and where it is refused, with none taken.
 fn entry_read(alloc: Global, row: &Row, version: Version) -> Result<DirEntry, Error> {
     let bytes = bytes_at(alloc, row, 1)?;
     let mut reader = bytes.as_slice();
-    let entry = DirEntry::read_from(&mut reader, version)?;
-    if reader.is_empty() {
-        Ok(entry)
-    } else {
-        Err(Error::AlreadyExists)
+    match DirEntry::read_from(&mut reader, version) {
+        Ok(entry) if reader.is_empty() => Ok(entry),
+        Err(error) if reader.len() == bytes.len() => Err(error),
+        _ => Err(Error::Failed),
     }
 }
 
