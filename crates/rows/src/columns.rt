@@ -48,11 +48,22 @@ impl Subject for Columns {
 
 // The table that a command makes.
 fn table_of(alloc: Global, row: &Row) -> Result<Rc<Table>, Error> {
-    let mut commands = read_commands(alloc, row.json(alloc)?.as_str())?;
-    match commands.pop() {
-        Some(Command::CreateTable(name, columns)) => Table::new(alloc, &name, columns, false),
+    let commands = read_commands(alloc, row.json(alloc)?.as_str())?;
+    match commands.as_slice() {
+        [Command::CreateTable(name, columns)] => {
+            Table::new(alloc, name, columns_copied(alloc, columns)?, false)
+        }
         _ => Err(Error::InvalidInput),
     }
+}
+
+/// Copies of columns.
+pub fn columns_copied(alloc: Global, columns: &[Column]) -> Result<Vec<Column>, Error> {
+    let mut copies = Vec::new(alloc);
+    for column in columns {
+        copies.push(column.clone(alloc)?)?;
+    }
+    Ok(copies)
 }
 
 // A type by its name; a text's by its length.

@@ -1,4 +1,5 @@
 //! Tables in memory, and commands on them.
+use crate::columns::columns_copied;
 use crate::pool::{of_pool, rows_text};
 use acceptance::shelf::Shelf;
 use cfb_medium::Error;
@@ -35,8 +36,8 @@ impl Database {
     }
 
     // Makes a table, in place of one of its name.
-    fn create(&mut self, alloc: Global, name: &str, columns: Vec<Column>) -> Result<String, Error> {
-        let table = Table::new(alloc, name, columns, false)?;
+    fn create(&mut self, alloc: Global, name: &str, columns: &[Column]) -> Result<String, Error> {
+        let table = Table::new(alloc, name, columns_copied(alloc, columns)?, false)?;
         self.tables.retain(|held| held.table.name() != name);
         self.tables.push(Held {
             table,
@@ -61,12 +62,12 @@ impl Subject for Database {
         if !row.call().is_empty() {
             return of_pool(alloc, &mut self.pool, row);
         }
-        let mut commands = read_commands(alloc, row.json(alloc)?.as_str())?;
-        match commands.pop() {
-            Some(Command::CreateTable(name, columns)) => self.create(alloc, &name, columns),
-            Some(Command::Select(select)) => self.select(alloc, &select),
-            Some(command) => self.change(alloc, &command),
-            None => Err(Error::NotFound),
+        let commands = read_commands(alloc, row.json(alloc)?.as_str())?;
+        match commands.as_slice() {
+            [Command::CreateTable(name, columns)] => self.create(alloc, name, columns),
+            [Command::Select(select)] => self.select(alloc, select),
+            [command] => self.change(alloc, command),
+            _ => Err(Error::NotFound),
         }
     }
 }
