@@ -1,23 +1,22 @@
 //! What a commit leaves, and how often it writes.
 use crate::faulty::FaultyDevice;
 use crate::logs::{device, open_log};
-use cfb_medium::{Medium, ReadMedium};
+use cfb_medium::{Error, Medium, ReadMedium};
 use staged::{Recovered, Staged, Which, recover};
 use std::alloc::Global;
-use std::test::Fail;
 
 // A staged medium over a device that counts its calls and fails none.
-fn counted(alloc: Global, log: &[u8]) -> Result<Staged<FaultyDevice>, Fail> {
+fn counted(alloc: Global, log: &[u8]) -> Result<Staged<FaultyDevice>, Error> {
     let device = FaultyDevice::new(device(alloc, &[], log)?, u64::MAX);
     match Staged::new(alloc, device) {
         Ok(staged) => Ok(staged),
-        Err((_, error)) => Err(Fail::new(error)),
+        Err((_, error)) => Err(error),
     }
 }
 
 #[test]
-fn a_first_commit_writes_one_page_behind_a_log(rt: HostRuntime) -> Result<(), Fail> {
-    let mut staged = counted(rt.alloc(), &[])?;
+fn a_first_commit_writes_one_page_behind_a_log(rt: HostRuntime) {
+    let mut staged = counted(rt.alloc(), &[]).expect(&rt, "no refusal");
     assert_eq!(rt; staged.write_at(0, &[1]), Ok(()));
     assert_eq!(rt; staged.write_at(5, &[2]), Ok(()));
     assert_eq!(rt; staged.changed_pages(), 1);
@@ -30,11 +29,10 @@ fn a_first_commit_writes_one_page_behind_a_log(rt: HostRuntime) -> Result<(), Fa
     assert_eq!(rt; device.writes(Which::Log), 5);
     assert_eq!(rt; device.writes(Which::Home), 1);
     assert_eq!(rt; device.failures(), 0);
-    Ok(())
 }
 
 // How many device calls it takes to write a byte and commit this often.
-fn calls_of_commits(alloc: Global, commits: u64) -> Result<u64, Fail> {
+fn calls_of_commits(alloc: Global, commits: u64) -> Result<u64, Error> {
     let mut staged = counted(alloc, &[])?;
     staged.write_at(0, &[1])?;
     for _ in 0..commits {
@@ -44,28 +42,29 @@ fn calls_of_commits(alloc: Global, commits: u64) -> Result<u64, Fail> {
 }
 
 #[test]
-fn a_second_commit_makes_no_device_call(rt: HostRuntime) -> Result<(), Fail> {
-    let once = calls_of_commits(rt.alloc(), 1)?;
+fn a_second_commit_makes_no_device_call(rt: HostRuntime) {
+    let once = calls_of_commits(rt.alloc(), 1).expect(&rt, "no refusal");
     assert!(rt; once > 0);
-    assert_eq!(rt; calls_of_commits(rt.alloc(), 2)?, once);
-    Ok(())
+    assert_eq!(rt;
+        calls_of_commits(rt.alloc(), 2).expect(&rt, "no refusal"),
+        once
+    );
 }
 
 #[test]
-fn a_flush_reaches_neither_file(rt: HostRuntime) -> Result<(), Fail> {
-    let mut staged = counted(rt.alloc(), &[])?;
+fn a_flush_reaches_neither_file(rt: HostRuntime) {
+    let mut staged = counted(rt.alloc(), &[]).expect(&rt, "no refusal");
     assert_eq!(rt; staged.write_at(0, &[1]), Ok(()));
     assert_eq!(rt; staged.flush(), Ok(()));
     assert_eq!(rt; staged.changed_pages(), 1);
     let device = staged.into_device();
     assert_eq!(rt; device.bytes(Which::Home).len(), 0);
     assert_eq!(rt; device.bytes(Which::Log).len(), 0);
-    Ok(())
 }
 
 #[test]
-fn a_log_of_one_byte_gets_a_closed_gate_first(rt: HostRuntime) -> Result<(), Fail> {
-    let mut staged = counted(rt.alloc(), &[1])?;
+fn a_log_of_one_byte_gets_a_closed_gate_first(rt: HostRuntime) {
+    let mut staged = counted(rt.alloc(), &[1]).expect(&rt, "no refusal");
     assert_eq!(rt; staged.write_at(0, &[1]), Ok(()));
     assert_eq!(rt; staged.write_at(600, &[2]), Ok(()));
     assert_eq!(rt; staged.changed_pages(), 2);
@@ -74,30 +73,28 @@ fn a_log_of_one_byte_gets_a_closed_gate_first(rt: HostRuntime) -> Result<(), Fai
     assert_eq!(rt; device.writes(Which::Log), 6);
     assert_eq!(rt; device.writes(Which::Home), 2);
     assert_eq!(rt; device.bytes(Which::Home).len(), 601);
-    Ok(())
 }
 
 #[test]
-fn a_longer_log_is_written_over(rt: HostRuntime) -> Result<(), Fail> {
-    let mut staged = counted(rt.alloc(), &[0; 600])?;
+fn a_longer_log_is_written_over(rt: HostRuntime) {
+    let mut staged = counted(rt.alloc(), &[0; 600]).expect(&rt, "no refusal");
     assert_eq!(rt; staged.write_at(0, &[1]), Ok(()));
     assert_eq!(rt; staged.commit(), Ok(()));
     let device = staged.into_device();
     assert_eq!(rt; device.writes(Which::Log), 4);
     assert_eq!(rt; device.bytes(Which::Log).len(), 600);
-    Ok(())
 }
 
 #[test]
-fn a_recovered_device_is_read_and_changed(rt: HostRuntime) -> Result<(), Fail> {
+fn a_recovered_device_is_read_and_changed(rt: HostRuntime) {
     let alloc = rt.alloc();
-    let log = open_log(alloc, 520, &[(0, 3), (1, 4)])?;
-    let mut device = device(alloc, &[7], log.as_slice())?;
-    let found = recover(&mut device)?;
+    let log = open_log(alloc, 520, &[(0, 3), (1, 4)]).expect(&rt, "no refusal");
+    let mut device = device(alloc, &[7], log.as_slice()).expect(&rt, "no refusal");
+    let found = recover(&mut device).expect(&rt, "no refusal");
     assert_eq!(rt; found, Recovered::Applied(2));
     let mut staged = match Staged::new(alloc, device) {
         Ok(staged) => staged,
-        Err((_, error)) => return Err(Fail::new(error)),
+        Err((_, error)) => panic!(&rt; "{error:?}"),
     };
     assert_eq!(rt; staged.len(), Ok(520));
     assert_eq!(rt; staged.write_at(511, &[5, 6]), Ok(()));
@@ -109,21 +106,16 @@ fn a_recovered_device_is_read_and_changed(rt: HostRuntime) -> Result<(), Fail> {
     let mut device = staged.into_device();
     assert_eq!(rt; recover(&mut device), Ok(Recovered::Closed));
     assert_eq!(rt; device.bytes(Which::Home).len(), 520);
-    Ok(())
 }
 
 #[test]
-fn an_end_past_the_last_place_is_refused(rt: HostRuntime) -> Result<(), Fail> {
-    let mut staged = counted(rt.alloc(), &[])?;
+fn an_end_past_the_last_place_is_refused(rt: HostRuntime) {
+    let mut staged = counted(rt.alloc(), &[]).expect(&rt, "no refusal");
     assert_eq!(rt;
         staged.write_at((1 << 63) - 1, &[1]),
-        Err(cfb_medium::Error::InvalidInput)
+        Err(Error::InvalidInput)
     );
-    assert_eq!(rt;
-        staged.write_at(u64::MAX, &[1]),
-        Err(cfb_medium::Error::InvalidInput)
-    );
+    assert_eq!(rt; staged.write_at(u64::MAX, &[1]), Err(Error::InvalidInput));
     assert_eq!(rt; staged.len(), Ok(0));
     assert_eq!(rt; staged.changed_pages(), 0);
-    Ok(())
 }

@@ -5,31 +5,26 @@ use cfb_medium::{Error, Medium, ReadMedium};
 use staged::{Recovered, Staged, Which, recover};
 use std::alloc::Global;
 use std::process::Abort;
-use std::test::Fail;
 
 // More device calls than any of these runs makes.
 const MANY: u64 = 50;
 
 // Recovers; a first fault is the device's, and the next recovery succeeds.
-fn recovers(rt: &impl Abort, device: &mut FaultyDevice) -> Result<Recovered, Fail> {
+fn recovers(rt: &impl Abort, device: &mut FaultyDevice) -> Recovered {
     match recover(device) {
-        Ok(found) => Ok(found),
+        Ok(found) => found,
         Err(error) => {
             assert_eq!(rt; error, Error::Device);
             assert_eq!(rt; device.failures(), 1);
-            Ok(recover(device)?)
+            recover(device).expect(rt, "no refusal")
         }
     }
 }
 
 // Opens; a first fault is the device's, and hands it back.
-fn opens(
-    rt: &impl Abort,
-    alloc: Global,
-    device: FaultyDevice,
-) -> Result<Staged<FaultyDevice>, Fail> {
+fn opens(rt: &impl Abort, alloc: Global, device: FaultyDevice) -> Staged<FaultyDevice> {
     let device = match Staged::new(alloc, device) {
-        Ok(staged) => return Ok(staged),
+        Ok(staged) => return staged,
         Err((device, error)) => {
             assert_eq!(rt; error, Error::Device);
             assert_eq!(rt; device.failures(), 1);
@@ -37,39 +32,33 @@ fn opens(
         }
     };
     match Staged::new(alloc, device) {
-        Ok(staged) => Ok(staged),
-        Err((_, error)) => Err(Fail::new(error)),
+        Ok(staged) => staged,
+        Err((_, error)) => panic!(rt; "{error:?}"),
     }
 }
 
 // Writes; a first fault is the device's, leaves all as before, and the next write succeeds.
-fn writes(
-    rt: &impl Abort,
-    staged: &mut Staged<FaultyDevice>,
-    at: u64,
-    bytes: &[u8],
-) -> Result<(), Fail> {
+fn writes(rt: &impl Abort, staged: &mut Staged<FaultyDevice>, at: u64, bytes: &[u8]) {
     let pages = staged.changed_pages();
-    let len = staged.len()?;
+    let len = staged.len().expect(rt, "no refusal");
     if let Err(error) = staged.write_at(at, bytes) {
         assert_eq!(rt; error, Error::Device);
         assert!(rt; !staged.has_failed());
         assert_eq!(rt; staged.changed_pages(), pages);
         assert_eq!(rt; staged.len(), Ok(len));
-        staged.write_at(at, bytes)?;
+        staged.write_at(at, bytes).expect(rt, "no refusal");
     }
-    Ok(())
 }
 
 // Reads a byte; a first fault is the device's, and the next read succeeds.
-fn reads(rt: &impl Abort, staged: &mut Staged<FaultyDevice>, at: u64) -> Result<u8, Fail> {
+fn reads(rt: &impl Abort, staged: &mut Staged<FaultyDevice>, at: u64) -> u8 {
     let mut byte = [0u8; 1];
     if let Err(error) = staged.read_at(at, &mut byte) {
         assert_eq!(rt; error, Error::Device);
         assert!(rt; !staged.has_failed());
-        staged.read_at(at, &mut byte)?;
+        staged.read_at(at, &mut byte).expect(rt, "no refusal");
     }
-    Ok(byte[0])
+    byte[0]
 }
 
 // A medium that has failed refuses every call.
@@ -84,51 +73,49 @@ fn is_failed(rt: &impl Abort, staged: &mut Staged<FaultyDevice>) {
 }
 
 // Commits; a fault is the device's, and the medium has failed. A recovery finds the bytes from before the commit or after it.
-fn commits(
-    rt: &impl Abort,
-    mut staged: Staged<FaultyDevice>,
-    before: &[u8],
-    after: &[u8],
-) -> Result<u64, Fail> {
+fn commits(rt: &impl Abort, mut staged: Staged<FaultyDevice>, before: &[u8], after: &[u8]) -> u64 {
     match staged.commit() {
         Ok(()) => {
             assert!(rt; !staged.has_failed());
             assert_eq!(rt; staged.changed_pages(), 0);
             let device = staged.into_device();
             assert_eq!(rt; device.bytes(Which::Home), after);
-            Ok(device.failures())
+            device.failures()
         }
         Err(error) => {
             assert_eq!(rt; error, Error::Device);
             is_failed(rt, &mut staged);
             let mut device = staged.into_device();
-            recover(&mut device)?;
+            recover(&mut device).expect(rt, "no refusal");
             let found = device.bytes(Which::Home);
             assert!(rt; found == before || found == after);
-            Ok(device.failures())
+            device.failures()
         }
     }
 }
 
 // A commit of one page onto an empty device.
-fn commit_one_page(rt: &impl Abort, alloc: Global, failing: u64) -> Result<u64, Fail> {
-    let mut device = FaultyDevice::new(device(alloc, &[], &[])?, failing);
-    assert_eq!(rt; recovers(rt, &mut device)?, Recovered::Closed);
-    let mut staged = opens(rt, alloc, device)?;
-    writes(rt, &mut staged, 0, &[1])?;
-    writes(rt, &mut staged, 5, &[2])?;
+fn commit_one_page(rt: &impl Abort, alloc: Global, failing: u64) -> u64 {
+    let mut device = FaultyDevice::new(device(alloc, &[], &[]).expect(rt, "no refusal"), failing);
+    assert_eq!(rt; recovers(rt, &mut device), Recovered::Closed);
+    let mut staged = opens(rt, alloc, device);
+    writes(rt, &mut staged, 0, &[1]);
+    writes(rt, &mut staged, 5, &[2]);
     commits(rt, staged, &[], &[1, 0, 0, 0, 0, 2])
 }
 
 // A commit of two pages over a home file and a log of one byte, after reads.
-fn commit_two_pages(rt: &impl Abort, alloc: Global, failing: u64) -> Result<u64, Fail> {
-    let mut device = FaultyDevice::new(device(alloc, &[7; 512], &[1])?, failing);
-    assert_eq!(rt; recovers(rt, &mut device)?, Recovered::Closed);
-    let mut staged = opens(rt, alloc, device)?;
-    assert_eq!(rt; reads(rt, &mut staged, 511)?, 7);
-    writes(rt, &mut staged, 511, &[8, 8])?;
+fn commit_two_pages(rt: &impl Abort, alloc: Global, failing: u64) -> u64 {
+    let mut device = FaultyDevice::new(
+        device(alloc, &[7; 512], &[1]).expect(rt, "no refusal"),
+        failing,
+    );
+    assert_eq!(rt; recovers(rt, &mut device), Recovered::Closed);
+    let mut staged = opens(rt, alloc, device);
+    assert_eq!(rt; reads(rt, &mut staged, 511), 7);
+    writes(rt, &mut staged, 511, &[8, 8]);
     assert_eq!(rt; staged.changed_pages(), 2);
-    assert_eq!(rt; reads(rt, &mut staged, 512)?, 8);
+    assert_eq!(rt; reads(rt, &mut staged, 512), 8);
     let mut after = [7u8; 513];
     after[511] = 8;
     after[512] = 8;
@@ -136,66 +123,68 @@ fn commit_two_pages(rt: &impl Abort, alloc: Global, failing: u64) -> Result<u64,
 }
 
 // A recovery of an open log.
-fn apply_a_log(rt: &impl Abort, alloc: Global, failing: u64) -> Result<u64, Fail> {
-    let log = open_log(alloc, 520, &[(0, 1), (1, 2)])?;
-    let mut device = FaultyDevice::new(device(alloc, &[7; 20], log.as_slice())?, failing);
-    recovers(rt, &mut device)?;
-    let mut home = Vec::from_slice(alloc, &[1; 512])?;
-    home.extend_from_slice(&[2; 8])?;
+fn apply_a_log(rt: &impl Abort, alloc: Global, failing: u64) -> u64 {
+    let log = open_log(alloc, 520, &[(0, 1), (1, 2)]).expect(rt, "no refusal");
+    let mut device = FaultyDevice::new(
+        device(alloc, &[7; 20], log.as_slice()).expect(rt, "no refusal"),
+        failing,
+    );
+    recovers(rt, &mut device);
+    let mut home = Vec::from_slice(alloc, &[1; 512]).expect(rt, "no refusal");
+    home.extend_from_slice(&[2; 8]).expect(rt, "no refusal");
     assert_eq!(rt; device.bytes(Which::Home), home.as_slice());
     assert!(rt; device.bytes(Which::Log).starts_with(b"\0MSISTG01"));
-    Ok(device.failures())
+    device.failures()
 }
 
 // A recovery of a malformed log.
-fn refuse_a_log(rt: &impl Abort, alloc: Global, failing: u64) -> Result<u64, Fail> {
-    let log = open_log(alloc, 1024, &[(0, 1)])?;
-    let mut device = FaultyDevice::new(device(alloc, &[7], log.as_slice())?, failing);
+fn refuse_a_log(rt: &impl Abort, alloc: Global, failing: u64) -> u64 {
+    let log = open_log(alloc, 1024, &[(0, 1)]).expect(rt, "no refusal");
+    let mut device = FaultyDevice::new(
+        device(alloc, &[7], log.as_slice()).expect(rt, "no refusal"),
+        failing,
+    );
     if recover(&mut device) != Err(Error::InvalidData) {
         assert_eq!(rt; device.failures(), 1);
         assert_eq!(rt; recover(&mut device), Err(Error::InvalidData));
     }
     assert_eq!(rt; device.bytes(Which::Home), [7].as_slice());
     assert_eq!(rt; device.bytes(Which::Log), log.as_slice());
-    Ok(device.failures())
+    device.failures()
 }
 
 #[test]
-fn a_commit_of_one_page_with_each_call_failing(rt: HostRuntime) -> Result<(), Fail> {
+fn a_commit_of_one_page_with_each_call_failing(rt: HostRuntime) {
     for failing in 0..MANY {
-        commit_one_page(&rt, rt.alloc(), failing)?;
+        commit_one_page(&rt, rt.alloc(), failing);
     }
-    assert_eq!(rt; commit_one_page(&rt, rt.alloc(), 0)?, 1);
-    assert_eq!(rt; commit_one_page(&rt, rt.alloc(), MANY)?, 0);
-    Ok(())
+    assert_eq!(rt; commit_one_page(&rt, rt.alloc(), 0), 1);
+    assert_eq!(rt; commit_one_page(&rt, rt.alloc(), MANY), 0);
 }
 
 #[test]
-fn a_commit_of_two_pages_with_each_call_failing(rt: HostRuntime) -> Result<(), Fail> {
+fn a_commit_of_two_pages_with_each_call_failing(rt: HostRuntime) {
     for failing in 0..MANY {
-        commit_two_pages(&rt, rt.alloc(), failing)?;
+        commit_two_pages(&rt, rt.alloc(), failing);
     }
-    assert_eq!(rt; commit_two_pages(&rt, rt.alloc(), 0)?, 1);
-    assert_eq!(rt; commit_two_pages(&rt, rt.alloc(), MANY)?, 0);
-    Ok(())
+    assert_eq!(rt; commit_two_pages(&rt, rt.alloc(), 0), 1);
+    assert_eq!(rt; commit_two_pages(&rt, rt.alloc(), MANY), 0);
 }
 
 #[test]
-fn a_recovery_with_each_call_failing(rt: HostRuntime) -> Result<(), Fail> {
+fn a_recovery_with_each_call_failing(rt: HostRuntime) {
     for failing in 0..MANY {
-        apply_a_log(&rt, rt.alloc(), failing)?;
+        apply_a_log(&rt, rt.alloc(), failing);
     }
-    assert_eq!(rt; apply_a_log(&rt, rt.alloc(), 0)?, 1);
-    assert_eq!(rt; apply_a_log(&rt, rt.alloc(), MANY)?, 0);
-    Ok(())
+    assert_eq!(rt; apply_a_log(&rt, rt.alloc(), 0), 1);
+    assert_eq!(rt; apply_a_log(&rt, rt.alloc(), MANY), 0);
 }
 
 #[test]
-fn a_refused_recovery_with_each_call_failing(rt: HostRuntime) -> Result<(), Fail> {
+fn a_refused_recovery_with_each_call_failing(rt: HostRuntime) {
     for failing in 0..MANY {
-        refuse_a_log(&rt, rt.alloc(), failing)?;
+        refuse_a_log(&rt, rt.alloc(), failing);
     }
-    assert_eq!(rt; refuse_a_log(&rt, rt.alloc(), 0)?, 1);
-    assert_eq!(rt; refuse_a_log(&rt, rt.alloc(), MANY)?, 0);
-    Ok(())
+    assert_eq!(rt; refuse_a_log(&rt, rt.alloc(), 0), 1);
+    assert_eq!(rt; refuse_a_log(&rt, rt.alloc(), MANY), 0);
 }

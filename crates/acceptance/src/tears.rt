@@ -1,7 +1,7 @@
 //! Files that a stop might leave, to be tried by `cut`.
+use cfb_medium::Error;
 use staged::{MemoryDevice, Which};
 use std::alloc::Global;
-use std::test::Fail;
 
 /// What is tried of a file, by what it held before and what it shows.
 #[derive(Clone, Copy)]
@@ -41,7 +41,7 @@ const LOGS: [Tear; 7] = [
 ];
 
 impl Tear {
-    fn of(self, alloc: Global, before: &[u8], shown: &[u8]) -> Result<Vec<u8>, Fail> {
+    fn of(self, alloc: Global, before: &[u8], shown: &[u8]) -> Result<Vec<u8>, Error> {
         match self {
             Tear::Before => Ok(Vec::from_slice(alloc, before)?),
             Tear::Shown => Ok(Vec::from_slice(alloc, shown)?),
@@ -57,7 +57,7 @@ impl Tear {
     }
 }
 
-fn half(alloc: Global, before: &[u8], shown: &[u8]) -> Result<Vec<u8>, Fail> {
+fn half(alloc: Global, before: &[u8], shown: &[u8]) -> Result<Vec<u8>, Error> {
     let middle = shown.len() / 2;
     let mut bytes = Vec::from_slice(alloc, &shown[..middle])?;
     if middle < before.len() {
@@ -66,7 +66,7 @@ fn half(alloc: Global, before: &[u8], shown: &[u8]) -> Result<Vec<u8>, Fail> {
     Ok(bytes)
 }
 
-fn filled(alloc: Global, before: &[u8], shown: &[u8]) -> Result<Vec<u8>, Fail> {
+fn filled(alloc: Global, before: &[u8], shown: &[u8]) -> Result<Vec<u8>, Error> {
     let mut bytes = Vec::new(alloc);
     for (at, byte) in shown.iter().enumerate() {
         let is_old = before.get(at) == Some(byte);
@@ -75,7 +75,7 @@ fn filled(alloc: Global, before: &[u8], shown: &[u8]) -> Result<Vec<u8>, Fail> {
     Ok(bytes)
 }
 
-fn with_first(alloc: Global, shown: &[u8], byte: u8) -> Result<Vec<u8>, Fail> {
+fn with_first(alloc: Global, shown: &[u8], byte: u8) -> Result<Vec<u8>, Error> {
     let mut bytes = Vec::from_slice(alloc, shown)?;
     if let Some(first) = bytes.first_mut() {
         *first = byte;
@@ -91,14 +91,14 @@ pub struct Pair {
 }
 
 impl Pair {
-    pub fn new(alloc: Global, home: &[u8], log: &[u8]) -> Result<Self, Fail> {
+    pub fn new(alloc: Global, home: &[u8], log: &[u8]) -> Result<Self, Error> {
         let home = Vec::from_slice(alloc, home)?;
         let log = Vec::from_slice(alloc, log)?;
         Ok(Pair { home, log })
     }
 
     /// A device of these files.
-    pub fn device(&self, alloc: Global) -> Result<MemoryDevice, Fail> {
+    pub fn device(&self, alloc: Global) -> Result<MemoryDevice, Error> {
         let home = Vec::from_slice(alloc, &self.home)?;
         let log = Vec::from_slice(alloc, &self.log)?;
         Ok(MemoryDevice::new(home, log))
@@ -116,7 +116,12 @@ fn holds(all: &[Vec<u8>], bytes: &[u8]) -> bool {
 }
 
 // What is tried of a file, each once.
-fn files(alloc: Global, tears: &[Tear], before: &[u8], shown: &[u8]) -> Result<Vec<Vec<u8>>, Fail> {
+fn files(
+    alloc: Global,
+    tears: &[Tear],
+    before: &[u8],
+    shown: &[u8],
+) -> Result<Vec<Vec<u8>>, Error> {
     let mut all = Vec::new(alloc);
     for tear in tears {
         let bytes = tear.of(alloc, before, shown)?;
@@ -134,7 +139,7 @@ fn push_left(
     home: &[u8],
     logs: &[Vec<u8>],
     all: &mut Vec<Pair>,
-) -> Result<(), Fail> {
+) -> Result<(), Error> {
     for log in logs {
         if device.cut(home, log)?.is_some() {
             all.push(Pair::new(alloc, home, log)?)?;
@@ -144,7 +149,7 @@ fn push_left(
 }
 
 /// Pairs that a stop may leave of a device that had these files before, each once.
-pub fn left(alloc: Global, device: &MemoryDevice, before: &Pair) -> Result<Vec<Pair>, Fail> {
+pub fn left(alloc: Global, device: &MemoryDevice, before: &Pair) -> Result<Vec<Pair>, Error> {
     let homes = files(alloc, &HOMES, &before.home, device.bytes(Which::Home))?;
     let logs = files(alloc, &LOGS, &before.log, device.bytes(Which::Log))?;
     let mut all = Vec::new(alloc);
@@ -155,7 +160,7 @@ pub fn left(alloc: Global, device: &MemoryDevice, before: &Pair) -> Result<Vec<P
 }
 
 /// Some such pairs, with half of the home file as it shows, for longer files.
-pub fn torn(alloc: Global, device: &MemoryDevice, before: &Pair) -> Result<Vec<Pair>, Fail> {
+pub fn torn(alloc: Global, device: &MemoryDevice, before: &Pair) -> Result<Vec<Pair>, Error> {
     let mut all = Vec::new(alloc);
     let home = Tear::Half.of(alloc, &before.home, device.bytes(Which::Home))?;
     for tear in [Tear::Shown, Tear::Filled, Tear::First(1)] {

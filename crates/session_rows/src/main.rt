@@ -1,0 +1,31 @@
+//! Answers rows of data on logs, sessions and the program `msidb`: a row names a call and what it is given; what is printed beneath
+//! it is the answer.
+#![tactic(auto)]
+
+mod folder;
+mod logs;
+mod programs;
+
+use anyhow::{Result, bail};
+use logs::Logs;
+use programs::Programs;
+use row_data::print_rows;
+use std::{env, fs};
+
+fn main(rt: HostRuntime) -> Result<()> {
+    for path in env::args(&rt)?.skip(1) {
+        print_file(&rt, path.as_str())?;
+    }
+    Ok(())
+}
+
+// Prints a file of rows with their answers.
+fn print_file(rt: &HostRuntime, path: &str) -> Result<()> {
+    let text = fs::read_to_string(rt, path)?;
+    println!(rt; "== {path}")?;
+    match path {
+        "logs.rows" => print_rows(rt, text.as_str(), Logs::new(rt.alloc())),
+        "programs.rows" => print_rows(rt, text.as_str(), Programs::new(rt)?),
+        _ => bail!("{path}: no such rows"),
+    }
+}
