@@ -84,14 +84,14 @@ module _ (bytes : List ℕ) (l : Layout) (letters : Letters) (tree : Tree) (s : 
       let within = length-take count (fat_in l.version bytes l.fat_sectors) in
       let covers = judged.covers in record {
         once = once_by_times (l.difat_sectors ++ l.fat_sectors) (λ n.
-        let most = judged.can.once n in
-        let one = times_append n (f ++ d ++ l.directory_sectors ++ l.mini_fat_sectors ++ l.mini_stream_sectors) judged.sectors in
-        let more = times_append n (f ++ d ++ l.directory_sectors ++ l.mini_fat_sectors) l.mini_stream_sectors in
-        let minis = times_append n (f ++ d ++ l.directory_sectors) l.mini_fat_sectors in
-        let entries = times_append n (f ++ d) l.directory_sectors in
-        let both = times_append n f d in
-        let turned = times_append n d f in
-        omega (arith, most, one, more, minis, entries, both, turned));
+            let most = judged.can.once n in
+            let one = times_append n (f ++ d ++ l.directory_sectors ++ l.mini_fat_sectors ++ l.mini_stream_sectors) judged.sectors in
+            let more = times_append n (f ++ d ++ l.directory_sectors ++ l.mini_fat_sectors) l.mini_stream_sectors in
+            let minis = times_append n (f ++ d ++ l.directory_sectors) l.mini_fat_sectors in
+            let entries = times_append n (f ++ d) l.directory_sectors in
+            let both = times_append n f d in
+            let turned = times_append n d f in
+            omega (arith, most, one, more, minis, entries, both, turned));
         covered = omega (arith, within, covers);
         some = some_there bytes l l.directory_sectors (has_sector bytes l laid.root_found) laid.directory_in_file;
         there = below_all count l.difat_sectors (subst (λ n. AllByRecursion (λ x. x < n) l.difat_sectors) size difat.1);
@@ -135,8 +135,7 @@ module _ {F : Type 0} {g : Ghosts F} (it : MiniAllocator F g) (letters : Letters
       let s = sound_so sound in
       let a = allocator_of it in
       let who = owners_of l (used bytes l letters s.0 s.1) in
-      let held : MeansHeld (live_of it) who letters s.0 = subst (λ (f : LiveFile). MeansHeld f who letters s.0) file_is (held_is bytes l letters s.0 s.1 (orderly bytes l letters s.0 s.1)) in
-      (
+      let held : MeansHeld (live_of it) who letters s.0 = subst (λ (f : LiveFile). MeansHeld f who letters s.0) file_is (held_is bytes l letters s.0 s.1 (orderly bytes l letters s.0 s.1)) in (
         s.0,
         record {
           live = so.live;

@@ -21,8 +21,8 @@ module _ {F : Type 0} {g : Ghosts F} where
     pub sound : sound_of it ≡ true
     pub live : live.Means (letters_in it) (mini_of it) tree
 
-  -- nothing but reads and flushes was done
-  pub record Rests (old new : CompoundFile F g) : Type 0 where
+  -- the call left file and memory as they were
+  pub record Keeps (old new : CompoundFile F g) : Type 0 where
     pub mini : KeepsOwners (mini_of old) (mini_of new)
     pub letters : letters_in new ≡ letters_in old
     pub sound : sound_of new ≡ sound_of old
@@ -42,5 +42,5 @@ module _ {F : Type 0} {g : Ghosts F} where
     pub unsound : has_failed_here (allocator_of (mini_of old)) ≡ false → sound_of old ≡ false → IsErrOf result InvalidData
     pub done : OnOk result ((tree : Tree) → Means old tree → IsDone path call tree old new)
     pub refused : IfErr result (λ e. (tree : Tree) → Means old tree → IsFault e ⊎ (answer_at (letters_in old) tree call path ≡ refused e))
-    pub rests : OnErr result ((has_failed_here (allocator_of (mini_of new)) ≡ true) ⊎ Rests old new)
+    pub rests : OnErr result ((has_failed_here (allocator_of (mini_of new)) ≡ true) ⊎ Keeps old new)
     pub seen : (letters_in new ≡ letters_in old) × (sound_of new ≡ sound_of old)

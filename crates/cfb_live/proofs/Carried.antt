@@ -51,9 +51,9 @@ module _ (s t : LiveFile) (who now : Owners) (c : Carries s t who now) where
             let was = h.short (let few = below in omega (arith, few, size)) in (
               c.sectors k past ∙ was.0,
               lies_still e f (who.minis k) (now.minis k) _ _ _ _ content start size minis
-              (ap (λ l. flat_map (λ n. slice_range l (64 * n) (64 * n + 64)) (now.minis k)) mini_is ∙ ap (flat_map (λ n. slice_range (joined s.version s.bytes (who.sectors mini_stream_owner)) (64 * n) (64 * n + 64))) minis)
-              (ap (λ l. flat_map (λ n. slice_range l (64 * n) (64 * n + 64)) (now.minis k)) mini_at ∙ ap (flat_map (λ n. slice_range (places s.version (who.sectors mini_stream_owner)) (64 * n) (64 * n + 64))) minis)
-              was.1,
+                  (ap (λ l. flat_map (λ n. slice_range l (64 * n) (64 * n + 64)) (now.minis k)) mini_is ∙ ap (flat_map (λ n. slice_range (joined s.version s.bytes (who.sectors mini_stream_owner)) (64 * n) (64 * n + 64))) minis)
+                  (ap (λ l. flat_map (λ n. slice_range l (64 * n) (64 * n + 64)) (now.minis k)) mini_at ∙ ap (flat_map (λ n. slice_range (places s.version (who.sectors mini_stream_owner)) (64 * n) (64 * n + 64))) minis)
+                  was.1,
             );
         long = λ up.
             let was = h.long (let most = up in omega (arith, most, size)) in (

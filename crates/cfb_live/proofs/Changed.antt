@@ -93,9 +93,9 @@ module _ (s t : LiveFile) (who now : Owners) (letters : Letters) (tree later : T
   was_among id (among, kind) = (
     among,
     kind_over (slice_get s.entries id) (slice_get t.entries id)
-    (λ none. slice_get_past t.entries id (let past = lost_past s.entries id none in omega (arith, past, count)))
-    (λ e found. let place = each id e found in (place.0, place.1, place.2))
-    kind,
+        (λ none. slice_get_past t.entries id (let past = lost_past s.entries id none in omega (arith, past, count)))
+        (λ e found. let place = each id e found in (place.0, place.1, place.2))
+        kind,
   )
 
   pub means_later : new.ids ≡ h.ids → MeansHeld t now letters later
@@ -150,7 +150,7 @@ unfolding tree_held
 entry_changed s t who now letters tree path id e f change object h leads at found links start size becomes set c root kept =
     let held = tree_held s who letters tree h in
     let did : HoldsOn letters (ReadBy (reads s who)) (slice_set s.entries id f) (changed letters change path tree) held.ids =
-        edited letters (ReadBy (reads s who)) (ReadBy (reads s who)) s.entries tree f held path id change object e leads at found links becomes (keeps_all (ReadBy (reads s who)) s.entries id held.ids) in
+    edited letters (ReadBy (reads s who)) (ReadBy (reads s who)) s.entries tree f held path id change object e leads at found links becomes (keeps_all (ReadBy (reads s who)) s.entries id held.ids) in
     let now_held : HoldsOn letters (ReadBy (reads s who)) t.entries (changed letters change path tree) held.ids = subst (λ l. HoldsOn letters (ReadBy (reads s who)) l (changed letters change path tree) held.ids) (sym set) did in
     means_later s t who now letters tree (changed letters change path tree) h c root kept now_held.holds
     (λ k. subst (λ l. KeepsPlace s.entries l k) (sym set) (set_keeps s.entries id e f found links.kind start size k))

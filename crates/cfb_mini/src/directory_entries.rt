@@ -101,7 +101,10 @@ impl<F: Medium> MiniAllocator<F> {
         ensures answers { Answers IsRefusedInsert result (allocator_of self.old)
             (allocator_of self.new) }
     {
-        let id = match self.directory.insert_dir_entry(letters, parent, name, obj_type, moment) {
+        let id = match self
+            .directory
+            .insert_dir_entry(letters, parent, name, obj_type, moment)
+        {
             Ok(id) => id,
             Err(error) => return Err(error),
         };

@@ -1,0 +1,81 @@
+-- What a live file means, as those see it who read it.
+use Rattle.std.proofs.Common.{◌≡◌, ℕ, List, ◌++◌, take, refl, ap, sym, subst, ◌∙◌, IsTrue}
+use Rattle.std.specs.Prelude.{slice_get}
+use Rattle.cfb_medium.specs.declared.medium.ReadMedium.{Ghosts}
+use Rattle.cfb_sectors.specs.Sectors.{fat_in}
+use Rattle.cfb_chains.specs.Owned.{Owned}
+use Rattle.cfb_fat.specs.Tables.{bytes_of, difat_sectors_of, fat_of, fat_sectors_of, tables_of, version_of}
+use Rattle.cfb_mini.specs.Changing.{HasOwners, KeepsOwners}
+use Rattle.cfb_mini.specs.Views as mini
+use Rattle.cfb_mini.specs.Views.{allocator_of, directory_of}
+use Rattle.cfb_mini.specs.declared.mini_allocator.MiniAllocator.{MiniAllocator}
+use Rattle.cfb_opening.specs.Opened as opening
+use Rattle.cfb_owners.specs.Kept.{layout_of}
+use Rattle.cfb_owners.proofs.MeansIs.{means_is}
+use Rattle.cfb_tree.specs.Names.{Letters}
+use Rattle.cfb_tree.specs.Tree.{Tree}
+use Rattle.cfb_live.specs.Live.{live_of}
+use Rattle.cfb_live.specs.Live as live
+use Rattle.cfb_live.proofs.Resting.{means_stays}
+use Rattle.cfb.specs.Doing.{Keeps, Means}
+use Rattle.cfb.specs.Streams.{Holds}
+use Rattle.cfb.specs.Views.{letters_in, mini_of, sound_of, Rests}
+use Rattle.cfb.specs.declared.compound_file.CompoundFile.{CompoundFile}
+
+module _ {F : Type 0} {g : Ghosts F} where
+  -- memory shows the layout in which each owner has its sectors
+  shows_so : (letters : Letters) (it : MiniAllocator F g) (tree : Tree) (m : live.Means letters it tree) → opening.Shows it (bytes_of (allocator_of it)) (layout_of (live_of it) m.who m.held.root m.held.ids)
+  unfolding live_of
+  shows_so letters it tree m =
+      let k = m.held.kept in record {
+        version = refl;
+        difat_sectors = refl;
+        fat_sectors = refl;
+        directory_sectors = sym m.owners.directory;
+        mini_fat_sectors = sym m.owners.mini_fat;
+        mini_stream_sectors = sym m.owners.mini_stream;
+        root = k.root_found;
+        fat = k.tables.same ∙ ap (λ n. take n (fat_in (version_of (allocator_of it)) (bytes_of (allocator_of it)) (fat_sectors_of (allocator_of it)))) k.tables.counted;
+        mini_fat = k.mini_fat;
+        entries = k.entries;
+      }
+
+  pub holds_meant : (it : CompoundFile F g) (tree : Tree) → Means it tree → Holds it tree
+  unfolding live_of
+  holds_meant it tree m = record {
+    live = m.live.live;
+    honest = m.live.owners.honest;
+    memory = m.live.owners.memory;
+    layout = layout_of (live_of (mini_of it)) m.live.who m.live.held.root m.live.held.ids;
+    shows = shows_so (letters_in it) (mini_of it) tree m.live;
+    means = means_is (live_of (mini_of it)) m.live.who (letters_in it) tree m.live.held;
+  }
+
+  -- reads leave each owner what it has
+  rests_keep : (old new : MiniAllocator F g) → mini.Rests old new → KeepsOwners old new
+  rests_keep old new rests =
+      let a = allocator_of old in
+      let b = allocator_of new in
+      let r = rests.directory.allocator in record {
+        allocator = r;
+        entries = rests.directory.entries;
+        mini_fat = rests.mini_fat;
+        owners = λ own h. record {
+          honest = subst IsTrue (sym r.sectors.honest) h.honest;
+          memory = rests.kept h.memory;
+          owned = subst (λ t. Owned t (tables_of b) own) (sym r.fat)
+              (subst (λ t. Owned (fat_of a) t own) (ap (λ l. l ++ fat_sectors_of a) (sym r.difat_sectors) ∙ ap (λ l. difat_sectors_of b ++ l) (sym r.fat_sectors)) h.owned);
+          directory = h.directory ∙ sym rests.directory.ids;
+          mini_fat = h.mini_fat ∙ sym rests.mini_fat_ids;
+          mini_stream = h.mini_stream ∙ sym rests.mini_stream_ids;
+        };
+      }
+
+  pub means_kept : (old new : CompoundFile F g) (tree : Tree) → Keeps old new → Means old tree → Means new tree
+  means_kept old new tree k m = record {
+    sound = k.sound ∙ m.sound;
+    live = subst (λ l. live.Means l (mini_of new) tree) (sym k.letters) (means_stays (mini_of old) (mini_of new) k.mini (letters_in old) tree m.live);
+  }
+
+  pub means_read : (old new : CompoundFile F g) (tree : Tree) → Rests old new → Means old tree → Means new tree
+  means_read old new tree r m = means_kept old new tree (record { mini = rests_keep (mini_of old) (mini_of new) r.mini; letters = r.letters; sound = r.sound }) m
