@@ -1,7 +1,6 @@
 -- Sizes that are read fit the version.
 use Rattle.std.proofs.Common.{◌≡◌, ℕ, ◌<◌, ◌≤◌, List, [], ◌∷◌, length, map, take, drop, get_or, zero, suc, sym, subst, ◌/◌, arith}
 use Rattle.std.specs.Int.{from_le_bytes, w32, w64}
-use Rattle.std.specs.Prelude.{slice_get, Some}
 use Rattle.cfb_medium.specs.Numbers.{all_pieces, pieces}
 use Rattle.cfb_medium.specs.Versions.{stream_len_mask}
 use Rattle.cfb_medium.specs.declared.version.Version.{Version}

@@ -1,12 +1,10 @@
 -- Streams that stay through a change.
-use Rattle.std.proofs.Common.{◌≡◌, ℕ, ◌+◌, ◌*◌, ◌<◌, ◌≤◌, List, [], ◌∷◌, length, take, zero, suc, refl, ap, sym, subst, ◌∙◌, arith, ⊎_elim}
+use Rattle.std.proofs.Common.{◌≡◌, ℕ, ◌+◌, ◌*◌, ◌<◌, ◌≤◌, List, [], ◌∷◌, length, take, ap, sym, subst, ◌∙◌, arith}
 use Rattle.std.specs.Prelude.{slice_index_or, slice_range}
 use Rattle.std.specs.List.{flat_map, AllByRecursion}
-use Rattle.cfb_sectors.specs.Header.{mini_cutoff}
 use Rattle.cfb_sectors.specs.Sectors.{end_of_chain, joined, places}
 use Rattle.cfb_tree.specs.Directory.{Entry}
-use Rattle.cfb_meaning.specs.Sound.{LieInFile}
-use Rattle.cfb_owners.specs.Held.{mini_joined, mini_places_of, HasStream, LiesIn}
+use Rattle.cfb_owners.specs.Held.{HasStream, LiesIn}
 use Rattle.cfb_owners.specs.LiveFile.{LiveFile}
 use Rattle.cfb_owners.specs.Owners.{mini_stream_owner, stream_owner, Owners}
 

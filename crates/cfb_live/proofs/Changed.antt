@@ -1,7 +1,7 @@
 -- The tree that a live file means after an entry was changed in its place.
 use Rattle.std.proofs.Common.{◌≡◌, ℕ, ◌≤◌, ◌⊎◌, List, [], ◌∷◌, length, length-set, zero, suc, refl, ap, sym, subst, ◌∙◌, ⊎_elim, arith}
 use Rattle.std.proofs.lemmas.Option.{slice_get_past}
-use Rattle.std.specs.Prelude.{slice_get, slice_set, Option, Some, None, IfSome, nat_eq}
+use Rattle.std.specs.Prelude.{slice_get, slice_set, Option, Some, None, IfSome}
 use Rattle.std.specs.List.{AllByRecursion}
 use Rattle.std.proofs.lemmas.Bool.Decides.{eqb_tells}
 use Rattle.cfb_tree.specs.Changes.{changed}
@@ -19,7 +19,7 @@ use Rattle.cfb_siblings.proofs.Editing.{edited}
 use Rattle.cfb_owners.specs.Held.{HasStream, IsStreamAmong, MeansHeld}
 use Rattle.cfb_owners.specs.Kept.{Kept}
 use Rattle.cfb_owners.specs.LiveFile.{LiveFile}
-use Rattle.cfb_owners.specs.Owners.{stream_owner, Owners, OwnsNothing}
+use Rattle.cfb_owners.specs.Owners.{stream_owner, Owners}
 use Rattle.cfb_owners.proofs.HoldsById.{each_part, holds_so, holds_with, IsPart}
 use Rattle.cfb_live.proofs.Carried.{stream_stays, Carries}
 use Rattle.cfb_live.proofs.Streams.{bytes_from, reads, reads_means, reads_so, stream_is}

@@ -1,10 +1,9 @@
 -- The tree that a live file means after an entry was added, of an object without content.
-use Rattle.std.proofs.Common.{◌≡◌, ℕ, ◌<◌, ◌≤◌, ◌⊎◌, inl, inr, true, false, List, [], ◌∷◌, length, get_or, take, zero, suc, refl, ap, sym, subst, ◌∙◌, ⊎_elim, arith}
+use Rattle.std.proofs.Common.{◌≡◌, ℕ, ◌<◌, ◌⊎◌, inl, inr, true, false, List, [], ◌∷◌, length, take, zero, suc, ap, sym, subst, ◌∙◌, ⊎_elim, arith}
 use Rattle.std.specs.Prelude.{nat_eq, slice_get, slice_index_or, IfSome, Option, Some}
 use Rattle.std.specs.List.{AllByRecursion, IsDistinct}
 use Rattle.std.proofs.lemmas.Bool.Decides.{eqb_tells}
 use Rattle.cfb_chains.specs.Changes.{IsNoneOf}
-use Rattle.cfb_sectors.specs.Header.{mini_cutoff}
 use Rattle.cfb_sectors.specs.Sectors.{end_of_chain}
 use Rattle.cfb_tree.specs.Directory.{kind_stream, Entry, Siblings}
 use Rattle.cfb_tree.specs.Names.{Letters}
@@ -13,16 +12,16 @@ use Rattle.cfb_tree.proofs.OneContent.{Some_same}
 use Rattle.cfb_siblings.specs.Changes.{IsApart}
 use Rattle.cfb_siblings.specs.Reading.{ReadBy}
 use Rattle.cfb_directory.specs.Children.{AddsAt, HoldsMore}
-use Rattle.cfb_owners.specs.Held.{mini_joined, mini_places_of, HasStream, IsStreamAmong, LiesIn, MeansHeld}
+use Rattle.cfb_owners.specs.Held.{mini_joined, mini_places_of, HasStream, IsStreamAmong, MeansHeld}
 use Rattle.cfb_owners.specs.Kept.{Kept}
 use Rattle.cfb_owners.specs.LiveFile.{LiveFile}
-use Rattle.cfb_owners.specs.Owners.{mini_stream_owner, stream_owner, Owners, OwnsNothing}
+use Rattle.cfb_owners.specs.Owners.{stream_owner, Owners, OwnsNothing}
 use Rattle.cfb_owners.proofs.HoldsById.{each_part, holds_with, IsPart}
 use Rattle.cfb_owners.proofs.KeysOfParts.{IsOneOf}
 use Rattle.cfb_owners.proofs.UsesOfEntries.{all_from, all_one, one_not_none}
-use Rattle.cfb_live.proofs.Carried.{stream_stays, Carries}
+use Rattle.cfb_live.proofs.Carried.{Carries}
 use Rattle.cfb_live.proofs.Changed.{moved_stream}
-use Rattle.cfb_live.proofs.Streams.{bytes_from, no_bytes, reads, reads_means, stream_is}
+use Rattle.cfb_live.proofs.Streams.{bytes_from, no_bytes, reads, reads_means}
 
 none_of : (xs : List ℕ) (n : ℕ) → (IsOneOf xs n → ⊥) → IsNoneOf xs n
 none_of [] n never k below same = absurd (omega (arith, below))

@@ -1,5 +1,5 @@
 -- What setting a fact comes to, in the entry and in the tree.
-use Rattle.std.proofs.Common.{◌≡◌, ◌≢◌, ℕ, ◌⊎◌, Bool, List, [], ◌∷◌, refl, ap, sym, subst, ◌∙◌, arith, ⊎_elim, codes}
+use Rattle.std.proofs.Common.{◌≡◌, ℕ, ◌⊎◌, Bool, List, [], ◌∷◌, refl, ap, sym, subst, ◌∙◌, arith, ⊎_elim}
 use Rattle.std.specs.Prelude.{slice_get, None, Some}
 use Rattle.cfb_medium.specs.Times.{units_of}
 use Rattle.cfb_meaning.specs.TreeRules.{done, refused, tree_step}

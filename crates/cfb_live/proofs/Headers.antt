@@ -1,10 +1,9 @@
 -- What a change that spares the header's front leaves of it.
-use Rattle.std.proofs.Common.{◌≡◌, ℕ, ◌+◌, ◌-◌, ◌<◌, ◌≤◌, ◌⊎◌, inl, inr, List, length, take, drop, sym, ap, ◌∙◌, arith}
+use Rattle.std.proofs.Common.{◌≡◌, ℕ, ◌+◌, ◌-◌, ◌≤◌, ◌⊎◌, inl, inr, List, length, take, drop, sym, ap, ◌∙◌, arith}
 use Rattle.std.specs.Int.{from_le_bytes, w16, w32}
-use Rattle.std.specs.Prelude.{slice_range}
 use Rattle.cfb_medium.specs.declared.version.Version.{Version}
 use Rattle.cfb_medium.specs.Numbers.{u16_at, u32_at}
-use Rattle.cfb_sectors.specs.Header.{first_directory_sector, first_mini_fat_sector, IsHeader}
+use Rattle.cfb_sectors.specs.Header.{IsHeader}
 use Rattle.cfb_sectors.specs.Sectors.{filled_part}
 use Rattle.cfb_fat.proofs.Words.{filled_is}
 

@@ -1,5 +1,5 @@
 -- Memory that is that of the bytes, as owners see it.
-use Rattle.std.proofs.Common.{◌≡◌, ℕ, ◌+◌, ◌*◌, ◌≤◌, false, List, [], length, sym, subst, ◌∙◌, ap, IsTrue}
+use Rattle.std.proofs.Common.{◌≡◌, ℕ, ◌+◌, ◌*◌, ◌≤◌, false, [], length, sym, ◌∙◌, ap, IsTrue}
 use Rattle.std.specs.Prelude.{slice_get, Some}
 use Rattle.std.specs.List.{AllByRecursion}
 use Rattle.cfb_medium.specs.Versions.{sector_len}
@@ -7,7 +7,7 @@ use Rattle.cfb_medium.specs.declared.medium.ReadMedium.{Ghosts}
 use Rattle.cfb_sectors.specs.Header.{first_directory_sector, first_mini_fat_sector, IsHeader}
 use Rattle.cfb_sectors.specs.Sectors.{fat_in, joined}
 use Rattle.cfb_chains.specs.Owned.{Owned}
-use Rattle.cfb_fat.specs.Tables.{bytes_of, fat_of, has_failed_here, orderly_of, version_of}
+use Rattle.cfb_fat.specs.Tables.{bytes_of, has_failed_here, orderly_of, version_of}
 use Rattle.cfb_tree.specs.Directory.{entries_of, kind_root, Entry}
 use Rattle.cfb_directory.specs.Views.{entries_held}
 use Rattle.cfb_mini.specs.Changing.{HasOwners}

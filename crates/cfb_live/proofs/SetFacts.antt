@@ -1,6 +1,6 @@
 -- The tree that a live file means after a fact of an object was set.
 use Rattle.std.proofs.Common.{◌≡◌, ℕ, ◌+◌, ◌≤◌, ◌⊎◌, false, List, [], ◌∷◌, zero, suc, refl, ap, sym, subst, ◌∙◌, arith, IsTrue}
-use Rattle.std.specs.Prelude.{slice_get, slice_set, Option, Some}
+use Rattle.std.specs.Prelude.{slice_get, slice_set, Some}
 use Rattle.cfb_medium.specs.declared.medium.ReadMedium.{Ghosts}
 use Rattle.cfb_chains.specs.Owned.{AreBesideWords}
 use Rattle.cfb_fat.specs.Tables.{has_failed_here, version_of}
@@ -17,7 +17,6 @@ use Rattle.cfb_tree.proofs.OneContent.{Some_same}
 use Rattle.cfb_siblings.specs.Changes.{Becomes, HasSameLinks}
 use Rattle.cfb_siblings.specs.Places.{IsEntryAt}
 use Rattle.cfb_siblings.specs.Reading.{ReadBy}
-use Rattle.cfb_directory.specs.Changes.{changed_entry}
 use Rattle.cfb_directory.specs.Views.{entries_held}
 use Rattle.cfb_mini.specs.Changing.{ChangesDirectory}
 use Rattle.cfb_mini.specs.Views.{allocator_of, directory_of}

@@ -1,5 +1,5 @@
 -- The bytes of a stream, told by where it begins and how many they are.
-use Rattle.std.proofs.Common.{◌≡◌, ℕ, ◌<◌, ◌≤◌, Bool, true, false, List, [], ◌∷◌, length, take, zero, suc, refl, ap, sym, subst, ◌∙◌, arith, ⊎_elim}
+use Rattle.std.proofs.Common.{◌≡◌, ℕ, ◌≤◌, Bool, true, false, List, [], ◌∷◌, length, take, zero, suc, refl, ap, sym, subst, ◌∙◌, arith, ⊎_elim}
 use Rattle.std.specs.Prelude.{slice_get, Option, Some, None, nat_le, nat_lt, if◌then◌else◌, bytes_eq, IsTrue}
 use Rattle.std.proofs.lemmas.Slice.Eq.{bytes_eq-Decides}
 use Rattle.std.proofs.lemmas.Bool.Decides.{leb_tells}
@@ -10,7 +10,7 @@ use Rattle.cfb_tree.specs.Directory.{Entry}
 use Rattle.cfb_owners.specs.Held.{mini_joined, HasStream}
 use Rattle.cfb_owners.specs.Kept.{Kept}
 use Rattle.cfb_owners.specs.LiveFile.{LiveFile}
-use Rattle.cfb_owners.specs.Owners.{first_of, stream_owner, Owners}
+use Rattle.cfb_owners.specs.Owners.{stream_owner, Owners}
 
 abbrev walked : (ℕ → List ℕ) → ℕ → Option ℕ → List ℕ
 walked go n None = []

@@ -3,13 +3,13 @@ use Rattle.std.proofs.Common.{◌≡◌, ◌⊎◌, inl, inr, ℕ, Bool, true, f
 use Rattle.std.specs.Prelude.{slice_get, slice_index_or, Some}
 use Rattle.cfb_medium.specs.Numbers.{numbers}
 use Rattle.cfb_medium.specs.declared.medium.ReadMedium.{Ghosts}
-use Rattle.cfb_sectors.specs.Sectors.{end_of_chain, fat_in, sector}
+use Rattle.cfb_sectors.specs.Sectors.{end_of_chain, sector}
 use Rattle.cfb_chains.specs.Changes.{AreNoneOf}
 use Rattle.cfb_chains.specs.LinkViews.{ids_of}
 use Rattle.cfb_chains.specs.Owned.{Becomes, Moves, Owned, Stays}
 use Rattle.cfb_chains.proofs.Owners.{other_left, owned_changed}
 use Rattle.cfb_fat.specs.Seeing.{seen_of}
-use Rattle.cfb_fat.specs.Tables.{bytes_of, difat_sectors_of, fat_of, fat_sectors_of, tables_of, version_of, AllRests}
+use Rattle.cfb_fat.specs.Tables.{difat_sectors_of, fat_of, fat_sectors_of, tables_of, version_of, AllRests}
 use Rattle.cfb_owned.specs.Chains.{GoesOn}
 use Rattle.cfb_tree.specs.Directory.{Entry}
 use Rattle.cfb_tree.proofs.OneContent.{Some_same}

@@ -1,4 +1,3 @@
-use Rattle.std.proofs.Common.{◌≡◌, ◌↔◌, false, IsTrue}
 use Rattle.cfb_tree.specs.declared.kinds.ObjType.TheVariants.{Stream}
 use Rattle.cfb_live.proofs.facts.is_stream.Goals as goal
 

@@ -1,4 +1,4 @@
-use Rattle.std.proofs.Common.{◌≡◌, inl, inr, refl, ap, sym, subst, ◌∙◌, ⊎_elim, arith}
+use Rattle.std.proofs.Common.{◌≡◌, inl, inr, ap, sym, subst, ◌∙◌, ⊎_elim, arith}
 use Rattle.std.specs.Prelude.{slice_get, slice_set, Err, IfSome, Some}
 use Rattle.cfb_entries.specs.Rules.{answer_at}
 use Rattle.cfb_meaning.specs.TreeRules.{refused}

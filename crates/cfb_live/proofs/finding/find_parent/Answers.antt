@@ -1,7 +1,7 @@
-use Rattle.std.proofs.Common.{◌≡◌, ◌<◌, ◌-◌, true, false, length, map, take, refl, ap, sym, subst, ◌∙◌, arith, IsTrue}
-use Rattle.std.specs.Prelude.{slice_get, Some}
+use Rattle.std.proofs.Common.{◌≡◌, ◌<◌, length, map, refl, ap, sym, subst, ◌∙◌, arith}
+use Rattle.std.specs.Prelude.{Some}
 use Rattle.cfb_meaning.specs.TreeRules.{refused}
-use Rattle.cfb_siblings.specs.Places.{path_of, IsEntryAt, LeadsTo}
+use Rattle.cfb_siblings.specs.Places.{path_of, LeadsTo}
 use Rattle.cfb_siblings.specs.Reading.{ReadBy}
 use Rattle.cfb_siblings.proofs.Entries.{found_in, lost_in}
 use Rattle.cfb_tree.specs.Directory.{kind_stream}

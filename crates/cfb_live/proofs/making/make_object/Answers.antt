@@ -1,19 +1,15 @@
-use Rattle.std.proofs.Common.{◌≡◌, ◌<◌, ◌-◌, length, get_or, inl, inr, refl, ap, sym, subst, ◌∙◌, ⊎_elim, chars, map, arith, IsTrue}
-use Rattle.std.specs.List.{AllByRecursion}
-use Rattle.std.specs.Char.{IsScalar}
-use Rattle.std.specs.Prelude.{None, Some}
+use Rattle.std.proofs.Common.{◌≡◌, ◌<◌, ◌-◌, length, get_or, inl, inr, refl, ap, sym, subst, ◌∙◌, ⊎_elim, chars, arith, IsTrue}
+use Rattle.std.specs.Prelude.{Some}
 use Rattle.cfb_entries.specs.Rules.{answer_at}
 use Rattle.cfb_entries.proofs.Found.{names_are}
 use Rattle.cfb_medium.specs.Times.{units_of}
 use Rattle.cfb_tree.specs.Changes.{added, last_of, parent_of}
-use Rattle.cfb_tree.specs.Directory.{kind_stream}
 use Rattle.cfb_tree.specs.Entries.{new_entry}
 use Rattle.cfb_tree.specs.EntryViews.{kind_of}
 use Rattle.cfb_tree.specs.LetterViews.{letters_of}
 use Rattle.cfb_tree.specs.Names.{is_name}
-use Rattle.cfb_tree.specs.Objects.{name_of, object_at, HoldsTree}
-use Rattle.cfb_tree.specs.Paths.{Path}
-use Rattle.cfb_siblings.specs.Places.{path_of, path_to, IsStorageAt}
+use Rattle.cfb_tree.specs.Objects.{object_at, HoldsTree}
+use Rattle.cfb_siblings.specs.Places.{path_of, path_to}
 use Rattle.cfb_siblings.specs.Changes.{IsAlone}
 use Rattle.cfb_siblings.specs.Reading.{ReadBy}
 use Rattle.cfb_sectors.specs.Sectors.{end_of_chain}

@@ -1,4 +1,4 @@
-use Rattle.std.proofs.Common.{◌≡◌, inl, inr, ap, sym, subst, ◌∙◌, ⊎_elim, Err}
+use Rattle.std.proofs.Common.{inl, inr, ap, ⊎_elim, Err}
 use Rattle.cfb_fat.specs.Tables.{has_failed_here, version_of}
 use Rattle.cfb_directory.specs.Growth.{count_words}
 use Rattle.cfb_directory.specs.Views as directory

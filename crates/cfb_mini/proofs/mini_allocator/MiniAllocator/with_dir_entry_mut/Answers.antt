@@ -1,4 +1,4 @@
-use Rattle.std.proofs.Common.{rules, inl, inr, [], append-nil, refl, ap, sym, subst, ◌∙◌, ⊎_elim}
+use Rattle.std.proofs.Common.{inl, inr, [], append-nil, ap, sym, subst, ◌∙◌, ⊎_elim}
 use Rattle.std.specs.Prelude.{slice_get}
 use Rattle.cfb_chains.specs.Owned.{Becomes}
 use Rattle.cfb_fat.specs.Seeing.{seen_of}
