@@ -1,5 +1,5 @@
 -- What a call on the layer below does, as one of the file.
-use Rattle.std.proofs.Common.{◌≡◌, ℕ, ◌⊎◌, inl, inr, true, false, refl, sym, subst, ◌∙◌, ⊎_elim}
+use Rattle.std.proofs.Common.{◌≡◌, ℕ, inl, inr, true, false, refl, sym, subst, ◌∙◌, ⊎_elim}
 use Rattle.std.specs.Prelude.{Err, None, Ok, Option, Result, Some}
 use Rattle.cfb_entries.specs.Rules.{answer_at}
 use Rattle.cfb_fat.specs.Tables.{has_failed_here}

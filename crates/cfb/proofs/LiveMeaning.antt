@@ -1,11 +1,10 @@
 -- What a live file means, as those see it who read it.
-use Rattle.std.proofs.Common.{◌≡◌, ℕ, List, ◌++◌, take, refl, ap, sym, subst, ◌∙◌, IsTrue}
-use Rattle.std.specs.Prelude.{slice_get}
+use Rattle.std.proofs.Common.{◌++◌, take, refl, ap, sym, subst, ◌∙◌, IsTrue}
 use Rattle.cfb_medium.specs.declared.medium.ReadMedium.{Ghosts}
 use Rattle.cfb_sectors.specs.Sectors.{fat_in}
 use Rattle.cfb_chains.specs.Owned.{Owned}
 use Rattle.cfb_fat.specs.Tables.{bytes_of, difat_sectors_of, fat_of, fat_sectors_of, tables_of, version_of}
-use Rattle.cfb_mini.specs.Changing.{HasOwners, KeepsOwners}
+use Rattle.cfb_mini.specs.Changing.{KeepsOwners}
 use Rattle.cfb_mini.specs.Views as mini
 use Rattle.cfb_mini.specs.Views.{allocator_of, directory_of}
 use Rattle.cfb_mini.specs.declared.mini_allocator.MiniAllocator.{MiniAllocator}
@@ -19,7 +18,7 @@ use Rattle.cfb_live.specs.Live as live
 use Rattle.cfb_live.proofs.Resting.{means_stays}
 use Rattle.cfb.specs.Doing.{Keeps, Means}
 use Rattle.cfb.specs.Streams.{Holds}
-use Rattle.cfb.specs.Views.{letters_in, mini_of, sound_of, Rests}
+use Rattle.cfb.specs.Views.{letters_in, mini_of, Rests}
 use Rattle.cfb.specs.declared.compound_file.CompoundFile.{CompoundFile}
 
 module _ {F : Type 0} {g : Ghosts F} where

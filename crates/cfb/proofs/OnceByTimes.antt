@@ -1,5 +1,5 @@
 -- A list in which no number stands twice, told by how often each stands in it.
-use Rattle.std.proofs.Common.{◌≡◌, ℕ, ◌+◌, ◌<◌, ◌≤◌, List, [], ◌∷◌, ◌++◌, length, get_or, zero, suc, refl, ap, sym, ◌∙◌, arith}
+use Rattle.std.proofs.Common.{◌≡◌, ℕ, ◌+◌, ◌<◌, ◌≤◌, List, [], ◌∷◌, ◌++◌, length, get_or, zero, suc, refl, ap, sym, arith}
 use Rattle.cfb_chains.specs.Changes.{AreOnce}
 use Rattle.cfb_soundness.specs.Marks.{times}
 use Rattle.cfb_soundness.proofs.PartsOnce.{times_here}

@@ -1,18 +1,16 @@
 -- A sound file that was opened means a tree while it is live.
-use Rattle.std.proofs.Common.{◌≡◌, ℕ, ◌+◌, ◌-◌, ◌*◌, ◌/◌, ◌<◌, ◌≤◌, false, List, [], ◌∷◌, ◌++◌, length, take, replicate, zero, suc, refl, ap, sym, subst, ◌∙◌, arith, length-append, length-take, IsTrue}
+use Rattle.std.proofs.Common.{◌≡◌, ℕ, ◌<◌, false, List, [], ◌∷◌, ◌++◌, length, replicate, zero, suc, refl, ap, sym, subst, ◌∙◌, arith, length-append, length-take, IsTrue}
 use Rattle.std.specs.Prelude.{slice_get, Some}
 use Rattle.std.specs.List.{AllByRecursion}
 use Rattle.std.proofs.lemmas.List.{length-replicate}
 use Rattle.cfb_medium.specs.Numbers.{all_pieces, pieces}
 use Rattle.cfb_medium.specs.declared.medium.ReadMedium.{Ghosts}
 use Rattle.cfb_sectors.specs.Sectors.{fat_in, free, joined, sectors_in, AreInFile}
-use Rattle.cfb_chains.specs.Changes.{AreOnce}
-use Rattle.cfb_chains.specs.Owned.{Owned}
 use Rattle.cfb_fat.specs.Orderly.{AreBelow, IsOrderly}
-use Rattle.cfb_fat.specs.Tables.{bytes_of, fat_of, orderly_of, tables_of, version_of}
+use Rattle.cfb_fat.specs.Tables.{bytes_of, version_of}
 use Rattle.cfb_fat.proofs.DifatChains.{in_file_below}
 use Rattle.cfb_fat.proofs.TableWords.{length-difat}
-use Rattle.cfb_tree.specs.Directory.{entries_of, Entry, Holds, Siblings}
+use Rattle.cfb_tree.specs.Directory.{entries_of, Holds, Siblings}
 use Rattle.cfb_tree.specs.Names.{Letters}
 use Rattle.cfb_tree.specs.Tree.{Tree}
 use Rattle.cfb_tree.proofs.OneContent.{siblings_unique}
