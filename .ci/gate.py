@@ -1,6 +1,6 @@
 """The merge gate: proves every crate and its tests from nothing, looks at the layout, runs programs and tests, tries the
-wrong bodies of each crate whose line in must-fail.tried is missing or differs, and ends runs of msidb by force. It works
-on a copy."""
+wrong bodies of each crate whose line in must-fail.tried is missing or differs, ends runs of msidb by force, and refuses
+each request for memory of growths in turn. It works on a copy."""
 import os
 import re
 import shutil
@@ -40,12 +40,16 @@ def run(room):
     return last, ran.returncode
 
 
-def survives(room):
-    """Whether packages survive runs of the program, where there is one, that are ended by force; says what was seen."""
-    program = f"{room}/crates/msidb/out/msidb"
+# Scripts that try a program from outside, and the program.
+TRIALS = {"kill-runs": "msidb", "refuse-memory": "growths"}
+
+
+def is_well(room, script):
+    """Whether a program stands its trial, where there is such a one; the script says what was seen."""
+    program = f"{room}/crates/{TRIALS[script]}/out/{TRIALS[script]}"
     if not os.path.isfile(program):
         return True
-    return subprocess.run([tried.ROOT / ".ci" / "kill-runs", program], stdin=subprocess.DEVNULL).returncode == 0
+    return subprocess.run([tried.ROOT / ".ci" / script, program], stdin=subprocess.DEVNULL).returncode == 0
 
 
 def main():
@@ -55,7 +59,7 @@ def main():
     with tempfile.TemporaryDirectory(prefix="gate-") as room:
         copy_to(f"{room}/checkout", standing)
         last, status = run(f"{room}/checkout")
-        if not status and not survives(f"{room}/checkout"):
+        if not status and not all([is_well(f"{room}/checkout", it) for it in TRIALS]):
             last, status = "0 passed, 1 failed", 1
     print(f"wrong bodies tried: {sum(count[it] for it in sums if it not in standing)}")
     print(f"wrong bodies that stand as tried: {sum(count[it] for it in standing)}")

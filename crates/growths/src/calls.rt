@@ -1,0 +1,76 @@
+//! The calls: whether each was done, or what it refused left no part changed.
+use crate::files::{bytes_now, image, opened, stays};
+use cfb::CompoundFile;
+use cfb_chains::Links;
+use cfb_live::{NewObject, make_object};
+use cfb_medium::{Error, MemoryMedium, Timestamp};
+use cfb_mini::MiniLinks;
+use cfb_owned::set_chain_len;
+use cfb_sectors::SectorInit;
+use cfb_tree::CaseMapper;
+use std::alloc::Global;
+
+// The bytes of more sectors than the FAT's first sector has entries for.
+const LONG: u64 = 1100 * 4096;
+
+// More mini sectors than the mini FAT's first sector has numbers for.
+const MANY_MINIS: usize = 1100;
+
+// More storages than the directory's first sector has entries for.
+const MANY_STORAGES: usize = 40;
+
+/// Opens a file.
+pub fn open_file(alloc: Global) -> Result<bool, Error> {
+    let bytes = image(alloc)?;
+    let mut before = Vec::new(alloc);
+    before.extend_from_slice(&bytes)?;
+    let letters = CaseMapper::ascii(alloc)?;
+    let medium = MemoryMedium::from_bytes(alloc, bytes);
+    let refused = match CompoundFile::open_strict(alloc, medium, letters) {
+        Ok(_) => return Ok(true),
+        Err(refused) => refused,
+    };
+    if refused.0.bytes() == before.as_slice() {
+        return Err(refused.1);
+    }
+    Ok(false)
+}
+
+/// Makes a chain so long that the FAT grows.
+pub fn lengthen_chain(alloc: Global) -> Result<bool, Error> {
+    let mut file = opened(alloc)?;
+    let before = bytes_now(alloc, &file)?;
+    let mut links = Links::new(file.version(), Vec::new(alloc))?;
+    let done = set_chain_len(file.allocator_mut(), &mut links, LONG, SectorInit::Zero);
+    match done {
+        Ok(()) => Ok(true),
+        Err(error) => stays(&file, &before, error),
+    }
+}
+
+/// Makes a mini chain so long that mini FAT and mini stream grow.
+pub fn lengthen_mini_chain(alloc: Global) -> Result<bool, Error> {
+    let mut file = opened(alloc)?;
+    let before = bytes_now(alloc, &file)?;
+    let mut links = MiniLinks::new(alloc);
+    match file.lengthen_mini_chain(&mut links, MANY_MINIS) {
+        Ok(()) => Ok(true),
+        Err(error) => stays(&file, &before, error),
+    }
+}
+
+/// Makes so many storages, one within the other, that the directory grows.
+pub fn make_storages(alloc: Global) -> Result<bool, Error> {
+    let mut file = opened(alloc)?;
+    let letters = CaseMapper::ascii(alloc)?;
+    let mut path = String::new(alloc);
+    for _ in 0..MANY_STORAGES {
+        path.push_str("/a")?;
+        let before = bytes_now(alloc, &file)?;
+        let storage = NewObject::Storage(Timestamp::zero());
+        if let Err(error) = make_object(alloc, &mut file, &letters, &path, storage) {
+            return stays(&file, &before, error);
+        }
+    }
+    Ok(true)
+}
