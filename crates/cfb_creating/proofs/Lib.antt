@@ -1,0 +1,3 @@
+pub mod NewBytes
+pub mod NewEntries
+pub mod NewMeaning
