@@ -1,8 +1,10 @@
 //! How a file is opened.
+ghost use Rattle.cfb.specs.Creating.{IsCreated, IsCreateFault, LeavesNew};
 ghost use Rattle.cfb.specs.Opened.{IsOpenedAs};
 ghost use Rattle.cfb.specs.Views.{letters_in, mini_of};
 ghost use Rattle.cfb_medium.specs.Calls.{HasCauseSince, IsFaultUnless};
 ghost use Rattle.cfb_medium.specs.declared.error.Error.TheVariants.{InvalidData, Memory};
+ghost use Rattle.cfb_medium.specs.declared.version.Version.TheVariants.{V4};
 ghost use Rattle.cfb_opening.specs.Opened.{CanOpen, OpensAt};
 ghost use Rattle.cfb_opening.specs.Tables.{OnlyReads};
 ghost use Rattle.cfb_sectors.specs.declared.validation.Validation.TheVariants.{Permissive, Strict};
@@ -11,8 +13,9 @@ ghost use Rattle.cfb_tree.specs.Names.{ascii_letters};
 ghost use Rattle.std.specs.Prelude.{IfErr, IfOk, IsTrue, OnOk, ◌≡◌, ◌⊎◌};
 
 use crate::CompoundFile;
+use crate::creating::create_as;
 use crate::opening::{BUFFER, open_as};
-use cfb_medium::{Error, ReadMedium};
+use cfb_medium::{Error, Medium, ReadMedium, Version};
 use cfb_sectors::Validation;
 use cfb_tree::CaseMapper;
 use std::alloc::Global;
@@ -119,5 +122,26 @@ impl OpenOptions {
             limit,
         } = self;
         open_as(alloc, medium, letters, validation, limit)
+    }
+
+    /// Makes a new file of version 4 in a medium, as `CompoundFile::create` does, under the letter table that was asked for. Every
+    /// reader takes it, a strict one too.
+    pub fn create_with<F: Medium>(
+        self,
+        alloc: Global,
+        medium: F,
+    ) -> Result<CompoundFile<F>, (F, Error)>
+        ensures created { IfOk result (IsCreated V4 (letters_asked self) medium) }
+        ensures left { IfErr result (λ e. LeavesNew F.honest F.bytes F.continues V4 medium e.0) }
+        ensures fault { IfErr result (λ e. IsCreateFault F.honest medium e.1) }
+        ensures cause { IfErr result (λ e. HasCauseSince F.continues F.failures F.failed medium
+            e.0 e.1) }
+    {
+        let OpenOptions {
+            validation: _,
+            letters,
+            limit,
+        } = self;
+        create_as(alloc, medium, Version::V4, letters, limit)
     }
 }

@@ -13,7 +13,7 @@ use Rattle.cfb_tree.specs.Directory.{Entry, none, entries_of}
 use Rattle.cfb_tree.specs.Entries.{empty_root}
 use Rattle.cfb_tree.specs.Names.{Letters}
 use Rattle.cfb_tree.specs.Tree.{nothing, IsOrdered}
-use Rattle.cfb_meaning.specs.Means.{directory, fat, HasBytes, IsLaidOut, IsStrict, IsStrictlyOpenable, Layout, Means, MeansBy}
+use Rattle.cfb_meaning.specs.Means.{directory, fat, HasBytes, IsLaidOut, IsOpenable, IsStrict, IsStrictlyOpenable, Layout, Means, MeansBy}
 use Rattle.cfb_meaning.specs.Sound.{in_file, in_mini_stream, IsSound, Part}
 use Rattle.cfb_creating.specs.NewFile.{empty_tree, new_fat, new_file, new_header}
 use Rattle.cfb_creating.proofs.NewBytes.{directory_joined, fields, length-new_fat, length-new_file, long_enough, numbers_read, table_joined, three_whole, two_in_three}
@@ -106,6 +106,9 @@ module _ (v : Version) (behind : List ℕ) where
 
   pub new_means : (letters : Letters) → Means letters bytes empty_tree
   new_means letters = (lay, means_by (HasBytes bytes lay) letters)
+
+  pub new_opens : (letters : Letters) → IsOpenable letters bytes
+  new_opens letters = (lay, empty_tree, means_by (λ e content. ⊤) letters)
 
   whole : behind ≡ [] → length bytes ≡ 3 * sector_len v
   whole last = ap (λ xs. length (new_file v ++ xs)) last ∙ ap length (append-nil (new_file v)) ∙ length-new_file v

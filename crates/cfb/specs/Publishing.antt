@@ -1,0 +1,21 @@
+-- A file whose bytes are published.
+use Rattle.std.specs.Prelude.{◌≡◌, ℕ, false, List, IsTrue}
+use Rattle.cfb_fat.specs.Tables.{bytes_of, has_failed_here, is_honest, medium_of}
+use Rattle.cfb_medium.specs.declared.medium.ReadMedium.{Ghosts}
+use Rattle.cfb_mini.specs.Views.{allocator_of}
+use Rattle.cfb_tree.specs.Tree.{Tree}
+use Rattle.cfb.specs.Doing.{Means}
+use Rattle.cfb.specs.Streams.{Holds}
+use Rattle.cfb.specs.Views.{letters_in, mini_of, sound_of, Shows}
+use Rattle.cfb.specs.declared.compound_file.CompoundFile.{CompoundFile}
+
+module _ {F : Type 0} {g : Ghosts F} where
+  -- The bytes are published, so that a stop leaves these alone. The file has them yet, is live, and means, holds and shows the
+  -- trees that it did.
+  pub record Publishes (has_published : F → List ℕ → Type 0) (old new : CompoundFile F g) : Type 0 where
+    pub published : IsTrue (is_honest (allocator_of (mini_of old))) → has_published (medium_of (allocator_of (mini_of new))) (bytes_of (allocator_of (mini_of old)))
+    pub bytes : IsTrue (is_honest (allocator_of (mini_of old))) → bytes_of (allocator_of (mini_of new)) ≡ bytes_of (allocator_of (mini_of old))
+    pub live : has_failed_here (allocator_of (mini_of new)) ≡ false
+    pub means : (tree : Tree) → Means old tree → Means new tree
+    pub holds : (tree : Tree) → Holds old tree → Holds new tree
+    pub shows : (tree : Tree) → Shows old tree → Shows new tree
