@@ -1,11 +1,11 @@
 -- What a file is that was opened over a medium to which a new file was written.
-use Rattle.std.proofs.Common.{◌≡◌, ℕ, ◌+◌, ◌-◌, ◌*◌, ◌<◌, ◌≤◌, List, [], ◌∷◌, ◌++◌, length, take, drop, replicate, zero, suc, refl, ap, sym, subst, ◌∙◌, arith, IsTrue}
+use Rattle.std.proofs.Common.{◌≡◌, ℕ, ◌+◌, ◌-◌, ◌*◌, ◌<◌, ◌≤◌, List, [], ◌∷◌, ◌++◌, length, take, drop, replicate, ap, sym, subst, ◌∙◌, arith, IsTrue}
 use Rattle.std.specs.Prelude.{Result, Ok, Err, IfErr, IfOk}
 use Rattle.std.proofs.lemmas.List.{append-nil, drop_all}
 use Rattle.cfb_creating.specs.NewFile.{empty_tree, new_file}
 use Rattle.cfb_creating.proofs.NewBytes.{length-new_file, long_enough}
 use Rattle.cfb_creating.proofs.NewMeaning.{is_header, new_means, new_opens, new_sound}
-use Rattle.cfb_fat.specs.Tables.{bytes_of, version_of}
+use Rattle.cfb_fat.specs.Tables.{bytes_of}
 use Rattle.cfb_meaning.proofs.OneTree.{tree_unique, version_unique}
 use Rattle.cfb_meaning.specs.Means as meaning
 use Rattle.cfb_meaning.specs.Sound.{IsSound}

@@ -1,5 +1,5 @@
 -- A file whose bytes were published means what it meant.
-use Rattle.std.proofs.Common.{◌≡◌, ℕ, ◌++◌, List, false, refl, ap, sym, subst, ◌∙◌, IsTrue}
+use Rattle.std.proofs.Common.{◌≡◌, ℕ, ◌++◌, List, false, ap, sym, subst, ◌∙◌, IsTrue}
 use Rattle.std.specs.Prelude.{slice_get, Some, Result, Ok, Err, OnOk}
 use Rattle.cfb_medium.specs.declared.medium.ReadMedium.{Ghosts}
 use Rattle.cfb_chains.specs.Owned.{Owned}

@@ -6,7 +6,7 @@ use Rattle.cfb_mini.specs.Views.{allocator_of}
 use Rattle.cfb_tree.specs.Tree.{Tree}
 use Rattle.cfb.specs.Doing.{Means}
 use Rattle.cfb.specs.Streams.{Holds}
-use Rattle.cfb.specs.Views.{letters_in, mini_of, sound_of, Shows}
+use Rattle.cfb.specs.Views.{mini_of, Shows}
 use Rattle.cfb.specs.declared.compound_file.CompoundFile.{CompoundFile}
 
 module _ {F : Type 0} {g : Ghosts F} where

@@ -1,4 +1,4 @@
-use Rattle.std.proofs.Common.{◌∙◌, sym, subst, IsTrue, inl, inr}
+use Rattle.std.proofs.Common.{sym, subst, IsTrue, inl, inr}
 use Rattle.cfb_tree.specs.LetterViews.{letters_of}
 use Rattle.cfb.proofs.Created.{created_so, if_err_2, if_ok_3, opens_new}
 use Rattle.cfb.proofs.creating.create_as.Goals as goal
@@ -17,6 +17,9 @@ returns-in-Ok-clause-fault g c =
     (λ e fault refused. elim fault [
       | inl is ↦ inl is
       | inr is ↦
-          inr (is, λ honest. refused is (subst IsTrue (sym wrote.honest) honest)
-          (opens_new c.args.version (letters_of c.args.letters) (G.bytes c.args.medium) (G.bytes c.write_new_file.new.medium) (wrote.written honest)))
+          inr (
+            is,
+            λ honest. refused is (subst IsTrue (sym wrote.honest) honest)
+                (opens_new c.args.version (letters_of c.args.letters) (G.bytes c.args.medium) (G.bytes c.write_new_file.new.medium) (wrote.written honest)),
+          )
     ])
