@@ -1,12 +1,12 @@
 //! Sectors, FAT and chains of files in memory.
-use crate::shapes::{has_tables_of, init_of, part_of, word_of};
+use crate::shapes::{has_tables_of, init_of, word_of};
 use cfb_chains::{Chain, Links};
 use cfb_fat::{Allocator, read_difat, use_a_chain};
 use cfb_medium::{Error, MemoryMedium, Version};
 use cfb_owned::{free_chain, overwrite_chain, read_chain, set_chain_len, write_chain, write_word};
 use cfb_sectors::{Header, Sector, SectorInit, Sectors, Validation};
 use plain::parts_of;
-use row_data::{Row, Subject, bytes_at, copied, runs, shown};
+use row_data::{Row, Subject, bytes_at, copied, part_of, runs, shown};
 use serde_json::Value;
 use std::alloc::Global;
 use std::io::SeekFrom;

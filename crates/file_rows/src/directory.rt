@@ -1,12 +1,11 @@
 //! Directories of files in memory.
 use crate::chains::{opened, version_at};
 use crate::names::texts_at;
-use crate::shapes::part_of;
 use cfb_directory::{Directory, EntryChange};
 use cfb_medium::{Error, MemoryMedium, Timestamp};
 use cfb_sectors::{SectorInit, Validation};
 use cfb_tree::{CaseMapper, ObjType};
-use row_data::{Row, Subject, copied, told};
+use row_data::{Row, Subject, copied, part_of, told};
 use std::alloc::Global;
 use uuid::Uuid;
 

@@ -2,7 +2,6 @@
 #![tactic(auto)]
 
 mod chains;
-mod creating;
 mod directory;
 mod minis;
 mod names;
@@ -12,7 +11,6 @@ mod siblings;
 
 use anyhow::{Result, bail};
 use chains::Chains;
-use creating::Creations;
 use directory::Directories;
 use minis::Minis;
 use names::Names;
@@ -40,7 +38,6 @@ fn print_file(rt: &HostRuntime, path: &str) -> Result<()> {
         "directory.rows" => print_rows(rt, text.as_str(), Directories::new(alloc)?),
         "minis.rows" => print_rows(rt, text.as_str(), Minis::new(alloc)?),
         "opening.rows" => print_rows(rt, text.as_str(), Openings::new(alloc)?),
-        "creating.rows" => print_rows(rt, text.as_str(), Creations::new(alloc)),
         _ => bail!("{path}: no such rows"),
     }
 }

@@ -3,8 +3,6 @@ use cfb_fat::{Allocator, HeaderWord};
 use cfb_medium::{Error, MemoryMedium};
 use cfb_sectors::SectorInit;
 use plain::Parts;
-use row_data::{Row, runs};
-use std::alloc::Global;
 
 /// What a new sector holds.
 pub fn init_of(name: &str) -> SectorInit {
@@ -24,17 +22,6 @@ pub fn word_of(name: &str) -> HeaderWord {
         "first mini FAT sector" => HeaderWord::FirstMiniFatSector,
         _ => HeaderWord::MiniFatSectors,
     }
-}
-
-/// So many bytes from a place on, which a row tells behind its call, and how many bytes there are in all.
-pub fn part_of(alloc: Global, bytes: &[u8], row: &Row) -> Result<String, Error> {
-    let place = usize::try_from(row.number(1)).unwrap_or(0);
-    let count = usize::try_from(row.number(2)).unwrap_or(0);
-    let part = bytes
-        .get(place..)
-        .and_then(|rest| rest.get(..count))
-        .unwrap_or(&bytes[..0]);
-    Ok(format!(in alloc; "{} bytes, {}", bytes.len(), runs(alloc, part)?)?)
 }
 
 /// Whether the tables in memory are those of the bytes, entry by entry.

@@ -53,3 +53,14 @@ pub fn runs(alloc: Global, bytes: &[u8]) -> Result<String, Error> {
     text.push_str(format!(in alloc; "{last:02x}*{count}")?.as_str())?;
     Ok(text)
 }
+
+/// So many bytes from a place on, which a row tells behind its call, and how many bytes there are in all.
+pub fn part_of(alloc: Global, bytes: &[u8], row: &Row) -> Result<String, Error> {
+    let place = usize::try_from(row.number(1)).unwrap_or(0);
+    let count = usize::try_from(row.number(2)).unwrap_or(0);
+    let part = bytes
+        .get(place..)
+        .and_then(|rest| rest.get(..count))
+        .unwrap_or(&bytes[..0]);
+    Ok(format!(in alloc; "{} bytes, {}", bytes.len(), runs(alloc, part)?)?)
+}

@@ -5,6 +5,6 @@ mod bytes;
 mod printing;
 mod row;
 
-pub use bytes::{bytes_at, runs, shown};
+pub use bytes::{bytes_at, part_of, runs, shown};
 pub use printing::{Subject, print_rows};
 pub use row::{Row, copied, told};

@@ -1,9 +1,8 @@
 //! New files, and what they hold when they are opened again.
-use crate::shapes::part_of;
 use cfb::{CompoundFile, OpenOptions};
 use cfb_medium::{Error, MemoryMedium, Timestamp, Version};
 use cfb_tree::CaseMapper;
-use row_data::{Row, Subject, bytes_at};
+use row_data::{Row, Subject, bytes_at, part_of};
 use std::alloc::Global;
 
 /// The bytes of a file that was made.

@@ -1,0 +1,107 @@
+//! Calls on a compound file in memory.
+use crate::told::{bytes_of, tree_of};
+use cfb::CompoundFile;
+use cfb_medium::{Error, MemoryMedium, Timestamp};
+use cfb_tree::CaseMapper;
+use row_data::{Row, Subject, bytes_at, copied, told};
+use std::alloc::Global;
+use uuid::Uuid;
+
+/// A compound file in memory, under the letters of ASCII.
+#[derive(Drop)]
+pub struct Files {
+    file: Option<CompoundFile<MemoryMedium>>,
+}
+
+impl Files {
+    /// Without a file.
+    pub fn new() -> Files {
+        Files { file: None }
+    }
+
+    // The file's bytes, which it gives up.
+    fn taken(&mut self) -> Result<MemoryMedium, Error> {
+        let file = self.file.take().ok_or(Error::NotFound)?;
+        Ok(file.into_inner())
+    }
+}
+
+impl Subject for Files {
+    fn answer(&mut self, alloc: Global, row: &Row) -> Result<String, Error> {
+        match row.call() {
+            "file" => {
+                let medium = MemoryMedium::from_bytes(alloc, bytes_at(alloc, row, 1)?);
+                self.file = Some(lenient(alloc, medium)?);
+            }
+            "again" => {
+                let medium = self.taken()?;
+                self.file = Some(strict(alloc, medium)?);
+            }
+            _ => {}
+        }
+        match &mut self.file {
+            Some(file) => answered(alloc, file, row),
+            None => Err(Error::NotFound),
+        }
+    }
+}
+
+fn lenient(alloc: Global, medium: MemoryMedium) -> Result<CompoundFile<MemoryMedium>, Error> {
+    let letters = CaseMapper::ascii(alloc)?;
+    CompoundFile::open(alloc, medium, letters).map_err(|refused| refused.1)
+}
+
+fn strict(alloc: Global, medium: MemoryMedium) -> Result<CompoundFile<MemoryMedium>, Error> {
+    let letters = CaseMapper::ascii(alloc)?;
+    CompoundFile::open_strict(alloc, medium, letters).map_err(|refused| refused.1)
+}
+
+// What a row's call answers; one that changes the file answers "done".
+fn answered(
+    alloc: Global,
+    file: &mut CompoundFile<MemoryMedium>,
+    row: &Row,
+) -> Result<String, Error> {
+    match row.call() {
+        "file" | "again" => told(alloc, file.is_sound()),
+        "tree" => tree_of(alloc, file),
+        "bytes" => bytes_of(alloc, file, row.text(1)),
+        "each" => each(alloc, file, row),
+        _ => {
+            change(alloc, file, row)?;
+            copied(alloc, "done")
+        }
+    }
+}
+
+// The answers to calls in a row, a word each.
+fn each(alloc: Global, file: &mut CompoundFile<MemoryMedium>, row: &Row) -> Result<String, Error> {
+    let mut words = String::new(alloc);
+    for call in row.list(1) {
+        let call = Row::of(alloc, call)?;
+        match change(alloc, file, &call) {
+            Ok(()) => words.push_str("done ")?,
+            Err(error) => words.push_str(format!(in alloc; "{error:?} ")?.as_str())?,
+        }
+    }
+    Ok(words)
+}
+
+// Changes the file.
+fn change(alloc: Global, file: &mut CompoundFile<MemoryMedium>, row: &Row) -> Result<(), Error> {
+    let path = row.text(1);
+    let moment = Timestamp::from_unix(row.number(2), 0);
+    match row.call() {
+        "storage" => file.create_storage(path, moment),
+        "stream" => file.create_new_stream(path),
+        "touch" => file.touch(path, moment),
+        "created" => file.set_created_time(path, moment),
+        "modified" => file.set_modified_time(path, moment),
+        "bits" => file.set_state_bits(path, u32::try_from(row.number(2)).unwrap_or(0)),
+        "class" => {
+            let clsid = Uuid::parse_str(row.text(2)).map_err(|_| Error::InvalidData)?;
+            file.set_storage_clsid(path, clsid)
+        }
+        _ => Err(Error::InvalidInput),
+    }
+}

@@ -1,0 +1,37 @@
+//! What a compound file holds, as a text.
+use cfb::{CompoundFile, Entry};
+use cfb_medium::{Error, MemoryMedium};
+use row_data::runs;
+use std::alloc::Global;
+
+/// Each object of the file, a storage before what it holds.
+pub fn tree_of(alloc: Global, file: &CompoundFile<MemoryMedium>) -> Result<String, Error> {
+    let mut text = String::new(alloc);
+    for entry in file.walk()? {
+        text.push_str(object_told(alloc, &entry)?.as_str())?;
+    }
+    Ok(text)
+}
+
+// An object: its path, a stream's length, a storage's times and class identifier, and state bits.
+fn object_told(alloc: Global, entry: &Entry) -> Result<String, Error> {
+    let (path, bits, len) = (entry.path(), entry.state_bits(), entry.len());
+    if entry.is_stream() {
+        return Ok(format!(in alloc; "{path} {len} {bits}, ")?);
+    }
+    let (made, changed) = (entry.created().to_unix().0, entry.modified().to_unix().0);
+    let clsid = entry.clsid();
+    Ok(format!(in alloc; "{path} {made} {changed} {clsid} {bits}, ")?)
+}
+
+/// The bytes of the stream at a path, as runs.
+pub fn bytes_of(
+    alloc: Global,
+    file: &mut CompoundFile<MemoryMedium>,
+    path: &str,
+) -> Result<String, Error> {
+    let mut bytes = Vec::new(alloc);
+    let mut stream = file.open_read_stream(path)?;
+    stream.read_to_end(&mut bytes)?;
+    runs(alloc, &bytes)
+}
