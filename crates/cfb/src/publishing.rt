@@ -2,7 +2,7 @@
 ghost use Rattle.cfb_fat.specs.Tables.{has_failed_here, is_honest, medium_of, sectors_of, HasCauseBelow};
 ghost use Rattle.cfb_medium.specs.Calls.{IsFaultUnless};
 ghost use Rattle.cfb_medium.specs.declared.error.Error.TheVariants.{Failed};
-ghost use Rattle.cfb_mini.specs.Views.{allocator_of};
+ghost use Rattle.cfb_mini.specs.Views.{allocator_of, KeepsMemory};
 ghost use Rattle.cfb_sectors.specs.Held.{LeavesOldOrBytes};
 ghost use Rattle.std.specs.Prelude.{true, IfErr, IsErrOf, IsTrue, OnErr, OnOk, ◌≡◌, ◌≤◌};
 
@@ -11,7 +11,7 @@ use cfb_medium::{Error, Medium};
 
 impl<F: Medium> CompoundFile<F> {
     ghost use Rattle.cfb.specs.Publishing.{Publishes};
-    ghost use Rattle.cfb.specs.Views.{mini_of, Rests};
+    ghost use Rattle.cfb.specs.Views.{letters_in, mini_of, sound_of, Rests};
 
     /// Passes on what the medium keeps back, and publishes nothing: the file is as it was, also after an error. `Failed` after an
     /// earlier fault, before all else; the other errors are `Memory` and `Device`.
@@ -35,6 +35,9 @@ impl<F: Medium> CompoundFile<F> {
         ensures left { IsTrue (is_honest (allocator_of (mini_of self.old)))
             → LeavesOldOrBytes (sectors_of (allocator_of (mini_of self.old)))
             (sectors_of (allocator_of (mini_of self.new))) }
+        ensures memory { KeepsMemory (mini_of self.old) (mini_of self.new) }
+        ensures seen { (letters_in self.new ≡ letters_in self.old)
+            × (sound_of self.new ≡ sound_of self.old) }
         ensures err { OnErr result (has_failed_here (allocator_of (mini_of self.new)) ≡ true) }
         ensures failed { has_failed_here (allocator_of (mini_of self.old)) ≡ true
             → IsErrOf result Failed × Rests self.old self.new }
