@@ -1,5 +1,5 @@
 -- The tree with a child more, over entries that may have become more.
-use Rattle.std.proofs.Common.{◌≡◌, ℕ, ◌<◌, Bool, false, List, [], ◌∷◌, ◌++◌, length, replicate, zero, suc, refl, ◌≤◌, sym, ap, subst, ◌∙◌, ⊎_elim, arith}
+use Rattle.std.proofs.Common.{◌≡◌, ℕ, ◌<◌, Bool, false, List, [], ◌∷◌, ◌++◌, length, replicate, zero, suc, refl, sym, ap, subst, ◌∙◌, ⊎_elim, arith}
 use Rattle.std.specs.Prelude.{nat_eq, slice_get, slice_set, Option, Some, None}
 use Rattle.std.proofs.lemmas.Bool.Decides.{eqb_tells}
 use Rattle.cfb_medium.specs.Versions.{dir_entries_per_sector}
@@ -8,7 +8,6 @@ use Rattle.cfb_tree.specs.Changes.{added}
 use Rattle.cfb_tree.specs.Directory.{Entry}
 use Rattle.cfb_tree.specs.Entries.{empty_entry}
 use Rattle.cfb_tree.specs.Names.{Letters}
-use Rattle.cfb_tree.specs.EntryViews.{entry_in}
 use Rattle.cfb_tree.specs.declared.entry.DirEntry.{DirEntry}
 use Rattle.cfb_tree.specs.Objects.{a_storage, a_stream, name_of, HoldsTree, IsObject, Object}
 use Rattle.cfb_tree.specs.Paths.{Path}

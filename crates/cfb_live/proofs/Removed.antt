@@ -1,18 +1,17 @@
 -- The tree that a live file means after an object without children was removed.
-use Rattle.std.proofs.Common.{◌≡◌, ℕ, ◌<◌, ◌⊎◌, inl, inr, true, false, List, [], ◌∷◌, ◌++◌, length, zero, suc, refl, ap, sym, subst, ◌∙◌, ⊎_elim, arith, IsTrue}
+use Rattle.std.proofs.Common.{◌≡◌, ℕ, ◌<◌, inl, inr, false, List, [], ◌∷◌, ◌++◌, length, refl, ap, sym, subst, ◌∙◌, ⊎_elim, arith, IsTrue}
 use Rattle.std.specs.Prelude.{nat_eq, slice_get, IfSome, Option, Some}
-use Rattle.std.specs.List.{AllByRecursion}
 use Rattle.std.proofs.lemmas.Bool.Decides.{eqb_tells}
 use Rattle.cfb_medium.specs.declared.medium.ReadMedium.{Ghosts}
 use Rattle.cfb_fat.specs.Tables.{has_failed_here, version_of}
 use Rattle.cfb_owned.specs.Chains.{GoesOn}
-use Rattle.cfb_tree.specs.Directory.{kind_root, kind_storage, kind_stream, Entry, Siblings}
+use Rattle.cfb_tree.specs.Directory.{kind_storage, kind_stream, Entry, Siblings}
 use Rattle.cfb_tree.specs.Names.{Letters}
 use Rattle.cfb_tree.specs.Objects.{a_storage, a_stream, HoldsTree, IsObject, Object}
 use Rattle.cfb_tree.specs.Paths.{Path}
 use Rattle.cfb_tree.specs.Tree.{Tree}
 use Rattle.cfb_tree.proofs.OneContent.{Some_same}
-use Rattle.cfb_siblings.specs.Changes.{HoldsOneLess, IsApart}
+use Rattle.cfb_siblings.specs.Changes.{HoldsOneLess}
 use Rattle.cfb_siblings.specs.Places.{LeadsTo}
 use Rattle.cfb_siblings.specs.Reading.{ReadBy}
 use Rattle.cfb_siblings.proofs.Spots.{spot}
@@ -28,7 +27,7 @@ use Rattle.cfb_mini.proofs.Keeping.{pick_other}
 use Rattle.cfb_owners.specs.Held.{HasStream, IsStreamAmong, MeansHeld}
 use Rattle.cfb_owners.specs.Kept.{Kept}
 use Rattle.cfb_owners.specs.LiveFile.{LiveFile}
-use Rattle.cfb_owners.specs.Owners.{mini_stream_owner, stream_owner, Owners, OwnsNothing}
+use Rattle.cfb_owners.specs.Owners.{stream_owner, Owners, OwnsNothing}
 use Rattle.cfb_owners.proofs.HoldsById.{each_part, holds_with, IsPart}
 use Rattle.cfb_owners.proofs.KeysOfParts.{IsOneOf}
 use Rattle.cfb_owners.proofs.UsesOfEntries.{all_from, all_one, one_not_none}

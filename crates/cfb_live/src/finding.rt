@@ -116,10 +116,10 @@ pub(crate) fn find_child(
     let Some(parent) = find_entry(letters, entries, &names[..count - 1]) else {
         return Err(Error::NotFound);
     };
-    let Some(entry) = entries.get(parent as usize) else {
+    let Some(storage) = entries.get(parent as usize) else {
         return Err(Error::NotFound);
     };
-    if is_stream(entry) {
+    if is_stream(storage) {
         return Err(Error::NotFound);
     }
     let (link, id) = match find_place(letters, entries, parent, names[count - 1]) {

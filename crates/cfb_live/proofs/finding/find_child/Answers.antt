@@ -1,4 +1,4 @@
-use Rattle.std.proofs.Common.{◌≡◌, ◌<◌, length, map, inl, inr, refl, ap, sym, subst, ◌∙◌, arith}
+use Rattle.std.proofs.Common.{◌<◌, length, map, inl, inr, refl, ap, sym, subst, ◌∙◌, arith}
 use Rattle.std.specs.Prelude.{Some}
 use Rattle.cfb_siblings.specs.Places.{path_of, IsPlace, IsStorageAt, IsTaken, LeadsTo}
 use Rattle.cfb_siblings.specs.Reading.{ReadBy}
@@ -36,9 +36,9 @@ returns-then-is_stream-clause-refused c = λ reads tree h.
     let names = c.args.names.now in
     let directory = map entry_in c.args.entries.now in
     let parent = c.in-Some.parent in
-    let e = entry_in c.in-Some-get.entry.now in
+    let e = entry_in c.in-Some-get.storage.now in
     let got = c.in-Some-get.ensures.lookup in
-    let found = found_in c.args.entries.now parent c.in-Some-get.entry.now got.3.0 got.1 in
+    let found = found_in c.args.entries.now parent c.in-Some-get.storage.now got.3.0 got.1 in
     let at = c.in-Some.ensures reads tree h in
     let some : 0 < length names = let none = c.if-count-eq0.false in grind (arith, none) in
     let is = stream_of at.object (object_kind reads l directory tree h parent e found _ at) (c.if-is_stream.ensures.0 refl) in
@@ -50,9 +50,9 @@ returns-in-Some-Free-clause-refused c = λ reads tree h.
     let names = c.args.names.now in
     let directory = map entry_in c.args.entries.now in
     let parent = c.in-Some.parent in
-    let e = entry_in c.in-Some-get.entry.now in
+    let e = entry_in c.in-Some-get.storage.now in
     let got = c.in-Some-get.ensures.lookup in
-    let found = found_in c.args.entries.now parent c.in-Some-get.entry.now got.3.0 got.1 in
+    let found = found_in c.args.entries.now parent c.in-Some-get.storage.now got.3.0 got.1 in
     let at = c.in-Some.ensures reads tree h in
     let some : 0 < length names = let none = c.if-count-eq0.false in grind (arith, none) in
     let storage : IsStorageAt l directory (parent_of (path_of names)) parent =
@@ -66,9 +66,9 @@ returns-in-None-clause-refused c = λ reads tree h.
     let names = c.args.names.now in
     let directory = map entry_in c.args.entries.now in
     let parent = c.in-Some.parent in
-    let e = entry_in c.in-Some-get.entry.now in
+    let e = entry_in c.in-Some-get.storage.now in
     let got = c.in-Some-get.ensures.lookup in
-    let found = found_in c.args.entries.now parent c.in-Some-get.entry.now got.3.0 got.1 in
+    let found = found_in c.args.entries.now parent c.in-Some-get.storage.now got.3.0 got.1 in
     let at = c.in-Some.ensures reads tree h in
     let some : 0 < length names = let none = c.if-count-eq0.false in grind (arith, none) in
     let storage : IsStorageAt l directory (parent_of (path_of names)) parent =
@@ -81,9 +81,9 @@ returns-then-id-entries-clause-refused c = λ reads tree h.
     let names = c.args.names.now in
     let directory = map entry_in c.args.entries.now in
     let parent = c.in-Some.parent in
-    let e = entry_in c.in-Some-get.entry.now in
+    let e = entry_in c.in-Some-get.storage.now in
     let got = c.in-Some-get.ensures.lookup in
-    let found = found_in c.args.entries.now parent c.in-Some-get.entry.now got.3.0 got.1 in
+    let found = found_in c.args.entries.now parent c.in-Some-get.storage.now got.3.0 got.1 in
     let at = c.in-Some.ensures reads tree h in
     let some : 0 < length names = let none = c.if-count-eq0.false in grind (arith, none) in
     let storage : IsStorageAt l directory (parent_of (path_of names)) parent =
@@ -97,9 +97,9 @@ returns-clause-found c = λ reads tree h.
     let names = c.args.names.now in
     let directory = map entry_in c.args.entries.now in
     let parent = c.in-Some.parent in
-    let e = entry_in c.in-Some-get.entry.now in
+    let e = entry_in c.in-Some-get.storage.now in
     let got = c.in-Some-get.ensures.lookup in
-    let found = found_in c.args.entries.now parent c.in-Some-get.entry.now got.3.0 got.1 in
+    let found = found_in c.args.entries.now parent c.in-Some-get.storage.now got.3.0 got.1 in
     let at = c.in-Some.ensures reads tree h in
     let some : 0 < length names = let none = c.if-count-eq0.false in grind (arith, none) in
     let storage : IsStorageAt l directory (parent_of (path_of names)) parent =

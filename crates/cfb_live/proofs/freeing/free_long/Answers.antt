@@ -1,5 +1,5 @@
 use Rattle.std.proofs.Common.{◌≡◌, ap, sym, subst, ◌∙◌}
-use Rattle.cfb_chains.specs.LinkViews.{ids_of, links_version}
+use Rattle.cfb_chains.specs.LinkViews.{ids_of}
 use Rattle.cfb_directory.specs.Views as directory
 use Rattle.cfb_fat.specs.Tables.{fat_of, version_of}
 use Rattle.cfb_mini.specs.Views.{allocator_of}

@@ -1,10 +1,10 @@
-use Rattle.std.proofs.Common.{◌≡◌, ◌<◌, [], length, inl, inr, refl, ap, sym, subst, ◌∙◌, ⊎_elim, arith, rules}
+use Rattle.std.proofs.Common.{◌≡◌, ◌<◌, [], length, inl, inr, ap, sym, subst, ◌∙◌, ⊎_elim, rules}
 use Rattle.std.specs.Prelude.{slice_get, Err, Some}
 use Rattle.cfb_entries.specs.Rules.{answer_at}
 use Rattle.cfb_entries.proofs.Found.{names_are}
 use Rattle.cfb_fat.specs.Keeping.{fails_cause}
 use Rattle.cfb_fat.specs.Resting.{all_rest_refl}
-use Rattle.cfb_meaning.specs.TreeRules.{done, refused, remove_stream}
+use Rattle.cfb_meaning.specs.TreeRules.{refused, remove_stream}
 use Rattle.cfb_owned.proofs.GoingOn.{fails_go_on, goes_cause, goes_then}
 use Rattle.cfb_owners.proofs.KeysOfParts.{IsOneOf}
 use Rattle.cfb_siblings.specs.Changes.{HoldsOneLess}

@@ -1,5 +1,4 @@
 use Rattle.std.proofs.Common.{◌≡◌, chars, ap, sym, subst}
-use Rattle.cfb_sectors.proofs.Appending.{on_ok}
 use Rattle.cfb_siblings.specs.Places.{IsPlace, IsStorageAt, IsTaken}
 use Rattle.cfb_siblings.specs.Reading.{ReadBy}
 use Rattle.cfb_tree.specs.LetterViews.{letters_of}
