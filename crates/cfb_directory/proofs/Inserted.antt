@@ -1,5 +1,5 @@
 -- The tree with a child more, over entries that may have become more.
-use Rattle.std.proofs.Common.{◌≡◌, ℕ, Bool, false, List, ◌++◌, replicate, refl, sym, ap, subst, ◌∙◌, ⊎_elim, arith}
+use Rattle.std.proofs.Common.{◌≡◌, ℕ, ◌<◌, Bool, false, List, [], ◌∷◌, ◌++◌, length, replicate, zero, suc, refl, sym, ap, subst, ◌∙◌, ⊎_elim, arith}
 use Rattle.std.specs.Prelude.{nat_eq, slice_get, slice_set, Option, Some, None}
 use Rattle.std.proofs.lemmas.Bool.Decides.{eqb_tells}
 use Rattle.cfb_medium.specs.Versions.{dir_entries_per_sector}
@@ -8,13 +8,14 @@ use Rattle.cfb_tree.specs.Changes.{added}
 use Rattle.cfb_tree.specs.Directory.{Entry}
 use Rattle.cfb_tree.specs.Entries.{empty_entry}
 use Rattle.cfb_tree.specs.Names.{Letters}
-use Rattle.cfb_tree.specs.Objects.{name_of, HoldsTree, Object}
+use Rattle.cfb_tree.specs.declared.entry.DirEntry.{DirEntry}
+use Rattle.cfb_tree.specs.Objects.{a_storage, a_stream, name_of, HoldsTree, IsObject, Object}
 use Rattle.cfb_tree.specs.Paths.{Path}
 use Rattle.cfb_tree.specs.Tree.{Tree}
 use Rattle.cfb_tree.proofs.OneContent.{Some_same}
 use Rattle.cfb_siblings.specs.Changes.{HoldsOn, IsAlone, IsUnused}
 use Rattle.cfb_siblings.specs.Links.{holder, joined_by, linked_to, relinked, taken_out, with_entry}
-use Rattle.cfb_siblings.specs.Places.{path_to, IsFree, IsStorageAt}
+use Rattle.cfb_siblings.specs.Places.{path_to, HasEntry, IsFree, IsStorageAt}
 use Rattle.cfb_siblings.specs.Reading.{ReadBy}
 use Rattle.cfb_siblings.specs.declared.links.Link.{Link}
 use Rattle.cfb_siblings.specs.declared.links.NewLink.{NewLink}
@@ -23,8 +24,8 @@ use Rattle.cfb_siblings.specs.declared.links.Link.TheVariants.{Child, Left, Righ
 use Rattle.cfb_siblings.proofs.Adding.{grows}
 use Rattle.cfb_siblings.proofs.Frames.{append_keeps, either_same, holds_stays, set_changes_only, set_found}
 use Rattle.cfb_siblings.proofs.Unused.{read_by_place, same_stay}
-use Rattle.cfb_directory.specs.Children.{AddsAt, HasAt, HoldsMore, IsAs, LinksNew, StayBut}
-use Rattle.cfb_directory.specs.Entries.{SizesFit}
+use Rattle.cfb_directory.specs.Children.{AddsAt, HasAt, HoldsMore, IsAs, LinksNew, RemovesAt, StayBut}
+use Rattle.cfb_directory.specs.Entries.{entries_in, SizesFit}
 use Rattle.cfb_directory.proofs.Readiness.{sizes_behind, sizes_set}
 use Rattle.cfb_directory.proofs.Longer.{free_more, siblings_more, storage_more}
 
@@ -144,3 +145,44 @@ taken_others removal old new id x is k e other found =
     let joined = joined_by removal.joined old in
     let both = at_then joined (taken_out removal old) k e (joined_at removal.joined old k e found) (λ f at. relinked_at removal.replaced.link removal.replaced.target k joined f at) in
     subst (λ l. HasAt l k e) (sym is) (both.0, set_changes_only (taken_out removal old) id x k both.0 (differs k id other) both.1, both.2)
+
+-- what a removal leaves of an entry, but for its links and its colour
+taken_at : (removal : Removal) (old : List Entry) (k : ℕ) (e : Entry) → slice_get old k ≡ Some e → HasAt (taken_out removal old) k e
+taken_at removal old k e found =
+    let joined = joined_by removal.joined old in
+    at_then joined (taken_out removal old) k e (joined_at removal.joined old k e found) (λ f at. relinked_at removal.replaced.link removal.replaced.target k joined f at)
+
+-- entries are there still once a link was set
+pub joined_there : (joined : Option NewLink) (es : List Entry) (k : ℕ) → HasEntry es k → HasEntry (joined_by joined es) k
+joined_there joined es k (e, found) = let at = joined_at joined es k e found in (at.0, at.1)
+
+pub joined_sizes : (v : Version) (joined : Option NewLink) (es : List Entry) → SizesFit v es → SizesFit v (joined_by joined es)
+joined_sizes v None es fits = fits
+joined_sizes v (Some it) es fits = relinked_sizes v it.link it.target es fits
+
+entry_there : (xs : List Entry) (id : ℕ) → id < length xs → HasEntry xs id
+entry_there [] id below = absurd (omega (arith, below))
+entry_there (x ∷ xs) zero below = (x, refl)
+entry_there (x ∷ xs) (suc id) below = entry_there xs id (omega (arith, below))
+
+pub removes_at : (removal : Removal) (old new : List Entry) (id : ℕ) → id < length old → new ≡ slice_set (taken_out removal old) id empty_entry → RemovesAt old new id
+removes_at removal old new id below is =
+    let was = entry_there old id below in
+    let at = taken_at removal old id was.0 was.1 in
+    record {
+      entry = ap (λ l. slice_get l id) is ∙ set_found (taken_out removal old) id at.0 empty_entry at.1;
+      others = taken_others removal old new id empty_entry is;
+      sizes = λ v fits. subst (SizesFit v) (sym is)
+          (sizes_set v (taken_out removal old) id empty_entry (omega arith)
+          (relinked_sizes v removal.replaced.link removal.replaced.target (joined_by removal.joined old) (joined_sizes v removal.joined old fits)));
+    }
+
+-- the entry of an object is there
+pub object_lost : (directory : List Entry) (Reads : Entry → List ℕ → Type 0) (id : ℕ) (o : Object) (own : List ℕ) → IsObject directory Reads id o own → slice_get directory id ≡ None → ⊥
+object_lost directory Reads id (a_stream name bits bytes) own (e, is, reads, none) lost = let never : Some e ≡ None = sym is.found ∙ lost in absurd (cc)
+object_lost directory Reads id (a_storage name facts inside) own (e, children, is, siblings, holds) lost = let never : Some e ≡ None = sym is.found ∙ lost in absurd (cc)
+
+pub there : (entries : List DirEntry) (id : ℕ) → id < length entries → id < length (entries_in entries)
+there [] id below = absurd (omega (arith, below))
+there (e ∷ entries) zero below = omega arith
+there (e ∷ entries) (suc id) below = let rest = there entries id (omega (arith, below)) in omega (arith, rest)

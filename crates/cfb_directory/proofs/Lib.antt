@@ -11,6 +11,7 @@ pub mod Longer
 pub mod Parts
 pub mod ReadTrees
 pub mod Readiness
+pub mod Results
 pub mod Setting
 pub mod Stages
 pub mod Walking

@@ -1,18 +1,21 @@
 -- Entries of a directory that come and go ([MS-CFB] 2.6.3, 2.6.4).
-use Rattle.std.specs.Prelude.{◌≡◌, ℕ, ◌⊎◌, ◌↔◌, Bool, false, List, ◌∷◌, nat_eq, slice_get, slice_set, Some}
+use Rattle.std.specs.Prelude.{◌≡◌, ℕ, ◌⊎◌, ◌↔◌, Bool, false, List, ◌∷◌, nat_eq, slice_get, slice_set, IfSome, Some}
 use Rattle.cfb_medium.specs.declared.error.Error.{Error}
 use Rattle.cfb_medium.specs.declared.error.Error.TheVariants.{AlreadyExists, Full, InvalidData, InvalidInput, NotFound}
 use Rattle.cfb_medium.specs.declared.version.Version.{Version}
-use Rattle.cfb_siblings.specs.Changes.{IsApart, IsUnused}
-use Rattle.cfb_siblings.specs.Links.{relinked}
-use Rattle.cfb_siblings.specs.Places.{IsStorageAt}
+use Rattle.cfb_siblings.specs.Changes.{HoldsOneLess, IsApart, IsUnused}
+use Rattle.cfb_siblings.specs.Links.{holder, relinked}
+use Rattle.cfb_siblings.specs.Places.{path_to, HasEntry, IsStorageAt, IsTaken}
 use Rattle.cfb_siblings.specs.Reading.{ReadBy}
 use Rattle.cfb_siblings.specs.declared.links.Link.{Link}
+use Rattle.cfb_siblings.specs.declared.removal.Removal.{Removal}
 use Rattle.cfb_tree.specs.Names.{Letters}
-use Rattle.cfb_tree.specs.Objects.{HoldsTree}
+use Rattle.cfb_tree.specs.Changes.{removed}
+use Rattle.cfb_tree.specs.Objects.{HoldsTree, IsObject, Object}
 use Rattle.cfb_tree.specs.Paths.{Path}
 use Rattle.cfb_tree.specs.Tree.{Tree}
 use Rattle.cfb_tree.specs.Directory.{kind_unallocated, Entry}
+use Rattle.cfb_tree.specs.Entries.{empty_entry}
 use Rattle.cfb_directory.specs.Entries.{SizesFit}
 use Rattle.cfb_directory.specs.Growth.{longer}
 
@@ -28,6 +31,11 @@ IsRefusedRemove e = (e ≡ NotFound) ⊎ (e ≡ InvalidData)
 pub record HoldsStorage (letters : Letters) (reads : ℕ → ℕ → List ℕ → Bool) (entries : List Entry) (tree : Tree) (path : Path) (id : ℕ) : Type 0 where
   pub holds : HoldsTree letters (ReadBy reads) entries tree
   pub storage : IsStorageAt letters entries path id
+
+-- so they do, and the link leads to entry `id`, the child of this name of the storage `parent` at the path ([MS-CFB] 2.6.4)
+pub record HoldsChild (letters : Letters) (reads : ℕ → ℕ → List ℕ → Bool) (entries : List Entry) (tree : Tree) (path : Path) (parent : ℕ) (name : List ℕ) (link : Link) (id : ℕ) : Type 0 where
+  pub within : HoldsStorage letters reads entries tree path parent
+  pub taken : IsTaken letters entries parent name link id
 
 -- the entries hold the tree, which is made of the root, of the entries `ids` and of entry `id`
 pub record HoldsMore (letters : Letters) (Reads : Entry → List ℕ → Type 0) (entries : List Entry) (tree : Tree) (ids : List ℕ) (id : ℕ) : Type 0 where
@@ -64,3 +72,27 @@ pub record AddsAt (old new : List Entry) (e : Entry) (id : ℕ) : Type 0 where
   pub unused : (was : Entry) → slice_get old id ≡ Some was → was.kind ≡ kind_unallocated
   pub others : StayBut old new id
   pub sizes : (version : Version) → e.size ≡ 0 → SizesFit version old → SizesFit version new
+
+-- the entries whose links the removal sets are there
+pub record HasHolders (entries : List Entry) (removal : Removal) : Type 0 where
+  pub replaced : HasEntry entries (holder removal.replaced.link)
+  pub joined : IfSome removal.joined (λ it. HasEntry entries (holder it.link))
+
+-- entry `id` was an object, and the entries hold the tree without the object at the path and what is in it, which is made of the
+-- root and of the entries `ids` without these
+pub record Removes (letters : Letters) (reads : ℕ → ℕ → List ℕ → Bool) (old new : List Entry) (tree : Tree) (ids : List ℕ) (path : Path) (id : ℕ) : Type 0 where
+  pub object : Object
+  pub own : List ℕ
+  pub is_object : IsObject old (ReadBy reads) id object own
+  pub holds : HoldsOneLess letters (ReadBy reads) old new (removed letters path tree) ids id own
+
+-- what it leaves of a tree with such a child: the tree without it
+abbrev pub RemovesChild : List Entry → List Entry → Link → ℕ → Type 0
+RemovesChild old new link id = (letters : Letters) (reads : ℕ → ℕ → List ℕ → Bool) (tree : Tree) (path : Path) (parent : ℕ) (name : List ℕ)
+    → (h : HoldsChild letters reads old tree path parent name link id) → Removes letters reads old new tree h.within.holds.ids (path_to path name) id
+
+-- entry `id` is in no use; the others are as they were, all but for links and colours
+pub record RemovesAt (old new : List Entry) (id : ℕ) : Type 0 where
+  pub entry : slice_get new id ≡ Some empty_entry
+  pub others : StayBut old new id
+  pub sizes : (version : Version) → SizesFit version old → SizesFit version new

@@ -1,7 +1,7 @@
 //! Entries that come and go: children of storages by name ([MS-CFB] 2.6.4).
 ghost use Rattle.cfb_chains.specs.ChainCalls.{IsInvalid, IsInvalidOrFull};
 ghost use Rattle.cfb_directory.specs.Changes.{HasDirectory, KeepsEntries, LiesBeside, SetsEntry};
-ghost use Rattle.cfb_directory.specs.Children.{AddsAt, HoldsMore, HoldsStorage, IsRefusedInsert, IsRefusedRemove, LinksNew, StayBut};
+ghost use Rattle.cfb_directory.specs.Children.{AddsAt, HasHolders, HoldsChild, HoldsMore, HoldsStorage, IsRefusedInsert, IsRefusedRemove, LinksNew, Removes, RemovesAt, RemovesChild};
 ghost use Rattle.cfb_directory.specs.Entries.{SizesFit};
 ghost use Rattle.cfb_directory.specs.Growth.{GrowsDirectory, IsReady};
 ghost use Rattle.cfb_directory.specs.Views.{allocator_of, entries_held, IsDirectory};
@@ -10,20 +10,20 @@ ghost use Rattle.cfb_fat.specs.Tables.{has_failed_here, version_of};
 ghost use Rattle.cfb_medium.specs.Times.{units_of};
 ghost use Rattle.cfb_medium.specs.declared.error.Error.TheVariants.{AlreadyExists, Full, InvalidData, InvalidInput, NotFound};
 ghost use Rattle.cfb_owned.specs.Chains.{GoesOn};
-ghost use Rattle.cfb_siblings.specs.Changes.{HoldsOneLess, IsAlone};
+ghost use Rattle.cfb_siblings.specs.Changes.{IsAlone};
 ghost use Rattle.cfb_siblings.specs.Links.{holder, joined_by, linked_to, taken_out};
 ghost use Rattle.cfb_siblings.specs.Places.{path_to, HasEntry};
 ghost use Rattle.cfb_siblings.specs.Reading.{ReadBy};
-ghost use Rattle.cfb_tree.specs.Changes.{added, removed};
+ghost use Rattle.cfb_tree.specs.Changes.{added};
 ghost use Rattle.cfb_tree.specs.Directory.{Entry};
 ghost use Rattle.cfb_tree.specs.EntryViews.{entry_in, kind_of};
 ghost use Rattle.cfb_tree.specs.Entries.{empty_entry, new_entry};
 ghost use Rattle.cfb_tree.specs.LetterViews.{letters_of};
-ghost use Rattle.cfb_tree.specs.Names.{is_name};
+ghost use Rattle.cfb_tree.specs.Names.{is_name, Letters};
 ghost use Rattle.cfb_tree.specs.Objects.{name_of, object_at, Object};
 ghost use Rattle.cfb_tree.specs.Paths.{Path};
 ghost use Rattle.cfb_tree.specs.Tree.{Tree};
-ghost use Rattle.std.specs.Prelude.{chars, false, length, slice_get, slice_set, true, Bool, IfOk, IsErrOf, IsTrue, List, None, OnErr, OnOk, Some, ℕ, ◌<◌, ◌≡◌, ◌⊎◌};
+ghost use Rattle.std.specs.Prelude.{chars, false, length, slice_get, slice_set, true, Bool, IfOk, IfSome, IsErrOf, IsTrue, List, None, OnErr, OnOk, Some, ℕ, ◌<◌, ◌≡◌, ◌⊎◌};
 
 use crate::Directory;
 use cfb_medium::{Error, Medium, Timestamp};
@@ -153,6 +153,8 @@ impl<F: Medium> Directory<F> {
         ensures set { OnOk result (entries_held self.new
             ≡ joined_by joined (entries_held self.old)) }
         ensures grown { OnOk result (HasDirectory self.old → GrowsDirectory self.old self.new) }
+        ensures refused { IsErrOf result InvalidData → IsReady self.old
+            → IfSome joined (λ it. HasEntry (entries_held self.old) (holder it.link)) → ⊥ }
         ensures goes_on { GoesOn (allocator_of self.old) (allocator_of self.new) }
         ensures answers { Answers IsInvalid result (allocator_of self.old)
             (allocator_of self.new) }
@@ -170,6 +172,8 @@ impl<F: Medium> Directory<F> {
         ensures taken { OnOk result (entries_held self.new
             ≡ slice_set (taken_out removal (entries_held self.old)) id empty_entry) }
         ensures grown { OnOk result (HasDirectory self.old → GrowsDirectory self.old self.new) }
+        ensures refused { IsErrOf result InvalidData → IsReady self.old
+            → HasHolders (entries_held self.old) removal → ⊥ }
         ensures failed { OnErr result (has_failed_here (allocator_of self.new) ≡ true) }
         ensures goes_on { GoesOn (allocator_of self.old) (allocator_of self.new) }
         ensures answers { Answers IsInvalid result (allocator_of self.old)
@@ -190,10 +194,46 @@ impl<F: Medium> Directory<F> {
         Ok(())
     }
 
-    /// Takes the child of this name out of the storage `parent`, with what is in it: at most two links are written, and then an
-    /// entry in no use in its place. `NotFound` where the storage has no child of the name. `InvalidData` where the entries
-    /// hold no tree with such a storage, or the file hasn't the directory's sectors beside its tables. After an error nothing
-    /// is changed, or it has failed ([MS-CFB] 2.6.3, 2.6.4).
+    /// Takes the entry to which a link leads out of its siblings, with what is in it, as `find_place` tells the two: at most two
+    /// links are written, and then an entry in no use in its place. `InvalidData` where the entries hold no tree with such a
+    /// child, or the file hasn't the directory's sectors beside its tables. After an error nothing is changed, or it has failed
+    /// ([MS-CFB] 2.6.3, 2.6.4).
+    pub fn unlink_dir_entry(&mut self, link: Link, id: u32) -> Result<(), Error>
+        ensures removed { OnOk result (RemovesChild (entries_held self.old)
+            (entries_held self.new) link id) }
+        ensures entry { OnOk result (RemovesAt (entries_held self.old) (entries_held self.new)
+            id) }
+        ensures refused { IsErrOf result InvalidData
+            → (letters : Letters) (reads : ℕ → ℕ → List ℕ → Bool) (tree : Tree) (path : Path)
+            (parent : ℕ) (name : List ℕ)
+            → HoldsChild letters reads (entries_held self.old) tree path parent name link id
+            → IsReady self.old → ⊥ }
+        ensures grown { OnOk result (HasDirectory self.old → GrowsDirectory self.old self.new) }
+        ensures kept { OnErr result (has_failed_here (allocator_of self.new) ≡ false
+            → KeepsEntries self.old self.new) }
+        ensures memory { IsDirectory self.old → LiesBeside self.old → IsDirectory self.new }
+        ensures goes_on { GoesOn (allocator_of self.old) (allocator_of self.new) }
+        ensures answers { Answers IsInvalid result (allocator_of self.old)
+            (allocator_of self.new) }
+    {
+        if self.allocator.is_failed() {
+            return Err(Error::Failed);
+        }
+        let Some(removal) = plan_removal(&self.entries.items, link, id) else {
+            return Err(Error::InvalidData);
+        };
+        if id as usize >= self.entries.items.len() {
+            return Err(Error::InvalidData);
+        }
+        if let Err(error) = self.entries.note(id) {
+            return Err(error);
+        }
+        self.take_out(removal, id)
+    }
+
+    /// Takes the child of this name out of the storage `parent`, with what is in it, as `unlink_dir_entry` does. `NotFound` where
+    /// the storage has no child of the name, `InvalidData` where the entries hold no tree with such a storage, or the file hasn't
+    /// the directory's sectors beside its tables. After an error nothing is changed, or it has failed ([MS-CFB] 2.6.3, 2.6.4).
     pub fn remove_dir_entry(
         &mut self,
         letters: &CaseMapper,
@@ -202,15 +242,18 @@ impl<F: Medium> Directory<F> {
     ) -> Result<(), Error>
         ensures removed { OnOk result ((reads : ℕ → ℕ → List ℕ → Bool) (tree : Tree) (path : Path)
             → (h : HoldsStorage (letters_of letters.now) reads (entries_held self.old) tree
-            path parent) → (id : ℕ) × (own : List ℕ)
-            × HoldsOneLess (letters_of letters.now) (ReadBy reads) (entries_held self.old)
-            (entries_held self.new)
-            (removed (letters_of letters.now) (path_to path (chars name.now)) tree)
-            h.holds.ids id own × StayBut (entries_held self.old) (entries_held self.new) id) }
+            path parent) → (id : ℕ) × Removes (letters_of letters.now) reads
+            (entries_held self.old) (entries_held self.new) tree h.holds.ids
+            (path_to path (chars name.now)) id
+            × RemovesAt (entries_held self.old) (entries_held self.new) id) }
         ensures missing { IsErrOf result NotFound
             → (reads : ℕ → ℕ → List ℕ → Bool) (tree : Tree) (path : Path)
             → HoldsStorage (letters_of letters.now) reads (entries_held self.old) tree path parent
             → object_at (letters_of letters.now) tree (path_to path (chars name.now)) ≡ None }
+        ensures refused { IsErrOf result InvalidData
+            → (reads : ℕ → ℕ → List ℕ → Bool) (tree : Tree) (path : Path)
+            → HoldsStorage (letters_of letters.now) reads (entries_held self.old) tree path parent
+            → IsReady self.old → ⊥ }
         ensures grown { OnOk result (HasDirectory self.old → GrowsDirectory self.old self.new) }
         ensures kept { OnErr result (has_failed_here (allocator_of self.new) ≡ false
             → KeepsEntries self.old self.new) }
@@ -227,15 +270,6 @@ impl<F: Medium> Directory<F> {
             Some(Place::Free { link: _ }) => return Err(Error::NotFound),
             None => return Err(Error::InvalidData),
         };
-        let Some(removal) = plan_removal(&self.entries.items, link, id) else {
-            return Err(Error::InvalidData);
-        };
-        if id as usize >= self.entries.items.len() {
-            return Err(Error::InvalidData);
-        }
-        if let Err(error) = self.entries.note(id) {
-            return Err(error);
-        }
-        self.take_out(removal, id)
+        self.unlink_dir_entry(link, id)
     }
 }

@@ -19,9 +19,10 @@ use Rattle.cfb_siblings.proofs.Editing.{edited}
 use Rattle.cfb_owners.specs.Held.{HasStream, IsStreamAmong, MeansHeld}
 use Rattle.cfb_owners.specs.Kept.{Kept}
 use Rattle.cfb_owners.specs.LiveFile.{LiveFile}
-use Rattle.cfb_owners.specs.Owners.{stream_owner, Owners}
+use Rattle.cfb_owners.specs.Owners.{mini_stream_owner, stream_owner, Owners}
 use Rattle.cfb_owners.proofs.HoldsById.{each_part, holds_so, holds_with, IsPart}
-use Rattle.cfb_live.proofs.Carried.{stream_stays, Carries}
+use Rattle.cfb_live.specs.Freeing.{CarriesBut}
+use Rattle.cfb_live.proofs.Carried.{carries_but, stream_stays_but, Carries}
 use Rattle.cfb_live.proofs.Streams.{bytes_from, reads, reads_means, reads_so, stream_is}
 
 -- the entries hold the tree, with what is read of its streams
@@ -59,18 +60,24 @@ kind_over None p none some h = subst (λ q. IfSome q (λ e. e.kind ≡ kind_stre
 kind_over (Some e) p none some h = let now = some e refl in subst (λ q. IfSome q (λ e. e.kind ≡ kind_stream)) (sym now.1) (now.2 ∙ h)
 
 -- a stream keeps its bytes where its entry keeps its place
-pub moved_stream : (s t : LiveFile) (who now : Owners) (letters : Letters) (tree : Tree) (h : MeansHeld s who letters tree) → Carries s t who now → (id : ℕ) (e f : Entry)
-    → (e.kind ≡ kind_storage) ⊎ ((e.kind ≡ kind_stream) × (bytes : List ℕ) × HasStream s who id e bytes) → f.kind ≡ e.kind → f.start ≡ e.start → f.size ≡ e.size → f.kind ≡ kind_stream
+pub moved_stream_but : (key : ℕ) (s t : LiveFile) (who now : Owners) (letters : Letters) (tree : Tree) (h : MeansHeld s who letters tree) → CarriesBut key s t who now → (mini_stream_owner ≡ key → ⊥) → (id : ℕ) (e f : Entry)
+    → (stream_owner id ≡ key → ⊥) → (e.kind ≡ kind_storage) ⊎ ((e.kind ≡ kind_stream) × (bytes : List ℕ) × HasStream s who id e bytes) → f.kind ≡ e.kind → f.start ≡ e.start → f.size ≡ e.size → f.kind ≡ kind_stream
     → (content : List ℕ) × HasStream t now id f content × (content ≡ bytes_from s who f.start f.size)
-moved_stream s t who now letters tree h c id e f part kinds start size kind =
+moved_stream_but key s t who now letters tree h c apart id e f other part kinds start size kind =
     ⊎_elim
     (λ is_storage. let wrong : kind_storage ≡ kind_stream = sym is_storage ∙ sym kinds ∙ kind in absurd (omega (arith, wrong)))
     (λ it. (
       it.1,
-      stream_stays s t who now c id e f it.1 start size it.2,
+      stream_stays_but key s t who now c id e f it.1 other apart start size it.2,
       stream_is s who h.root h.kept id e it.1 it.2 ∙ ap (λ n. bytes_from s who n e.size) (sym start) ∙ ap (bytes_from s who f.start) (sym size),
     ))
     part
+
+pub moved_stream : (s t : LiveFile) (who now : Owners) (letters : Letters) (tree : Tree) (h : MeansHeld s who letters tree) → Carries s t who now → (id : ℕ) (e f : Entry)
+    → (e.kind ≡ kind_storage) ⊎ ((e.kind ≡ kind_stream) × (bytes : List ℕ) × HasStream s who id e bytes) → f.kind ≡ e.kind → f.start ≡ e.start → f.size ≡ e.size → f.kind ≡ kind_stream
+    → (content : List ℕ) × HasStream t now id f content × (content ≡ bytes_from s who f.start f.size)
+moved_stream s t who now letters tree h c id e f part kinds start size kind =
+    moved_stream_but 0 s t who now letters tree h (carries_but s t who now c) (λ same. omega (arith, same)) id e f (λ same. omega (arith, same)) part kinds start size kind
 
 -- the streams stay, and the entries hold another tree with the same numbers
 module _ (s t : LiveFile) (who now : Owners) (letters : Letters) (tree later : Tree) (h : MeansHeld s who letters tree) (c : Carries s t who now) (root : Entry) (kept : Kept t now root)

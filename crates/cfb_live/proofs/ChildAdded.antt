@@ -23,21 +23,21 @@ use Rattle.cfb_live.proofs.Carried.{Carries}
 use Rattle.cfb_live.proofs.Changed.{moved_stream}
 use Rattle.cfb_live.proofs.Streams.{bytes_from, no_bytes, reads, reads_means}
 
-none_of : (xs : List ℕ) (n : ℕ) → (IsOneOf xs n → ⊥) → IsNoneOf xs n
+pub none_of : (xs : List ℕ) (n : ℕ) → (IsOneOf xs n → ⊥) → IsNoneOf xs n
 none_of [] n never k below same = absurd (omega (arith, below))
 none_of (x ∷ xs) n never zero below same = never (inl same)
 none_of (x ∷ xs) n never (suc k) below same = none_of xs n (λ one. never (inr one)) k (omega (arith, below)) same
 
-apart_or : (n : ℕ) (xs : List ℕ) → IsApart n xs ⊎ IsOneOf xs n
+pub apart_or : (n : ℕ) (xs : List ℕ) → IsApart n xs ⊎ IsOneOf xs n
 apart_or n [] = inl tt
 apart_or n (x ∷ xs) = ⊎_elim (λ same. inr (inl (sym same.1))) (λ differ. ⊎_elim (λ rest. inl (differ.0, rest)) (λ one. inr (inr one)) (apart_or n xs)) (eqb_tells n x)
 
-one_apart : (xs : List ℕ) (n : ℕ) → IsOneOf xs n → IsApart n xs → ⊥
+pub one_apart : (xs : List ℕ) (n : ℕ) → IsOneOf xs n → IsApart n xs → ⊥
 one_apart [] n one apart = one
 one_apart (x ∷ xs) n (inl same) apart = let test = apart.0 in let wrong : nat_eq n x ≡ true = grind (arith, same) in let never : true ≡ false = sym wrong ∙ test in absurd (cc)
 one_apart (x ∷ xs) n (inr later) apart = one_apart xs n later apart.1
 
-zero_apart : (ids : List ℕ) → IsDistinct nat_eq (0 ∷ ids) → IsApart 0 ids
+pub zero_apart : (ids : List ℕ) → IsDistinct nat_eq (0 ∷ ids) → IsApart 0 ids
 unfolding IsDistinct
 zero_apart ids once = once.0
 

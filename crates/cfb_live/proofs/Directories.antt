@@ -14,8 +14,6 @@ use Rattle.cfb_fat.specs.Seeing.{seen_of}
 use Rattle.cfb_fat.specs.Tables.{bytes_of, has_failed_here, version_of}
 use Rattle.cfb_owned.specs.Chains.{GoesOn}
 use Rattle.cfb_tree.specs.Directory.{entries_of, kind_root, Entry}
-use Rattle.cfb_tree.specs.Names.{Letters}
-use Rattle.cfb_tree.specs.Tree.{Tree}
 use Rattle.cfb_directory.specs.Views.{directory_ids, entries_held}
 use Rattle.cfb_mini.specs.Changing.{ChangesDirectory, HasOwners}
 use Rattle.cfb_mini.specs.Views.{allocator_of, directory_of}
@@ -23,7 +21,8 @@ use Rattle.cfb_mini.specs.declared.mini_allocator.MiniAllocator.{MiniAllocator}
 use Rattle.cfb_mini.proofs.Keeping.{pick, pick_mine, pick_other}
 use Rattle.cfb_owners.specs.Kept.{Kept}
 use Rattle.cfb_owners.specs.Owners.{first_of, mini_stream_owner, Owners}
-use Rattle.cfb_live.specs.Live.{live_of, Means}
+use Rattle.cfb_live.specs.Freeing.{Stands}
+use Rattle.cfb_live.specs.Live.{live_of}
 use Rattle.cfb_live.proofs.Carried.{Carries}
 use Rattle.cfb_live.proofs.Headers.{header_stays, u32_same, KeepsFront}
 use Rattle.cfb_live.proofs.KeptNow.{kept_now}
@@ -37,25 +36,25 @@ first_same v bytes [] more entries root is found =
 first_same v bytes (x ∷ ids) more entries root is found = refl
 
 module _ {F : Type 0} {g : Ghosts F} (words : List ℕ) (spare : (place count : ℕ) → (place + count ≤ 40) ⊎ (48 ≤ place) → AreBesideWords words place count)
-    (letters : Letters) (old new : MiniAllocator F g) (tree : Tree) (m : Means letters old tree) (goes : GoesOn (allocator_of old) (allocator_of new)) (live : has_failed_here (allocator_of new) ≡ false)
-    (c : ChangesDirectory words old new m.who.sectors) where
+    (old new : MiniAllocator F g) (who : Owners) (m : Stands old who) (goes : GoesOn (allocator_of old) (allocator_of new)) (live : has_failed_here (allocator_of new) ≡ false)
+    (c : ChangesDirectory words old new who.sectors) where
   -- who owns which sectors then
   abbrev pub owners_now : Owners
-  owners_now = record { sectors = pick m.who.sectors 0 (directory_ids (directory_of new)); minis = m.who.minis }
+  owners_now = record { sectors = pick who.sectors 0 (directory_ids (directory_of new)); minis = who.minis }
 
   pub has_owners : HasOwners new owners_now.sectors
-  has_owners = c.owners owners_now.sectors (pick_mine m.who.sectors 0 (directory_ids (directory_of new))) (pick_other m.who.sectors 0 (directory_ids (directory_of new)))
+  has_owners = c.owners owners_now.sectors (pick_mine who.sectors 0 (directory_ids (directory_of new))) (pick_other who.sectors 0 (directory_ids (directory_of new)))
 
-  others : (k : ℕ) → mini_stream_owner ≤ k → owners_now.sectors k ≡ m.who.sectors k
-  others k past = pick_other m.who.sectors 0 (directory_ids (directory_of new)) k (λ same. omega (arith, same, past))
+  others : (k : ℕ) → mini_stream_owner ≤ k → owners_now.sectors k ≡ who.sectors k
+  others k past = pick_other who.sectors 0 (directory_ids (directory_of new)) k (λ same. omega (arith, same, past))
 
-  stays : (k : ℕ) → (k ≡ 0 → ⊥) → Stays (sector (version_of (allocator_of old))) (seen_of (allocator_of old)) (seen_of (allocator_of new)) (m.who.sectors k)
+  stays : (k : ℕ) → (k ≡ 0 → ⊥) → Stays (sector (version_of (allocator_of old))) (seen_of (allocator_of old)) (seen_of (allocator_of new)) (who.sectors k)
   unfolding seen_of
   stays k other =
       let ids = directory_ids (directory_of new) in
       let v = version_of (allocator_of old) in
-      let moves : Moves (sector v) words 0 ids c.more (seen_of (allocator_of old)) (seen_of (allocator_of new)) m.who.sectors owners_now.sectors = record { becomes = c.becomes; mine = pick_mine m.who.sectors 0 ids; others = pick_other m.who.sectors 0 ids } in
-      other_left (sector v) (seen_of (allocator_of old)) (seen_of (allocator_of new)) m.who.sectors owners_now.sectors 0 words ids c.more m.owners.owned moves k other
+      let moves : Moves (sector v) words 0 ids c.more (seen_of (allocator_of old)) (seen_of (allocator_of new)) who.sectors owners_now.sectors = record { becomes = c.becomes; mine = pick_mine who.sectors 0 ids; others = pick_other who.sectors 0 ids } in
+      other_left (sector v) (seen_of (allocator_of old)) (seen_of (allocator_of new)) who.sectors owners_now.sectors 0 words ids c.more m.owners.owned moves k other
 
   longer : length (bytes_of (allocator_of old)) ≤ length (bytes_of (allocator_of new))
   unfolding seen_of
@@ -65,7 +64,7 @@ module _ {F : Type 0} {g : Ghosts F} (words : List ℕ) (spare : (place count : 
   unfolding seen_of
   keeps_front place count front beside = c.becomes.leaves.header place count front ((⊎_elim (λ before. inl (omega (arith, before))) (λ behind. inr (omega (arith, behind))) beside), spare place count beside)
 
-  pub carries : Carries (live_of old) (live_of new) m.who owners_now
+  pub carries : Carries (live_of old) (live_of new) who owners_now
   unfolding live_of seen_of
   carries = record {
     version = goes.version;
@@ -80,16 +79,16 @@ module _ {F : Type 0} {g : Ghosts F} (words : List ℕ) (spare : (place count : 
   kept_later root found kind =
       let a = allocator_of old in
       let b = allocator_of new in
-      let was = m.held.kept in
+      let was = m.kept in
       let v = version_of a in
       let whole = was.header.whole in
       let front = keeps_front in
-      let ids : owners_now.sectors 0 ≡ m.who.sectors 0 ++ c.more = pick_mine m.who.sectors 0 (directory_ids (directory_of new)) ∙ c.ids ∙ ap (λ l. l ++ c.more) (sym m.owners.directory) in
+      let ids : owners_now.sectors 0 ≡ who.sectors 0 ++ c.more = pick_mine who.sectors 0 (directory_ids (directory_of new)) ∙ c.ids ∙ ap (λ l. l ++ c.more) (sym m.owners.directory) in
       kept_now new owners_now live (subst IsTrue (sym (goes.orderly live)) m.orderly) has_owners root
       (subst (λ u. IsHeader u (bytes_of b)) (sym goes.version) (header_stays (bytes_of a) (bytes_of b) whole longer front v was.header))
-      (u32_same (bytes_of a) (bytes_of b) whole longer front 48 (omega arith) (inr (omega arith)) ∙ was.directory_at ∙ sym (ap first_of ids ∙ first_same v (bytes_of a) (m.who.sectors 0) c.more (entries_held (directory_of old)) m.held.root was.entries was.root_found))
-      (u32_same (bytes_of a) (bytes_of b) whole longer front 60 (omega arith) (inr (omega arith)) ∙ was.mini_fat_at ∙ sym (ap first_of (pick_other m.who.sectors 0 (directory_ids (directory_of new)) 1 (λ same. omega (arith, same)))))
+      (u32_same (bytes_of a) (bytes_of b) whole longer front 48 (omega arith) (inr (omega arith)) ∙ was.directory_at ∙ sym (ap first_of ids ∙ first_same v (bytes_of a) (who.sectors 0) c.more (entries_held (directory_of old)) m.root was.entries was.root_found))
+      (u32_same (bytes_of a) (bytes_of b) whole longer front 60 (omega arith) (inr (omega arith)) ∙ was.mini_fat_at ∙ sym (ap first_of (pick_other who.sectors 0 (directory_ids (directory_of new)) 1 (λ same. omega (arith, same)))))
       found kind
-      (subst (λ t. Owned t [] m.who.minis) (sym c.mini_fat) was.minis_owned)
-      (λ k. subst (λ n. AllByRecursion (λ x. 64 * x + 64 ≤ n) (m.who.minis k)) (ap (λ u. length (m.who.sectors mini_stream_owner) * sector_len u) (sym goes.version) ∙ ap (λ l. length l * sector_len (version_of b)) (sym (others mini_stream_owner (omega arith)))) (was.minis_there k))
+      (subst (λ t. Owned t [] who.minis) (sym c.mini_fat) was.minis_owned)
+      (λ k. subst (λ n. AllByRecursion (λ x. 64 * x + 64 ≤ n) (who.minis k)) (ap (λ u. length (who.sectors mini_stream_owner) * sector_len u) (sym goes.version) ∙ ap (λ l. length l * sector_len (version_of b)) (sym (others mini_stream_owner (omega arith)))) (was.minis_there k))
       was.minis_of_streams

@@ -3,11 +3,15 @@ pub mod Changed
 pub mod ChildAdded
 pub mod Directories
 pub mod FactRules
+pub mod Freed
 pub mod Headers
 pub mod KeptNow
 pub mod Made
 pub mod NewPlaces
 pub mod Objects
+pub mod Removals
+pub mod Removed
 pub mod Resting
 pub mod SetFacts
+pub mod Standing
 pub mod Streams

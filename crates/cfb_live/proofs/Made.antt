@@ -33,6 +33,7 @@ use Rattle.cfb_live.specs.declared.making.NewObject.{NewObject}
 use Rattle.cfb_live.specs.declared.making.NewObject.TheVariants.{Storage, Stream}
 use Rattle.cfb_live.proofs.ChildAdded.{means_more}
 use Rattle.cfb_live.proofs.Directories.{carries, has_owners, kept_later, owners_now}
+use Rattle.cfb_live.proofs.Standing.{stands_of}
 use Rattle.cfb_live.proofs.Streams.{reads}
 
 -- the front of the header is spared
@@ -71,9 +72,9 @@ module _ {F : Type 0} {g : Ghosts F} (letters : Letters) (old : MiniAllocator F 
       record {
         live = live;
         orderly = subst IsTrue (sym (goes.orderly live)) m.orderly;
-        who = owners_now words spare letters old new tree m goes live c;
-        owners = has_owners words spare letters old new tree m goes live c;
+        who = owners_now words spare old new m.who (stands_of letters old tree m) goes live c;
+        owners = has_owners words spare old new m.who (stands_of letters old tree m) goes live c;
         sizes = subst (λ v. SizesFit v (entries_held (directory_of new))) (sym goes.version) (adds.sizes (version_of (allocator_of old)) small m.sizes);
-        held = means_more (live_of old) (live_of new) m.who (owners_now words spare letters old new tree m goes live c) letters tree later m.held (carries words spare letters old new tree m goes live c)
-            place.0 (kept_later words spare letters old new tree m goes live c place.0 place.1 (place.2.kind ∙ m.held.kept.root_kind)) e id more adds small starts;
+        held = means_more (live_of old) (live_of new) m.who (owners_now words spare old new m.who (stands_of letters old tree m) goes live c) letters tree later m.held (carries words spare old new m.who (stands_of letters old tree m) goes live c)
+            place.0 (kept_later words spare old new m.who (stands_of letters old tree m) goes live c place.0 place.1 (place.2.kind ∙ m.held.kept.root_kind)) e id more adds small starts;
       }

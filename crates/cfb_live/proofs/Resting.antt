@@ -5,12 +5,14 @@ use Rattle.cfb_medium.specs.declared.version.Version.{Version}
 use Rattle.cfb_directory.specs.Entries.{SizesFit}
 use Rattle.cfb_directory.specs.Views.{entries_held}
 use Rattle.cfb_fat.specs.Resting.{all_rest_refl}
-use Rattle.cfb_fat.specs.Tables.{is_honest, version_of}
+use Rattle.cfb_chains.specs.Owned.{Owned}
+use Rattle.cfb_fat.specs.Keeping.{tables_same}
+use Rattle.cfb_fat.specs.Tables.{fat_of, is_honest, tables_of, version_of}
 use Rattle.cfb_tree.specs.Directory.{Entry}
 use Rattle.cfb_tree.specs.Names.{Letters}
 use Rattle.cfb_tree.specs.Tree.{Tree}
 use Rattle.cfb_mini.specs.Changing.{KeepsOwners}
-use Rattle.cfb_mini.specs.Views.{allocator_of, directory_of}
+use Rattle.cfb_mini.specs.Views.{allocator_of, directory_of, Rests}
 use Rattle.cfb_mini.specs.declared.mini_allocator.MiniAllocator.{MiniAllocator}
 use Rattle.cfb_owners.specs.Held.{MeansHeld}
 use Rattle.cfb_owners.specs.LiveFile.{LiveFile}
@@ -55,3 +57,22 @@ module _ {F : Type 0} {g : Ghosts F} (old new : MiniAllocator F g) (k : KeepsOwn
 module _ {F : Type 0} {g : Ghosts F} where
   pub keeps_refl : (it : MiniAllocator F g) → KeepsOwners it it
   keeps_refl it = record { allocator = all_rest_refl (allocator_of it); entries = refl; mini_fat = refl; owners = λ own h. h }
+
+  -- only reads happened: each owner has what it had
+  pub keeps_rests : (old new : MiniAllocator F g) → Rests old new → KeepsOwners old new
+  keeps_rests old new r =
+      let rests = r.directory.allocator in
+      let a = allocator_of old in
+      let b = allocator_of new in record {
+        allocator = rests;
+        entries = r.directory.entries;
+        mini_fat = r.mini_fat;
+        owners = λ own h. record {
+          honest = subst IsTrue (sym rests.sectors.honest) h.honest;
+          memory = r.kept h.memory;
+          owned = subst (λ t. Owned t (tables_of b) own) (sym rests.fat) (subst (λ t. Owned (fat_of a) t own) (sym (tables_same a b rests.difat_sectors rests.fat_sectors)) h.owned);
+          directory = h.directory ∙ sym r.directory.ids;
+          mini_fat = h.mini_fat ∙ sym r.mini_fat_ids;
+          mini_stream = h.mini_stream ∙ sym r.mini_stream_ids;
+        };
+      }

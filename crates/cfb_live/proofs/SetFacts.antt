@@ -27,6 +27,7 @@ use Rattle.cfb_live.specs.Live.{live_of, Means}
 use Rattle.cfb_live.proofs.Carried.{Carries}
 use Rattle.cfb_live.proofs.Changed.{entry_changed, set_keeps, tree_held, tree_ids}
 use Rattle.cfb_live.proofs.Directories.{carries, has_owners, kept_later, owners_now}
+use Rattle.cfb_live.proofs.Standing.{stands_of}
 use Rattle.cfb_live.proofs.Streams.{reads}
 
 set_same : (xs : List Entry) (id : ℕ) (e : Entry) → slice_get xs id ≡ Some e → xs ≡ slice_set xs id e
@@ -70,11 +71,11 @@ module _ {F : Type 0} {g : Ghosts F} (letters : Letters) (old : MiniAllocator F 
       record {
         live = live;
         orderly = subst IsTrue (sym (goes.orderly live)) m.orderly;
-        who = owners_now [] none letters old new tree m goes live c;
-        owners = has_owners [] none letters old new tree m goes live c;
+        who = owners_now [] none old new m.who (stands_of letters old tree m) goes live c;
+        owners = has_owners [] none old new m.who (stands_of letters old tree m) goes live c;
         sizes = subst (λ v. SizesFit v (entries_held (directory_of new))) (sym goes.version) (subst (SizesFit (version_of (allocator_of old))) (sym set) (set_sizes (version_of (allocator_of old)) (entries_held (directory_of old)) id e f found size m.sizes));
-        held = entry_changed (live_of old) (live_of new) m.who (owners_now [] none letters old new tree m goes live c) letters tree path id e f change at.object m.held at.leads at.at_path found links start size becomes set
-            (carries [] none letters old new tree m goes live c) place.0 (kept_later [] none letters old new tree m goes live c place.0 root_found (place.2 ∙ m.held.kept.root_kind));
+        held = entry_changed (live_of old) (live_of new) m.who (owners_now [] none old new m.who (stands_of letters old tree m) goes live c) letters tree path id e f change at.object m.held at.leads at.at_path found links start size becomes set
+            (carries [] none old new m.who (stands_of letters old tree m) goes live c) place.0 (kept_later [] none old new m.who (stands_of letters old tree m) goes live c place.0 root_found (place.2 ∙ m.held.kept.root_kind));
       }
 
   -- or where nothing is to be set

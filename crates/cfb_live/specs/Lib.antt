@@ -2,3 +2,5 @@ pub mod Live
 pub mod Doing
 pub mod Facts
 pub mod Making
+pub mod Freeing
+pub mod Removing

@@ -1,6 +1,7 @@
 //! Objects by the text of a path.
 ghost use Rattle.cfb_entries.specs.Rules.{names_in};
 ghost use Rattle.cfb_live.specs.Making.{IsFreePlace, IsRefusedPlace};
+ghost use Rattle.cfb_live.specs.Removing.{IsChildAt, LacksChild};
 ghost use Rattle.cfb_medium.specs.declared.error.Error.TheVariants.{AlreadyExists, InvalidInput, Memory, NotFound};
 ghost use Rattle.cfb_siblings.specs.Places.{path_of, IsEntryAt};
 ghost use Rattle.cfb_siblings.specs.Reading.{ReadBy};
@@ -13,7 +14,7 @@ ghost use Rattle.std.specs.Prelude.{length, map, Bool, IfErr, IfOk, List, None, 
 
 use crate::facts::is_stream;
 use cfb_medium::Error;
-use cfb_siblings::find_entry;
+use cfb_siblings::{Link, Place, find_entry, find_place};
 use cfb_tree::{CaseMapper, DirEntry, name_chain_from_path, validate_name};
 use std::alloc::Global;
 
@@ -88,4 +89,46 @@ pub(crate) fn find_parent(
         return Err(error);
     }
     Ok(parent)
+}
+
+/// The link that leads to the entry of the object at a path of names, and the entry's number. `InvalidInput` for the root's path,
+/// `NotFound` where no object is at the path.
+pub(crate) fn find_child(
+    letters: &CaseMapper,
+    entries: &[DirEntry],
+    names: &[&str],
+) -> Result<(Link, u32), Error>
+    ensures there { IfOk result (λ it. it.1 < length (map entry_in entries.now)) }
+    ensures some { OnOk result (0 < length names.now) }
+    ensures found { (reads : ℕ → ℕ → List ℕ → Bool) (tree : Tree)
+        → HoldsTree (letters_of letters.now) (ReadBy reads) (map entry_in entries.now) tree
+        → IfOk result (λ it. IsChildAt (letters_of letters.now) reads (map entry_in entries.now)
+        tree (path_of names.now) it.0 it.1) }
+    ensures refused { (reads : ℕ → ℕ → List ℕ → Bool) (tree : Tree)
+        → HoldsTree (letters_of letters.now) (ReadBy reads) (map entry_in entries.now) tree
+        → IfErr result (LacksChild (letters_of letters.now) tree (path_of names.now)) }
+    ensures error { IfErr result (λ e. (e ≡ NotFound) ⊎ (e ≡ InvalidInput)) }
+{
+    let count = names.len();
+    if count == 0 {
+        return Err(Error::InvalidInput);
+    }
+    let Some(parent) = find_entry(letters, entries, &names[..count - 1]) else {
+        return Err(Error::NotFound);
+    };
+    let Some(storage) = entries.get(parent as usize) else {
+        return Err(Error::NotFound);
+    };
+    if is_stream(storage) {
+        return Err(Error::NotFound);
+    }
+    let (link, id) = match find_place(letters, entries, parent, names[count - 1]) {
+        Some(Place::Taken { link, id }) => (link, id),
+        Some(Place::Free { link: _ }) => return Err(Error::NotFound),
+        None => return Err(Error::NotFound),
+    };
+    if id as usize >= entries.len() {
+        return Err(Error::NotFound);
+    }
+    Ok((link, id))
 }

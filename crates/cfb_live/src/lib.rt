@@ -3,9 +3,12 @@
 
 mod facts;
 mod finding;
+mod freeing;
 mod laws;
 mod making;
+mod removing;
 
 pub use facts::{Fact, set_fact};
 pub use laws::live_files_mean_their_trees;
 pub use making::{NewObject, make_object};
+pub use removing::remove_stream;

@@ -14,7 +14,7 @@ use Rattle.cfb_owned.specs.Chains.{GoesOn}
 use Rattle.cfb_tree.specs.Directory.{Entry}
 use Rattle.cfb_tree.proofs.OneContent.{Some_same}
 use Rattle.cfb_directory.specs.Changes.{LiesBeside}
-use Rattle.cfb_directory.specs.Children.{AddsAt}
+use Rattle.cfb_directory.specs.Children.{AddsAt, RemovesAt}
 use Rattle.cfb_directory.specs.Views as directory
 use Rattle.cfb_directory.specs.declared.directory.Directory.{Directory}
 use Rattle.cfb_mini.specs.Changing.{ChangesDirectory, HasOwners, KeepsOwners}
@@ -36,6 +36,12 @@ pub added_start : (old new : List Entry) (e root : Entry) (id start : ℕ) → A
 added_start old new e root id start adds has at now =
     let apart : 0 ≡ id → ⊥ = λ same. let unused = adds.unused has.root (ap (slice_get old) (sym same) ∙ has.found) in let kind = has.of_kind in omega (arith, unused, kind) in
     let kept = adds.others 0 has.root apart has.found in
+    ap (λ (x : Entry). x.start) (Some_same (sym now ∙ kept.1)) ∙ kept.2.start ∙ at has.root has.found
+
+-- and where one that isn't the root was taken out
+pub removed_start : (old new : List Entry) (root : Entry) (id start : ℕ) → RemovesAt old new id → HasRoot old → (id ≡ 0 → ⊥) → ((r : Entry) → slice_get old 0 ≡ Some r → r.start ≡ start) → slice_get new 0 ≡ Some root → root.start ≡ start
+removed_start old new root id start removes has other at now =
+    let kept = removes.others 0 has.root (λ same. other (sym same)) has.found in
     ap (λ (x : Entry). x.start) (Some_same (sym now ∙ kept.1)) ∙ kept.2.start ∙ at has.root has.found
 
 -- the first entry keeps where its stream begins, where the one that was set does if it is the first

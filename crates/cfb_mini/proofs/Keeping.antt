@@ -9,12 +9,14 @@ use Rattle.cfb_sectors.specs.Sectors.{end_of_chain, fat_in, free, joined, sector
 use Rattle.cfb_chains.specs.Changes.{AreAmong, AreNoneOf, HaveEntry}
 use Rattle.cfb_chains.specs.Grown.{IsLinked}
 use Rattle.cfb_chains.specs.LinkViews.{ids_of, links_version}
+use Rattle.cfb_chains.specs.declared.links.Links.{Links}
+use Rattle.cfb_sectors.specs.declared.initial.SectorInit.TheVariants.{Zero}
 use Rattle.cfb_chains.specs.Owned.{Becomes, Moves, Owned, Seen, Stays}
 use Rattle.cfb_chains.proofs.Owners.{other_left, owned_changed}
 use Rattle.cfb_fat.specs.Seeing.{seen_of}
 use Rattle.cfb_fat.specs.Tables.{bytes_of, fat_of, has_failed_here, is_honest, tables_of, version_of, AllRests}
 use Rattle.cfb_fat.specs.declared.allocator.Allocator.{Allocator}
-use Rattle.cfb_owned.specs.Chains.{content_of, GoesOn, HasChain, HasLinks}
+use Rattle.cfb_owned.specs.Chains.{content_of, GoesOn, HasChain, HasLinks, Resizes}
 use Rattle.cfb_owned.proofs.GoingOn.{rests_go_on}
 use Rattle.cfb_owned.proofs.Owning.{among_start}
 use Rattle.cfb_directory.proofs.ReadTrees.{linked_of}
@@ -22,7 +24,7 @@ use Rattle.cfb_directory.specs.Lent as lent
 use Rattle.cfb_tree.specs.Directory.{Entry, entries_of}
 use Rattle.cfb_directory.specs.Views as directory
 use Rattle.cfb_directory.specs.declared.directory.Directory.{Directory}
-use Rattle.cfb_mini.specs.Changing.{mini_seen, Extends, Frees, GrowsMiniFat, HasOwners, IsKeptOver, Overwrites, Shortens}
+use Rattle.cfb_mini.specs.Changing.{mini_seen, with_allocator, Extends, Frees, FreesChain, GrowsMiniFat, HasOwners, IsKeptOver, Overwrites, Shortens}
 use Rattle.cfb_mini.specs.Entering.{CutsMinis, Enters, LiesSo}
 use Rattle.cfb_mini.specs.Growing.{mini_fat_words, GrowsTable}
 use Rattle.cfb_mini.specs.Layers.{IsOver}
@@ -175,6 +177,7 @@ module _ {F : Type 0} {g : Ghosts F} where
           becomes = becomes_none (mini_seen it) (mini_seen (moved it b mini)) minis refl refl (omega (arith, size)) did.differ (λ n none. ap (λ l. mini_sector l n) same);
         };
         freed = freed;
+        becomes = becomes;
         entries = refl;
       }
 
@@ -405,3 +408,43 @@ module _ {F : Type 0} {g : Ghosts F} where
               stream_at = λ root found. old.stream_at root found ∙ ap (λ l. slice_index_or l 0 end_of_chain) (sym ids);
             };
       }
+
+  -- a chain of sectors was freed
+  pub frees_chain_is : (key : ℕ) (it : MiniAllocator F g) (b : Allocator F g) (before after : Links) (own : ℕ → List ℕ) → HasOwners it own → 2 < key → own key ≡ ids_of before → GoesOn (allocator_of it) b → lent.IsKeptOver (directory_of it)
+      → ids_of after ≡ [] → Resizes Zero 0 (allocator_of it) b before after → FreesChain key it (with_allocator it b) own
+  unfolding seen_of
+  frees_chain_is key it b before after own h past is goes kept none did =
+      let a = allocator_of it in
+      let v = version_of a in
+      let more : did.more ≡ [] = sym did.sectors ∙ none in
+      let becomes : Becomes (sector v) [] (own key) [] [] (seen_of a) (seen_of b) =
+      subst (λ l. Becomes (sector v) [] l [] [] (seen_of a) (seen_of b)) (sym is)
+      (subst (λ l. Becomes (sector v) [] (ids_of before) [] l (seen_of a) (seen_of b)) none (subst (λ l. Becomes (sector v) [] (ids_of before) l (ids_of after) (seen_of a) (seen_of b)) more did.becomes)) in
+      let stays : (k : ℕ) → (k ≡ key → ⊥) → Stays (sector v) (seen_of a) (seen_of b) (own k) =
+      other_left (sector v) (seen_of a) (seen_of b) own (pick own key []) key [] [] [] h.owned (record { becomes = becomes; mine = pick_mine own key []; others = pick_other own key [] }) in
+      record {
+        becomes = becomes;
+        freed = subst (HaveEntry free (fat_of b)) (sym is) did.freed;
+        owners = λ then mine others. record {
+          honest = subst IsTrue (sym goes.honest) h.honest;
+          memory = kept_over it kept b (record {
+            goes_on = goes;
+            directory = λ live honest. subst (Stays (sector v) (seen_of a) (seen_of b)) h.directory (stays 0 (λ same. omega (arith, same, past)));
+            mini_fat = λ live honest. subst (Stays (sector v) (seen_of a) (seen_of b)) h.mini_fat (stays 1 (λ same. omega (arith, same, past)));
+            mini_stream = λ live honest. subst (Stays (sector v) (seen_of a) (seen_of b)) h.mini_stream (stays 2 (λ same. omega (arith, same, past)));
+          }) h.memory;
+          owned = owned_changed (sector v) (seen_of a) (seen_of b) own then key [] [] [] h.owned (record { becomes = becomes; mine = mine; others = others });
+          directory = others 0 (λ same. omega (arith, same, past)) ∙ h.directory;
+          mini_fat = others 1 (λ same. omega (arith, same, past)) ∙ h.mini_fat;
+          mini_stream = others 2 (λ same. omega (arith, same, past)) ∙ h.mini_stream;
+        };
+        mini_fat = refl;
+        entries = refl;
+      }
+
+  -- an owner's chain of sectors
+  pub own_chain : (it : MiniAllocator F g) (own : ℕ → List ℕ) (key : ℕ) (links : Links) → HasOwners it own → own key ≡ ids_of links → links_version links ≡ version_of (allocator_of it) → HasChain (allocator_of it) links
+  own_chain it own key links h is version = record {
+    has = record { honest = h.honest; version = version; linked = subst (IsLinked (fat_of (allocator_of it))) is (h.owned.linked key) };
+    beside = subst (AreNoneOf (tables_of (allocator_of it))) is (h.owned.beside key);
+  }

@@ -68,10 +68,19 @@ module _ {F : Type 0} {g : Ghosts F} where
     pub content : mini_content_of new links ≡ overwritten (mini_content_of old links) at bytes
     pub entries : directory.entries_held (directory_of new) ≡ directory.entries_held (directory_of old)
 
-  -- these mini sectors are free
+  -- these mini sectors are free; no sector but the mini FAT's own is touched
   pub record Frees (minis : List ℕ) (old new : MiniAllocator F g) (own : ℕ → List ℕ) : Type 0 where
     pub changes : Changes minis [] [] old new own own
     pub freed : HaveEntry free (mini_fat_of new) minis
+    pub becomes : Becomes (sector (version_of (allocator_of old))) [] (own 1) [] (own 1) (seen_of (allocator_of old)) (seen_of (allocator_of new))
+    pub entries : directory.entries_held (directory_of new) ≡ directory.entries_held (directory_of old)
+
+  -- The sectors of this owner, which is none of these three, are free. All else that is owned stays, and the mini FAT.
+  pub record FreesChain (key : ℕ) (old new : MiniAllocator F g) (own : ℕ → List ℕ) : Type 0 where
+    pub becomes : Becomes (sector (version_of (allocator_of old))) [] (own key) [] [] (seen_of (allocator_of old)) (seen_of (allocator_of new))
+    pub freed : HaveEntry free (fat_of (allocator_of new)) (own key)
+    pub owners : (then : ℕ → List ℕ) → then key ≡ [] → ((k : ℕ) → (k ≡ key → ⊥) → then k ≡ own k) → HasOwners new then
+    pub mini_fat : mini_fat_of new ≡ mini_fat_of old
     pub entries : directory.entries_held (directory_of new) ≡ directory.entries_held (directory_of old)
 
   -- The mini chain keeps so many mini sectors, those at its front, and the others are free. The mini stream's bytes are those that

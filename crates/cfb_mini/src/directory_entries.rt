@@ -1,7 +1,7 @@
-//! Entries of the directory, changed and added over this layer.
+//! Entries of the directory, changed, added and taken out over this layer.
 ghost use Rattle.cfb_chains.specs.ChainCalls.{IsInvalid};
 ghost use Rattle.cfb_directory.specs.Changes.{changed_entry};
-ghost use Rattle.cfb_directory.specs.Children.{AddsAt, HoldsMore, HoldsStorage, IsRefusedInsert};
+ghost use Rattle.cfb_directory.specs.Children.{AddsAt, HoldsChild, HoldsMore, HoldsStorage, IsRefusedInsert, RemovesAt, RemovesChild};
 ghost use Rattle.cfb_directory.specs.Growth.{count_words};
 ghost use Rattle.cfb_directory.specs.Views.{entries_held};
 ghost use Rattle.cfb_fat.specs.Calls.{Answers};
@@ -21,6 +21,7 @@ ghost use Rattle.cfb_tree.specs.Directory.{Entry};
 ghost use Rattle.cfb_tree.specs.Entries.{new_entry};
 ghost use Rattle.cfb_tree.specs.EntryViews.{kind_of};
 ghost use Rattle.cfb_tree.specs.LetterViews.{letters_of};
+ghost use Rattle.cfb_tree.specs.Names.{Letters};
 ghost use Rattle.cfb_tree.specs.Objects.{name_of, Object};
 ghost use Rattle.cfb_tree.specs.Paths.{Path};
 ghost use Rattle.cfb_tree.specs.Tree.{Tree};
@@ -29,6 +30,7 @@ ghost use Rattle.std.specs.Prelude.{chars, false, length, slice_get, slice_set, 
 use crate::MiniAllocator;
 use cfb_directory::EntryChange;
 use cfb_medium::{Error, Medium, Timestamp};
+use cfb_siblings::Link;
 use cfb_tree::{CaseMapper, ObjType};
 
 impl<F: Medium> MiniAllocator<F> {
@@ -109,5 +111,33 @@ impl<F: Medium> MiniAllocator<F> {
             Err(error) => return Err(error),
         };
         Ok(id)
+    }
+
+    /// Takes the entry to which a link leads out of its siblings, with what is in it, as `Directory::unlink_dir_entry` does: the
+    /// streams among them keep their sectors. After an error nothing is changed, or it has failed ([MS-CFB] 2.6.3, 2.6.4).
+    pub fn unlink_dir_entry(&mut self, link: Link, id: u32) -> Result<(), Error>
+        ensures removed { OnOk result (RemovesChild (entries_held (directory_of self.old))
+            (entries_held (directory_of self.new)) link id) }
+        ensures entry { OnOk result (RemovesAt (entries_held (directory_of self.old))
+            (entries_held (directory_of self.new)) id) }
+        ensures changes { OnOk result ((own : ℕ → List ℕ) → HasOwners self.old own
+            → HasRoot (entries_held (directory_of self.old)) → (id ≡ 0 → ⊥)
+            → ChangesDirectory (count_words (version_of (allocator_of self.old))) self.old
+            self.new own) }
+        ensures refused { IsErrOf result InvalidData
+            → (letters : Letters) (reads : ℕ → ℕ → List ℕ → Bool) (tree : Tree) (path : Path)
+            (parent : ℕ) (name : List ℕ) (own : ℕ → List ℕ)
+            → HoldsChild letters reads (entries_held (directory_of self.old)) tree path parent name
+            link id → HasOwners self.old own → IsUsable self.old → ⊥ }
+        ensures rests { OnErr result ((has_failed_here (allocator_of self.new) ≡ true)
+            ⊎ KeepsOwners self.old self.new) }
+        ensures goes_on { GoesOn (allocator_of self.old) (allocator_of self.new) }
+        ensures answers { Answers IsInvalid result (allocator_of self.old)
+            (allocator_of self.new) }
+    {
+        if let Err(error) = self.directory.unlink_dir_entry(link, id) {
+            return Err(error);
+        }
+        Ok(())
     }
 }

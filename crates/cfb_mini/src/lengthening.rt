@@ -67,8 +67,9 @@ impl<F: Medium> MiniAllocator<F> {
         }
     }
 
-    // Leaves it in a state in which every call is refused.
-    fn fail(&mut self)
+    /// Leaves it in a state in which every call is refused, as a fault in a write does: for a layer above, where what it
+    /// changes by several calls has come half way.
+    pub fn fail(&mut self)
         ensures { AllFails (allocator_of self.old) (allocator_of self.new) }
     {
         self.directory.allocator_mut().fail();

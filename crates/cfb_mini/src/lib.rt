@@ -4,6 +4,7 @@
 mod changing;
 mod directory_entries;
 mod entering;
+mod freeing;
 mod growing;
 mod laws;
 mod lending;

@@ -1,10 +1,14 @@
-use Rattle.std.proofs.Common.{inl, inr, rules, []}
+use Rattle.std.proofs.Common.{inl, inr, rules, [], sym, subst}
 use Rattle.cfb_fat.specs.Keeping.{fails_cause}
 use Rattle.cfb_fat.specs.Resting.{all_rest_refl}
 use Rattle.cfb_owned.proofs.GoingOn.{fails_go_on, goes_cause, goes_then}
-use Rattle.cfb_siblings.specs.Links.{holder, linked_to}
+use Rattle.cfb_siblings.specs.Links.{holder, joined_by, linked_to}
+use Rattle.cfb_siblings.specs.Places.{HasEntry}
+use Rattle.cfb_fat.specs.Tables.{version_of}
 use Rattle.cfb_tree.specs.EntryViews.{entry_in}
-use Rattle.cfb_directory.specs.Views.{allocator_of}
+use Rattle.cfb_directory.specs.Views.{allocator_of, entries_held}
+use Rattle.cfb_directory.proofs.EntrySizes.{sizes_same}
+use Rattle.cfb_directory.proofs.Inserted.{joined_sizes, joined_there}
 use Rattle.cfb_directory.proofs.Stages.{grows_then}
 use Rattle.cfb_directory.proofs.directory.Directory.take_out.Goals as goal
 
@@ -59,3 +63,14 @@ returns-clause-grown g c = λ has.
 
 pub returns-clause-goes_on : goal.returns-clause-goes_on
 returns-clause-goes_on g c = goes_then _ _ _ (goes_then _ _ _ c.write_joined.ensures.goes_on c.write_link.ensures.goes_on) c.write_entry.ensures.goes_on
+
+pub returns-in-Err-write_link-clause-refused : goal.returns-in-Err-write_link-clause-refused
+returns-in-Err-write_link-clause-refused g c = λ wrong ready holders.
+    let old = c.args.self.now in
+    let mid = c.write_joined.new.self in
+    let it = c.args.removal in
+    let set = c.in_default.ensures.set in
+    c.in-Err-write_link.ensures.refused wrong (c.in_default.ensures.grown ready.has).has
+    (subst (λ es. HasEntry es (holder it.replaced.link)) (sym set) (joined_there it.joined (entries_held old) (holder it.replaced.link) holders.replaced))
+    (sizes_same (version_of (allocator_of old)) (version_of (allocator_of mid)) (joined_by it.joined (entries_held old)) (entries_held mid) c.write_joined.ensures.goes_on.version set
+    (joined_sizes (version_of (allocator_of old)) it.joined (entries_held old) ready.sizes))

@@ -1,0 +1,37 @@
+//! Objects of a file that are removed, by their paths.
+ghost use Rattle.cfb_entries.specs.Rules.{names_in};
+ghost use Rattle.cfb_fat.specs.Calls.{Answers};
+ghost use Rattle.cfb_live.specs.Removing.{IsRefusedRemoval};
+ghost use Rattle.cfb_meaning.specs.TreeRules.{remove_stream};
+ghost use Rattle.cfb_mini.specs.Views.{allocator_of};
+ghost use Rattle.cfb_owned.specs.Chains.{GoesOn};
+
+use crate::CompoundFile;
+use cfb_medium::{Error, Medium};
+use cfb_sectors::HasSectors;
+
+impl<F: Medium> CompoundFile<F> {
+    ghost use Rattle.cfb.specs.Doing.{Does};
+    ghost use Rattle.cfb.specs.Views.{mini_of};
+
+    /// Removes the stream at a path; its sectors and its entry are free then. `Failed` after an earlier fault, `InvalidData` where
+    /// the file isn't sound; then `InvalidInput` where the path leads above the root, `NotFound` where no object is there,
+    /// `InvalidInput` where that is a storage. The other errors are `Memory` and `Device`. After an error nothing is changed, or
+    /// the file has failed ([MS-CFB] 2.6.3).
+    pub fn remove_stream(&mut self, path: &str) -> Result<(), Error>
+        ensures does { Does (names_in path.now) (λ names. remove_stream names) result self.old
+            self.new }
+        ensures goes_on { GoesOn (allocator_of (mini_of self.old))
+            (allocator_of (mini_of self.new)) }
+        ensures answers { Answers IsRefusedRemoval result (allocator_of (mini_of self.old))
+            (allocator_of (mini_of self.new)) }
+    {
+        if self.mini.directory().allocator().is_failed() {
+            return Err(Error::Failed);
+        }
+        if !self.is_sound {
+            return Err(Error::InvalidData);
+        }
+        cfb_live::remove_stream(self.alloc, &mut self.mini, &self.letters, path)
+    }
+}
