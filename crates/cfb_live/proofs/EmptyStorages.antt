@@ -1,5 +1,5 @@
 -- Storages that hold nothing, and what the rules say where one is to be removed.
-use Rattle.std.proofs.Common.{◌≡◌, ℕ, ◌<◌, true, false, List, [], ◌∷◌, length, refl, ap, sym, subst, ◌∙◌, arith}
+use Rattle.std.proofs.Common.{◌≡◌, ℕ, ◌<◌, false, List, [], ◌∷◌, length, refl, ap, sym, subst, ◌∙◌, arith}
 use Rattle.std.specs.Prelude.{slice_get, IfSome, None, Option, Some}
 use Rattle.cfb_medium.specs.declared.medium.ReadMedium.{Ghosts}
 use Rattle.cfb_meaning.specs.TreeRules.{done, is_empty, refused, remove_storage, tree_step}
@@ -16,7 +16,6 @@ use Rattle.cfb_tree.proofs.OneContent.{Some_same}
 use Rattle.cfb_directory.specs.Views.{entries_held}
 use Rattle.cfb_mini.specs.Views.{directory_of}
 use Rattle.cfb_mini.specs.declared.mini_allocator.MiniAllocator.{MiniAllocator}
-use Rattle.cfb_owners.specs.Held.{IsStreamAmong}
 use Rattle.cfb_owners.specs.LiveFile.{LiveFile}
 use Rattle.cfb_owners.specs.Owners.{stream_owner, Owners}
 use Rattle.cfb_live.specs.Freeing.{CarriesBut, FreesStream}

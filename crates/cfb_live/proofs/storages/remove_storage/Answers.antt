@@ -3,7 +3,6 @@ use Rattle.std.specs.Prelude.{slice_get, Err, Some}
 use Rattle.cfb_entries.specs.Rules.{answer_at}
 use Rattle.cfb_entries.proofs.Found.{names_are}
 use Rattle.cfb_meaning.specs.TreeRules.{refused, remove_storage}
-use Rattle.cfb_owners.proofs.KeysOfParts.{IsOneOf}
 use Rattle.cfb_siblings.specs.Changes.{HoldsOneLess}
 use Rattle.cfb_siblings.specs.Places.{path_of, path_to}
 use Rattle.cfb_siblings.specs.Reading.{ReadBy}
