@@ -2,7 +2,7 @@
 ghost use Rattle.cfb_entries.specs.Rules.{names_in};
 ghost use Rattle.cfb_fat.specs.Calls.{Answers};
 ghost use Rattle.cfb_live.specs.Removing.{IsRefusedRemoval};
-ghost use Rattle.cfb_meaning.specs.TreeRules.{remove_stream};
+ghost use Rattle.cfb_meaning.specs.TreeRules.{remove_storage, remove_stream};
 ghost use Rattle.cfb_mini.specs.Views.{allocator_of};
 ghost use Rattle.cfb_owned.specs.Chains.{GoesOn};
 
@@ -33,5 +33,24 @@ impl<F: Medium> CompoundFile<F> {
             return Err(Error::InvalidData);
         }
         cfb_live::remove_stream(self.alloc, &mut self.mini, &self.letters, path)
+    }
+
+    /// Removes the storage at a path, which holds nothing; its entry is free then. `InvalidInput` where a stream is at the path, or
+    /// a storage with content, or the path is the root's. All else is as for `remove_stream` ([MS-CFB] 2.6.2).
+    pub fn remove_storage(&mut self, path: &str) -> Result<(), Error>
+        ensures does { Does (names_in path.now) (λ names. remove_storage names) result self.old
+            self.new }
+        ensures goes_on { GoesOn (allocator_of (mini_of self.old))
+            (allocator_of (mini_of self.new)) }
+        ensures answers { Answers IsRefusedRemoval result (allocator_of (mini_of self.old))
+            (allocator_of (mini_of self.new)) }
+    {
+        if self.mini.directory().allocator().is_failed() {
+            return Err(Error::Failed);
+        }
+        if !self.is_sound {
+            return Err(Error::InvalidData);
+        }
+        cfb_live::remove_storage(self.alloc, &mut self.mini, &self.letters, path)
     }
 }

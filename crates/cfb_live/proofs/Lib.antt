@@ -2,6 +2,7 @@ pub mod Carried
 pub mod Changed
 pub mod ChildAdded
 pub mod Directories
+pub mod EmptyStorages
 pub mod FactRules
 pub mod Freed
 pub mod Headers

@@ -7,8 +7,10 @@ mod freeing;
 mod laws;
 mod making;
 mod removing;
+mod storages;
 
 pub use facts::{Fact, set_fact};
 pub use laws::live_files_mean_their_trees;
 pub use making::{NewObject, make_object};
 pub use removing::remove_stream;
+pub use storages::remove_storage;

@@ -1,4 +1,4 @@
-//! Objects that are removed ([MS-CFB] 2.6.3, 2.6.4).
+//! Streams that are removed ([MS-CFB] 2.6.3, 2.6.4).
 ghost use Rattle.cfb_entries.specs.Rules.{names_in};
 ghost use Rattle.cfb_fat.specs.Calls.{Answers};
 ghost use Rattle.cfb_live.specs.Doing.{Does};
