@@ -95,6 +95,7 @@ fn change(alloc: Global, file: &mut CompoundFile<MemoryMedium>, row: &Row) -> Re
         "storage" => file.create_storage(path, moment),
         "stream" => file.create_new_stream(path),
         "remove" => file.remove_stream(path),
+        "remove storage" => file.remove_storage(path),
         "touch" => file.touch(path, moment),
         "created" => file.set_created_time(path, moment),
         "modified" => file.set_modified_time(path, moment),
