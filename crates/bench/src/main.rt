@@ -6,6 +6,7 @@ mod files;
 mod inserts;
 mod joins;
 mod pools;
+mod streams;
 
 use anyhow::{Result, bail};
 use std::env;
@@ -19,6 +20,8 @@ insert-one ROWS   inserts one row into a table of so many
 join ROWS         joins two tables of so many rows by equal numbers
 pool TEXTS        counts a use of each of so many texts, and then another one of each
 pool-insert ROWS  inserts so many rows, an insert each, over a pool of 65535 texts
+streams COUNT     makes so many streams in one storage, in shuffled order, and removes them
+streams-up COUNT  the same in rising order
 read FILE         opens the compound file of that path, lists it, and reads each stream whole
 ";
 
@@ -45,6 +48,8 @@ fn run(rt: &HostRuntime, name: &str, size: usize) -> Result<()> {
         "join" => joins::join(rt, size),
         "pool" => pools::count_twice(rt, size),
         "pool-insert" => pools::insert_one_each(rt, size),
+        "streams" => streams::make_and_remove(rt, size, false),
+        "streams-up" => streams::make_and_remove(rt, size, true),
         _ => bail!("there is no benchmark of this name"),
     }
 }
