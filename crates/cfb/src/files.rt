@@ -70,7 +70,11 @@ impl OpenOptions {
     }
 
     // Opens the file in a medium that is let go where that is refused.
-    fn open_medium(self, alloc: Global, medium: FileMedium) -> Result<CompoundFile<FileMedium>, Error>
+    fn open_medium(
+        self,
+        alloc: Global,
+        medium: FileMedium,
+    ) -> Result<CompoundFile<FileMedium>, Error>
         ensures letters { IfOk result (λ it. letters_in it ≡ letters_asked self) }
         ensures error { IfErr result IsPathRefusal }
     {

@@ -6,12 +6,26 @@ ghost use Rattle.staged.specs.Counts.{counted_failures};
 use cfb_medium::{Error, Medium, MemoryMedium, ReadMedium};
 use staged::Counts;
 
+// Counts calls, and tells the one that is to fail.
+#[derive(Drop)]
+struct Fuse {
+    calls: u64,
+    failing: u64,
+}
+
+impl Fuse {
+    fn blows(&mut self) -> bool {
+        let now = self.calls == self.failing;
+        self.calls = self.calls.saturating_add(1);
+        now
+    }
+}
+
 /// A medium in memory. One of its calls fails, and changes nothing.
 #[derive(Drop)]
 pub struct FailingMedium {
     medium: MemoryMedium,
-    calls: u64,
-    failing: u64,
+    fuse: Fuse,
     counts: Counts,
 }
 
@@ -20,15 +34,14 @@ impl FailingMedium {
     pub fn new(medium: MemoryMedium, failing: u64) -> FailingMedium {
         FailingMedium {
             medium,
-            calls: 0,
-            failing,
+            fuse: Fuse { calls: 0, failing },
             counts: Counts::new(),
         }
     }
 
     /// How many calls were made.
     pub fn calls(&self) -> u64 {
-        self.calls
+        self.fuse.calls
     }
 
     /// How many of them have failed.
@@ -39,13 +52,6 @@ impl FailingMedium {
     /// The bytes.
     pub fn bytes(&self) -> &[u8] {
         self.medium.bytes()
-    }
-
-    // Whether this call is the one that fails.
-    fn fails(&mut self) -> bool {
-        let now = self.calls == self.failing;
-        self.calls = self.calls.saturating_add(1);
-        now
     }
 }
 
@@ -68,14 +74,14 @@ impl ReadMedium for FailingMedium {
     ghost left_since = { λ _ _ _. ⊤ };
 
     fn len(&mut self) -> Result<u64, Error> {
-        if self.fails() {
+        if self.fuse.blows() {
             return Err(self.counts.fault());
         }
         self.medium.len()
     }
 
     fn read_at(&mut self, at: u64, buffer: &mut [u8]) -> Result<usize, Error> {
-        if self.fails() {
+        if self.fuse.blows() {
             return Err(self.counts.fault());
         }
         self.medium.read_at(at, buffer)
@@ -96,21 +102,21 @@ impl Medium for FailingMedium {
     ghost has_published = { λ _ _. ⊤ };
 
     fn write_at(&mut self, at: u64, bytes: &[u8]) -> Result<(), Error> {
-        if self.fails() {
+        if self.fuse.blows() {
             return Err(self.counts.fault());
         }
         self.medium.write_at(at, bytes)
     }
 
     fn flush(&mut self) -> Result<(), Error> {
-        if self.fails() {
+        if self.fuse.blows() {
             return Err(self.counts.fault());
         }
         Ok(())
     }
 
     fn commit(&mut self) -> Result<(), Error> {
-        if self.fails() {
+        if self.fuse.blows() {
             return Err(self.counts.fault());
         }
         Ok(())
