@@ -10,6 +10,7 @@ mod removing;
 mod storages;
 
 pub use facts::{Fact, set_fact};
+pub use freeing::free_stream;
 pub use laws::live_files_mean_their_trees;
 pub use making::{NewObject, make_object};
 pub use removing::remove_stream;
