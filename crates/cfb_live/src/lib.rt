@@ -14,6 +14,7 @@ mod taking;
 
 pub use emptying::remove_storage_all;
 pub use facts::{Fact, set_fact};
+pub use freeing::free_stream;
 pub use laws::live_files_mean_their_trees;
 pub use making::{NewObject, make_object};
 pub use removing::remove_stream;
