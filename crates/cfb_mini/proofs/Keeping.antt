@@ -155,6 +155,7 @@ module _ {F : Type 0} {g : Ghosts F} where
               (λ n none. ap (λ l. mini_sector l n) same ∙ did.others n none) (subst (λ l. IsLinked l (minis_of links)) (sym numbers) mine.linked);
         };
         content = ap (λ l. mini_joined l (minis_of links)) same ∙ did.content;
+        there = did.there;
         entries = refl;
       }
 

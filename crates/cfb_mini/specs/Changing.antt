@@ -12,12 +12,12 @@ use Rattle.cfb_chains.specs.Owned.{Becomes, Owned, Seen, Stays}
 use Rattle.cfb_fat.specs.Seeing.{seen_of}
 use Rattle.cfb_fat.specs.Tables.{bytes_of, fat_of, has_failed_here, is_honest, tables_of, version_of, AllRests}
 use Rattle.cfb_fat.specs.declared.allocator.Allocator.{Allocator}
-use Rattle.cfb_owned.specs.Chains.{GoesOn}
+use Rattle.cfb_owned.specs.Chains.{place_of, GoesOn}
 use Rattle.cfb_tree.specs.Directory.{Entry}
 use Rattle.cfb_directory.specs.Views as directory
 use Rattle.cfb_mini.specs.Growing.{LacksMore, TellsMiniFat}
 use Rattle.cfb_mini.specs.LinkViews.{minis_of}
-use Rattle.cfb_mini.specs.Minis.{all_words, mini_sector}
+use Rattle.cfb_mini.specs.Minis.{all_words, mini_place, mini_sector}
 use Rattle.cfb_mini.specs.Taking.{HasNoneBelow, IsFreeIn}
 use Rattle.cfb_mini.specs.Views.{allocator_of, directory_of, mini_content_of, mini_fat_ids, mini_fat_of, mini_stream_ids, mini_stream_len, mini_stream_of, IsMini}
 use Rattle.cfb_mini.specs.declared.links.MiniLinks.{MiniLinks}
@@ -62,10 +62,12 @@ module _ {F : Type 0} {g : Ghosts F} where
     pub others : (k : ℕ) → 2 < k → Stays (sector (version_of (allocator_of old))) (seen_of (allocator_of old)) (seen_of (allocator_of new)) (own k)
     pub becomes : Becomes mini_sector all_words minis more later (mini_seen old) (mini_seen new)
 
-  -- these bytes lie over the mini chain's from a place on, and its mini sectors are those that they were
+  -- these bytes lie over the mini chain's from a place on, and in the file; its mini sectors are those that they were
   pub record Overwrites (at : ℕ) (bytes : List ℕ) (old new : MiniAllocator F g) (links : MiniLinks) (own : ℕ → List ℕ) : Type 0 where
     pub changes : Changes (minis_of links) [] (minis_of links) old new own own
     pub content : mini_content_of new links ≡ overwritten (mini_content_of old links) at bytes
+    pub there : (k : ℕ) → at ≤ k → k < at + length bytes
+        → place_of (version_of (allocator_of old)) (mini_stream_ids old) (mini_place (minis_of links) k) < length (bytes_of (allocator_of new))
     pub entries : directory.entries_held (directory_of new) ≡ directory.entries_held (directory_of old)
 
   -- these mini sectors are free; no sector but the mini FAT's own is touched

@@ -1,5 +1,5 @@
 -- Mini sectors and their chains ([MS-CFB] 2.4), as lists of bytes and of numbers.
-use Rattle.std.specs.Prelude.{ℕ, ◌+◌, ◌*◌, ◌<◌, ◌≤◌, List, [], ◌∷◌, length, slice_index}
+use Rattle.std.specs.Prelude.{ℕ, ◌+◌, ◌*◌, ◌/◌, ◌%◌, ◌<◌, ◌≤◌, List, [], ◌∷◌, length, slice_index}
 use Rattle.std.specs.List.{flat_map}
 use Rattle.cfb_sectors.specs.Sectors.{filled_part}
 use Rattle.cfb_chains.specs.Grown.{IsLinked}
@@ -11,6 +11,10 @@ mini_sector stream n = filled_part stream (64 * n) 64
 -- the bytes of some mini sectors, joined
 abbrev pub mini_joined : List ℕ → List ℕ → List ℕ
 mini_joined stream minis = flat_map (mini_sector stream) minis
+
+-- where byte k of the mini chain of these mini sectors stands in the mini stream ([MS-CFB] 2.4)
+abbrev pub mini_place : List ℕ → ℕ → ℕ
+mini_place minis k = 64 * slice_index minis (k / 64) + k % 64
 
 -- a mini stream of so many bytes has each of these mini sectors ([MS-CFB] 2.4)
 abbrev pub AreInside : ℕ → List ℕ → Type 0

@@ -22,6 +22,7 @@ use Rattle.cfb_fat.specs.Changing.{ChangesFat, MayWrite}
 use Rattle.cfb_fat.specs.Growing.{TakesIn}
 use Rattle.cfb_fat.specs.Seeing.{seen_of}
 use Rattle.cfb_fat.specs.Tables.{bytes_of, fat_of, has_failed_here, is_honest, tables_of, version_of}
+use Rattle.cfb_chains.specs.Behind.{AreWhole}
 use Rattle.cfb_fat.proofs.Leaving.{changes_leave, takes_leave}
 use Rattle.cfb_fat.proofs.Using.{among_same}
 use Rattle.cfb_owned.specs.Chains.{HasChain, Resizes}
@@ -37,7 +38,7 @@ module _ {F : Type 0} {g : Ghosts F} where
   Resized init count a v s b t =
       IsTrue (is_honest a) → version_of a ≡ v → IsLinked (fat_of a) s → AreNoneOf (tables_of a) s
       → (more : List ℕ) × (t ≡ take count s ++ more) × (version_of b ≡ v) × IsTrue (is_honest b) × AreNoneOf (tables_of b) t × Becomes (sector v) [] s more t (seen_of a) (seen_of b) × HaveEntry free (fat_of b) (drop count s)
-      × (joined v (bytes_of b) t ≡ joined v (bytes_of a) (take count s) ++ copies (length more) (initial init (sector_len v)))
+      × AreWhole v (bytes_of b) more × (joined v (bytes_of b) t ≡ joined v (bytes_of a) (take count s) ++ copies (length more) (initial init (sector_len v)))
 
   pub resized_longer : (init : SectorInit) (count : ℕ) (a b : Allocator F g) (v : Version) (s t more changed : List ℕ) → length s ≤ count → has_failed_here a ≡ false → has_failed_here b ≡ false → t ≡ s ++ more → TakesIn more changed a b
       → (IsLinked (fat_of a) s → AreAmong t changed) → (IsLinked (fat_of a) s → IsLinked (fat_of b) t) → (version_of a ≡ v → AreWritable (MayWrite a) v s → AreWritable (MayWrite b) v t)
@@ -65,6 +66,7 @@ module _ {F : Type 0} {g : Ghosts F} where
           among = among_same (s ++ more) t is;
         },
         none_dropped (fat_of b) s count few,
+        subst (λ u. AreWhole u (bytes_of b) more) later (takes.whole live honest),
         filled honest same has may ∙ ap (λ l. joined v (bytes_of a) l ++ copies (length t - length s) (initial init (sector_len v))) (sym whole)
             ∙ ap (λ n. joined v (bytes_of a) (take count s) ++ copies n (initial init (sector_len v))) added,
       )
@@ -91,6 +93,7 @@ module _ {F : Type 0} {g : Ghosts F} where
           among = among_more s [] t (subst (AreAmong s) (sym is) (among_start s count));
         },
         (freed has).1,
+        tt,
         kept honest may ∙ ap (joined v (bytes_of a)) is ∙ sym (append-nil (joined v (bytes_of a) (take count s))),
       )
 
@@ -107,6 +110,7 @@ module _ {F : Type 0} {g : Ghosts F} where
         chain = record { has = record { honest = now.3; version = same ∙ sym now.2; linked = now.5.linked }; beside = now.4 };
         becomes = subst (λ u. Becomes (sector u) [] (ids_of before) now.0 (ids_of after) (seen_of a) (seen_of b)) has.version now.5;
         freed = now.6;
-        content = ap (λ u. joined u (bytes_of b) (ids_of after)) now.2 ∙ now.7
+        whole = subst (λ u. AreWhole u (bytes_of b) now.0) has.version now.7;
+        content = ap (λ u. joined u (bytes_of b) (ids_of after)) now.2 ∙ now.8
             ∙ ap (λ u. joined u (bytes_of a) (take count (ids_of before)) ++ copies (length now.0) (initial init (sector_len u))) has.version;
       }

@@ -21,14 +21,14 @@ use Rattle.cfb_chains.specs.Positions.{left_in, sectors_for}
 use Rattle.cfb_chains.specs.declared.links.Links.{Links}
 use Rattle.cfb_chains.proofs.ChainGrowing.{among_more, chain_once}
 use Rattle.cfb_chains.proofs.ChainWriting.{length_within, length-joined, split_below, written_at}
-use Rattle.cfb_chains.proofs.Overwriting.{get_before, get_behind, get_written}
+use Rattle.cfb_chains.proofs.Overwriting.{get_before, get_behind, get_written, over_longer, over_reaches}
 use Rattle.cfb_chains.proofs.Owners.{leaves_more}
 use Rattle.cfb_fat.specs.declared.allocator.Allocator.{Allocator}
 use Rattle.cfb_fat.specs.Changing.{WritesBeside}
 use Rattle.cfb_fat.specs.Keeping.{tables_same}
 use Rattle.cfb_fat.specs.Seeing.{seen_of}
 use Rattle.cfb_fat.specs.Tables.{bytes_of, fat_of, has_failed_here, is_honest, tables_of, version_of}
-use Rattle.cfb_owned.specs.Chains.{content_of, HasChain, Overwrites, Resizes, Writes}
+use Rattle.cfb_owned.specs.Chains.{content_of, place_of, HasChain, Overwrites, Resizes, Writes}
 use Rattle.cfb_owned.proofs.Owning.{becomes_then, fits_in, none_behind_all}
 
 -- what was written in two parts was written
@@ -89,10 +89,28 @@ module _ (S : List ℕ → ℕ → List ℕ) where
       only : AreAmong ids (n ∷ [])
       only m none k inside same = none i below (sym is ∙ sym (first k inside) ∙ same)
 
+-- what follows a position in its sector
+in_sector : (v : Version) (p k : ℕ) → p ≤ k → k - p < left_in v p → (k / sector_len v ≡ p / sector_len v) × (k % sector_len v ≡ p % sector_len v + (k - p))
+in_sector V3 p k from few = (omega (arith, from, few), omega (arith, from, few))
+in_sector V4 p k from few = (omega (arith, from, few), omega (arith, from, few))
+
+-- the bytes of a piece in one sector stand where they were written
+piece_there : (w : Version) (ids bytes_now : List ℕ) (start size p k : ℕ) → start ≡ sector_start w (get_or ids (p / sector_len w) 0) + p % sector_len w → start + size ≤ length bytes_now → size ≤ left_in w p → p ≤ k → k < p + size
+    → place_of w ids k < length bytes_now
+piece_there w ids bytes_now start size p k is reach few from to =
+    let here = in_sector w p k from (omega (arith, from, to, few)) in
+    let same : sector_start w (get_or ids (k / sector_len w) 0) ≡ sector_start w (get_or ids (p / sector_len w) 0) = ap (λ q. sector_start w (get_or ids q 0)) here.0 in
+    omega (arith, is, reach, same, here.1, from, to)
+
 module _ {F : Type 0} {g : Ghosts F} where
   pub nothing_over : (at : ℕ) (a : Allocator F g) (links : Links) → HasChain a links → Overwrites at [] a a links
   unfolding seen_of
-  nothing_over at a links chain = record { chain = chain; becomes = becomes_same (sector (version_of a)) (ids_of links) (seen_of a) chain.has.linked; content = refl }
+  nothing_over at a links chain = record {
+    chain = chain;
+    becomes = becomes_same (sector (version_of a)) (ids_of links) (seen_of a) chain.has.linked;
+    content = refl;
+    there = λ k from to. absurd (omega (arith, from, to));
+  }
 
   -- a piece more was written, in one sector
   pub more_over : (at done count n offset : ℕ) (bytes piece : List ℕ) (a m b : Allocator F g) (links : Links) → HasChain a links → Overwrites at (take done bytes) a m links → has_failed_here b ≡ false → version_of m ≡ version_of a
@@ -132,6 +150,19 @@ module _ {F : Type 0} {g : Ghosts F} where
             ∙ over_then (joined (version_of a) (bytes_of a) ids) (take done bytes) piece at (at + done) (omega (arith, first_size)) (omega (arith, long, size, inside, within))
             ∙ ap (λ l. overwritten (joined (version_of a) (bytes_of a) ids) at (take done bytes ++ l)) is
             ∙ ap (overwritten (joined (version_of a) (bytes_of a) ids) at) (sym (take-add done count bytes));
+        there = λ k from to.
+            let all_size : length (take (done + count) bytes) ≡ done + count = length-take-le (done + count) bytes (omega (arith, within)) in
+            let now : bytes_of b ≡ overwritten (bytes_of m) (sector_start (version_of m) n + offset) piece = wrote.sectors.0.bytes live has.honest in
+            ⊎_elim
+            (λ later. subst (λ v. place_of v ids k < length (bytes_of b)) chain.has.version
+            (piece_there w ids (bytes_of b) (sector_start (version_of m) n + offset) (length piece) (at + done) k place
+            (subst (λ l. sector_start (version_of m) n + offset + length piece ≤ length l) (sym now) (over_reaches (bytes_of m) piece (sector_start (version_of m) n + offset) (omega (arith, size, some))))
+            short later.1 (omega (arith, to, all_size, size))))
+            (λ sooner.
+            let longer : length (bytes_of m) ≤ length (bytes_of b) = subst (λ l. length (bytes_of m) ≤ length l) (sym now) (over_longer (bytes_of m) piece (sector_start (version_of m) n + offset)) in
+            let was = did.there k from (omega (arith, sooner.1, first_size)) in
+            omega (arith, was, longer))
+            (leb_tells (at + done) k);
       }
 
 fewer : (v : Version) (end n : ℕ) → end ≤ n * sector_len v → sectors_for v end ≤ n

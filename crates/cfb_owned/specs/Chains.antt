@@ -1,15 +1,17 @@
 -- What calls on a chain of sectors do: to its bytes, to its sectors, and to what others own ([MS-CFB] 2.3).
-use Rattle.std.specs.Prelude.{◌≡◌, ℕ, ◌+◌, ◌-◌, ◌*◌, ◌<◌, ◌⊎◌, false, List, [], ◌++◌, drop, length, take, IsTrue}
+use Rattle.std.specs.Prelude.{◌≡◌, ℕ, ◌+◌, ◌-◌, ◌*◌, ◌/◌, ◌%◌, ◌<◌, ◌≤◌, ◌⊎◌, false, List, [], ◌++◌, drop, length, slice_index, take, IsTrue}
 use Rattle.cfb_medium.specs.Bytes.{overwritten}
 use Rattle.cfb_medium.specs.Calls.{Extends}
 use Rattle.cfb_medium.specs.Versions.{sector_len}
 use Rattle.cfb_medium.specs.declared.error.Error.{Error}
 use Rattle.cfb_medium.specs.declared.error.Error.TheVariants.{Full}
 use Rattle.cfb_medium.specs.declared.medium.ReadMedium.{Ghosts}
+use Rattle.cfb_medium.specs.declared.version.Version.{Version}
 use Rattle.cfb_sectors.specs.Copies.{copies}
 use Rattle.cfb_sectors.specs.Initial.{initial}
-use Rattle.cfb_sectors.specs.Sectors.{free, greatest_regular, joined, sector}
+use Rattle.cfb_sectors.specs.Sectors.{free, greatest_regular, joined, sector, sector_start}
 use Rattle.cfb_sectors.specs.declared.initial.SectorInit.{SectorInit}
+use Rattle.cfb_chains.specs.Behind.{AreWhole}
 use Rattle.cfb_chains.specs.ChainCalls.{IsInvalidPlace}
 use Rattle.cfb_chains.specs.Changes.{AreNoneOf, HaveEntry}
 use Rattle.cfb_chains.specs.Grown.{IsLinked}
@@ -28,6 +30,10 @@ IsInvalidPlaceOrFull e = IsInvalidPlace e ⊎ (e ≡ Full)
 -- so many bytes its sectors have
 abbrev pub len_of : Links → ℕ
 len_of it = length (ids_of it) * sector_len (links_version it)
+
+-- where byte k of the chain of these sectors stands in the file ([MS-CFB] 2.1)
+abbrev pub place_of : Version → List ℕ → ℕ → ℕ
+place_of version ids k = sector_start version (slice_index ids (k / sector_len version)) + k % sector_len version
 
 module _ {F : Type 0} {g : Ghosts F} where
   -- the same file of the same version; where it has not failed its tables can be changed if they could, and then the header's
@@ -55,20 +61,22 @@ module _ {F : Type 0} {g : Ghosts F} where
   abbrev pub content_of : Allocator F g → Links → List ℕ
   content_of it links = joined (version_of it) (bytes_of it) (ids_of links)
 
-  -- these bytes lie over the chain's from a place on, and its sectors are those that they were
+  -- these bytes lie over the chain's from a place on, and in the file; its sectors are those that they were
   pub record Overwrites (at : ℕ) (bytes : List ℕ) (old new : Allocator F g) (links : Links) : Type 0 where
     pub chain : HasChain new links
     pub becomes : Becomes (sector (version_of old)) [] (ids_of links) [] (ids_of links) (seen_of old) (seen_of new)
     pub content : content_of new links ≡ overwritten (content_of old links) at bytes
+    pub there : (k : ℕ) → at ≤ k → k < at + length bytes → place_of (version_of old) (ids_of links) k < length (bytes_of new)
 
   -- The chain keeps so many sectors at its front, with their bytes, and those behind them are free. What it took in was in no
-  -- use, and holds what a sector of this kind does at first.
+  -- use, holds what a sector of this kind does at first, and lies in the file whole.
   pub record Resizes (init : SectorInit) (count : ℕ) (old new : Allocator F g) (before after : Links) : Type 0 where
     pub more : List ℕ
     pub sectors : ids_of after ≡ take count (ids_of before) ++ more
     pub chain : HasChain new after
     pub becomes : Becomes (sector (version_of old)) [] (ids_of before) more (ids_of after) (seen_of old) (seen_of new)
     pub freed : HaveEntry free (fat_of new) (drop count (ids_of before))
+    pub whole : AreWhole (version_of old) (bytes_of new) more
     pub content : content_of new after
         ≡ joined (version_of old) (bytes_of old) (take count (ids_of before)) ++ copies (length more) (initial init (sector_len (version_of old)))
 
