@@ -1,5 +1,6 @@
 -- Bytes of a chain that are copied piece by piece, to one that took in all its sectors.
-use Rattle.std.proofs.Common.{◌≡◌, ℕ, zero, suc, ◌+◌, ◌*◌, ◌≤◌, IsTrue, List, [], ◌∷◌, ◌++◌, length, take, drop, get_or, refl, ap, sym, subst, ◌∙◌, arith}
+use Rattle.std.proofs.Common.{◌≡◌, ℕ, zero, suc, ◌+◌, ◌*◌, ◌<◌, ◌≤◌, IsTrue, List, [], ◌∷◌, ◌++◌, length, take, drop, get_or, refl, ap, sym, subst, ◌∙◌, arith, ⊎_elim, length-append}
+use Rattle.std.proofs.lemmas.Bool.Decides.{leb_tells}
 use Rattle.std.proofs.lemmas.List.{ext_get_or}
 use Rattle.std.proofs.Math.Seq.{take-add}
 use Rattle.cfb_medium.specs.Bytes.{overwritten}
@@ -8,6 +9,7 @@ use Rattle.cfb_medium.specs.declared.version.Version.{Version}
 use Rattle.cfb_medium.specs.declared.version.Version.TheVariants.{V3, V4}
 use Rattle.cfb_medium.specs.declared.medium.ReadMedium.{Ghosts}
 use Rattle.cfb_sectors.specs.Sectors.{joined, sector}
+use Rattle.cfb_chains.specs.Behind.{AreWhole}
 use Rattle.cfb_chains.specs.Grown.{IsLinked}
 use Rattle.cfb_chains.specs.LinkViews.{ids_of, links_version}
 use Rattle.cfb_chains.specs.Owned.{Becomes}
@@ -19,7 +21,7 @@ use Rattle.cfb_chains.proofs.Overwriting.{get_written}
 use Rattle.cfb_fat.specs.declared.allocator.Allocator.{Allocator}
 use Rattle.cfb_fat.specs.Seeing.{seen_of}
 use Rattle.cfb_fat.specs.Tables.{bytes_of, version_of, AllRests}
-use Rattle.cfb_owned.specs.Chains.{content_of, HasChain, HasLinks, Overwrites, Resizes}
+use Rattle.cfb_owned.specs.Chains.{content_of, place_of, HasChain, HasLinks, Overwrites, Resizes}
 use Rattle.cfb_sectors.specs.declared.initial.SectorInit.{SectorInit}
 use Rattle.cfb_owned.proofs.Owning.{becomes_then}
 use Rattle.cfb_owned.proofs.WrittenParts.{over_then}
@@ -36,6 +38,11 @@ over_whole old xs is =
 nothing_taken : (n : ℕ) → take {A = ℕ} n [] ≡ []
 nothing_taken zero = refl
 nothing_taken (suc n) = refl
+
+-- sectors that lie in a file whole do so in a longer one
+pub whole_still : (v : Version) (ids old new : List ℕ) → length old ≤ length new → AreWhole v old ids → AreWhole v new ids
+whole_still v [] old new longer all = tt
+whole_still v (n ∷ ids) old new longer all = ((let first = all.0 in omega (arith, first, longer)), whole_still v ids old new longer all.1)
 
 -- whole sectors' bytes need just these
 sectors_again : (v : Version) (n : ℕ) → sectors_for v (n * sector_len v) ≡ n
@@ -62,6 +69,7 @@ module _ {F : Type 0} {g : Ghosts F} where
   -- bytes and others behind them were written over
   pub overwrites_then : (at next : ℕ) (xs ys : List ℕ) (a m b : Allocator F g) (links : Links) → HasChain a links → Overwrites at xs a m links → Overwrites next ys m b links
       → next ≡ at + length xs → next + length ys ≤ length (content_of a links) → Overwrites at (xs ++ ys) a b links
+  unfolding seen_of
   overwrites_then at next xs ys a m b links chain first then is within =
       let ids = ids_of links in
       let same : version_of m ≡ version_of a = sym first.chain.has.version ∙ chain.has.version in
@@ -70,6 +78,12 @@ module _ {F : Type 0} {g : Ghosts F} where
         becomes = becomes_then (sector (version_of a)) ids [] ids ids (seen_of a) (seen_of m) (seen_of b) first.becomes (among_more ids [] ids (λ n none. none))
             (subst (λ v. Becomes (sector v) [] ids [] ids (seen_of m) (seen_of b)) same then.becomes) tt;
         content = then.content ∙ ap (λ l. overwritten l next ys) first.content ∙ over_then (content_of a links) xs ys at next is within;
+        there = λ k from to.
+            let both = length-append xs ys in
+            ⊎_elim
+            (λ later. subst (λ v. place_of v ids k < length (bytes_of b)) same (then.there k later.1 (omega (arith, to, both, is))))
+            (λ sooner. let was = first.there k from (omega (arith, sooner.1, is)) in let longer = then.becomes.leaves.longer in omega (arith, was, longer))
+            (leb_tells next k);
       }
 
   -- a piece of some bytes behind those that were written before
@@ -96,4 +110,5 @@ module _ {F : Type 0} {g : Ghosts F} where
         becomes = becomes_then S [] ids ids ids (seen_of a) (seen_of m) (seen_of b) first (λ n loose. loose)
             (subst (λ v. Becomes (sector v) [] ids [] ids (seen_of m) (seen_of b)) same did.becomes) did.chain.beside;
         content_is = did.content ∙ over_whole (content_of m links) bytes size;
+        whole = whole_still (version_of a) ids (bytes_of m) (bytes_of b) did.becomes.leaves.longer (subst (AreWhole (version_of a) (bytes_of m)) (sym all) grown.whole);
       }

@@ -5,12 +5,13 @@ use Rattle.cfb_medium.specs.declared.error.Error.{Error}
 use Rattle.cfb_medium.specs.declared.error.Error.TheVariants.{Full}
 use Rattle.cfb_medium.specs.declared.medium.ReadMedium.{Ghosts}
 use Rattle.cfb_sectors.specs.Sectors.{sector}
+use Rattle.cfb_chains.specs.Behind.{AreWhole}
 use Rattle.cfb_chains.specs.ChainCalls.{IsInvalidPlace}
 use Rattle.cfb_chains.specs.LinkViews.{ids_of}
 use Rattle.cfb_chains.specs.Owned.{Becomes}
 use Rattle.cfb_chains.specs.declared.links.Links.{Links}
 use Rattle.cfb_fat.specs.Seeing.{seen_of}
-use Rattle.cfb_fat.specs.Tables.{version_of, HasCauseBelow}
+use Rattle.cfb_fat.specs.Tables.{bytes_of, version_of, HasCauseBelow}
 use Rattle.cfb_fat.specs.declared.allocator.Allocator.{Allocator}
 use Rattle.cfb_owned.specs.Chains.{content_of, HasChain}
 
@@ -24,8 +25,9 @@ module _ {F : Type 0} {g : Ghosts F} {T : Type 0} {h : Ghosts T} where
   HasCauseInEither source read target written e = HasCauseBelow source read e ⊎ HasCauseBelow target written e
 
 module _ {F : Type 0} {g : Ghosts F} where
-  -- the chain took in all its sectors, which were in no use, and holds these bytes
+  -- the chain took in all its sectors, which were in no use and lie in the file whole, and holds these bytes
   pub record CopiesChain (content : List ℕ) (old new : Allocator F g) (links : Links) : Type 0 where
     pub chain : HasChain new links
     pub becomes : Becomes (sector (version_of old)) [] [] (ids_of links) (ids_of links) (seen_of old) (seen_of new)
     pub content_is : content_of new links ≡ content
+    pub whole : AreWhole (version_of old) (bytes_of new) (ids_of links)
