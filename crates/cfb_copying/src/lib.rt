@@ -2,5 +2,7 @@
 #![tactic(auto)]
 
 mod chains;
+mod laws;
 
 pub use chains::copy_chain;
+pub use laws::files_are_made_by_chains;
