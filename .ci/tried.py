@@ -1,6 +1,6 @@
 """Which wrong bodies stand as tried. must-fail.tried has a line for each crate that has wrong bodies: its name, and a
 sum over all that decides whether they are refused: its own files, the code and definitions of the crates below it,
-its line of crates.txt, and the toolchain."""
+its line of crates.txt, and the logic of the toolchain."""
 import hashlib
 import pathlib
 import subprocess
@@ -31,6 +31,13 @@ def below(crate, known):
     return sorted(found)
 
 
+def logic():
+    """The logic in which the toolchain proves, as `rt version` tells it: `KIT logic SUM`. A kit with the same one proves
+    the same statements, so a line stands under it."""
+    version = subprocess.run(["rt", "version"], check=True, stdout=subprocess.PIPE, text=True).stdout.strip()
+    return version.partition(" logic ")[2] or version
+
+
 def sum_of(crate, known, version):
     """The sum that stands in the crate's line, once its wrong bodies were tried."""
     parts = [(crate, it) for it in ("src", "specs", "proofs", "must-fail")]
@@ -46,8 +53,7 @@ def sum_of(crate, known, version):
 
 def sums():
     """The sum of each crate that has wrong bodies, as its files stand now."""
-    version = subprocess.run(["rt", "version"], check=True, stdout=subprocess.PIPE, text=True).stdout.strip()
-    known = crates()
+    version, known = logic(), crates()
     return {it: sum_of(it, known, version) for it in sorted(known) if edits_of(it)}
 
 
