@@ -1,7 +1,7 @@
 -- Bytes of a chain that are copied piece by piece, to one that took in all its sectors.
 use Rattle.std.proofs.Common.{◌≡◌, ℕ, zero, suc, ◌+◌, ◌*◌, ◌<◌, ◌≤◌, IsTrue, List, [], ◌∷◌, ◌++◌, length, take, drop, get_or, refl, ap, sym, subst, ◌∙◌, arith, ⊎_elim, length-append}
 use Rattle.std.proofs.lemmas.Bool.Decides.{leb_tells}
-use Rattle.std.proofs.lemmas.List.{ext_get_or}
+use Rattle.std.proofs.lemmas.List.{ext_get_or, take_all}
 use Rattle.std.proofs.Math.Seq.{take-add}
 use Rattle.cfb_medium.specs.Bytes.{overwritten}
 use Rattle.cfb_medium.specs.Versions.{sector_len}
@@ -10,6 +10,7 @@ use Rattle.cfb_medium.specs.declared.version.Version.TheVariants.{V3, V4}
 use Rattle.cfb_medium.specs.declared.medium.ReadMedium.{Ghosts}
 use Rattle.cfb_sectors.specs.Sectors.{joined, sector}
 use Rattle.cfb_chains.specs.Behind.{AreWhole}
+use Rattle.cfb_chains.specs.Changes.{AreNoneOf, IsNoneOf}
 use Rattle.cfb_chains.specs.Grown.{IsLinked}
 use Rattle.cfb_chains.specs.LinkViews.{ids_of, links_version}
 use Rattle.cfb_chains.specs.Owned.{Becomes}
@@ -20,10 +21,10 @@ use Rattle.cfb_chains.proofs.ChainWriting.{length_within}
 use Rattle.cfb_chains.proofs.Overwriting.{get_written}
 use Rattle.cfb_fat.specs.declared.allocator.Allocator.{Allocator}
 use Rattle.cfb_fat.specs.Seeing.{seen_of}
-use Rattle.cfb_fat.specs.Tables.{bytes_of, version_of, AllRests}
+use Rattle.cfb_fat.specs.Tables.{bytes_of, tables_of, version_of, AllRests}
 use Rattle.cfb_owned.specs.Chains.{content_of, place_of, HasChain, HasLinks, Overwrites, Resizes}
 use Rattle.cfb_sectors.specs.declared.initial.SectorInit.{SectorInit}
-use Rattle.cfb_owned.proofs.Owning.{becomes_then}
+use Rattle.cfb_owned.proofs.Owning.{becomes_then, none_behind_all}
 use Rattle.cfb_owned.proofs.WrittenParts.{over_then}
 use Rattle.cfb_copying.specs.Chains.{CopiesChain}
 
@@ -35,17 +36,13 @@ over_whole old xs is =
     let here : 0 + k ≡ k = omega arith in
     ap (λ n. get_or (overwritten old 0 xs) n 0) (sym here) ∙ get_written old 0 xs k (omega (arith, below, size, is)))
 
-nothing_taken : (n : ℕ) → take {A = ℕ} n [] ≡ []
-nothing_taken zero = refl
-nothing_taken (suc n) = refl
-
 -- sectors that lie in a file whole do so in a longer one
 pub whole_still : (v : Version) (ids old new : List ℕ) → length old ≤ length new → AreWhole v old ids → AreWhole v new ids
 whole_still v [] old new longer all = tt
 whole_still v (n ∷ ids) old new longer all = ((let first = all.0 in omega (arith, first, longer)), whole_still v ids old new longer all.1)
 
 -- whole sectors' bytes need just these
-sectors_again : (v : Version) (n : ℕ) → sectors_for v (n * sector_len v) ≡ n
+pub sectors_again : (v : Version) (n : ℕ) → sectors_for v (n * sector_len v) ≡ n
 sectors_again V3 n = omega arith
 sectors_again V4 n = omega arith
 
@@ -96,19 +93,20 @@ module _ {F : Type 0} {g : Ghosts F} where
       zero_first : (n : ℕ) → 0 + n ≡ n
       zero_first n = omega arith
 
-  -- a chain without sectors took in its sectors, and then all its bytes were written
-  pub chain_copied : (init : SectorInit) (count : ℕ) (bytes : List ℕ) (a m b : Allocator F g) (before links : Links) → ids_of before ≡ [] → version_of m ≡ version_of a
-      → Resizes init count a m before links → Overwrites 0 bytes m b links → length bytes ≡ length (content_of m links) → CopiesChain bytes a b links
+  -- a chain took in sectors, and then all its bytes were written
+  pub chain_copied : (init : SectorInit) (count : ℕ) (bytes : List ℕ) (a m b : Allocator F g) (before links : Links) → length (ids_of before) ≤ count → version_of m ≡ version_of a
+      → Resizes init count a m before links → Overwrites 0 bytes m b links → length bytes ≡ length (content_of m links) → CopiesChain bytes a b before links
   unfolding seen_of
-  chain_copied init count bytes a m b before links none same grown did size =
+  chain_copied init count bytes a m b before links few same grown did size =
       let ids = ids_of links in
       let S = sector (version_of a) in
-      let all : ids ≡ grown.more = grown.sectors ∙ ap (λ l. take count l ++ grown.more) none ∙ ap (λ l. l ++ grown.more) (nothing_taken count) in
-      let first : Becomes S [] [] ids ids (seen_of a) (seen_of m) = subst (λ l. Becomes S [] [] l ids (seen_of a) (seen_of m)) (sym all) (subst (λ l. Becomes S [] l grown.more ids (seen_of a) (seen_of m)) none grown.becomes) in
+      let all : ids ≡ ids_of before ++ grown.more = grown.sectors ∙ ap (λ l. l ++ grown.more) (take_all count (ids_of before) few) in
       record {
+        more = grown.more;
+        sectors = all;
         chain = did.chain;
-        becomes = becomes_then S [] ids ids ids (seen_of a) (seen_of m) (seen_of b) first (λ n loose. loose)
-            (subst (λ v. Becomes (sector v) [] ids [] ids (seen_of m) (seen_of b)) same did.becomes) did.chain.beside;
+        becomes = becomes_then S (ids_of before) grown.more ids ids (seen_of a) (seen_of m) (seen_of b) grown.becomes (λ n loose. subst (λ l. IsNoneOf l n) (sym all) loose)
+            (subst (λ v. Becomes (sector v) [] ids [] ids (seen_of m) (seen_of b)) same did.becomes) (none_behind_all (tables_of b) (ids_of before) grown.more (subst (AreNoneOf (tables_of b)) all did.chain.beside));
         content_is = did.content ∙ over_whole (content_of m links) bytes size;
-        whole = whole_still (version_of a) ids (bytes_of m) (bytes_of b) did.becomes.leaves.longer (subst (AreWhole (version_of a) (bytes_of m)) (sym all) grown.whole);
+        whole = whole_still (version_of a) grown.more (bytes_of m) (bytes_of b) did.becomes.leaves.longer grown.whole;
       }

@@ -1,5 +1,5 @@
 -- Chains that are copied to another file ([MS-CFB] 2.3).
-use Rattle.std.specs.Prelude.{◌≡◌, ◌⊎◌, ℕ, List, []}
+use Rattle.std.specs.Prelude.{◌≡◌, ◌⊎◌, ℕ, List, [], ◌++◌}
 use Rattle.cfb_medium.specs.Calls.{IsFaultUnless}
 use Rattle.cfb_medium.specs.declared.error.Error.{Error}
 use Rattle.cfb_medium.specs.declared.error.Error.TheVariants.{Full}
@@ -25,9 +25,11 @@ module _ {F : Type 0} {g : Ghosts F} {T : Type 0} {h : Ghosts T} where
   HasCauseInEither source read target written e = HasCauseBelow source read e ⊎ HasCauseBelow target written e
 
 module _ {F : Type 0} {g : Ghosts F} where
-  -- the chain took in all its sectors, which were in no use and lie in the file whole, and holds these bytes
-  pub record CopiesChain (content : List ℕ) (old new : Allocator F g) (links : Links) : Type 0 where
-    pub chain : HasChain new links
-    pub becomes : Becomes (sector (version_of old)) [] [] (ids_of links) (ids_of links) (seen_of old) (seen_of new)
-    pub content_is : content_of new links ≡ content
-    pub whole : AreWhole (version_of old) (bytes_of new) (ids_of links)
+  -- the chain took in sectors behind those that it had, which were in no use and lie in the file whole, and holds these bytes
+  pub record CopiesChain (content : List ℕ) (old new : Allocator F g) (before after : Links) : Type 0 where
+    pub more : List ℕ
+    pub sectors : ids_of after ≡ ids_of before ++ more
+    pub chain : HasChain new after
+    pub becomes : Becomes (sector (version_of old)) [] (ids_of before) more (ids_of after) (seen_of old) (seen_of new)
+    pub content_is : content_of new after ≡ content
+    pub whole : AreWhole (version_of old) (bytes_of new) more

@@ -4,7 +4,7 @@ ghost use Rattle.cfb_chains.specs.LinkViews.{ids_of, links_version};
 ghost use Rattle.cfb_copying.specs.Chains.{CopiesChain, HasCauseInEither, IsCopyFault};
 ghost use Rattle.cfb_fat.specs.Tables.{orderly_of, AllRests};
 ghost use Rattle.cfb_owned.specs.Chains.{content_of, len_of, GoesOn, HasChain, HasLinks, Overwrites};
-ghost use Rattle.std.specs.Prelude.{IfErr, IsTrue, OnOk, [], ◌<◌, ◌^◌, ◌≡◌};
+ghost use Rattle.std.specs.Prelude.{length, IfErr, IsTrue, OnOk, ◌<◌, ◌^◌, ◌≡◌, ◌≤◌};
 
 use cfb_chains::Links;
 use cfb_fat::Allocator;
@@ -59,8 +59,8 @@ fn copy_bytes<F: ReadMedium, T: Medium>(
     Ok(())
 }
 
-/// Makes a chain without sectors one that holds what a chain of another file does, in as many sectors; these were in no use. The
-/// other file is only read. `InvalidData` where one of the files hasn't its chain, or the tables of the one that is written can't
+/// Makes a chain one that holds what a longer chain of another file does, in as many sectors; those that it takes in were in no
+/// use. The other file is only read. `InvalidData` where one of the files hasn't its chain, or the tables of the one that is written can't
 /// be changed; `Full` where numbers of sectors are missing. The other errors are faults: then the chain holds anything.
 pub fn copy_chain<F: ReadMedium, T: Medium>(
     source: &mut Allocator<F>,
@@ -68,10 +68,11 @@ pub fn copy_chain<F: ReadMedium, T: Medium>(
     target: &mut Allocator<T>,
     to: &mut Links,
 ) -> Result<(), Error>
-    requires none { ids_of to.old ≡ [] }
+    requires shorter { length (ids_of to.old) ≤ length (ids_of from.now) }
     requires version { links_version to.old ≡ links_version from.now }
     ensures copied { OnOk result (HasLinks source.old from.now → HasChain target.old to.old
-        → CopiesChain (content_of source.old from.now) target.old target.new to.new) }
+        → CopiesChain (content_of source.old from.now) target.old target.new to.old
+        to.new) }
     ensures refused { IfErr result (λ e. IsInvalidPlace e → HasLinks source.old from.now
         → HasChain target.old to.old → IsTrue (orderly_of target.old) → ⊥) }
     ensures rests { AllRests source.old source.new }

@@ -6,14 +6,14 @@ ghost use Rattle.cfb_chains.specs.declared.links.Links.{Links as ChainLinks};
 ghost use Rattle.cfb_fat.specs.Tables.{has_failed_here};
 ghost use Rattle.cfb_fat.specs.declared.allocator.Allocator.{Allocator as Table};
 ghost use Rattle.cfb_owned.specs.Chains.{GoesOn};
-ghost use Rattle.std.specs.Prelude.{false, List, ℕ, [], ◌≡◌};
+ghost use Rattle.std.specs.Prelude.{false, List, ℕ, ◌≡◌};
 
 use cfb_medium::ReadMedium;
 
 /// A file in the making stays one by each chain that is added to it.
 pub fn files_are_made_by_chains<F: ReadMedium>()
-    ensures { (a b : Table F F.ReadMedium) (links : ChainLinks) (own bytes : ℕ → List ℕ) (key : ℕ)
-        (content : List ℕ) → IsMade a own bytes → own key ≡ [] → GoesOn a b
-        → has_failed_here b ≡ false → CopiesChain content a b links
-        → IsMade b (with_list key (ids_of links) own) (with_list key content bytes) }
+    ensures { (directory mini_fat : ℕ) (a b : Table F F.ReadMedium) (before links : ChainLinks) (own bytes : ℕ → List ℕ)
+        (key : ℕ) (content : List ℕ) → IsMade directory mini_fat a own bytes → own key ≡ ids_of before → GoesOn a b
+        → has_failed_here b ≡ false → CopiesChain content a b before links
+        → IsMade directory mini_fat b (with_list key (ids_of links) own) (with_list key content bytes) }
 {}
