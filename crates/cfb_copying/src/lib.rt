@@ -5,4 +5,4 @@ mod chains;
 mod laws;
 
 pub use chains::copy_chain;
-pub use laws::files_are_made_by_chains;
+pub use laws::{copies_mean_the_same_tree, files_are_made_by_chains};
