@@ -2,7 +2,7 @@
 ghost use Rattle.cfb_entries.specs.Rules.{names_in};
 ghost use Rattle.cfb_fat.specs.Calls.{Answers};
 ghost use Rattle.cfb_live.specs.Removing.{IsRefusedRemoval};
-ghost use Rattle.cfb_meaning.specs.TreeRules.{remove_storage, remove_stream};
+ghost use Rattle.cfb_meaning.specs.TreeRules.{remove_storage, remove_storage_all, remove_stream};
 ghost use Rattle.cfb_mini.specs.Views.{allocator_of};
 ghost use Rattle.cfb_owned.specs.Chains.{GoesOn};
 
@@ -52,5 +52,26 @@ impl<F: Medium> CompoundFile<F> {
             return Err(Error::InvalidData);
         }
         cfb_live::remove_storage(self.alloc, &mut self.mini, &self.letters, path)
+    }
+
+    /// Removes the storage at a path with all that it holds; the root is only emptied. Its streams' sectors and all its entries are
+    /// free then. `InvalidInput` where a stream is at the path. After the first change each error leaves the file failed. All else
+    /// is as for `remove_stream`. For each object that is removed it goes down to it from the root, and so takes as many steps as
+    /// the objects lie deep ([MS-CFB] 2.6.2 to 2.6.4).
+    pub fn remove_storage_all(&mut self, path: &str) -> Result<(), Error>
+        ensures does { Does (names_in path.now) (λ names. remove_storage_all names) result self.old
+            self.new }
+        ensures goes_on { GoesOn (allocator_of (mini_of self.old))
+            (allocator_of (mini_of self.new)) }
+        ensures answers { Answers IsRefusedRemoval result (allocator_of (mini_of self.old))
+            (allocator_of (mini_of self.new)) }
+    {
+        if self.mini.directory().allocator().is_failed() {
+            return Err(Error::Failed);
+        }
+        if !self.is_sound {
+            return Err(Error::InvalidData);
+        }
+        cfb_live::remove_storage_all(self.alloc, &mut self.mini, &self.letters, path)
     }
 }

@@ -1,7 +1,10 @@
+pub mod Below
 pub mod Carried
 pub mod Changed
 pub mod ChildAdded
+pub mod Descent
 pub mod Directories
+pub mod Emptied
 pub mod EmptyStorages
 pub mod FactRules
 pub mod Freed
@@ -16,3 +19,4 @@ pub mod Resting
 pub mod SetFacts
 pub mod Standing
 pub mod Streams
+pub mod Taken

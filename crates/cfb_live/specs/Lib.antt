@@ -4,3 +4,4 @@ pub mod Facts
 pub mod Making
 pub mod Freeing
 pub mod Removing
+pub mod Emptying

@@ -73,7 +73,7 @@ fn free_long<F: Medium>(mini: &mut MiniAllocator<F>, start: u32) -> Result<(), E
 
 /// Frees the sectors or mini sectors of the stream that has this entry, which stays as it is. After an error nothing is changed,
 /// or the file has failed.
-pub(crate) fn free_stream<F: Medium>(mini: &mut MiniAllocator<F>, id: u32) -> Result<(), Error>
+pub fn free_stream<F: Medium>(mini: &mut MiniAllocator<F>, id: u32) -> Result<(), Error>
     requires { id < length (entries_held (directory_of mini.old)) }
     ensures freed { OnOk result ((who : Owners) (e : Entry) (content : List ℕ)
         → Stands mini.old who → slice_get (entries_held (directory_of mini.old)) id ≡ Some e

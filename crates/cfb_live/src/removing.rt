@@ -10,7 +10,7 @@ ghost use Rattle.cfb_tree.specs.LetterViews.{letters_of};
 
 use crate::facts::is_stream;
 use crate::finding::find_child;
-use crate::freeing::free_stream;
+use crate::taking::take_out;
 use cfb_medium::{Error, Medium};
 use cfb_mini::MiniAllocator;
 use cfb_sectors::HasSectors;
@@ -47,11 +47,7 @@ pub fn remove_stream<F: Medium>(
     if !is_stream(mini.directory().dir_entry(id)) {
         return Err(Error::InvalidInput);
     }
-    if let Err(error) = free_stream(mini, id) {
-        return Err(error);
-    }
-    if let Err(error) = mini.unlink_dir_entry(link, id) {
-        mini.fail();
+    if let Err(error) = take_out(mini, link, id) {
         return Err(error);
     }
     Ok(())

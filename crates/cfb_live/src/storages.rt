@@ -10,6 +10,7 @@ ghost use Rattle.cfb_tree.specs.LetterViews.{letters_of};
 
 use crate::facts::is_stream;
 use crate::finding::find_child;
+use crate::taking::take_out;
 use cfb_medium::{Error, Medium};
 use cfb_mini::MiniAllocator;
 use cfb_sectors::{HasSectors, NO_STREAM};
@@ -50,7 +51,7 @@ pub fn remove_storage<F: Medium>(
     if storage.child != NO_STREAM {
         return Err(Error::InvalidInput);
     }
-    if let Err(error) = mini.unlink_dir_entry(link, id) {
+    if let Err(error) = take_out(mini, link, id) {
         return Err(error);
     }
     Ok(())

@@ -67,8 +67,9 @@ fn may_be_there<F: ReadMedium>(directory: &Directory<F>, id: u32, met: u32) -> b
         && directory.has_dir_entry(met)
 }
 
-// The entries of the tree but the root, siblings in order and each before what it holds. The one error is `Memory`.
-pub(crate) fn tree_entries<F: ReadMedium>(
+/// The numbers of the tree's entries but the root's, siblings in order and each before what it holds. The one error is `Memory`
+/// ([MS-CFB] 2.6.4).
+pub fn tree_entries<F: ReadMedium>(
     alloc: Global,
     directory: &Directory<F>,
 ) -> Result<Vec<u32>, Error>

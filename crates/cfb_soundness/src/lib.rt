@@ -7,4 +7,5 @@ mod places;
 mod soundness;
 mod streams;
 
+pub use entries::tree_entries;
 pub use soundness::is_sound;

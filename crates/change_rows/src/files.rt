@@ -1,7 +1,8 @@
 //! Calls on a compound file in memory.
-use crate::told::{bytes_of, tree_of};
+use crate::faults::{call_fails, open_fails};
+use crate::told::{bytes_of, count_of, tree_of};
 use cfb::CompoundFile;
-use cfb_medium::{Error, MemoryMedium, Timestamp};
+use cfb_medium::{Error, Medium, MemoryMedium, Timestamp};
 use cfb_tree::CaseMapper;
 use row_data::{Row, Subject, bytes_at, copied, told};
 use std::alloc::Global;
@@ -24,6 +25,17 @@ impl Files {
         let file = self.file.take().ok_or(Error::NotFound)?;
         Ok(file.into_inner())
     }
+
+    // Opens the file, or makes a call on it, over media that fail.
+    fn failing(&mut self, alloc: Global, row: &Row) -> Result<String, Error> {
+        let bytes = self.taken()?.into_bytes();
+        let said = match row.cell(1) {
+            Some(call) => call_fails(alloc, &bytes, &Row::of(alloc, call)?)?,
+            None => open_fails(alloc, &bytes)?,
+        };
+        self.file = Some(lenient(alloc, MemoryMedium::from_bytes(alloc, bytes))?);
+        Ok(said)
+    }
 }
 
 impl Subject for Files {
@@ -37,6 +49,7 @@ impl Subject for Files {
                 let medium = self.taken()?;
                 self.file = Some(strict(alloc, medium)?);
             }
+            "open fails" | "fails" => return self.failing(alloc, row),
             _ => {}
         }
         match &mut self.file {
@@ -65,6 +78,7 @@ fn answered(
     match row.call() {
         "file" | "again" => told(alloc, file.is_sound()),
         "tree" => tree_of(alloc, file),
+        "count" => count_of(alloc, file),
         "bytes" => bytes_of(alloc, file, row.text(1)),
         "each" => each(alloc, file, row),
         _ => {
@@ -87,12 +101,18 @@ fn each(alloc: Global, file: &mut CompoundFile<MemoryMedium>, row: &Row) -> Resu
     Ok(words)
 }
 
-// Changes the file.
-fn change(alloc: Global, file: &mut CompoundFile<MemoryMedium>, row: &Row) -> Result<(), Error> {
+/// Changes a file.
+pub fn change<F: Medium>(
+    alloc: Global,
+    file: &mut CompoundFile<F>,
+    row: &Row,
+) -> Result<(), Error> {
     let path = row.text(1);
     let moment = Timestamp::from_unix(row.number(2), 0);
     match row.call() {
         "storage" => file.create_storage(path, moment),
+        "nested" => nest(alloc, file, path, row.number(2)),
+        "beside" => make_beside(alloc, file, path, row.number(2)),
         "stream" => file.create_new_stream(path),
         "remove" => file.remove_stream(path),
         "remove storage" => file.remove_storage(path),
@@ -106,4 +126,33 @@ fn change(alloc: Global, file: &mut CompoundFile<MemoryMedium>, row: &Row) -> Re
         }
         _ => Err(Error::InvalidInput),
     }
+}
+
+// Makes so many storages of a name, each in the one before.
+fn nest<F: Medium>(
+    alloc: Global,
+    file: &mut CompoundFile<F>,
+    name: &str,
+    count: i64,
+) -> Result<(), Error> {
+    let mut path = String::new(alloc);
+    for _ in 0..count {
+        path.push_str(name)?;
+        file.create_storage(&path, Timestamp::zero())?;
+    }
+    Ok(())
+}
+
+// Makes so many streams beside each other, whose names are one with a number.
+fn make_beside<F: Medium>(
+    alloc: Global,
+    file: &mut CompoundFile<F>,
+    name: &str,
+    count: i64,
+) -> Result<(), Error> {
+    for number in 0..count {
+        let path = format!(in alloc; "{name}{number}")?;
+        file.create_new_stream(&path)?;
+    }
+    Ok(())
 }

@@ -3,6 +3,8 @@
 #![tactic(auto)]
 
 mod creating;
+mod failing;
+mod faults;
 mod files;
 mod told;
 

@@ -1,16 +1,27 @@
 //! What a compound file holds, as a text.
 use cfb::{CompoundFile, Entry};
-use cfb_medium::{Error, MemoryMedium};
+use cfb_medium::{Error, MemoryMedium, ReadMedium};
 use row_data::runs;
 use std::alloc::Global;
 
 /// Each object of the file, a storage before what it holds.
-pub fn tree_of(alloc: Global, file: &CompoundFile<MemoryMedium>) -> Result<String, Error> {
+pub fn tree_of<F: ReadMedium>(alloc: Global, file: &CompoundFile<F>) -> Result<String, Error> {
     let mut text = String::new(alloc);
     for entry in file.walk()? {
         text.push_str(object_told(alloc, &entry)?.as_str())?;
     }
     Ok(text)
+}
+
+/// How many objects the file has, and how long the longest of their paths is.
+pub fn count_of<F: ReadMedium>(alloc: Global, file: &CompoundFile<F>) -> Result<String, Error> {
+    let objects = file.walk()?;
+    let count = objects.len();
+    let mut longest = 0;
+    for entry in objects {
+        longest = longest.max(entry.path().len());
+    }
+    Ok(format!(in alloc; "{count} objects, the longest path has {longest} bytes")?)
 }
 
 // An object: its path, a stream's length, a storage's times and class identifier, and state bits.

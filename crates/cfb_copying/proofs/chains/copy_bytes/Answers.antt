@@ -70,7 +70,7 @@ copy-preserved g c =
           let target_long : length (content_of a to) ≡ length (ids_of to) * sector_len (version_of a) = length-joined (version_of a) (bytes_of a) (ids_of to) in
           let target_same : length (ids_of to) * sector_len (version_of a) ≡ length (ids_of to) * sector_len (links_version to) = ap (λ v. length (ids_of to) * sector_len v) (sym chain.has.version) in
           let piece : length (take n (c.read_chain.new.buffer ++ drop n c.copy.piece)) ≡ n = length-take-le n (c.read_chain.new.buffer ++ drop n c.copy.piece) (simp length-append (omega (arith, buffer))) in
-          piece_then at n src _ a m b c.args.to.now chain first (did.written first.chain) 
+          piece_then at n src _ a m b c.args.to.now chain first (did.written first.chain)
           (take-append-le n c.read_chain.new.buffer (drop n c.copy.piece) (omega (arith, buffer)) ∙ take_all n c.read_chain.new.buffer (omega (arith, buffer))
           ∙ c.in_default.ensures.read (links_rest s r from inv.rests has) ∙ ap (λ k. take k (drop at (content_of r from))) (length-take-le n c.copy.piece few)
           ∙ ap (λ l. take n (drop at l)) (content_rests s r from inv.rests has))

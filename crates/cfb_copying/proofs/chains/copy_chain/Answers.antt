@@ -31,11 +31,11 @@ returns-clause-copied g c = λ has chain.
     let ids = ids_of c.set_chain_len.new.links in
     let one = length-joined (version_of s) (bytes_of s) from in
     let many : sectors_for (links_version c.args.to.now) c.chain_len.result ≡ length from =
-        ap (λ n. sectors_for (links_version c.args.to.now) n) c.chain_len.ensures.len ∙ ap (λ v. sectors_for v (length from * sector_len (links_version c.args.from.now))) c.requires.version ∙ sectors_again (links_version c.args.from.now) (length from) in
+    ap (λ n. sectors_for (links_version c.args.to.now) n) c.chain_len.ensures.len ∙ ap (λ v. sectors_for v (length from * sector_len (links_version c.args.from.now))) c.requires.version ∙ sectors_again (links_version c.args.from.now) (length from) in
     let long : length from * sector_len (links_version c.args.from.now) ≡ length ids * sector_len (links_version c.set_chain_len.new.links) =
-        sym (as_long (links_version c.args.from.now) (links_version c.set_chain_len.new.links) (length from) (length ids)
-        (c.in_default.ensures.size ∙ ap (λ n. sectors_for (links_version c.args.to.now) n) c.chain_len.ensures.len ∙ ap (λ v. sectors_for v (length from * sector_len (links_version c.args.from.now))) (sym c.in_default.ensures.version))
-        (c.in_default.ensures.version ∙ c.requires.version)) in
+    sym (as_long (links_version c.args.from.now) (links_version c.set_chain_len.new.links) (length from) (length ids)
+    (c.in_default.ensures.size ∙ ap (λ n. sectors_for (links_version c.args.to.now) n) c.chain_len.ensures.len ∙ ap (λ v. sectors_for v (length from * sector_len (links_version c.args.from.now))) (sym c.in_default.ensures.version))
+    (c.in_default.ensures.version ∙ c.requires.version)) in
     let other = length-joined (version_of m) (bytes_of m) ids in
     chain_copied _ _ (content_of s c.args.from.now) c.args.target.now m c.copy_bytes.new.target c.args.to.now c.set_chain_len.new.links (omega (arith, c.requires.shorter, many)) c.in_default.ensures.goes_on.version grown did
     (one ∙ ap (λ v. length from * sector_len v) (sym has.version) ∙ long ∙ ap (λ v. length ids * sector_len v) (grown.chain.has.version) ∙ sym other)

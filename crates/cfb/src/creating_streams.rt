@@ -1,0 +1,39 @@
+//! Streams that are made, or emptied where they are, by their paths.
+ghost use Rattle.cfb_entries.specs.Rules.{names_in};
+ghost use Rattle.cfb_fat.specs.Calls.{Answers};
+ghost use Rattle.cfb_live.specs.Making.{IsRefusedMade};
+ghost use Rattle.cfb_meaning.specs.TreeRules.{create_stream};
+ghost use Rattle.cfb_mini.specs.Views.{allocator_of};
+ghost use Rattle.cfb_owned.specs.Chains.{GoesOn};
+
+use crate::CompoundFile;
+use cfb_medium::{Error, Medium};
+use cfb_sectors::HasSectors;
+use cfb_writing::create_stream;
+
+impl<F: Medium> CompoundFile<F> {
+    ghost use Rattle.cfb.specs.Doing.{Does};
+    ghost use Rattle.cfb.specs.Views.{mini_of};
+
+    /// Makes a stream at a path, without bytes; one that is there is emptied, and keeps its name and state bits. `Failed` after an
+    /// earlier fault, `InvalidData` where the file isn't sound; then `InvalidInput` where the path leads above the root,
+    /// `AlreadyExists` where a storage is there, `NotFound` where no object is at the parent's path, `InvalidInput` where that is
+    /// a stream or the name is invalid. `Full` where numbers of entries or sectors are missing. The other errors are `Memory` and
+    /// `Device`. After an error nothing is changed, or the file has failed ([MS-CFB] 2.6.3).
+    pub fn create_stream(&mut self, path: &str) -> Result<(), Error>
+        ensures does { Does (names_in path.now) (λ names. create_stream names) result self.old
+            self.new }
+        ensures goes_on { GoesOn (allocator_of (mini_of self.old))
+            (allocator_of (mini_of self.new)) }
+        ensures answers { Answers IsRefusedMade result (allocator_of (mini_of self.old))
+            (allocator_of (mini_of self.new)) }
+    {
+        if self.mini.directory().allocator().is_failed() {
+            return Err(Error::Failed);
+        }
+        if !self.is_sound {
+            return Err(Error::InvalidData);
+        }
+        create_stream(self.alloc, &mut self.mini, &self.letters, path)
+    }
+}

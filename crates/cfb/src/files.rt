@@ -1,0 +1,134 @@
+//! Files on disk, by their paths.
+ghost use Rattle.cfb.specs.OptionViews.{letters_asked};
+ghost use Rattle.cfb.specs.Paths.{ComparesAsAscii, IsPathRefusal};
+ghost use Rattle.cfb.specs.Views.{letters_in};
+ghost use Rattle.std.specs.Prelude.{IfErr, IfOk, ◌≡◌};
+
+use crate::{CompoundFile, OpenOptions};
+use cfb_medium::Error;
+use file_device::FileMedium;
+use std::alloc::Global;
+use std::fs::File;
+use std::rt::Files;
+
+impl OpenOptions {
+    /// Opens the file at a path of the disk, to be read: a call that changes it is `Device`. `NotFound` where file or folder is
+    /// missing, `Device` where it is no regular file or another program writes it, `InvalidData` where such a reader can't open its
+    /// bytes; the other error is `Memory`. The file is locked as long as it is open.
+    pub fn open<R: Files<File = File>>(
+        self,
+        rt: &R,
+        alloc: Global,
+        path: &str,
+    ) -> Result<CompoundFile<FileMedium>, Error>
+        ensures letters { IfOk result (λ it. letters_in it ≡ letters_asked self) }
+        ensures error { IfErr result IsPathRefusal }
+    {
+        match FileMedium::open(rt, path) {
+            Ok(medium) => self.open_medium(alloc, medium),
+            Err(error) => Err(error),
+        }
+    }
+
+    /// Opens the file at a path of the disk, to be read and changed. It is changed in its place: a stop may leave anything of it.
+    /// Errors are those of `open`, and `Device` also where it may not be written, or another program has it.
+    pub fn open_rw<R: Files<File = File>>(
+        self,
+        rt: &R,
+        alloc: Global,
+        path: &str,
+    ) -> Result<CompoundFile<FileMedium>, Error>
+        ensures letters { IfOk result (λ it. letters_in it ≡ letters_asked self) }
+        ensures error { IfErr result IsPathRefusal }
+    {
+        match FileMedium::open_rw(rt, path) {
+            Ok(medium) => self.open_medium(alloc, medium),
+            Err(error) => Err(error),
+        }
+    }
+
+    /// Makes a new file of version 4 at a path of the disk, of 12288 bytes; a file that is there is emptied first. `NotFound` where
+    /// the folder is missing, `Device` where no regular file can be made or written there, or another program has it; also
+    /// `InvalidData` where the disk doesn't give back what was written. The other error is `Memory`.
+    pub fn create<R: Files<File = File>>(
+        self,
+        rt: &R,
+        alloc: Global,
+        path: &str,
+    ) -> Result<CompoundFile<FileMedium>, Error>
+        ensures letters { IfOk result (λ it. letters_in it ≡ letters_asked self) }
+        ensures error { IfErr result IsPathRefusal }
+    {
+        let medium = match FileMedium::create(rt, path) {
+            Ok(medium) => medium,
+            Err(error) => return Err(error),
+        };
+        match self.create_with(alloc, medium) {
+            Ok(file) => Ok(file),
+            Err((_, error)) => Err(error),
+        }
+    }
+
+    // Opens the file in a medium that is let go where that is refused.
+    fn open_medium(
+        self,
+        alloc: Global,
+        medium: FileMedium,
+    ) -> Result<CompoundFile<FileMedium>, Error>
+        ensures letters { IfOk result (λ it. letters_in it ≡ letters_asked self) }
+        ensures error { IfErr result IsPathRefusal }
+    {
+        match self.open_with(alloc, medium) {
+            Ok(file) => Ok(file),
+            Err((_, error)) => Err(error),
+        }
+    }
+}
+
+/// Opens the file at a path of the disk, to be read, as `OpenOptions::new` asks: as a lenient reader, under the letter table of
+/// ASCII. Errors are those of `OpenOptions::open`.
+pub fn open<R: Files<File = File>>(
+    rt: &R,
+    alloc: Global,
+    path: &str,
+) -> Result<CompoundFile<FileMedium>, Error>
+    ensures letters { IfOk result (λ it. ComparesAsAscii (letters_in it)) }
+    ensures error { IfErr result IsPathRefusal }
+{
+    match OpenOptions::new(alloc) {
+        Ok(options) => options.open(rt, alloc, path),
+        Err(error) => Err(error),
+    }
+}
+
+/// Opens the file at a path of the disk, to be read and changed, as `OpenOptions::new` asks. Errors are those of
+/// `OpenOptions::open_rw`.
+pub fn open_rw<R: Files<File = File>>(
+    rt: &R,
+    alloc: Global,
+    path: &str,
+) -> Result<CompoundFile<FileMedium>, Error>
+    ensures letters { IfOk result (λ it. ComparesAsAscii (letters_in it)) }
+    ensures error { IfErr result IsPathRefusal }
+{
+    match OpenOptions::new(alloc) {
+        Ok(options) => options.open_rw(rt, alloc, path),
+        Err(error) => Err(error),
+    }
+}
+
+/// Makes a new file of version 4 at a path of the disk, under the letter table of ASCII. Errors are those of
+/// `OpenOptions::create`.
+pub fn create<R: Files<File = File>>(
+    rt: &R,
+    alloc: Global,
+    path: &str,
+) -> Result<CompoundFile<FileMedium>, Error>
+    ensures letters { IfOk result (λ it. ComparesAsAscii (letters_in it)) }
+    ensures error { IfErr result IsPathRefusal }
+{
+    match OpenOptions::new(alloc) {
+        Ok(options) => options.create(rt, alloc, path),
+        Err(error) => Err(error),
+    }
+}

@@ -1,0 +1,89 @@
+use Rattle.std.proofs.Common.{◌≡◌, inl, ap, sym, ◌∙◌, subst, rules}
+use Rattle.std.specs.Prelude.{slice_get, Some}
+use Rattle.cfb_fat.specs.Keeping.{fails_cause}
+use Rattle.cfb_owned.proofs.GoingOn.{goes_cause, goes_then}
+use Rattle.cfb_tree.specs.Directory.{kind_stream}
+use Rattle.cfb_tree.specs.EntryViews.{entry_in}
+use Rattle.cfb_directory.specs.Children.{HoldsChild}
+use Rattle.cfb_directory.specs.Views.{entries_held}
+use Rattle.cfb_mini.specs.Views.{allocator_of, directory_of}
+use Rattle.cfb_live.specs.Live.{live_of}
+use Rattle.cfb_live.proofs.EmptyStorages.{owns_nothing}
+use Rattle.cfb_live.proofs.Removed.{root_there, stream_held}
+use Rattle.cfb_live.proofs.Standing.{stands_of}
+use Rattle.cfb_live.proofs.Streams.{reads}
+use Rattle.cfb_live.proofs.Taken.{leaf_below, leaf_child, leaf_one, taken_means}
+use Rattle.cfb_live.proofs.taking.take_out.Goals as goal
+
+pub returns-in-Err-clause-refused : goal.returns-in-Err-clause-refused
+returns-in-Err-clause-refused g c = λ wrong l tree path name m leaf.
+    let it = c.args.mini.now in
+    c.in-Err.ensures.refused wrong l (reads (live_of it) m.who) tree path leaf.parent name m.who.sectors (leaf_child l it tree m path name c.args.link c.args.id leaf) m.owners (record { orderly = m.orderly; sizes = m.sizes })
+
+pub returns-then-not-is_stream-clause-taken : goal.returns-then-not-is_stream-clause-taken
+returns-then-not-is_stream-clause-taken g c = λ l tree path name m leaf.
+    let it = c.args.mini.now in
+    let new = c.unlink_dir_entry.new.self in
+    let id = c.args.id in
+    let did = c.in_default.ensures in
+    let e = entry_in c.dir_entry.result.now in
+    let found : slice_get (entries_held (directory_of it)) id ≡ Some e = ap (λ d. slice_get (entries_held d) id) (sym c.directory-2.ensures) ∙ c.dir_entry.ensures in
+    let never : e.kind ≡ kind_stream → ⊥ = λ kind. let wrong = c.is_stream.ensures.1 kind in let not = c.if-not-is_stream.true in absurd (cc) in
+    let frees = owns_nothing l it tree m id e found never in
+    taken_means l it tree m path name c.args.link id leaf it new frees did.removed did.entry c.unlink_dir_entry.ensures.goes_on did.answers.live.1
+    (did.changes frees.now.sectors frees.stands.owners (root_there it frees.now frees.stands) (leaf_below l it tree m path name c.args.link id leaf))
+
+pub returns-in-Err-free_stream-clause-refused : goal.returns-in-Err-free_stream-clause-refused
+returns-in-Err-free_stream-clause-refused g c = λ wrong l tree path name m leaf.
+    let it = c.args.mini.now in
+    let id = c.args.id in
+    let e = entry_in c.dir_entry.result.now in
+    let found : slice_get (entries_held (directory_of it)) id ≡ Some e = ap (λ d. slice_get (entries_held d) id) (sym c.directory-2.ensures) ∙ c.dir_entry.ensures in
+    let kind : e.kind ≡ kind_stream = c.is_stream.ensures.0 c.if-not-is_stream.false in
+    let has = stream_held l it tree m id e (leaf_one l it tree m path name c.args.link id leaf) found kind in
+    c.in-Err-free_stream.ensures.refused wrong m.who e has.0 (stands_of l it tree m) found has.1
+
+pub returns-in-Err-unlink_dir_entry-clause-refused : goal.returns-in-Err-unlink_dir_entry-clause-refused
+returns-in-Err-unlink_dir_entry-clause-refused g c = λ wrong l tree path name m leaf.
+    let it = c.args.mini.now in
+    let id = c.args.id in
+    let e = entry_in c.dir_entry.result.now in
+    let found : slice_get (entries_held (directory_of it)) id ≡ Some e = ap (λ d. slice_get (entries_held d) id) (sym c.directory-2.ensures) ∙ c.dir_entry.ensures in
+    let kind : e.kind ≡ kind_stream = c.is_stream.ensures.0 c.if-not-is_stream.false in
+    let has = stream_held l it tree m id e (leaf_one l it tree m path name c.args.link id leaf) found kind in
+    let frees = c.in_default-free_stream.ensures.freed m.who e has.0 (stands_of l it tree m) found has.1 in
+    c.in-Err-unlink_dir_entry.ensures.refused wrong l (reads (live_of it) m.who) tree path leaf.parent name frees.now.sectors
+    (subst (λ es. HoldsChild l (reads (live_of it) m.who) es tree path leaf.parent name c.args.link id) (sym frees.entries) (leaf_child l it tree m path name c.args.link id leaf)) frees.stands.owners
+    (record { orderly = frees.stands.orderly; sizes = frees.stands.sizes })
+
+pub returns-in-Err-unlink_dir_entry-clause-answers : goal.returns-in-Err-unlink_dir_entry-clause-answers
+returns-in-Err-unlink_dir_entry-clause-answers g c =
+    let a = allocator_of c.args.mini.now in
+    let m = allocator_of c.free_stream.new.mini in
+    let b = allocator_of c.unlink_dir_entry-2.new.self in
+    let told = c.in-Err-unlink_dir_entry.ensures.answers in
+    record {
+      live = tt;
+      failed = search rules;
+      after = inl c.fail.ensures.sectors.failed;
+      cause = fails_cause a b (allocator_of c.fail.new.self) c.in-Err-unlink_dir_entry.error (goes_cause a m b c.in-Err-unlink_dir_entry.error c.free_stream.ensures.goes_on c.in_default-free_stream.ensures.answers.live.1 told.cause) c.fail.ensures;
+      fault = told.fault;
+    }
+
+pub returns-clause-taken : goal.returns-clause-taken
+returns-clause-taken g c = λ l tree path name m leaf.
+    let it = c.args.mini.now in
+    let mid = c.free_stream.new.mini in
+    let new = c.unlink_dir_entry-2.new.self in
+    let id = c.args.id in
+    let did = c.in_default-unlink_dir_entry.ensures in
+    let e = entry_in c.dir_entry.result.now in
+    let found : slice_get (entries_held (directory_of it)) id ≡ Some e = ap (λ d. slice_get (entries_held d) id) (sym c.directory-2.ensures) ∙ c.dir_entry.ensures in
+    let kind : e.kind ≡ kind_stream = c.is_stream.ensures.0 c.if-not-is_stream.false in
+    let has = stream_held l it tree m id e (leaf_one l it tree m path name c.args.link id leaf) found kind in
+    let frees = c.in_default-free_stream.ensures.freed m.who e has.0 (stands_of l it tree m) found has.1 in
+    taken_means l it tree m path name c.args.link id leaf mid new frees did.removed did.entry c.unlink_dir_entry-2.ensures.goes_on did.answers.live.1
+    (did.changes frees.now.sectors frees.stands.owners (root_there mid frees.now frees.stands) (leaf_below l it tree m path name c.args.link id leaf))
+
+pub returns-clause-goes_on : goal.returns-clause-goes_on
+returns-clause-goes_on g c = goes_then _ _ _ c.free_stream.ensures.goes_on c.unlink_dir_entry-2.ensures.goes_on

@@ -1,0 +1,65 @@
+//! Objects that are taken out of their storages ([MS-CFB] 2.6.3, 2.6.4).
+ghost use Rattle.cfb_chains.specs.ChainCalls.{IsInvalid};
+ghost use Rattle.cfb_directory.specs.Views.{entries_held};
+ghost use Rattle.cfb_fat.specs.Calls.{Answers};
+ghost use Rattle.cfb_fat.specs.Tables.{has_failed_here};
+ghost use Rattle.cfb_live.specs.Emptying.{IsLeafAt};
+ghost use Rattle.cfb_live.specs.Live.{Means};
+ghost use Rattle.cfb_medium.specs.declared.error.Error.TheVariants.{InvalidData};
+ghost use Rattle.cfb_mini.specs.Changing.{KeepsOwners};
+ghost use Rattle.cfb_mini.specs.Views.{allocator_of, directory_of};
+ghost use Rattle.cfb_owned.specs.Chains.{GoesOn};
+ghost use Rattle.cfb_siblings.specs.Places.{path_to};
+ghost use Rattle.cfb_tree.specs.Changes.{removed};
+ghost use Rattle.cfb_tree.specs.Names.{Letters};
+ghost use Rattle.cfb_tree.specs.Paths.{Path};
+ghost use Rattle.cfb_tree.specs.Tree.{Tree};
+ghost use Rattle.std.specs.Prelude.{length, true, IsErrOf, List, OnErr, OnOk, ℕ, ◌<◌, ◌≡◌, ◌⊎◌};
+
+use crate::facts::is_stream;
+use crate::freeing::free_stream;
+use cfb_medium::{Error, Medium};
+use cfb_mini::MiniAllocator;
+use cfb_sectors::HasSectors;
+use cfb_siblings::Link;
+
+/// Takes out the object of entry `id`, to which the link leads, and which holds nothing: a stream's sectors are freed, and then its
+/// entry; a storage has its entry alone. `InvalidData` where the file hasn't its directory. After an error nothing is changed, or
+/// the file has failed.
+pub(crate) fn take_out<F: Medium>(
+    mini: &mut MiniAllocator<F>,
+    link: Link,
+    id: u32,
+) -> Result<(), Error>
+    requires { id < length (entries_held (directory_of mini.old)) }
+    ensures taken { OnOk result ((letters : Letters) (tree : Tree) (path : Path) (name : List ℕ)
+        → Means letters mini.old tree
+        → IsLeafAt letters (entries_held (directory_of mini.old)) path name link id
+        → Means letters mini.new (removed letters (path_to path name) tree)) }
+    ensures refused { IsErrOf result InvalidData
+        → (letters : Letters) (tree : Tree) (path : Path) (name : List ℕ)
+        → Means letters mini.old tree
+        → IsLeafAt letters (entries_held (directory_of mini.old)) path name link id → ⊥ }
+    ensures rests { OnErr result ((has_failed_here (allocator_of mini.new) ≡ true)
+        ⊎ KeepsOwners mini.old mini.new) }
+    ensures goes_on { GoesOn (allocator_of mini.old) (allocator_of mini.new) }
+    ensures answers { Answers IsInvalid result (allocator_of mini.old) (allocator_of mini.new) }
+{
+    if mini.directory().allocator().is_failed() {
+        return Err(Error::Failed);
+    }
+    if !is_stream(mini.directory().dir_entry(id)) {
+        if let Err(error) = mini.unlink_dir_entry(link, id) {
+            return Err(error);
+        }
+        return Ok(());
+    }
+    if let Err(error) = free_stream(mini, id) {
+        return Err(error);
+    }
+    if let Err(error) = mini.unlink_dir_entry(link, id) {
+        mini.fail();
+        return Err(error);
+    }
+    Ok(())
+}

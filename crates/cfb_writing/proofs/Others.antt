@@ -1,0 +1,88 @@
+-- Streams that stay while another one is in change.
+use Rattle.std.proofs.Common.{◌≡◌, ℕ, ◌+◌, ◌*◌, ◌<◌, ◌≤◌, List, [], ◌∷◌, length, take, ap, sym, subst, ◌∙◌, arith}
+use Rattle.std.specs.Prelude.{slice_index_or, slice_range}
+use Rattle.std.specs.List.{flat_map, AllByRecursion}
+use Rattle.cfb_sectors.specs.Sectors.{end_of_chain, joined, places}
+use Rattle.cfb_tree.specs.Directory.{Entry}
+use Rattle.cfb_owners.specs.Held.{mini_joined, mini_places_of, HasStream, LiesIn}
+use Rattle.cfb_owners.specs.LiveFile.{LiveFile}
+use Rattle.cfb_owners.specs.Owners.{mini_stream_owner, stream_owner, Owners}
+use Rattle.cfb_live.specs.Freeing.{CarriesBut}
+use Rattle.cfb_writing.specs.Moving.{CarriesOthers}
+
+all_there : (few many : ℕ) (places : List ℕ) → few ≤ many → AllByRecursion (λ p. p < few) places → AllByRecursion (λ p. p < many) places
+all_there few many [] most all = tt
+all_there few many (p ∷ places) most all = ((let first = all.0 in omega (arith, first, most)), all_there few many places most all.1)
+
+-- what lies in a file lies in a longer one
+pub lies_still : (old new : List ℕ) (e f : Entry) (ids ids' bytes bytes' all all' content : List ℕ) → length old ≤ length new → f.start ≡ e.start → f.size ≡ e.size → ids' ≡ ids → bytes' ≡ bytes → all' ≡ all
+    → LiesIn old e ids bytes all content → LiesIn new f ids' bytes' all' content
+lies_still old new e f ids ids' bytes bytes' all all' content longer start size same_ids same_bytes same_all h = record {
+  start = start ∙ h.start ∙ ap (λ l. slice_index_or l 0 end_of_chain) (sym same_ids);
+  content_is = h.content_is ∙ ap (λ n. take n bytes) (sym size) ∙ ap (take f.size) (sym same_bytes);
+  whole = h.whole ∙ sym size;
+  there = subst (λ l. AllByRecursion (λ p. p < length new) (take f.size l)) (sym same_all)
+      (subst (λ n. AllByRecursion (λ p. p < length new) (take n all)) (sym size) (all_there (length old) (length new) (take e.size all) longer h.there));
+}
+
+module _ (key : ℕ) (s t : LiveFile) (who now : Owners) (c : CarriesOthers key s t who now) where
+  pub other_stays : (id : ℕ) (e f : Entry) (content : List ℕ) → (stream_owner id ≡ key → ⊥) → f.start ≡ e.start → f.size ≡ e.size → HasStream s who id e content → HasStream t now id f content
+  other_stays id e f content other start size h =
+      let k = stream_owner id in
+      let past : mini_stream_owner < k = omega arith in
+      let minis : now.minis k ≡ who.minis k = c.minis k other in
+      let ids : now.sectors k ≡ who.sectors k = c.sectors k past other in
+      let joined_now : joined t.version t.bytes (now.sectors k) ≡ joined s.version s.bytes (who.sectors k) =
+      ap (λ v. joined v t.bytes (now.sectors k)) c.version ∙ ap (joined s.version t.bytes) ids ∙ c.joined k past other in
+      let places_now : places t.version (now.sectors k) ≡ places s.version (who.sectors k) = ap (λ v. places v (now.sectors k)) c.version ∙ ap (places s.version) ids in
+      record {
+        short = λ below.
+            let was = h.short (let few = below in omega (arith, few, size)) in (
+              ids ∙ was.0,
+              lies_still s.bytes t.bytes e f (who.minis k) (now.minis k) _ _ _ _ content c.longer start size minis
+                  (ap (mini_joined t now) minis ∙ c.mini_joined k other) (ap (mini_places_of t now) minis ∙ c.mini_places k other) was.1,
+            );
+        long = λ up.
+            let was = h.long (let most = up in omega (arith, most, size)) in (
+              minis ∙ was.0,
+              lies_still s.bytes t.bytes e f (who.sectors k) (now.sectors k) _ _ _ _ content c.longer start size ids joined_now places_now was.1,
+            );
+      }
+
+-- where the whole mini stream stays, other streams do
+pub carries_others : (key : ℕ) (s t : LiveFile) (who now : Owners) → mini_stream_owner < key → CarriesBut key s t who now → CarriesOthers key s t who now
+carries_others key s t who now past c =
+    let apart : mini_stream_owner ≡ key → ⊥ = λ same. omega (arith, same, past) in
+    let stream : now.sectors mini_stream_owner ≡ who.sectors mini_stream_owner = c.sectors mini_stream_owner (omega arith) apart in
+    let mini_is : joined t.version t.bytes (now.sectors mini_stream_owner) ≡ joined s.version s.bytes (who.sectors mini_stream_owner) =
+    ap (λ v. joined v t.bytes (now.sectors mini_stream_owner)) c.version ∙ ap (joined s.version t.bytes) stream ∙ c.joined mini_stream_owner (omega arith) apart in
+    let mini_at : places t.version (now.sectors mini_stream_owner) ≡ places s.version (who.sectors mini_stream_owner) =
+    ap (λ v. places v (now.sectors mini_stream_owner)) c.version ∙ ap (places s.version) stream in
+    record {
+      version = c.version;
+      longer = c.longer;
+      sectors = λ k above other. c.sectors k (let a = above in omega (arith, a)) other;
+      minis = c.minis;
+      joined = λ k above other. c.joined k (let a = above in omega (arith, a)) other;
+      mini_joined = λ k other. ap (λ l. flat_map (λ n. slice_range l (64 * n) (64 * n + 64)) (who.minis k)) mini_is;
+      mini_places = λ k other. ap (λ l. flat_map (λ n. slice_range l (64 * n) (64 * n + 64)) (who.minis k)) mini_at;
+    }
+
+-- one change, and then another
+pub others_then : (key : ℕ) (r s t : LiveFile) (was who now : Owners) → CarriesOthers key r s was who → CarriesOthers key s t who now → CarriesOthers key r t was now
+others_then key r s t was who now c d = record {
+  version = d.version ∙ c.version;
+  longer = let p = c.longer in let q = d.longer in omega (arith, p, q);
+  sectors = λ k past other. d.sectors k past other ∙ c.sectors k past other;
+  minis = λ k other. d.minis k other ∙ c.minis k other;
+  joined = λ k past other.
+      let same = c.sectors k past other in
+      ap (λ v. joined v t.bytes (was.sectors k)) (sym c.version) ∙ ap (joined s.version t.bytes) (sym same) ∙ d.joined k past other
+      ∙ ap (joined s.version s.bytes) same ∙ ap (λ v. joined v s.bytes (was.sectors k)) c.version ∙ c.joined k past other;
+  mini_joined = λ k other.
+      let same = c.minis k other in
+      ap (mini_joined t now) (sym same) ∙ d.mini_joined k other ∙ ap (mini_joined s who) same ∙ c.mini_joined k other;
+  mini_places = λ k other.
+      let same = c.minis k other in
+      ap (mini_places_of t now) (sym same) ∙ d.mini_places k other ∙ ap (mini_places_of s who) same ∙ c.mini_places k other;
+}

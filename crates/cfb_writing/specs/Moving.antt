@@ -1,0 +1,49 @@
+-- What a live file is while the sectors of one of its streams are in change: all others stay.
+use Rattle.std.specs.Prelude.{◌≡◌, ℕ, ◌<◌, ◌≤◌, ◌⊎◌, List, [], length, slice_get, slice_set, Some}
+use Rattle.cfb_directory.specs.Views.{entries_held}
+use Rattle.cfb_live.specs.Freeing.{Stands}
+use Rattle.cfb_live.specs.Live.{live_of}
+use Rattle.cfb_fat.specs.Tables.{version_of}
+use Rattle.cfb_medium.specs.Versions.{stream_len_mask}
+use Rattle.cfb_medium.specs.declared.medium.ReadMedium.{Ghosts}
+use Rattle.cfb_mini.specs.Changing.{ChangesDirectory, HasOwners}
+use Rattle.cfb_mini.specs.Views.{allocator_of, directory_of}
+use Rattle.cfb_mini.specs.declared.mini_allocator.MiniAllocator.{MiniAllocator}
+use Rattle.cfb_owners.specs.Held.{mini_joined, mini_places_of}
+use Rattle.cfb_owners.specs.LiveFile.{LiveFile}
+use Rattle.cfb_owners.specs.Owners.{mini_stream_owner, stream_owner, Owners}
+use Rattle.cfb_sectors.specs.Sectors.{joined}
+use Rattle.cfb_tree.specs.Directory.{Entry}
+
+-- the same version, at least as many bytes, and all streams but this owner's have the sectors and the mini sectors that they had,
+-- with their bytes
+pub record CarriesOthers (key : ℕ) (s t : LiveFile) (who now : Owners) : Type 0 where
+  pub version : t.version ≡ s.version
+  pub longer : length s.bytes ≤ length t.bytes
+  pub sectors : (k : ℕ) → mini_stream_owner < k → (k ≡ key → ⊥) → now.sectors k ≡ who.sectors k
+  pub minis : (k : ℕ) → (k ≡ key → ⊥) → now.minis k ≡ who.minis k
+  pub joined : (k : ℕ) → mini_stream_owner < k → (k ≡ key → ⊥) → joined s.version t.bytes (who.sectors k) ≡ joined s.version s.bytes (who.sectors k)
+  pub mini_joined : (k : ℕ) → (k ≡ key → ⊥) → mini_joined t now (who.minis k) ≡ mini_joined s who (who.minis k)
+  pub mini_places : (k : ℕ) → (k ≡ key → ⊥) → mini_places_of t now (who.minis k) ≡ mini_places_of s who (who.minis k)
+
+-- the entries are those that they were, or the root alone tells of another place of the mini stream ([MS-CFB] 2.6.2)
+abbrev pub MovesRoot : List Entry → List Entry → Type 0
+MovesRoot old new = (new ≡ old)
+    ⊎ ((root : Entry) × (start : ℕ) × (size : ℕ) × (slice_get old 0 ≡ Some root) × (new ≡ slice_set old 0 (record root { start = start; size = size })))
+
+module _ {F : Type 0} {g : Ghosts F} where
+  -- the file stands, and all streams but that of entry `id` have what they had
+  pub record Moves (id : ℕ) (old new : MiniAllocator F g) (who : Owners) : Type 0 where
+    pub now : Owners
+    pub stands : Stands new now
+    pub carries : CarriesOthers (stream_owner id) (live_of old) (live_of new) who now
+    pub entries : MovesRoot (entries_held (directory_of old)) (entries_held (directory_of new))
+
+  -- entry `id` tells that its stream begins there and has so many bytes, which fit into it; all other entries stay, and all that is
+  -- owned ([MS-CFB] 2.6.1)
+  pub record Places (id start size : ℕ) (old new : MiniAllocator F g) : Type 0 where
+    pub entry : Entry
+    pub found : slice_get (entries_held (directory_of old)) id ≡ Some entry
+    pub fits : size ≤ stream_len_mask (version_of (allocator_of old))
+    pub set : entries_held (directory_of new) ≡ slice_set (entries_held (directory_of old)) id (record entry { start = start; size = size })
+    pub changes : (own : ℕ → List ℕ) → HasOwners old own → (id ≡ 0 → ⊥) → ChangesDirectory [] old new own

@@ -1,0 +1,31 @@
+-- A stream of a live file, and what a call does to its bytes ([MS-CFB] 2.6.3).
+use Rattle.std.specs.Prelude.{◌≡◌, ℕ, List, Some}
+use Rattle.cfb_directory.specs.Views.{entries_held}
+use Rattle.cfb_live.specs.Live.{Means}
+use Rattle.cfb_medium.specs.declared.medium.ReadMedium.{Ghosts}
+use Rattle.cfb_mini.specs.Views.{directory_of}
+use Rattle.cfb_mini.specs.declared.mini_allocator.MiniAllocator.{MiniAllocator}
+use Rattle.cfb_siblings.specs.Places.{LeadsTo}
+use Rattle.cfb_tree.specs.Changes.{changed, with_bytes}
+use Rattle.cfb_tree.specs.Names.{Letters}
+use Rattle.cfb_tree.specs.Objects.{a_stream, object_at}
+use Rattle.cfb_tree.specs.Paths.{Path}
+use Rattle.cfb_tree.specs.Tree.{Tree}
+
+module _ {F : Type 0} {g : Ghosts F} where
+  -- the live file means the tree, and the path leads to entry `id`: the object there is a stream with these bytes
+  pub record IsStreamAt (letters : Letters) (it : MiniAllocator F g) (tree : Tree) (path : Path) (id : ℕ) (content : List ℕ) : Type 0 where
+    pub means : Means letters it tree
+    pub leads : LeadsTo letters (entries_held (directory_of it)) 0 path id
+    pub name : List ℕ
+    pub bits : ℕ
+    pub at_path : object_at letters tree path ≡ Some (a_stream name bits content)
+
+  -- a stream of entry `id` has then the bytes that come of its own by the change, and nothing else of the tree is changed
+  abbrev pub Rewrites : ℕ → (List ℕ → List ℕ) → MiniAllocator F g → MiniAllocator F g → Type 0
+  Rewrites id change old new = (letters : Letters) (tree : Tree) (path : Path) (content : List ℕ) → IsStreamAt letters old tree path id content
+      → IsStreamAt letters new (changed letters (with_bytes (change content)) path tree) path id (change content)
+
+  -- entry `id` is a stream of no tree that is meant
+  abbrev pub IsNoStream : ℕ → MiniAllocator F g → Type 0
+  IsNoStream id it = (letters : Letters) (tree : Tree) (path : Path) (content : List ℕ) → IsStreamAt letters it tree path id content → ⊥

@@ -1,0 +1,43 @@
+//! Streams that are emptied ([MS-CFB] 2.6.3).
+ghost use Rattle.cfb_chains.specs.ChainCalls.{IsInvalid};
+ghost use Rattle.cfb_fat.specs.Calls.{Answers};
+ghost use Rattle.cfb_fat.specs.Tables.{has_failed_here};
+ghost use Rattle.cfb_medium.specs.declared.error.Error.TheVariants.{InvalidData};
+ghost use Rattle.cfb_mini.specs.Changing.{KeepsOwners};
+ghost use Rattle.cfb_mini.specs.Views.{allocator_of};
+ghost use Rattle.cfb_owned.specs.Chains.{GoesOn};
+ghost use Rattle.cfb_writing.specs.Streams.{IsNoStream, Rewrites};
+ghost use Rattle.std.specs.Prelude.{true, IsErrOf, OnErr, OnOk, [], ◌≡◌, ◌⊎◌};
+
+use crate::placing::set_place;
+use cfb_live::free_stream;
+use cfb_medium::{Error, Medium};
+use cfb_mini::MiniAllocator;
+use cfb_sectors::{END_OF_CHAIN, HasSectors};
+
+/// Takes all bytes of the stream that has this entry: its sectors or mini sectors are free then, and its entry tells of none. Its
+/// name and state bits stay. `InvalidData` where no such stream is there, or the file hasn't its sectors. The other errors are
+/// `Memory`, `Device`, and `Failed` after an earlier fault. After an error nothing is changed, or the file has failed
+/// ([MS-CFB] 2.6.3).
+pub fn empty_stream<F: Medium>(mini: &mut MiniAllocator<F>, id: u32) -> Result<(), Error>
+    ensures emptied { OnOk result (Rewrites id (λ content. []) mini.old mini.new) }
+    ensures refused { IsErrOf result InvalidData → IsNoStream id mini.old }
+    ensures rests { OnErr result ((has_failed_here (allocator_of mini.new) ≡ true)
+        ⊎ KeepsOwners mini.old mini.new) }
+    ensures goes_on { GoesOn (allocator_of mini.old) (allocator_of mini.new) }
+    ensures answers { Answers IsInvalid result (allocator_of mini.old) (allocator_of mini.new) }
+{
+    if mini.directory().allocator().is_failed() {
+        return Err(Error::Failed);
+    }
+    if id as usize >= mini.directory().dir_entries().len() {
+        return Err(Error::InvalidData);
+    }
+    if let Err(error) = free_stream(mini, id) {
+        return Err(error);
+    }
+    if let Err(error) = set_place(mini, id, END_OF_CHAIN, 0) {
+        return Err(error);
+    }
+    Ok(())
+}

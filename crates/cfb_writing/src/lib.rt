@@ -1,0 +1,9 @@
+//! The bytes of the streams of a live compound file, changed.
+#![tactic(auto)]
+
+mod creating;
+mod emptying;
+mod placing;
+
+pub use creating::create_stream;
+pub use emptying::empty_stream;

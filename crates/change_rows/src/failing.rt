@@ -1,0 +1,130 @@
+//! A medium in memory that counts its calls, and fails one of them.
+ghost use Rattle.std.specs.Prelude.{◌≡◌, ◌≤◌, ⊤, [], false, refl};
+ghost use Rattle.std.proofs.Common.{arith, inl};
+ghost use Rattle.staged.specs.Counts.{counted_failures};
+
+use cfb_medium::{Error, Medium, MemoryMedium, ReadMedium};
+use staged::Counts;
+
+// Counts calls, and tells the one that is to fail.
+#[derive(Drop)]
+struct Fuse {
+    calls: u64,
+    failing: u64,
+}
+
+impl Fuse {
+    fn blows(&mut self) -> bool {
+        let now = self.calls == self.failing;
+        self.calls = self.calls.saturating_add(1);
+        now
+    }
+}
+
+/// A medium in memory. One of its calls fails, and changes nothing.
+#[derive(Drop)]
+pub struct FailingMedium {
+    medium: MemoryMedium,
+    fuse: Fuse,
+    counts: Counts,
+}
+
+impl FailingMedium {
+    /// A medium whose call after this many fails.
+    pub fn new(medium: MemoryMedium, failing: u64) -> FailingMedium {
+        FailingMedium {
+            medium,
+            fuse: Fuse { calls: 0, failing },
+            counts: Counts::new(),
+        }
+    }
+
+    /// How many calls were made.
+    pub fn calls(&self) -> u64 {
+        self.fuse.calls
+    }
+
+    /// How many of them have failed.
+    pub fn failures(&self) -> u64 {
+        self.counts.failures()
+    }
+
+    /// The bytes.
+    pub fn bytes(&self) -> &[u8] {
+        self.medium.bytes()
+    }
+}
+
+impl ReadMedium for FailingMedium {
+    ghost bytes = { λ _. [] };
+
+    // A row sees what is served: no proof rests on it.
+    ghost honest = { λ _. false };
+
+    ghost failures = { λ m. counted_failures m.counts };
+
+    ghost failed = { λ _. false };
+
+    ghost continues = { λ a b. counted_failures a.counts ≤ counted_failures b.counts };
+
+    ghost moment = { λ _. 0 };
+
+    ghost may_leave = { λ _ _. ⊤ };
+
+    ghost left_since = { λ _ _ _. ⊤ };
+
+    fn len(&mut self) -> Result<u64, Error> {
+        if self.fuse.blows() {
+            return Err(self.counts.fault());
+        }
+        self.medium.len()
+    }
+
+    fn read_at(&mut self, at: u64, buffer: &mut [u8]) -> Result<usize, Error> {
+        if self.fuse.blows() {
+            return Err(self.counts.fault());
+        }
+        self.medium.read_at(at, buffer)
+    }
+
+    ghost continues_refl = { λ _. Prim.omega arith };
+
+    ghost continues_keeps = { λ a b more. record { as_honest = refl; as_failed = refl; counted = more } };
+
+    ghost counts_now = { λ _ _ _ _ _. tt };
+
+    ghost only_now = { λ _ _ _. tt };
+
+    ghost continues_leaves = { λ _ _ _. record { later = Prim.omega arith; each = λ _ _. tt; before = λ _ _ _ _. inl tt } };
+}
+
+impl Medium for FailingMedium {
+    ghost has_published = { λ _ _. ⊤ };
+
+    fn write_at(&mut self, at: u64, bytes: &[u8]) -> Result<(), Error> {
+        if self.fuse.blows() {
+            return Err(self.counts.fault());
+        }
+        self.medium.write_at(at, bytes)
+    }
+
+    fn flush(&mut self) -> Result<(), Error> {
+        if self.fuse.blows() {
+            return Err(self.counts.fault());
+        }
+        Ok(())
+    }
+
+    fn commit(&mut self) -> Result<(), Error> {
+        if self.fuse.blows() {
+            return Err(self.counts.fault());
+        }
+        Ok(())
+    }
+
+    fn has_failed(&self) -> bool {
+        false
+    }
+
+    ghost continues_published = { λ _ _ _ _ _ _. tt };
+}
