@@ -1,30 +1,27 @@
 -- A copy holds the tree that the file holds.
-use Rattle.std.proofs.Common.{◌≡◌, ℕ, zero, suc, ◌+◌, ◌*◌, ◌<◌, ◌≤◌, ◌⊎◌, inl, inr, false, true, List, [], ◌∷◌, ◌++◌, length, take, drop, refl, ap, sym, subst, ◌∙◌, arith, ⊎_elim}
+use Rattle.std.proofs.Common.{◌≡◌, ℕ, zero, suc, ◌+◌, ◌*◌, ◌<◌, ◌≤◌, false, true, List, [], ◌∷◌, length, take, drop, refl, ap, sym, subst, ◌∙◌, arith, ⊎_elim}
 use Rattle.std.specs.Prelude.{nat_eq, slice_get, slice_range, None, Option, Some, IfSome}
 use Rattle.std.specs.List.{flat_map, range_with_len, AllByRecursion, IsDistinct}
 use Rattle.std.proofs.lemmas.Bool.Decides.{eqb_tells}
 use Rattle.cfb_medium.specs.Numbers.{numbers}
 use Rattle.cfb_medium.specs.Versions.{sector_len}
 use Rattle.cfb_medium.specs.declared.version.Version.{Version}
-use Rattle.cfb_sectors.specs.Header.{mini_cutoff}
-use Rattle.cfb_sectors.specs.Sectors.{fat_in, joined, places, sector_start}
+use Rattle.cfb_sectors.specs.Sectors.{places, sector_start}
 use Rattle.cfb_chains.specs.Behind.{AreWhole}
-use Rattle.cfb_chains.specs.Changes.{IsNoneOf}
 use Rattle.cfb_chains.specs.Owned.{Owned}
 use Rattle.cfb_chains.proofs.ChainWriting.{length-joined}
 use Rattle.cfb_tree.specs.Names.{Letters}
 use Rattle.cfb_tree.specs.Tree.{Tree}
 use Rattle.cfb_tree.specs.Directory.{kind_stream, Entry}
-use Rattle.cfb_meaning.specs.Sound.{LieInFile}
-use Rattle.cfb_owners.specs.Held.{HasStream, IsStreamAmong, LiesIn, MeansHeld}
+use Rattle.cfb_owners.specs.Held.{HasStream, IsStreamAmong, MeansHeld}
 use Rattle.cfb_owners.specs.Kept.{Kept}
 use Rattle.cfb_owners.specs.LiveFile.{LiveFile}
-use Rattle.cfb_owners.specs.Owners.{first_of, mini_fat_owner, mini_stream_owner, stream_owner, Owners, OwnsNothing}
+use Rattle.cfb_owners.specs.Owners.{first_of, mini_stream_owner, stream_owner, Owners}
 use Rattle.cfb_tree.proofs.NamesRead.{all_append}
 use Rattle.cfb_copying.specs.Copied.{IsCopied, IsLongAmong}
 use Rattle.cfb_copying.specs.Making.{IsOneOf}
 use Rattle.cfb_copying.proofs.Restarted.{again, holds_again, siblings_again}
-use Rattle.cfb_copying.proofs.Tight.{not_none, one_is_not_none}
+use Rattle.cfb_copying.proofs.Tight.{one_is_not_none}
 
 -- ---- bytes that lie in the file
 

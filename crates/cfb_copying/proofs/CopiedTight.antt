@@ -1,9 +1,8 @@
 -- Every sector of a copy serves a use.
-use Rattle.std.proofs.Common.{◌≡◌, ℕ, zero, suc, ◌+◌, ◌<◌, ◌⊎◌, inl, inr, List, [], ◌∷◌, ◌++◌, length, map, refl, ap, sym, subst, ◌∙◌, arith, ⊎_elim, length-append}
+use Rattle.std.proofs.Common.{◌≡◌, ℕ, zero, suc, ◌+◌, ◌⊎◌, inl, inr, List, [], ◌∷◌, ◌++◌, length, map, refl, ap, sym, subst, ◌∙◌, arith, ⊎_elim, length-append}
 use Rattle.std.specs.Prelude.{slice_get, slice_index, None, Option, Some}
 use Rattle.std.specs.List.{flat_map}
 use Rattle.std.proofs.Math.Seq.{get_or-append_right}
-use Rattle.std.proofs.lemmas.Bool.Decides.{leb_tells}
 use Rattle.std.proofs.lemmas.List.{get_or_append_left}
 use Rattle.cfb_sectors.specs.Sectors.{sectors_in}
 use Rattle.cfb_tree.specs.Directory.{Entry}
@@ -13,7 +12,7 @@ use Rattle.cfb_meaning.specs.Sound.{in_file, in_mini_stream, Part}
 use Rattle.cfb_owners.specs.Held.{MeansHeld}
 use Rattle.cfb_owners.specs.Kept.{layout_of}
 use Rattle.cfb_owners.specs.LiveFile.{LiveFile}
-use Rattle.cfb_owners.specs.Owners.{stream_owner, Owners}
+use Rattle.cfb_owners.specs.Owners.{Owners}
 use Rattle.cfb_owners.proofs.SoundIs.{sound_is}
 use Rattle.cfb_owners.proofs.UsedParts.{all_keys, key_of, used_by}
 use Rattle.cfb_copying.specs.Copied.{IsCopied, IsLongAmong, IsTight, IsUsed}

@@ -1,22 +1,22 @@
 -- A chain more in a file in the making.
-use Rattle.std.proofs.Common.{◌≡◌, ℕ, ◌+◌, ◌≤◌, ◌⊎◌, inl, inr, false, IsTrue, List, [], ◌∷◌, ◌++◌, length, length-append, append-nil, refl, ap, sym, subst, ◌∙◌, arith, ⊎_elim}
+use Rattle.std.proofs.Common.{◌≡◌, ℕ, inl, inr, false, IsTrue, List, [], ◌∷◌, ◌++◌, length-append, append-nil, ap, sym, subst, ◌∙◌, arith, ⊎_elim}
 use Rattle.std.specs.Prelude.{nat_eq, true, if◌then◌else◌}
 use Rattle.std.proofs.lemmas.Bool.Decides.{eqb_tells}
 use Rattle.std.proofs.lemmas.List.{get_or_append_left}
 use Rattle.cfb_medium.specs.Bytes.{overwritten}
 use Rattle.cfb_medium.specs.declared.version.Version.{Version}
 use Rattle.cfb_medium.specs.declared.medium.ReadMedium.{Ghosts}
-use Rattle.cfb_sectors.specs.Header.{first_directory_sector, first_mini_fat_sector, IsHeader}
+use Rattle.cfb_sectors.specs.Header.{IsHeader}
 use Rattle.cfb_sectors.specs.Sectors.{joined, sector}
 use Rattle.cfb_chains.specs.Behind.{AreWhole}
 use Rattle.cfb_chains.specs.Changes.{IsNoneOf}
 use Rattle.cfb_chains.specs.LinkViews.{ids_of}
-use Rattle.cfb_chains.specs.Owned.{Becomes, Leaves, Moves, Owned, Seen, Stays}
+use Rattle.cfb_chains.specs.Owned.{Becomes, Leaves, Moves, Seen}
 use Rattle.cfb_chains.specs.declared.links.Links.{Links}
 use Rattle.cfb_chains.proofs.Owners.{other_left, owned_changed}
 use Rattle.cfb_fat.specs.declared.allocator.Allocator.{Allocator}
 use Rattle.cfb_fat.specs.Seeing.{seen_of}
-use Rattle.cfb_fat.specs.Tables.{bytes_of, fat_of, has_failed_here, is_honest, tables_of, version_of}
+use Rattle.cfb_fat.specs.Tables.{bytes_of, has_failed_here, is_honest, version_of}
 use Rattle.cfb_owned.specs.Chains.{GoesOn, Overwrites}
 use Rattle.cfb_copying.specs.Chains.{CopiesChain}
 use Rattle.cfb_copying.specs.Making.{with_list, IsMade}

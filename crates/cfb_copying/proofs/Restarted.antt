@@ -1,5 +1,5 @@
 -- Entries that begin elsewhere hold what they held.
-use Rattle.std.proofs.Common.{◌≡◌, ℕ, ◌≤◌, ◌⊎◌, inl, inr, List, [], ◌∷◌, ◌++◌, refl, ap, sym, subst, ◌∙◌, arith, ⊎_elim}
+use Rattle.std.proofs.Common.{◌≡◌, ℕ, ◌⊎◌, inl, inr, List, [], ◌∷◌, ◌++◌, ap, sym, subst, ◌∙◌, arith, ⊎_elim}
 use Rattle.std.specs.Prelude.{slice_get, Some}
 use Rattle.std.specs.List.{AllByRecursion}
 use Rattle.std.proofs.lemmas.Bool.Decides.{eqb_tells, leb_tells}
@@ -8,8 +8,7 @@ use Rattle.cfb_tree.specs.Tree.{nothing, storage, stream, Content}
 use Rattle.cfb_tree.specs.Directory.{kind_stream, none, some, Entry, HasName, Siblings}
 use Rattle.cfb_owners.specs.Held.{HoldsAt}
 use Rattle.cfb_copying.specs.Copied.{IsLongAmong, Restarts}
-use Rattle.cfb_copying.specs.Making.{IsOneOf}
-use Rattle.cfb_copying.proofs.Tight.{not_none, one_is_not_none, one_or_none}
+use Rattle.cfb_copying.proofs.Tight.{one_is_not_none, one_or_none}
 
 -- an entry that is found has one value
 found_one : (es : List Entry) (id : ℕ) (e f : Entry) → slice_get es id ≡ Some e → slice_get es id ≡ Some f → e ≡ f

@@ -1,5 +1,5 @@
 -- No sector is spare after a change that gives all that it takes to one owner.
-use Rattle.std.proofs.Common.{◌≡◌, ℕ, zero, suc, ◌+◌, ◌<◌, ◌≤◌, ◌⊎◌, inl, inr, List, [], ◌∷◌, length, get_or, refl, sym, subst, ◌∙◌, arith, ⊎_elim}
+use Rattle.std.proofs.Common.{◌≡◌, ℕ, zero, suc, ◌⊎◌, inl, inr, List, [], ◌∷◌, length, sym, subst, arith, ⊎_elim}
 use Rattle.std.proofs.lemmas.Bool.Decides.{eqb_tells, leb_tells}
 use Rattle.cfb_chains.specs.Changes.{IsNoneOf}
 use Rattle.cfb_chains.specs.Owned.{Leaves, Seen}

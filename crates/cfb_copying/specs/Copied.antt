@@ -3,7 +3,7 @@ use Rattle.std.specs.Prelude.{◌≡◌, ◌⊎◌, ℕ, ◌<◌, ◌≤◌, Lis
 use Rattle.cfb_sectors.specs.Header.{first_directory_sector, first_mini_fat_sector, mini_cutoff, IsHeader}
 use Rattle.cfb_sectors.specs.Sectors.{fat_in, joined, sectors_in}
 use Rattle.cfb_chains.specs.Behind.{AreWhole}
-use Rattle.cfb_chains.specs.Owned.{Owned, Seen}
+use Rattle.cfb_chains.specs.Owned.{Owned}
 use Rattle.cfb_tree.specs.Directory.{entries_of, kind_stream, Entry}
 use Rattle.cfb_tree.specs.Names.{Letters}
 use Rattle.cfb_tree.specs.Tree.{Tree}
