@@ -3,8 +3,6 @@
 
 mod chains;
 mod laws;
-mod putting;
 
 pub use chains::copy_chain;
-pub use putting::put_chain;
 pub use laws::{copies_mean_the_same_tree, files_are_made_by_chains};
