@@ -22,7 +22,7 @@ use Rattle.cfb_owners.proofs.UsedParts.{all_keys, key_of, parts_of, used_by}
 use Rattle.cfb_owners.proofs.PartsUsable.{all_usable}
 use Rattle.cfb_owners.proofs.OwnersApart.{differ, own_apart}
 
-abbrev streams_of : LiveFile → Owners → List ℕ → List Part
+abbrev pub streams_of : LiveFile → Owners → List ℕ → List Part
 streams_of s who ids = flat_map (used_by s who) (map key_of ids)
 
 -- keys of streams are distinct, and none is that of a table, the directory, the mini FAT or the mini stream
@@ -39,14 +39,14 @@ unfolding IsDistinct
 keys_once [] once = tt
 keys_once (id ∷ ids) once = (key_apart id ids once.0, keys_once ids once.1)
 
-all_once : (ids : List ℕ) → IsDistinct nat_eq (0 ∷ ids) → IsDistinct nat_eq (all_keys ids)
+pub all_once : (ids : List ℕ) → IsDistinct nat_eq (0 ∷ ids) → IsDistinct nat_eq (all_keys ids)
 unfolding IsDistinct
 all_once ids once = (
   (refl, (refl, (refl, keys_past 0 ids (omega arith)))),
   ((refl, (refl, keys_past 1 ids (omega arith))), ((refl, keys_past 2 ids (omega arith)), (keys_past 3 ids (omega arith), keys_once ids once.1))),
 )
 
-each_key : (P : Part → Type 0) (of_key : ℕ → List Part) → ((k : ℕ) → AllByRecursion P (of_key k)) → (ks : List ℕ) → AllByRecursion P (flat_map of_key ks)
+pub each_key : (P : Part → Type 0) (of_key : ℕ → List Part) → ((k : ℕ) → AllByRecursion P (of_key k)) → (ks : List ℕ) → AllByRecursion P (flat_map of_key ks)
 each_key P of_key each [] = tt
 each_key P of_key each (k ∷ ks) = all_append P (of_key k) (flat_map of_key ks) (each k) (each_key P of_key each ks)
 
@@ -71,7 +71,7 @@ module _ (s : LiveFile) (who : Owners) (letters : Letters) (tree : Tree) (h : Me
       let is_stream : e.kind ≡ kind_stream = subst (λ o. IfSome o (λ x. x.kind ≡ kind_stream)) found among.1 in
       omega (arith, is_stream, is_storage)
 
-  tree_uses : (ids : List ℕ) → AllByRecursion (IsPart s.entries (HasStream s who)) ids → TreeUses s.bytes (layout_of s who h.root h.ids) ids (streams_of s who ids)
+  pub tree_uses : (ids : List ℕ) → AllByRecursion (IsPart s.entries (HasStream s who)) ids → TreeUses s.bytes (layout_of s who h.root h.ids) ids (streams_of s who ids)
   tree_uses [] all = refl
   tree_uses (id ∷ ids) ((e, found, inr stream), rest) = (
     e,
@@ -97,18 +97,18 @@ module _ (s : LiveFile) (who : Owners) (letters : Letters) (tree : Tree) (h : Me
         refl,
       )
 
-  all_used : flat_map (used_by s who) (all_keys h.ids)
+  pub all_used : flat_map (used_by s who) (all_keys h.ids)
       ≡ map in_file (s.fat_sectors ++ s.difat_sectors ++ who.sectors 0 ++ who.sectors 1 ++ who.sectors 2) ++ streams_of s who h.ids
   all_used = simp (h.kept.minis_of_streams 0 (omega arith), h.kept.minis_of_streams 1 (omega arith), h.kept.minis_of_streams 2 (omega arith), map-append, append_assoc, append-nil)
 
-  covers : IsCovered s.bytes (layout_of s who h.root h.ids)
+  pub covers : IsCovered s.bytes (layout_of s who h.root h.ids)
   covers n there = cut_covers s.version s.bytes (fat_in s.version s.bytes s.fat_sectors)
       (ap length (sym same) ∙ h.kept.tables.orderly.covered ∙ h.kept.tables.counted) n there
     where
       same : s.fat ≡ take (sectors_in s.version (length s.bytes)) (fat_in s.version s.bytes s.fat_sectors)
       same = h.kept.tables.same ∙ ap (λ k. take k (fat_in s.version s.bytes s.fat_sectors)) h.kept.tables.counted
 
-  pub sound_is : IsSoundBy (layout_of s who h.root h.ids) letters s.bytes tree
+  unfoldable pub sound_is : IsSoundBy (layout_of s who h.root h.ids) letters s.bytes tree
   sound_is = record {
     means = means_is s who letters tree h;
     parts = flat_map (used_by s who) (all_keys h.ids);

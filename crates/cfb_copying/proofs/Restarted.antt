@@ -1,0 +1,87 @@
+-- Entries that begin elsewhere hold what they held.
+use Rattle.std.proofs.Common.{◌≡◌, ℕ, ◌⊎◌, inl, inr, List, [], ◌∷◌, ◌++◌, ap, sym, subst, ◌∙◌, arith, ⊎_elim}
+use Rattle.std.specs.Prelude.{slice_get, Some}
+use Rattle.std.specs.List.{AllByRecursion}
+use Rattle.std.proofs.lemmas.Bool.Decides.{eqb_tells, leb_tells}
+use Rattle.cfb_sectors.specs.Header.{mini_cutoff}
+use Rattle.cfb_tree.specs.Tree.{nothing, storage, stream, Content}
+use Rattle.cfb_tree.specs.Directory.{kind_stream, none, some, Entry, HasName, Siblings}
+use Rattle.cfb_owners.specs.Held.{HoldsAt}
+use Rattle.cfb_copying.specs.Copied.{IsLongAmong, Restarts}
+use Rattle.cfb_copying.proofs.Tight.{one_is_not_none, one_or_none}
+
+-- an entry that is found has one value
+found_one : (es : List Entry) (id : ℕ) (e f : Entry) → slice_get es id ≡ Some e → slice_get es id ≡ Some f → e ≡ f
+found_one es id e f one other = let both : Some e ≡ Some f = sym one ∙ other in cc
+
+pub same_name : (e : Entry) (start : ℕ) (name : List ℕ) → HasName e name → HasName (record e { start = start }) name
+same_name e start name named = record { even = named.even; fits = named.fits; spelled = named.spelled }
+
+module _ (es later : List Entry) (ids : List ℕ) (own : ℕ → List ℕ) (h : Restarts es ids own later) where
+  -- an entry is found again, with another start or its own
+  pub is_long : (id : ℕ) (e : Entry) → slice_get es id ≡ Some e → IsLongAmong es ids id ⊎ (IsLongAmong es ids id → ⊥)
+  is_long id e found = ⊎_elim
+      (λ kind. ⊎_elim
+      (λ long. ⊎_elim
+      (λ among. inl (record { entry = e; found = found; of_kind = kind.1; long = long.1; among = among }))
+      (λ apart. inr (λ it. one_is_not_none ids id it.among apart))
+      (one_or_none ids id))
+      (λ short. inr (λ it. let same : it.entry.size ≡ e.size = ap (λ x. x.size) (found_one es id it.entry e it.found found) in let big = it.long in omega (arith, same, big, short.1)))
+      (leb_tells mini_cutoff e.size))
+      (λ other. inr (λ it. let same : it.entry.kind ≡ e.kind = ap (λ x. x.kind) (found_one es id it.entry e it.found found) in let kind = it.of_kind in omega (arith, same, kind, other.1)))
+      (eqb_tells e.kind kind_stream)
+
+  pub again : (id : ℕ) (e : Entry) → slice_get es id ≡ Some e → (start : ℕ) × (slice_get later id ≡ Some (record e { start = start }))
+  again id e found = ⊎_elim
+      (λ zero_is. (_, ap (slice_get later) zero_is.1 ∙ h.root e (ap (slice_get es) (sym zero_is.1) ∙ found)))
+      (λ past. ⊎_elim
+      (λ long. (_, h.long id e (λ same. omega (arith, past.1, same)) long found))
+      (λ short. (e.start, h.other id (λ same. omega (arith, past.1, same)) short ∙ found))
+      (is_long id e found))
+      (eqb_tells id 0)
+
+  pub siblings_again : (id : ℕ) (list : List ℕ) → Siblings es id list → Siblings later id list
+  siblings_again id list (none is empty) = none is empty
+  siblings_again id list (some e before after small found left right is) =
+      let next = again id e found in
+      some (record e { start = next.0 }) before after small next.1 (siblings_again e.left before left) (siblings_again e.right after right) is
+
+-- a test of each number of a list
+split_numbers : (P : ℕ → Type 0) (xs ys : List ℕ) → AllByRecursion P (xs ++ ys) → AllByRecursion P xs × AllByRecursion P ys
+split_numbers P [] ys all = (tt, all)
+split_numbers P (x ∷ xs) ys all = let rest = split_numbers P xs ys all.1 in ((all.0, rest.0), rest.1)
+
+module _ (es later : List Entry) (ids : List ℕ) (own : ℕ → List ℕ) (h : Restarts es ids own later) (Q : ℕ → Type 0) (Reads Reads' : ℕ → Entry → List ℕ → Type 0)
+    (so : (id : ℕ) (e : Entry) (start : ℕ) (bytes : List ℕ) → Q id → slice_get es id ≡ Some e → e.kind ≡ kind_stream → slice_get later id ≡ Some (record e { start = start }) → Reads id e bytes → Reads' id (record e { start = start }) bytes) where
+  pub holds_again : (content : Content) (list all : List ℕ) → AllByRecursion Q all → HoldsAt es Reads list content all → HoldsAt later Reads' list content all
+  holds_again nothing list all facts held = held
+  holds_again (stream name bits bytes more) list all facts (e, id, others, rest, is, whole, at, reads, then) =
+      let here = subst (AllByRecursion Q) whole facts in
+      let next = again es later ids own h id e at.found in (
+        record e { start = next.0 },
+        id,
+        others,
+        rest,
+        is,
+        whole,
+        record { found = next.1; of_kind = at.of_kind; named = same_name e next.0 name at.named; bits = at.bits },
+        so id e next.0 bytes here.0 at.found at.of_kind next.1 reads,
+        holds_again more others rest here.1 then,
+      )
+  holds_again (storage name facts' inside more) list all facts (e, id, others, children, within, rest, is, whole, at, siblings, in_it, then) =
+      let here = subst (AllByRecursion Q) whole facts in
+      let both = split_numbers Q within rest here.1 in
+      let next = again es later ids own h id e at.found in (
+        record e { start = next.0 },
+        id,
+        others,
+        children,
+        within,
+        rest,
+        is,
+        whole,
+        record { found = next.1; of_kind = at.of_kind; named = same_name e next.0 name at.named; has_facts = at.has_facts },
+        siblings_again es later ids own h e.child children siblings,
+        holds_again inside children within both.0 in_it,
+        holds_again more others rest both.1 then,
+      )

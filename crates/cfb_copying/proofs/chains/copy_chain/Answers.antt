@@ -1,0 +1,41 @@
+use Rattle.std.proofs.Common.{◌≡◌, ◌*◌, length, ap, sym, ◌∙◌, inl, inr, arith, ⊎_elim}
+use Rattle.cfb_medium.specs.Versions.{sector_len}
+use Rattle.cfb_chains.specs.LinkViews.{ids_of, links_version}
+use Rattle.cfb_chains.specs.Positions.{sectors_for}
+use Rattle.cfb_chains.proofs.ChainWriting.{length-joined}
+use Rattle.cfb_fat.specs.Tables.{bytes_of, version_of}
+use Rattle.cfb_owned.specs.Chains.{content_of}
+use Rattle.cfb_owned.proofs.GoingOn.{goes_cause, goes_then}
+use Rattle.cfb_copying.proofs.Pieces.{as_long, chain_copied, sectors_again}
+use Rattle.cfb_copying.proofs.chains.copy_chain.Goals as goal
+
+pub returns-in-Err-copy_bytes-clause-goes_on : goal.returns-in-Err-copy_bytes-clause-goes_on
+returns-in-Err-copy_bytes-clause-goes_on g c = goes_then _ _ _ c.in_default.ensures.goes_on c.in-Err-copy_bytes.ensures.goes_on
+
+pub returns-in-Err-copy_bytes-clause-cause : goal.returns-in-Err-copy_bytes-clause-cause
+returns-in-Err-copy_bytes-clause-cause g c = ⊎_elim
+    (λ read. inl read)
+    (λ written. inr (goes_cause c.args.target.now c.set_chain_len.new.allocator c.copy_bytes.new.target c.in-Err-copy_bytes.error c.in_default.ensures.goes_on c.in_default.ensures.answers.live.1 written))
+    c.in-Err-copy_bytes.ensures.cause
+
+pub returns-clause-goes_on : goal.returns-clause-goes_on
+returns-clause-goes_on g c = goes_then _ _ _ c.in_default.ensures.goes_on c.in_default-copy_bytes.ensures.goes_on
+
+pub returns-clause-copied : goal.returns-clause-copied
+returns-clause-copied g c = λ has chain.
+    let grown = c.in_default.ensures.resized chain in
+    let did = c.in_default-copy_bytes.ensures.copied has grown.chain in
+    let s = c.args.source.now in
+    let m = c.set_chain_len.new.allocator in
+    let from = ids_of c.args.from.now in
+    let ids = ids_of c.set_chain_len.new.links in
+    let one = length-joined (version_of s) (bytes_of s) from in
+    let many : sectors_for (links_version c.args.to.now) c.chain_len.result ≡ length from =
+    ap (λ n. sectors_for (links_version c.args.to.now) n) c.chain_len.ensures.len ∙ ap (λ v. sectors_for v (length from * sector_len (links_version c.args.from.now))) c.requires.version ∙ sectors_again (links_version c.args.from.now) (length from) in
+    let long : length from * sector_len (links_version c.args.from.now) ≡ length ids * sector_len (links_version c.set_chain_len.new.links) =
+    sym (as_long (links_version c.args.from.now) (links_version c.set_chain_len.new.links) (length from) (length ids)
+    (c.in_default.ensures.size ∙ ap (λ n. sectors_for (links_version c.args.to.now) n) c.chain_len.ensures.len ∙ ap (λ v. sectors_for v (length from * sector_len (links_version c.args.from.now))) (sym c.in_default.ensures.version))
+    (c.in_default.ensures.version ∙ c.requires.version)) in
+    let other = length-joined (version_of m) (bytes_of m) ids in
+    chain_copied _ _ (content_of s c.args.from.now) c.args.target.now m c.copy_bytes.new.target c.args.to.now c.set_chain_len.new.links (omega (arith, c.requires.shorter, many)) c.in_default.ensures.goes_on.version grown did
+    (one ∙ ap (λ v. length from * sector_len v) (sym has.version) ∙ long ∙ ap (λ v. length ids * sector_len v) (grown.chain.has.version) ∙ sym other)

@@ -1,0 +1,61 @@
+-- A file that is a copy of a live one: the same entries, but for where chains begin, and the same bytes in sectors of its own.
+use Rattle.std.specs.Prelude.{◌≡◌, ◌⊎◌, ℕ, ◌<◌, ◌≤◌, List, [], ◌∷◌, length, slice_get, Some}
+use Rattle.cfb_sectors.specs.Header.{first_directory_sector, first_mini_fat_sector, mini_cutoff, IsHeader}
+use Rattle.cfb_sectors.specs.Sectors.{fat_in, joined, sectors_in}
+use Rattle.cfb_chains.specs.Behind.{AreWhole}
+use Rattle.cfb_chains.specs.Owned.{Owned}
+use Rattle.cfb_tree.specs.Directory.{entries_of, kind_stream, Entry}
+use Rattle.cfb_tree.specs.Names.{Letters}
+use Rattle.cfb_tree.specs.Tree.{Tree}
+use Rattle.cfb_meaning.specs.Means.{Layout}
+use Rattle.cfb_meaning.specs.Sound.{in_file, IsSoundBy, Part}
+use Rattle.cfb_owners.specs.LiveFile.{tables_of, HoldsTables, LiveFile}
+use Rattle.cfb_owners.specs.Owners.{directory_owner, first_of, mini_fat_owner, mini_stream_owner, stream_owner, Owners}
+use Rattle.cfb_copying.specs.Making.{HasNoSpare, IsOneOf}
+
+-- entry `id` is a stream of at least 4096 bytes, among these of the directory ([MS-CFB] 2.6.3)
+pub record IsLongAmong (directory : List Entry) (ids : List ℕ) (id : ℕ) : Type 0 where
+  pub entry : Entry
+  pub found : slice_get directory id ≡ Some entry
+  pub of_kind : entry.kind ≡ kind_stream
+  pub long : mini_cutoff ≤ entry.size
+  pub among : IsOneOf ids id
+
+-- these entries are those of the directory, but that the mini stream and the long streams among these begin where their owners'
+-- chains do
+pub record Restarts (directory : List Entry) (ids : List ℕ) (own : ℕ → List ℕ) (later : List Entry) : Type 0 where
+  pub size : length later ≡ length directory
+  pub root : (e : Entry) → slice_get directory 0 ≡ Some e → slice_get later 0 ≡ Some (record e { start = first_of (own mini_stream_owner) })
+  pub long : (id : ℕ) (e : Entry) → (id ≡ 0 → ⊥) → IsLongAmong directory ids id → slice_get directory id ≡ Some e
+      → slice_get later id ≡ Some (record e { start = first_of (own (stream_owner id)) })
+  pub other : (id : ℕ) → (id ≡ 0 → ⊥) → (IsLongAmong directory ids id → ⊥) → slice_get later id ≡ slice_get directory id
+
+-- THE SECOND FILE IS A COPY of the first, whose tree has these entries: each chain has its bytes again, whole sectors that nothing
+-- else owns, and no sector is spare
+pub record IsCopied (s : LiveFile) (who : Owners) (ids : List ℕ) (t : LiveFile) (own : ℕ → List ℕ) : Type 0 where
+  pub version : t.version ≡ s.version
+  pub header : IsHeader t.version t.bytes
+  pub tables : HoldsTables t
+  pub owned : Owned t.fat (tables_of t) own
+  pub whole : (k : ℕ) → AreWhole t.version t.bytes (own k)
+  pub tight : HasNoSpare (record { bytes = t.bytes; table = t.fat; tables = tables_of t }) own
+  pub directory_at : first_directory_sector t.bytes ≡ first_of (own directory_owner)
+  pub mini_fat_at : first_mini_fat_sector t.bytes ≡ first_of (own mini_fat_owner)
+  pub entries : t.entries ≡ entries_of t.version (joined t.version t.bytes (own directory_owner))
+  pub mini_fat : t.mini_fat ≡ fat_in t.version t.bytes (own mini_fat_owner)
+  pub same_mini_fat : joined t.version t.bytes (own mini_fat_owner) ≡ joined s.version s.bytes (who.sectors mini_fat_owner)
+  pub same_mini_stream : joined t.version t.bytes (own mini_stream_owner) ≡ joined s.version s.bytes (who.sectors mini_stream_owner)
+  pub same_stream : (id : ℕ) → IsLongAmong s.entries ids id → joined t.version t.bytes (own (stream_owner id)) ≡ joined s.version s.bytes (who.sectors (stream_owner id))
+  pub none : (id : ℕ) → (IsLongAmong s.entries ids id → ⊥) → own (stream_owner id) ≡ []
+  pub restarts : Restarts s.entries ids own t.entries
+
+-- the part is one of these
+abbrev pub IsUsed : Part → List Part → Type 0
+IsUsed part [] = ⊥
+IsUsed part (other ∷ parts) = (part ≡ other) ⊎ IsUsed part parts
+
+-- a sound file of which every sector serves a use
+pub record IsTight (letters : Letters) (bytes : List ℕ) (tree : Tree) : Type 0 where
+  pub layout : Layout
+  pub sound : IsSoundBy layout letters bytes tree
+  pub each : (n : ℕ) → n < sectors_in layout.version (length bytes) → IsUsed (in_file n) sound.parts

@@ -1,0 +1,8 @@
+//! Copies of compound files: the same tree, in a file whose every sector serves a use.
+#![tactic(auto)]
+
+mod chains;
+mod laws;
+
+pub use chains::copy_chain;
+pub use laws::{copies_mean_the_same_tree, files_are_made_by_chains};
