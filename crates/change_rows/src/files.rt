@@ -96,6 +96,7 @@ fn change(alloc: Global, file: &mut CompoundFile<MemoryMedium>, row: &Row) -> Re
         "stream" => file.create_new_stream(path),
         "remove" => file.remove_stream(path),
         "remove storage" => file.remove_storage(path),
+        "remove all" => file.remove_storage_all(path),
         "touch" => file.touch(path, moment),
         "created" => file.set_created_time(path, moment),
         "modified" => file.set_modified_time(path, moment),
