@@ -78,7 +78,7 @@ impl<F: Medium> CompoundFile<F> {
         if self.mini.directory().allocator().is_failed() {
             return Err(Error::Failed);
         }
-        if !self.is_sound {
+        if !self.is_sound() {
             return Err(Error::InvalidData);
         }
         cfb_live::create_storage_all(self.alloc, &mut self.mini, &self.letters, path, moment)

@@ -93,6 +93,7 @@ fn change(alloc: Global, file: &mut CompoundFile<MemoryMedium>, row: &Row) -> Re
     let moment = Timestamp::from_unix(row.number(2), 0);
     match row.call() {
         "storage" => file.create_storage(path, moment),
+        "storages" => file.create_storage_all(path, moment),
         "stream" => file.create_new_stream(path),
         "remove" => file.remove_stream(path),
         "remove storage" => file.remove_storage(path),
