@@ -2,7 +2,7 @@
 ghost use Rattle.cfb_entries.specs.Rules.{names_in};
 ghost use Rattle.cfb_fat.specs.Calls.{Answers};
 ghost use Rattle.cfb_live.specs.Making.{making, IsRefusedMade};
-ghost use Rattle.cfb_meaning.specs.TreeRules.{create_new_stream, create_storage};
+ghost use Rattle.cfb_meaning.specs.TreeRules.{create_new_stream, create_storage, create_storage_all};
 ghost use Rattle.cfb_medium.specs.Times.{units_of};
 ghost use Rattle.cfb_mini.specs.Views.{allocator_of};
 ghost use Rattle.cfb_owned.specs.Chains.{GoesOn};
@@ -59,5 +59,28 @@ impl<F: Medium> CompoundFile<F> {
             (allocator_of (mini_of self.new)) }
     {
         self.make(path, NewObject::Stream)
+    }
+
+    /// Makes a storage at a path, and one at each path above it where none is, created and modified at the moment; storages that
+    /// are there stay. `Failed` after an earlier fault, `InvalidData` where the file isn't sound. Then all is tested before the
+    /// first is made: `InvalidInput` where the path leads above the root, `AlreadyExists` where a stream is in the way,
+    /// `InvalidInput` where the name of a missing one is invalid. `Full` where numbers of entries or sectors are missing. The
+    /// other errors are `Memory` and `Device`. After the first change each error leaves the file failed, and before it nothing is
+    /// changed, or the file has failed. Each part is looked for from the root ([MS-CFB] 2.6.2).
+    pub fn create_storage_all(&mut self, path: &str, moment: Timestamp) -> Result<(), Error>
+        ensures does { Does (names_in path.now)
+            (λ names. create_storage_all names (units_of moment)) result self.old self.new }
+        ensures goes_on { GoesOn (allocator_of (mini_of self.old))
+            (allocator_of (mini_of self.new)) }
+        ensures answers { Answers IsRefusedMade result (allocator_of (mini_of self.old))
+            (allocator_of (mini_of self.new)) }
+    {
+        if self.mini.directory().allocator().is_failed() {
+            return Err(Error::Failed);
+        }
+        if !self.is_sound() {
+            return Err(Error::InvalidData);
+        }
+        cfb_live::create_storage_all(self.alloc, &mut self.mini, &self.letters, path, moment)
     }
 }

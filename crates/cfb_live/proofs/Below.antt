@@ -146,11 +146,18 @@ module _ (letters : Letters) where
   abbrev less : Path → List ℕ → Object → Object
   less names wanted = changed_below letters (holding (without_child letters wanted)) names
 
+  -- one of which what it holds at a path below it was changed
+  abbrev pub inner : (Content → Content) → Path → Object → Object
+  inner h names = changed_below letters (holding h) names
+
+  inner_named : (h : Content → Content) (names : Path) (o : Object) → name_of (inner h names o) ≡ name_of o
+  inner_named h [] (a_stream n s x) = refl
+  inner_named h [] (a_storage n f i) = refl
+  inner_named h (name ∷ names) (a_stream n s x) = refl
+  inner_named h (name ∷ names) (a_storage n f i) = refl
+
   less_named : (names : Path) (wanted : List ℕ) (o : Object) → name_of (less names wanted o) ≡ name_of o
-  less_named [] wanted (a_stream n s x) = refl
-  less_named [] wanted (a_storage n f i) = refl
-  less_named (name ∷ names) wanted (a_stream n s x) = refl
-  less_named (name ∷ names) wanted (a_storage n f i) = refl
+  less_named names wanted = inner_named (without_child letters wanted) names
 
   -- what was taken out below an object is lost where the object is
   less_twice : (up : Path) (lost : List ℕ) (more : Path) (wanted : List ℕ) (o : Object) → less up lost (less (up ++ lost ∷ more) wanted o) ≡ less up lost o
@@ -172,15 +179,15 @@ module _ (letters : Letters) where
       by_child None is = let never : None ≡ Some x = sym (nothing_from names) ∙ ap (λ o. object_from letters o names) (sym is) ∙ at in absurd (cc)
       by_child (Some y) is = (y, is, ap (λ o. object_from letters o names) (sym is) ∙ at)
 
-  -- the object at a path, after something was taken out at it or below it
-  less_found : (path more : Path) (wanted : List ℕ) (o x : Object) → object_from letters (Some o) path ≡ Some x
-      → object_from letters (Some (less (path ++ more) wanted o)) path ≡ Some (less more wanted x)
-  less_found [] more wanted o x at = let is : o ≡ x = cc in ap (λ y. Some (less more wanted y)) is
-  less_found (name ∷ names) more wanted (a_stream n s b) x at = let never : None ≡ Some x = sym (nothing_from names) ∙ at in absurd (cc)
-  less_found (name ∷ names) more wanted (a_storage n f i) x at =
+  -- the object at a path, after a change at it or below it
+  inner_found : (h : Content → Content) (path more : Path) (o x : Object) → object_from letters (Some o) path ≡ Some x
+      → object_from letters (Some (inner h (path ++ more) o)) path ≡ Some (inner h more x)
+  inner_found h [] more o x at = let is : o ≡ x = cc in ap (λ y. Some (inner h more y)) is
+  inner_found h (name ∷ names) more (a_stream n s b) x at = let never : None ≡ Some x = sym (nothing_from names) ∙ at in absurd (cc)
+  inner_found h (name ∷ names) more (a_storage n f i) x at =
       let first = first_child i name names x at in
-      ap (λ c. object_from letters c names) (changed_child name (less (names ++ more) wanted) (less_named (names ++ more) wanted) i first.0 first.1)
-      ∙ less_found names more wanted first.0 x first.2
+      ap (λ c. object_from letters c names) (changed_child name (inner h (names ++ more)) (inner_named h (names ++ more)) i first.0 first.1)
+      ∙ inner_found h names more first.0 x first.2
 
   -- where an object is, something is taken out
   less_smaller : (path : Path) (wanted : List ℕ) (o x : Object) → object_from letters (Some o) (path_to path wanted) ≡ Some x
@@ -196,9 +203,16 @@ module _ (letters : Letters) where
       let smaller = changed_smaller name (less names wanted) i first.0 first.1 (less_named names wanted first.0) deeper in omega (arith, smaller)
 
   -- the same of trees
+  root_of_inner : (h : Content → Content) (names : Path) (tree : Tree) → root_object (tree_of tree (inner h names (root_object tree))) ≡ inner h names (root_object tree)
+  root_of_inner h [] tree = refl
+  root_of_inner h (name ∷ names) tree = refl
+
   root_of_less : (names : Path) (wanted : List ℕ) (tree : Tree) → root_object (tree_of tree (less names wanted (root_object tree))) ≡ less names wanted (root_object tree)
-  root_of_less [] wanted tree = refl
-  root_of_less (name ∷ names) wanted tree = refl
+  root_of_less names wanted = root_of_inner (without_child letters wanted) names
+
+  -- LAW: the object at a path, in the tree with such a change
+  pub changed_found : (h : Content → Content) (path more : Path) (tree : Tree) (x : Object) → object_at letters tree path ≡ Some x → object_at letters (changed letters (holding h) (path ++ more) tree) path ≡ Some (inner h more x)
+  changed_found h path more tree x at = ap (λ o. object_from letters (Some o) path) (root_of_inner h (path ++ more) tree) ∙ inner_found h path more (root_object tree) x at
 
   removed_is : (path : Path) (wanted : List ℕ) (tree : Tree) → removed letters (path_to path wanted) tree ≡ tree_of tree (less path wanted (root_object tree))
   removed_is [] wanted tree = ap (λ q. changed letters (holding (without_child letters wanted)) q tree) (parent_of_path [] wanted)
@@ -236,7 +250,7 @@ module _ (letters : Letters) where
       let q = path ++ more in
       let found : object_at letters (removed letters (path_to q wanted) tree) path ≡ Some (less more wanted (a_storage at.name at.facts at.inside)) =
       ap (λ t. object_at letters t path) (removed_is q wanted tree) ∙ ap (λ o. object_from letters (Some o) path) (root_of_less q wanted tree)
-      ∙ less_found path more wanted (root_object tree) (a_storage at.name at.facts at.inside) at.at_path in
+      ∙ inner_found (without_child letters wanted) path more (root_object tree) (a_storage at.name at.facts at.inside) at.at_path in
       as_storage more found
     where
       as_storage : (more' : Path) → object_at letters (removed letters (path_to (path ++ more) wanted) tree) path ≡ Some (less more' wanted (a_storage at.name at.facts at.inside))

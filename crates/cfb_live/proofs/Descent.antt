@@ -25,7 +25,7 @@ use Rattle.cfb_tree.proofs.OneContent.{Some_same}
 use Rattle.cfb_live.specs.Emptying.{HasEmptyStorage, HasStorage, IsLeafBelow}
 use Rattle.cfb_live.proofs.FactRules.{object_kind, MatchObject}
 
-equal_self : (o : Ordering) → o ≡ ordering_reverse o → o ≡ Equal
+pub equal_self : (o : Ordering) → o ≡ ordering_reverse o → o ≡ Equal
 equal_self Less is = absurd (cc)
 equal_self Equal is = refl
 equal_self Greater is = absurd (cc)

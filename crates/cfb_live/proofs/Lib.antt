@@ -1,3 +1,4 @@
+pub mod AllMade
 pub mod Below
 pub mod Carried
 pub mod Changed

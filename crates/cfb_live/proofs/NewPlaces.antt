@@ -15,7 +15,7 @@ use Rattle.cfb_live.proofs.FactRules.{MatchObject}
 use Rattle.cfb_live.specs.declared.making.NewObject.{NewObject}
 use Rattle.cfb_live.specs.declared.making.NewObject.TheVariants.{Storage, Stream}
 
-front_is : (k : ℕ) (names : List (Bor (List ℕ))) → path_of (take k names) ≡ take k (path_of names)
+pub front_is : (k : ℕ) (names : List (Bor (List ℕ))) → path_of (take k names) ≡ take k (path_of names)
 front_is zero names = refl
 front_is (suc k) [] = refl
 front_is (suc k) (name ∷ names) = ap (λ l. chars name.now ∷ l) (front_is k names)

@@ -5,3 +5,4 @@ pub mod Making
 pub mod Freeing
 pub mod Removing
 pub mod Emptying
+pub mod Parents

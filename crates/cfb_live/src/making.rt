@@ -1,8 +1,15 @@
 //! New objects: storages and streams without content ([MS-CFB] 2.6.2, 2.6.3).
 ghost use Rattle.cfb_entries.specs.Rules.{names_in};
 ghost use Rattle.cfb_fat.specs.Calls.{Answers};
-ghost use Rattle.cfb_live.specs.Doing.{Does};
+ghost use Rattle.cfb_live.specs.Doing.{Does, IsFault};
+ghost use Rattle.cfb_live.specs.Live.{Means};
 ghost use Rattle.cfb_live.specs.Making.{making, IsRefusedMade};
+ghost use Rattle.cfb_live.specs.Parents.{MakesAt};
+ghost use Rattle.cfb_fat.specs.Tables.{has_failed_here};
+ghost use Rattle.cfb_meaning.specs.TreeRules.{refused, tree_step};
+ghost use Rattle.cfb_mini.specs.Changing.{KeepsOwners};
+ghost use Rattle.cfb_siblings.specs.Places.{path_of};
+ghost use Rattle.cfb_tree.specs.Tree.{Tree};
 ghost use Rattle.cfb_mini.specs.Views.{allocator_of};
 ghost use Rattle.cfb_owned.specs.Chains.{GoesOn};
 ghost use Rattle.cfb_medium.specs.Times.{units_of};
@@ -10,7 +17,7 @@ ghost use Rattle.cfb_tree.specs.EntryViews.{kind_of};
 ghost use Rattle.cfb_tree.specs.LetterViews.{letters_of};
 ghost use Rattle.std.specs.Char.{IsScalar};
 ghost use Rattle.std.specs.List.{AllByRecursion};
-ghost use Rattle.std.specs.Prelude.{chars, ◌≡◌};
+ghost use Rattle.std.specs.Prelude.{chars, true, IfErr, OnErr, OnOk, ◌≡◌, ◌⊎◌};
 
 use crate::finding::find_parent;
 use cfb_medium::{Error, Medium, Timestamp};
@@ -57,6 +64,47 @@ fn spells_scalars(text: &str)
     ensures { AllByRecursion IsScalar (chars text.now) }
 {}
 
+/// Makes an object at a path of names where none is, as `make_object` does. After an error nothing is changed, or the file has
+/// failed.
+pub(crate) fn make_named<F: Medium>(
+    mini: &mut MiniAllocator<F>,
+    letters: &CaseMapper,
+    names: &[&str],
+    object: NewObject,
+) -> Result<(), Error>
+    ensures made { OnOk result ((tree : Tree) → Means (letters_of letters.now) mini.old tree
+        → MakesAt (letters_of letters.now) (path_of names.now) object tree mini.new) }
+    ensures refused { IfErr result (λ e. (tree : Tree)
+        → Means (letters_of letters.now) mini.old tree → IsFault e
+        ⊎ ((tree_step (letters_of letters.now) tree (making object (path_of names.now))).1
+        ≡ refused e)) }
+    ensures rests { OnErr result ((has_failed_here (allocator_of mini.new) ≡ true)
+        ⊎ KeepsOwners mini.old mini.new) }
+    ensures goes_on { GoesOn (allocator_of mini.old) (allocator_of mini.new) }
+    ensures answers { Answers IsRefusedMade result (allocator_of mini.old)
+        (allocator_of mini.new) }
+{
+    if mini.directory().allocator().is_failed() {
+        return Err(Error::Failed);
+    }
+    let parent = match find_parent(letters, mini.directory().dir_entries(), names) {
+        Ok(parent) => parent,
+        Err(error) => return Err(error),
+    };
+    let name = names[names.len() - 1];
+    spells_scalars(name);
+    if let Err(error) = mini.insert_dir_entry(
+        letters,
+        parent,
+        name,
+        object.obj_type(),
+        object.moment(),
+    ) {
+        return Err(error);
+    }
+    Ok(())
+}
+
 /// Makes an object at a path where none is. `InvalidInput` where the path leads above the root, `AlreadyExists` where an object is
 /// there, `NotFound` where none is at its parent's path, `InvalidInput` where that is a stream or the name is invalid. `Full`
 /// where numbers of entries or sectors are missing, `InvalidData` where the file hasn't its directory. The other errors are
@@ -82,19 +130,7 @@ pub fn make_object<F: Medium>(
         Ok(names) => names,
         Err(error) => return Err(error),
     };
-    let parent = match find_parent(letters, mini.directory().dir_entries(), &names) {
-        Ok(parent) => parent,
-        Err(error) => return Err(error),
-    };
-    let name = names[names.len() - 1];
-    spells_scalars(name);
-    if let Err(error) = mini.insert_dir_entry(
-        letters,
-        parent,
-        name,
-        object.obj_type(),
-        object.moment(),
-    ) {
+    if let Err(error) = make_named(mini, letters, &names, object) {
         return Err(error);
     }
     Ok(())

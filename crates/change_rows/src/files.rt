@@ -111,11 +111,14 @@ pub fn change<F: Medium>(
     let moment = Timestamp::from_unix(row.number(2), 0);
     match row.call() {
         "storage" => file.create_storage(path, moment),
+        "storages" => file.create_storage_all(path, moment),
         "nested" => nest(alloc, file, path, row.number(2)),
         "beside" => make_beside(alloc, file, path, row.number(2)),
         "stream" => file.create_new_stream(path),
+        "stream anew" => file.create_stream(path),
         "remove" => file.remove_stream(path),
         "remove storage" => file.remove_storage(path),
+        "remove all" => file.remove_storage_all(path),
         "touch" => file.touch(path, moment),
         "created" => file.set_created_time(path, moment),
         "modified" => file.set_modified_time(path, moment),

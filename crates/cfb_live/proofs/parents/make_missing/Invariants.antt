@@ -1,0 +1,18 @@
+use Rattle.std.proofs.Common.{◌≡◌, false}
+use Rattle.cfb_fat.specs.Tables.{has_failed_here}
+use Rattle.cfb_medium.specs.Times.{units_of}
+use Rattle.cfb_mini.specs.Views.{allocator_of}
+use Rattle.cfb_owned.specs.Chains.{GoesOn}
+use Rattle.cfb_siblings.specs.Places.{path_of}
+use Rattle.cfb_tree.specs.LetterViews.{letters_of}
+use Rattle.cfb_tree.specs.Tree.{Tree}
+use Rattle.cfb_live.specs.Parents.{MeansAsFar}
+use Rattle.cfb_live.proofs.parents.make_missing.Given as goal
+
+abbrev pub invariant-making : goal.invariant-making
+invariant-making g l = record {
+  goes : GoesOn (allocator_of l.initial.mini) (allocator_of l.mini);
+  live : has_failed_here (allocator_of l.mini) ≡ false;
+  made : (tree : Tree) → MeansAsFar (letters_of l.letters) (units_of l.moment) tree (path_of l.names) l.fn.first l.initial.mini
+      → MeansAsFar (letters_of l.letters) (units_of l.moment) tree (path_of l.names) l.count l.mini;
+}

@@ -1,0 +1,39 @@
+-- Storages that are made at a path and at those above it ([MS-CFB] 2.6.2).
+use Rattle.std.specs.Prelude.{◌≡◌, ℕ, List, [], ◌∷◌, drop, take, IsTrue, None}
+use Rattle.std.specs.List.{AllByRecursion}
+use Rattle.cfb_medium.specs.declared.medium.ReadMedium.{Ghosts}
+use Rattle.cfb_meaning.specs.TreeRules.{done, tree_step, with_storages}
+use Rattle.cfb_mini.specs.declared.mini_allocator.MiniAllocator.{MiniAllocator}
+use Rattle.cfb_siblings.specs.Places.{path_to}
+use Rattle.cfb_tree.specs.Names.{is_name, Letters}
+use Rattle.cfb_tree.specs.Objects.{object_at}
+use Rattle.cfb_tree.specs.Paths.{Path}
+use Rattle.cfb_tree.specs.Tree.{Tree}
+use Rattle.cfb_live.specs.Emptying.{HasStorage}
+use Rattle.cfb_live.specs.Live.{Means}
+use Rattle.cfb_live.specs.Making.{making}
+use Rattle.cfb_live.specs.declared.making.NewObject.{NewObject}
+
+-- these may all be names
+abbrev pub AreNames : Path → Type 0
+AreNames path = AllByRecursion (λ name. IsTrue (is_name name)) path
+
+-- storages were made at the moment as far as so many names lead, so that the tree became this one; none is there at the next name,
+-- and all further names are valid
+pub record IsMadeAsFar (letters : Letters) (moment : ℕ) (tree : Tree) (path : Path) (count : ℕ) (now : Tree) : Type 0 where
+  pub so_far : with_storages letters moment [] (take count path) (tree, done) ≡ (now, done)
+  pub storage : HasStorage letters now (take count path)
+  pub free : (name : List ℕ) (rest : Path) → drop count path ≡ name ∷ rest → object_at letters now (path_to (take count path) name) ≡ None
+  pub valid : AreNames (drop count path)
+
+module _ {F : Type 0} {g : Ghosts F} where
+  -- the rules make the object at the path, and the file means the tree that they give
+  pub record MakesAt (letters : Letters) (path : Path) (object : NewObject) (tree : Tree) (new : MiniAllocator F g) : Type 0 where
+    pub accepted : (tree_step letters tree (making object path)).1 ≡ done
+    pub means : Means letters new (tree_step letters tree (making object path)).0
+
+  -- the file means a tree in which the storages are made as far
+  pub record MeansAsFar (letters : Letters) (moment : ℕ) (tree : Tree) (path : Path) (count : ℕ) (new : MiniAllocator F g) : Type 0 where
+    pub now : Tree
+    pub far : IsMadeAsFar letters moment tree path count now
+    pub means : Means letters new now

@@ -1,0 +1,146 @@
+//! Storages that are made at a path and at those above it ([MS-CFB] 2.6.2).
+ghost use Rattle.cfb_entries.specs.Rules.{names_in};
+ghost use Rattle.cfb_fat.specs.Calls.{Answers};
+ghost use Rattle.cfb_fat.specs.Tables.{has_failed_here};
+ghost use Rattle.cfb_live.specs.Doing.{Does, IsFault};
+ghost use Rattle.cfb_live.specs.Making.{IsRefusedMade};
+ghost use Rattle.cfb_live.specs.Parents.{AreNames, IsMadeAsFar, MeansAsFar};
+ghost use Rattle.cfb_meaning.specs.TreeRules.{create_storage_all, refused, tree_step};
+ghost use Rattle.cfb_medium.specs.Times.{units_of};
+ghost use Rattle.cfb_medium.specs.declared.error.Error.TheVariants.{AlreadyExists, InvalidInput};
+ghost use Rattle.cfb_mini.specs.Views.{allocator_of};
+ghost use Rattle.cfb_owned.specs.Chains.{GoesOn};
+ghost use Rattle.cfb_siblings.specs.Places.{path_of};
+ghost use Rattle.cfb_siblings.specs.Reading.{ReadBy};
+ghost use Rattle.cfb_tree.specs.EntryViews.{entry_in};
+ghost use Rattle.cfb_tree.specs.LetterViews.{letters_of};
+ghost use Rattle.cfb_tree.specs.Objects.{HoldsTree};
+ghost use Rattle.cfb_tree.specs.Tree.{Tree};
+ghost use Rattle.std.specs.Prelude.{length, map, true, Bool, IfErr, IfOk, IsTrue, List, OnErr, OnOk, ℕ, ◌≡◌, ◌≤◌, ◌↔◌, ◌⊎◌};
+
+use crate::facts::is_stream;
+use crate::making::{NewObject, make_named};
+use cfb_medium::{Error, Medium, Timestamp};
+use cfb_mini::MiniAllocator;
+use cfb_sectors::HasSectors;
+use cfb_siblings::find_entry;
+use cfb_tree::{CaseMapper, DirEntry, name_chain_from_path, validate_name};
+use std::alloc::Global;
+
+// Whether all these may be names.
+fn are_names(names: &[&str]) -> bool
+    ensures { IsTrue result ↔ AreNames (path_of names.now) }
+{
+    'names: for name in names {
+        if let Err(_) = validate_name(name) {
+            return false;
+        }
+    }
+    true
+}
+
+// How many of the names lead to storages that are there, where storages can be made at the others: none is there, and these names
+// are valid. `AlreadyExists` where a stream is in the way, `InvalidInput` where a name is invalid.
+fn first_missing(letters: &CaseMapper, entries: &[DirEntry], names: &[&str]) -> Result<usize, Error>
+    ensures within { IfOk result (λ count. count ≤ length names.now) }
+    ensures found { (reads : ℕ → ℕ → List ℕ → Bool) (tree : Tree)
+        → HoldsTree (letters_of letters.now) (ReadBy reads) (map entry_in entries.now) tree
+        → IfOk result (λ count. (moment : ℕ)
+        → IsMadeAsFar (letters_of letters.now) moment tree (path_of names.now) count tree) }
+    ensures refused { (reads : ℕ → ℕ → List ℕ → Bool) (tree : Tree)
+        → HoldsTree (letters_of letters.now) (ReadBy reads) (map entry_in entries.now) tree
+        → IfErr result (λ e. (moment : ℕ) → (tree_step (letters_of letters.now) tree
+        (create_storage_all (path_of names.now) moment)).1 ≡ refused e) }
+    ensures error { IfErr result (λ e. (e ≡ AlreadyExists) ⊎ (e ≡ InvalidInput)) }
+{
+    'parts: for count in 0..names.len() {
+        let Some(id) = find_entry(letters, entries, &names[..count + 1]) else {
+            if are_names(&names[count..]) {
+                return Ok(count);
+            }
+            return Err(Error::InvalidInput);
+        };
+        let Some(entry) = entries.get(id as usize) else {
+            return Err(Error::AlreadyExists);
+        };
+        if is_stream(entry) {
+            return Err(Error::AlreadyExists);
+        }
+    }
+    Ok(names.len())
+}
+
+// Makes storages at the names from this one on, where they are made before it. After an error the file has failed.
+fn make_missing<F: Medium>(
+    mini: &mut MiniAllocator<F>,
+    letters: &CaseMapper,
+    names: &[&str],
+    first: usize,
+    moment: Timestamp,
+) -> Result<(), Error>
+    requires { first ≤ length names.now }
+    ensures made { OnOk result ((tree : Tree) → MeansAsFar (letters_of letters.now)
+        (units_of moment) tree (path_of names.now) first mini.old
+        → MeansAsFar (letters_of letters.now) (units_of moment) tree (path_of names.now)
+        (length names.now) mini.new) }
+    ensures refused { IfErr result (λ e. (tree : Tree) → MeansAsFar (letters_of letters.now)
+        (units_of moment) tree (path_of names.now) first mini.old → IsFault e) }
+    ensures failed { OnErr result (has_failed_here (allocator_of mini.new) ≡ true) }
+    ensures goes_on { GoesOn (allocator_of mini.old) (allocator_of mini.new) }
+    ensures answers { Answers IsRefusedMade result (allocator_of mini.old)
+        (allocator_of mini.new) }
+{
+    if mini.directory().allocator().is_failed() {
+        return Err(Error::Failed);
+    }
+    'making: for count in first..names.len() {
+        let object = NewObject::Storage(moment);
+        if let Err(error) = make_named(mini, letters, &names[..count + 1], object) {
+            mini.fail();
+            return Err(error);
+        }
+    }
+    Ok(())
+}
+
+/// Makes a storage at a path, and one at each path above it where none is, created and modified at the moment; storages that are
+/// there stay. All is tested first: `InvalidInput` where the path leads above the root, `AlreadyExists` where a stream is in the
+/// way, `InvalidInput` where a name of a missing one is invalid. `Full` where numbers of entries or sectors are missing,
+/// `InvalidData` where the file hasn't its directory. The other errors are `Memory`, `Device`, and `Failed` after an earlier
+/// fault. After an error nothing is changed, or the file has failed ([MS-CFB] 2.6.2).
+pub fn create_storage_all<F: Medium>(
+    alloc: Global,
+    mini: &mut MiniAllocator<F>,
+    letters: &CaseMapper,
+    path: &str,
+    moment: Timestamp,
+) -> Result<(), Error>
+    ensures does { Does (letters_of letters.now) (names_in path.now)
+        (λ names. create_storage_all names (units_of moment)) result mini.old mini.new }
+    ensures goes_on { GoesOn (allocator_of mini.old) (allocator_of mini.new) }
+    ensures answers { Answers IsRefusedMade result (allocator_of mini.old)
+        (allocator_of mini.new) }
+{
+    if mini.directory().allocator().is_failed() {
+        return Err(Error::Failed);
+    }
+    let names = match name_chain_from_path(alloc, path) {
+        Ok(names) => names,
+        Err(error) => return Err(error),
+    };
+    let count = match first_missing(letters, mini.directory().dir_entries(), &names) {
+        Ok(count) => count,
+        Err(error) => return Err(error),
+    };
+    if count >= names.len() {
+        return Ok(());
+    }
+    let object = NewObject::Storage(moment);
+    if let Err(error) = make_named(mini, letters, &names[..count + 1], object) {
+        return Err(error);
+    }
+    if let Err(error) = make_missing(mini, letters, &names, count + 1, moment) {
+        return Err(error);
+    }
+    Ok(())
+}
