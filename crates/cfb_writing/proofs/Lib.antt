@@ -1,5 +1,9 @@
 pub mod Links
+pub mod LongBytes
+pub mod LongChains
+pub mod LongStreams
 pub mod Others
 pub mod Placed
 pub mod Rewritten
 pub mod StreamsMade
+pub mod Stretching

@@ -1,5 +1,5 @@
 -- A stream of a live file, and what a call does to its bytes ([MS-CFB] 2.6.3).
-use Rattle.std.specs.Prelude.{◌≡◌, ℕ, List, Some}
+use Rattle.std.specs.Prelude.{◌≡◌, ℕ, ◌-◌, ◌++◌, List, length, replicate, take, Some}
 use Rattle.cfb_directory.specs.Views.{entries_held}
 use Rattle.cfb_live.specs.Live.{Means}
 use Rattle.cfb_medium.specs.declared.medium.ReadMedium.{Ghosts}
@@ -11,6 +11,10 @@ use Rattle.cfb_tree.specs.Names.{Letters}
 use Rattle.cfb_tree.specs.Objects.{a_stream, object_at}
 use Rattle.cfb_tree.specs.Paths.{Path}
 use Rattle.cfb_tree.specs.Tree.{Tree}
+
+-- so many bytes: the first of these, and then zeros
+abbrev pub resized : ℕ → List ℕ → List ℕ
+resized len content = take len content ++ replicate (len - length content) 0
 
 module _ {F : Type 0} {g : Ghosts F} where
   -- the live file means the tree, and the path leads to entry `id`: the object there is a stream with these bytes

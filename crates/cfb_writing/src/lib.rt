@@ -3,6 +3,8 @@
 
 mod creating;
 mod emptying;
+mod lengths;
+mod overwriting;
 mod placing;
 
 pub use creating::create_stream;
