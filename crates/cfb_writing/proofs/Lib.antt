@@ -1,6 +1,8 @@
 pub mod Links
+pub mod LongAt
 pub mod LongBytes
 pub mod LongChains
+pub mod LongLinks
 pub mod LongStreams
 pub mod Others
 pub mod Placed

@@ -30,15 +30,15 @@ use Rattle.cfb_writing.proofs.Others.{others_then}
 use Rattle.cfb_writing.proofs.Stretching.{grown_bytes, room_for, stretched_bytes, stretched_places, whole_for}
 
 -- a stream has no more bytes than its sectors
-fits_in : (n : ℕ) (content all : List ℕ) → content ≡ take n all → length content ≡ n → n ≤ length all
+pub fits_in : (n : ℕ) (content all : List ℕ) → content ≡ take n all → length content ≡ n → n ≤ length all
 fits_in n content all is size = let len = length-take n all in let same = ap length is in omega (arith, len, same, size)
 
 module _ {F : Type 0} {g : Ghosts F} where
-  version_then : (id : ℕ) (later : List ℕ) (old new : MiniAllocator F g) (who : Owners) → MovesLong id later old new who → version_of (allocator_of new) ≡ version_of (allocator_of old)
+  pub version_then : (id : ℕ) (later : List ℕ) (old new : MiniAllocator F g) (who : Owners) → MovesLong id later old new who → version_of (allocator_of new) ≡ version_of (allocator_of old)
   unfolding live_of
   version_then id later old new who h = h.moves.carries.version
 
-  longer_then : (id : ℕ) (later : List ℕ) (old new : MiniAllocator F g) (who : Owners) → MovesLong id later old new who → length (bytes_of (allocator_of old)) ≤ length (bytes_of (allocator_of new))
+  pub longer_then : (id : ℕ) (later : List ℕ) (old new : MiniAllocator F g) (who : Owners) → MovesLong id later old new who → length (bytes_of (allocator_of old)) ≤ length (bytes_of (allocator_of new))
   unfolding live_of
   longer_then id later old new who h = h.moves.carries.longer
 
@@ -104,29 +104,32 @@ module _ {F : Type 0} {g : Ghosts F} where
         both : (x y z : ℕ) → x ≤ y → y ≤ z → x ≤ z
         both x y z p q = omega (arith, p, q)
 
-    pub stretched : Houses id (first_of (ids_of links3)) (resized len content) m0 m3 who
+    pub stretched : (it : Houses id (first_of (ids_of links3)) (resized len content) m0 m3 who) × (it.moves.now.sectors (stream_owner id) ≡ ids_of links3)
     unfolding live_of
-    stretched = record {
-      moves = record {
-        now = long3.moves.now;
-        stands = long3.moves.stands;
-        carries = others_then (stream_owner id) (live_of m0) (live_of m2) (live_of m3) who long2.moves.now long3.moves.now
-            (others_then (stream_owner id) (live_of m0) (live_of m1) (live_of m2) who long1.moves.now long2.moves.now long1.moves.carries long2.moves.carries) long3.moves.carries;
-        entries = inl (long3.entries ∙ long2.entries ∙ long1.entries);
-      };
-      has = λ f start size_is.
-          let new : f.size ≡ len = size_is ∙ length-resized content len in
-          record {
-            short = λ below. absurd (let few = below in omega (arith, few, new, more_up));
-            long = λ most. (
-              long3.minis ∙ long2.minis ∙ long1.minis ∙ (has.long long_up).0,
-              record {
-                start = start ∙ ap first_of (sym long3.mine);
-                content_is = bytes_then ∙ ap (λ n. take n (content_of (allocator_of m3) links3)) (sym new) ∙ ap (λ l. take f.size (joined (version_of (allocator_of m3)) (bytes_of (allocator_of m3)) l)) (sym long3.mine);
-                whole = sym size_is;
-                there = subst (λ l. AllByRecursion (λ p. p < length (bytes_of (allocator_of m3))) (take f.size (places (version_of (allocator_of m3)) l))) (sym long3.mine)
-                    (subst (λ n. AllByRecursion (λ p. p < length (bytes_of (allocator_of m3))) (take n (places (version_of (allocator_of m3)) (ids_of links3)))) (sym new) places_then);
-              },
-            );
-          };
-    }
+    stretched = (
+      record {
+        moves = record {
+          now = long3.moves.now;
+          stands = long3.moves.stands;
+          carries = others_then (stream_owner id) (live_of m0) (live_of m2) (live_of m3) who long2.moves.now long3.moves.now
+              (others_then (stream_owner id) (live_of m0) (live_of m1) (live_of m2) who long1.moves.now long2.moves.now long1.moves.carries long2.moves.carries) long3.moves.carries;
+          entries = inl (long3.entries ∙ long2.entries ∙ long1.entries);
+        };
+        has = λ f start size_is.
+            let new : f.size ≡ len = size_is ∙ length-resized content len in
+            record {
+              short = λ below. absurd (let few = below in omega (arith, few, new, more_up));
+              long = λ most. (
+                long3.minis ∙ long2.minis ∙ long1.minis ∙ (has.long long_up).0,
+                record {
+                  start = start ∙ ap first_of (sym long3.mine);
+                  content_is = bytes_then ∙ ap (λ n. take n (content_of (allocator_of m3) links3)) (sym new) ∙ ap (λ l. take f.size (joined (version_of (allocator_of m3)) (bytes_of (allocator_of m3)) l)) (sym long3.mine);
+                  whole = sym size_is;
+                  there = subst (λ l. AllByRecursion (λ p. p < length (bytes_of (allocator_of m3))) (take f.size (places (version_of (allocator_of m3)) l))) (sym long3.mine)
+                      (subst (λ n. AllByRecursion (λ p. p < length (bytes_of (allocator_of m3))) (take n (places (version_of (allocator_of m3)) (ids_of links3)))) (sym new) places_then);
+                },
+              );
+            };
+      },
+      long3.mine,
+    )

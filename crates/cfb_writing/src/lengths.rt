@@ -94,7 +94,8 @@ pub(crate) fn stretch_long<F: Medium>(
         → mini_cutoff ≤ size → mini_cutoff ≤ len
         → who.sectors (stream_owner id) ≡ ids_of links.old
         → links_version links.old ≡ version_of (allocator_of mini.old)
-        → Houses id (first_of (ids_of links.new)) (resized len content) mini.old mini.new who) }
+        → (it : Houses id (first_of (ids_of links.new)) (resized len content) mini.old mini.new who)
+        × (it.moves.now.sectors (stream_owner id) ≡ ids_of links.new)) }
     ensures refused { IsErrOf result InvalidData → (who : Owners) (id : ℕ) → Stands mini.old who
         → who.sectors (stream_owner id) ≡ ids_of links.old
         → links_version links.old ≡ version_of (allocator_of mini.old) → ⊥ }
