@@ -1,5 +1,11 @@
 pub mod Links
+pub mod LongAt
+pub mod LongBytes
+pub mod LongChains
+pub mod LongLinks
+pub mod LongStreams
 pub mod Others
 pub mod Placed
 pub mod Rewritten
 pub mod StreamsMade
+pub mod Stretching

@@ -1,11 +1,13 @@
 -- A stream whose sectors were changed, and whose entry tells of them then.
 use Rattle.std.proofs.Common.{◌≡◌, ℕ, ◌+◌, ◌≤◌, ◌⊎◌, inl, false, List, [], ◌∷◌, zero, suc, refl, ap, sym, subst, ◌∙◌, arith, IsTrue}
 use Rattle.std.specs.Prelude.{slice_get, slice_set, Some}
+use Rattle.cfb_chains.specs.LinkViews.{ids_of, links_version}
+use Rattle.cfb_chains.specs.declared.links.Links.{Links}
 use Rattle.cfb_chains.specs.Owned.{AreBesideWords}
 use Rattle.cfb_directory.specs.Entries.{SizesFit}
-use Rattle.cfb_directory.specs.Views.{entries_held}
+use Rattle.cfb_directory.specs.Views.{directory_ids, entries_held}
 use Rattle.cfb_fat.specs.Tables.{has_failed_here, version_of}
-use Rattle.cfb_live.specs.Freeing.{CarriesBut, FreesStream}
+use Rattle.cfb_live.specs.Freeing.{CarriesBut, FreesStream, Stands}
 use Rattle.cfb_live.specs.Live.{live_of}
 use Rattle.cfb_live.proofs.Carried.{stream_stays, Carries}
 use Rattle.cfb_live.proofs.Directories.{carries, has_owners, kept_later, owners_now}
@@ -20,10 +22,14 @@ use Rattle.cfb_owners.specs.Held.{HasStream, MeansHeld}
 use Rattle.cfb_owners.specs.Kept.{Kept}
 use Rattle.cfb_owners.specs.LiveFile.{LiveFile}
 use Rattle.cfb_owners.specs.Owners.{first_of, stream_owner, Owners}
+use Rattle.cfb_mini.proofs.Keeping.{pick_other}
+use Rattle.cfb_sectors.specs.Header.{mini_cutoff}
 use Rattle.cfb_sectors.specs.Sectors.{end_of_chain}
+use Rattle.cfb_streams.specs.Streams.{IsOfLevel, LiesIn}
+use Rattle.cfb_streams.specs.declared.opening.StreamLinks.TheVariants.{Long}
 use Rattle.cfb_siblings.specs.Changes.{HasSameLinks}
 use Rattle.cfb_siblings.specs.Places.{LeadsTo}
-use Rattle.cfb_siblings.proofs.Frames.{set_changes_only}
+use Rattle.cfb_siblings.proofs.Frames.{set_changes_only, set_found}
 use Rattle.cfb_tree.specs.Changes.{changed, with_bytes}
 use Rattle.cfb_tree.specs.Directory.{Entry}
 use Rattle.cfb_tree.specs.Names.{Letters}
@@ -31,8 +37,9 @@ use Rattle.cfb_tree.specs.Paths.{Path}
 use Rattle.cfb_tree.specs.Tree.{Tree}
 use Rattle.cfb_tree.proofs.OneContent.{Some_same}
 use Rattle.cfb_writing.specs.Moving.{CarriesOthers, Moves, MovesRoot, Places}
-use Rattle.cfb_writing.specs.Streams.{IsStreamAt}
-use Rattle.cfb_writing.proofs.Links.{differ, place_links}
+use Rattle.cfb_writing.specs.Streams.{AreLinksOf, IsStreamAt}
+use Rattle.cfb_writing.proofs.Links.{differ, own_links, place_links}
+use Rattle.cfb_writing.proofs.LongLinks.{long_links}
 use Rattle.cfb_writing.proofs.Others.{carries_others, others_then}
 use Rattle.cfb_writing.proofs.Rewritten.{found_rewritten, held_rewritten, mid_same, not_zero, stream_entry, StreamEntry, StreamFound}
 
@@ -62,6 +69,12 @@ module _ {F : Type 0} {g : Ghosts F} (letters : Letters) (it : MiniAllocator F g
   pub found_at : slice_get (entries_held (directory_of it)) id ≡ Some entry_of.entry
   unfolding live_of
   found_at = entry_of.found
+
+  -- it stays while sectors are in change
+  pub entry_moved : (mid : MiniAllocator F g) → Moves id it mid at.means.who → slice_get (entries_held (directory_of mid)) id ≡ Some entry_of.entry
+  unfolding live_of
+  entry_moved mid moved =
+      mid_same (live_of it) at.means.who letters tree at.means.held (live_of mid).entries moved.entries id entry_of.entry (not_zero (live_of it) at.means.who letters tree at.means.held (live_of mid).entries moved.entries id entry_of.one) entry_of.found
 
 module _ {F : Type 0} {g : Ghosts F} (old mid : MiniAllocator F g) (who : Owners) (id : ℕ) (frees : FreesStream id old mid who) where
   -- a stream gave up its sectors
@@ -170,6 +183,75 @@ module _ {F : Type 0} {g : Ghosts F} (letters : Letters) (old mid new : MiniAllo
           sizes = subst (λ v. SizesFit v (entries_held (directory_of new))) (sym goes.version) (subst (SizesFit (version_of (allocator_of mid))) (sym p.set) (sizes_set (version_of (allocator_of mid)) (entries_held (directory_of mid)) id f p.fits moved.stands.sizes));
           held = held;
         };
+        leads = it.leads;
+        name = it.name;
+        bits = it.bits;
+        at_path = it.at_path;
+      }
+
+  new_at : slice_get (entries_held (directory_of new)) id ≡ Some f
+  new_at = ap (λ l. slice_get l id) p.set ∙ set_found (entries_held (directory_of mid)) id p.entry f p.found
+
+  stands_new : Stands new now
+  stands_new = record {
+    live = live;
+    orderly = subst IsTrue (sym (goes.orderly live)) moved.stands.orderly;
+    owners = has_owners [] none mid new moved.now moved.stands goes live changes;
+    sizes = subst (λ v. SizesFit v (entries_held (directory_of new))) (sym goes.version) (subst (SizesFit (version_of (allocator_of mid))) (sym p.set) (sizes_set (version_of (allocator_of mid)) (entries_held (directory_of mid)) id f p.fits moved.stands.sizes));
+    root = moved.stands.root;
+    kept = kept;
+  }
+
+  -- it lies in the sectors that it has
+  pub placed_links : (links : Links) → moved.now.sectors (stream_owner id) ≡ ids_of links → links_version links ≡ version_of (allocator_of mid) → mini_cutoff ≤ size → AreLinksOf id (Long links) new
+  placed_links links mine version up e found =
+      let one : f ≡ e = Some_same (sym new_at ∙ found) in
+      subst (λ (x : Entry). LiesIn new x.start x.size (ids_of links) × IsOfLevel new x.size (Long links)) one
+      (long_links new now stands_new id f content' links has_now up (pick_other moved.now.sectors 0 (directory_ids (directory_of new)) (stream_owner id) (λ is. omega (arith, is)) ∙ mine) (version ∙ sym goes.version))
+
+set_same : (xs : List Entry) (id : ℕ) (e : Entry) → slice_get xs id ≡ Some e → xs ≡ slice_set xs id e
+set_same [] id e found = refl
+set_same (x ∷ xs) zero e found = ap (λ y. y ∷ xs) (Some_same found)
+set_same (x ∷ xs) (suc id) e found = ap (λ l. x ∷ l) (set_same xs id e found)
+
+module _ {F : Type 0} {g : Ghosts F} (letters : Letters) (old new : MiniAllocator F g) (tree : Tree) (path : Path) (id : ℕ) (content content' : List ℕ) (at : IsStreamAt letters old tree path id content)
+    (moved : Moves id old new at.means.who) (has : HasStream (live_of new) moved.now id (entry_of letters old tree path id content at).entry content') where
+  abbrev here : StreamEntry (live_of old) at.means.who at.means.held.ids id at.bits content
+  here = entry_of letters old tree path id content at
+
+  root_moved : MovesRoot (live_of old).entries (live_of new).entries
+  unfolding live_of
+  root_moved = moved.entries
+
+  leads_here : LeadsTo letters (live_of old).entries 0 path id
+  unfolding live_of
+  leads_here = at.leads
+
+  new_entry : slice_get (live_of new).entries id ≡ Some here.entry
+  new_entry = mid_same (live_of old) at.means.who letters tree at.means.held (live_of new).entries root_moved id here.entry (not_zero (live_of old) at.means.who letters tree at.means.held (live_of new).entries root_moved id here.one) here.found
+
+  all_same : (live_of new).entries ≡ slice_set (live_of new).entries id here.entry
+  all_same = set_same (live_of new).entries id here.entry new_entry
+
+  held_still : MeansHeld (live_of new) moved.now letters (changed letters (with_bytes content') path tree)
+  held_still = held_rewritten (live_of old) (live_of new) at.means.who moved.now letters tree at.means.held (live_of new).entries root_moved path id at.name at.bits content content' leads_here at.at_path here here.entry (own_links here.entry)
+      refl all_same moved.carries moved.stands.root moved.stands.kept has
+
+  found_still : StreamFound letters (live_of new).entries (changed letters (with_bytes content') path tree) path id content'
+  found_still = found_rewritten (live_of old) (live_of new) at.means.who moved.now letters tree at.means.held (live_of new).entries root_moved path id at.name at.bits content content' leads_here at.at_path here here.entry (own_links here.entry)
+      refl all_same moved.carries moved.stands.root moved.stands.kept has
+
+  -- its entry stays
+  pub entry_still : slice_get (entries_held (directory_of new)) id ≡ Some (entry_of letters old tree path id content at).entry
+  unfolding live_of
+  entry_still = new_entry
+
+  -- the live file means the tree with the stream's new bytes, where its entry stays
+  pub stream_still : IsStreamAt letters new (changed letters (with_bytes content') path tree) path id content'
+  unfolding live_of
+  stream_still =
+      let it = found_still in record {
+        means = record { live = moved.stands.live; orderly = moved.stands.orderly; who = moved.now; owners = moved.stands.owners; sizes = moved.stands.sizes; held = held_still };
         leads = it.leads;
         name = it.name;
         bits = it.bits;

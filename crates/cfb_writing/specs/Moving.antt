@@ -9,7 +9,7 @@ use Rattle.cfb_medium.specs.declared.medium.ReadMedium.{Ghosts}
 use Rattle.cfb_mini.specs.Changing.{ChangesDirectory, HasOwners}
 use Rattle.cfb_mini.specs.Views.{allocator_of, directory_of}
 use Rattle.cfb_mini.specs.declared.mini_allocator.MiniAllocator.{MiniAllocator}
-use Rattle.cfb_owners.specs.Held.{mini_joined, mini_places_of}
+use Rattle.cfb_owners.specs.Held.{mini_joined, mini_places_of, HasStream}
 use Rattle.cfb_owners.specs.LiveFile.{LiveFile}
 use Rattle.cfb_owners.specs.Owners.{mini_stream_owner, stream_owner, Owners}
 use Rattle.cfb_sectors.specs.Sectors.{joined}
@@ -47,3 +47,16 @@ module _ {F : Type 0} {g : Ghosts F} where
     pub fits : size ≤ stream_len_mask (version_of (allocator_of old))
     pub set : entries_held (directory_of new) ≡ slice_set (entries_held (directory_of old)) id (record entry { start = start; size = size })
     pub changes : (own : ℕ → List ℕ) → HasOwners old own → (id ≡ 0 → ⊥) → ChangesDirectory [] old new own
+
+  -- the sectors of the stream of entry `id` became these, with what was free; all else that is owned stays, and the entries
+  pub record MovesLong (id : ℕ) (later : List ℕ) (old new : MiniAllocator F g) (who : Owners) : Type 0 where
+    pub moves : Moves id old new who
+    pub mine : moves.now.sectors (stream_owner id) ≡ later
+    pub minis : moves.now.minis (stream_owner id) ≡ who.minis (stream_owner id)
+    pub entries : entries_held (directory_of new) ≡ entries_held (directory_of old)
+
+  -- where its entry tells of this start and of as many bytes, the stream of entry `id` has these bytes then; all other streams have
+  -- what they had
+  pub record Houses (id start : ℕ) (content : List ℕ) (old new : MiniAllocator F g) (who : Owners) : Type 0 where
+    pub moves : Moves id old new who
+    pub has : (e : Entry) → e.start ≡ start → e.size ≡ length content → HasStream (live_of new) moves.now id e content

@@ -1,16 +1,24 @@
 -- A stream of a live file, and what a call does to its bytes ([MS-CFB] 2.6.3).
-use Rattle.std.specs.Prelude.{◌≡◌, ℕ, List, Some}
+use Rattle.std.specs.Prelude.{◌≡◌, ℕ, ◌+◌, ◌-◌, ◌<◌, ◌++◌, List, length, replicate, slice_get, take, Some}
 use Rattle.cfb_directory.specs.Views.{entries_held}
 use Rattle.cfb_live.specs.Live.{Means}
+use Rattle.cfb_medium.specs.Bytes.{overwritten}
 use Rattle.cfb_medium.specs.declared.medium.ReadMedium.{Ghosts}
 use Rattle.cfb_mini.specs.Views.{directory_of}
 use Rattle.cfb_mini.specs.declared.mini_allocator.MiniAllocator.{MiniAllocator}
 use Rattle.cfb_siblings.specs.Places.{LeadsTo}
+use Rattle.cfb_streams.specs.Streams.{sectors_in, IsOfLevel, LiesIn}
+use Rattle.cfb_streams.specs.declared.opening.StreamLinks.{StreamLinks}
 use Rattle.cfb_tree.specs.Changes.{changed, with_bytes}
+use Rattle.cfb_tree.specs.Directory.{Entry}
 use Rattle.cfb_tree.specs.Names.{Letters}
 use Rattle.cfb_tree.specs.Objects.{a_stream, object_at}
 use Rattle.cfb_tree.specs.Paths.{Path}
 use Rattle.cfb_tree.specs.Tree.{Tree}
+
+-- so many bytes: the first of these, and then zeros
+abbrev pub resized : ℕ → List ℕ → List ℕ
+resized len content = take len content ++ replicate (len - length content) 0
 
 module _ {F : Type 0} {g : Ghosts F} where
   -- the live file means the tree, and the path leads to entry `id`: the object there is a stream with these bytes
@@ -29,3 +37,20 @@ module _ {F : Type 0} {g : Ghosts F} where
   -- entry `id` is a stream of no tree that is meant
   abbrev pub IsNoStream : ℕ → MiniAllocator F g → Type 0
   IsNoStream id it = (letters : Letters) (tree : Tree) (path : Path) (content : List ℕ) → IsStreamAt letters it tree path id content → ⊥
+
+  -- these are the sectors of the stream that entry `id` tells of
+  abbrev pub AreLinksOf : ℕ → StreamLinks → MiniAllocator F g → Type 0
+  AreLinksOf id links it = (e : Entry) → slice_get (entries_held (directory_of it)) id ≡ Some e → LiesIn it e.start e.size (sectors_in links) × IsOfLevel it e.size links
+
+  -- so `Rewrites` does where these are its sectors, and then those are
+  abbrev pub RewritesIn : ℕ → (List ℕ → List ℕ) → StreamLinks → StreamLinks → MiniAllocator F g → MiniAllocator F g → Type 0
+  RewritesIn id change before after old new = (letters : Letters) (tree : Tree) (path : Path) (content : List ℕ) → IsStreamAt letters old tree path id content → AreLinksOf id before old
+      → IsStreamAt letters new (changed letters (with_bytes (change content)) path tree) path id (change content) × AreLinksOf id after new
+
+  -- entry `id` is no stream with these sectors
+  abbrev pub HasNoLinks : ℕ → StreamLinks → MiniAllocator F g → Type 0
+  HasNoLinks id links it = (letters : Letters) (tree : Tree) (path : Path) (content : List ℕ) → IsStreamAt letters it tree path id content → AreLinksOf id links it → ⊥
+
+  -- so many bytes from a place on don't lie in the stream of entry `id` and these sectors
+  abbrev pub IsPast : ℕ → StreamLinks → ℕ → ℕ → MiniAllocator F g → Type 0
+  IsPast id links at count it = (letters : Letters) (tree : Tree) (path : Path) (content : List ℕ) → IsStreamAt letters it tree path id content → AreLinksOf id links it → length content < at + count

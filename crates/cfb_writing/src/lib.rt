@@ -3,7 +3,11 @@
 
 mod creating;
 mod emptying;
+mod lengths;
+mod overwriting;
 mod placing;
+mod writing;
 
 pub use creating::create_stream;
 pub use emptying::empty_stream;
+pub use writing::{overwrite_long_stream, resize_long_stream};

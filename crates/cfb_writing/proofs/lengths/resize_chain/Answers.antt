@@ -1,0 +1,38 @@
+use Rattle.std.proofs.Common.{◌≡◌, [], subst, sym, IsTrue}
+use Rattle.cfb_chains.specs.LinkViews.{ids_of, links_version}
+use Rattle.cfb_chains.specs.Owned.{Becomes}
+use Rattle.cfb_chains.specs.Positions.{sectors_for}
+use Rattle.cfb_fat.specs.Seeing.{seen_of}
+use Rattle.cfb_fat.specs.Tables.{orderly_of, version_of}
+use Rattle.cfb_mini.specs.Views.{allocator_of}
+use Rattle.cfb_mini.proofs.Keeping.{own_chain}
+use Rattle.cfb_mini.proofs.Results.{both_ok}
+use Rattle.cfb_owned.specs.Chains.{GoesOn, HasChain, Resizes}
+use Rattle.cfb_owners.specs.Owners.{stream_owner}
+use Rattle.cfb_sectors.specs.Sectors.{sector}
+use Rattle.cfb_sectors.specs.declared.initial.SectorInit.TheVariants.{Zero}
+use Rattle.cfb_writing.proofs.LongChains.{moves_long}
+use Rattle.cfb_writing.proofs.lengths.resize_chain.Goals as goal
+
+pub returns-clause-resized : goal.returns-clause-resized
+returns-clause-resized g c =
+    let it = c.args.mini.now in
+    let links = c.args.links.now in
+    let after = c.set_chain_len.new.links in
+    let same = c.allocator_mut.ensures.value in
+    let b = c.set_chain_len.new.allocator in
+    let count = sectors_for (links_version links) c.args.len in
+    both_ok c.set_chain_len.result _ _ _
+    (λ did live who id m is version.
+    let grown : Resizes Zero count (allocator_of it) b links after = subst (λ x. Resizes Zero count x b links after) same (did (subst (λ x. HasChain x links) (sym same) (own_chain it who.sectors (stream_owner id) links m.owners is version))) in
+    let becomes : Becomes (sector (version_of (allocator_of it))) [] (who.sectors (stream_owner id)) grown.more (ids_of after) (seen_of (allocator_of it)) (seen_of b) =
+    subst (λ l. Becomes (sector (version_of (allocator_of it))) [] l grown.more (ids_of after) (seen_of (allocator_of it)) (seen_of b)) (sym is) grown.becomes in
+    (moves_long it b who id m (subst (λ x. GoesOn x b) same c.set_chain_len.ensures.goes_on) live.1 c.allocator_mut.ensures.kept grown.more (ids_of after) becomes, grown))
+    c.set_chain_len.ensures.resized c.set_chain_len.ensures.answers.live
+
+pub returns-clause-refused : goal.returns-clause-refused
+returns-clause-refused g c = λ wrong who id m is version.
+    let it = c.args.mini.now in
+    let links = c.args.links.now in
+    let same = c.allocator_mut.ensures.value in
+    c.set_chain_len.ensures.refused wrong (subst (λ x. HasChain x links) (sym same) (own_chain it who.sectors (stream_owner id) links m.owners is version)) (subst (λ x. IsTrue (orderly_of x)) (sym same) m.orderly)

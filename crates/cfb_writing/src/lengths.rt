@@ -1,0 +1,121 @@
+//! Long streams that become longer and shorter ([MS-CFB] 2.3, 2.6.3).
+ghost use Rattle.cfb_chains.specs.ChainCalls.{IsInvalidOrFull, IsInvalidPlace};
+ghost use Rattle.cfb_chains.specs.LinkViews.{ids_of, links_version};
+ghost use Rattle.cfb_chains.specs.Positions.{sectors_for, tail_in};
+ghost use Rattle.cfb_fat.specs.Calls.{Answers};
+ghost use Rattle.cfb_fat.specs.Tables.{has_failed_here, version_of};
+ghost use Rattle.cfb_live.specs.Freeing.{Stands};
+ghost use Rattle.cfb_live.specs.Live.{live_of};
+ghost use Rattle.cfb_medium.specs.declared.error.Error.TheVariants.{InvalidData, InvalidInput};
+ghost use Rattle.cfb_mini.specs.Changing.{KeepsOwners};
+ghost use Rattle.cfb_mini.specs.Views.{allocator_of};
+ghost use Rattle.cfb_owned.specs.Chains.{len_of, GoesOn, Overwrites, Resizes};
+ghost use Rattle.cfb_owners.specs.Held.{HasStream};
+ghost use Rattle.cfb_owners.specs.Owners.{first_of, stream_owner, Owners};
+ghost use Rattle.cfb_sectors.specs.Header.{mini_cutoff};
+ghost use Rattle.cfb_sectors.specs.declared.initial.SectorInit.TheVariants.{Zero};
+ghost use Rattle.cfb_writing.specs.Moving.{Houses, MovesLong};
+ghost use Rattle.cfb_writing.specs.Streams.{resized};
+ghost use Rattle.cfb_tree.specs.Directory.{Entry};
+ghost use Rattle.std.specs.Prelude.{length, replicate, true, IsErrOf, List, OnErr, OnOk, ℕ, ◌+◌, ◌<◌, ◌≡◌, ◌≤◌, ◌⊎◌};
+
+use crate::overwriting::overwrite_long;
+use cfb_chains::Links;
+use cfb_medium::{Error, Medium};
+use cfb_mini::MiniAllocator;
+use cfb_owned::set_chain_len;
+use cfb_sectors::SectorInit;
+
+// The bytes of a sector, at most.
+const LONGEST: usize = 4096;
+
+// Gives a long stream as many sectors as so many bytes need, of zeros where it takes them in. After an error nothing is changed, or
+// it has failed.
+pub(crate) fn resize_chain<F: Medium>(
+    mini: &mut MiniAllocator<F>,
+    links: &mut Links,
+    len: u64,
+) -> Result<(), Error>
+    ensures resized { OnOk result ((who : Owners) (id : ℕ) → Stands mini.old who
+        → who.sectors (stream_owner id) ≡ ids_of links.old
+        → links_version links.old ≡ version_of (allocator_of mini.old)
+        → MovesLong id (ids_of links.new) mini.old mini.new who
+        × Resizes Zero (sectors_for (links_version links.old) len) (allocator_of mini.old)
+        (allocator_of mini.new) links.old links.new) }
+    ensures refused { IsErrOf result InvalidData → (who : Owners) (id : ℕ) → Stands mini.old who
+        → who.sectors (stream_owner id) ≡ ids_of links.old
+        → links_version links.old ≡ version_of (allocator_of mini.old) → ⊥ }
+    ensures size { OnOk result (length (ids_of links.new)
+        ≡ sectors_for (links_version links.old) len) }
+    ensures version { links_version links.new ≡ links_version links.old }
+    ensures rests { OnErr result ((has_failed_here (allocator_of mini.new) ≡ true)
+        ⊎ KeepsOwners mini.old mini.new) }
+    ensures goes_on { GoesOn (allocator_of mini.old) (allocator_of mini.new) }
+    ensures answers { Answers IsInvalidOrFull result (allocator_of mini.old)
+        (allocator_of mini.new) }
+{
+    set_chain_len(mini.allocator_mut(), links, len, SectorInit::Zero)
+}
+
+// Writes zeros behind so many bytes of a long stream, up to the end of the sector in which they end. After an error nothing is
+// changed, or it has failed.
+fn zero_tail<F: Medium>(mini: &mut MiniAllocator<F>, links: &Links, size: u64) -> Result<(), Error>
+    ensures written { OnOk result ((who : Owners) (id : ℕ) → Stands mini.old who
+        → who.sectors (stream_owner id) ≡ ids_of links.now
+        → links_version links.now ≡ version_of (allocator_of mini.old)
+        → MovesLong id (ids_of links.now) mini.old mini.new who
+        × Overwrites size (replicate (tail_in (links_version links.now) size) 0)
+        (allocator_of mini.old) (allocator_of mini.new) links.now) }
+    ensures refused { IsErrOf result InvalidData → (who : Owners) (id : ℕ) → Stands mini.old who
+        → who.sectors (stream_owner id) ≡ ids_of links.now
+        → links_version links.now ≡ version_of (allocator_of mini.old) → ⊥ }
+    ensures past { IsErrOf result InvalidInput
+        → len_of links.now < size + tail_in (links_version links.now) size }
+    ensures goes_on { GoesOn (allocator_of mini.old) (allocator_of mini.new) }
+    ensures answers { Answers IsInvalidPlace result (allocator_of mini.old)
+        (allocator_of mini.new) }
+{
+    let len = links.version().sector_len();
+    let tail = (len - (size % len as u64) as usize) % len;
+    let zeros = [0; LONGEST];
+    overwrite_long(mini, links, size, &zeros[..tail])
+}
+
+// Makes a long stream of so many bytes one of another number: it keeps its first bytes, and has zeros behind them. After an error
+// nothing is changed, or it has failed.
+pub(crate) fn stretch_long<F: Medium>(
+    mini: &mut MiniAllocator<F>,
+    links: &mut Links,
+    size: u64,
+    len: u64,
+) -> Result<(), Error>
+    ensures stretched { OnOk result ((who : Owners) (id : ℕ) (e : Entry) (content : List ℕ)
+        → Stands mini.old who → HasStream (live_of mini.old) who id e content → e.size ≡ size
+        → mini_cutoff ≤ size → mini_cutoff ≤ len
+        → who.sectors (stream_owner id) ≡ ids_of links.old
+        → links_version links.old ≡ version_of (allocator_of mini.old)
+        → (it : Houses id (first_of (ids_of links.new)) (resized len content) mini.old mini.new who)
+        × (it.moves.now.sectors (stream_owner id) ≡ ids_of links.new)) }
+    ensures refused { IsErrOf result InvalidData → (who : Owners) (id : ℕ) → Stands mini.old who
+        → who.sectors (stream_owner id) ≡ ids_of links.old
+        → links_version links.old ≡ version_of (allocator_of mini.old) → ⊥ }
+    ensures version { links_version links.new ≡ links_version links.old }
+    ensures rests { OnErr result ((has_failed_here (allocator_of mini.new) ≡ true)
+        ⊎ KeepsOwners mini.old mini.new) }
+    ensures goes_on { GoesOn (allocator_of mini.old) (allocator_of mini.new) }
+    ensures answers { Answers IsInvalidOrFull result (allocator_of mini.old)
+        (allocator_of mini.new) }
+{
+    if let Err(error) = resize_chain(mini, links, size) {
+        return Err(error);
+    }
+    if let Err(error) = zero_tail(mini, links, size) {
+        mini.fail();
+        return Err(error);
+    }
+    if let Err(error) = resize_chain(mini, links, len) {
+        mini.fail();
+        return Err(error);
+    }
+    Ok(())
+}
