@@ -9,3 +9,4 @@ pub mod Placed
 pub mod Rewritten
 pub mod StreamsMade
 pub mod Stretching
+pub mod TakenHomes

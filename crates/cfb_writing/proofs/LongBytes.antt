@@ -1,7 +1,7 @@
 -- Bytes and places of chains, told by index.
-use Rattle.std.proofs.Common.{◌≡◌, ℕ, ◌+◌, ◌-◌, ◌*◌, ◌/◌, ◌%◌, ◌<◌, ◌≤◌, inl, inr, List, [], ◌∷◌, ◌++◌, zero, suc, length, take, drop, replicate, get_or, refl, ap, sym, subst, ◌∙◌, ⊎_elim, arith, length-take, length-append}
+use Rattle.std.proofs.Common.{◌≡◌, ℕ, ◌+◌, ◌-◌, ◌*◌, ◌/◌, ◌%◌, ◌<◌, ◌≤◌, List, [], ◌∷◌, ◌++◌, zero, suc, length, take, replicate, get_or, refl, ap, sym, subst, ◌∙◌, ⊎_elim, arith, length-take, length-append}
 use Rattle.std.specs.Prelude.{min}
-use Rattle.std.specs.List.{flat_map, range_with_len, AllByRecursion}
+use Rattle.std.specs.List.{range_with_len, AllByRecursion}
 use Rattle.std.proofs.lemmas.Bool.Decides.{leb_tells}
 use Rattle.std.proofs.lemmas.List.{ext_get_or, get_or-append_right, get_or-replicate, get_or-take, get_or_append_left, get_or_past, length-replicate}
 use Rattle.std.proofs.lemmas.List.FromFn.{get_or-range_with_len, length-range_with_len}
@@ -10,7 +10,7 @@ use Rattle.cfb_medium.specs.Versions.{sector_len}
 use Rattle.cfb_medium.specs.declared.version.Version.{Version}
 use Rattle.cfb_medium.specs.declared.version.Version.TheVariants.{V3, V4}
 use Rattle.cfb_chains.specs.Behind.{AreWhole}
-use Rattle.cfb_chains.proofs.ChainWriting.{length_within, split, split_below}
+use Rattle.cfb_chains.proofs.ChainWriting.{length_within, split}
 use Rattle.cfb_chains.proofs.Overwriting.{get_before, get_behind, get_written}
 use Rattle.cfb_owned.specs.Chains.{place_of}
 use Rattle.cfb_sectors.specs.Copies.{copies}

@@ -1,10 +1,7 @@
 -- The sectors of one stream were changed by the layer below, over which all else stays.
 use Rattle.std.proofs.Common.{◌≡◌, ℕ, ◌+◌, ◌*◌, ◌≤◌, inl, inr, false, List, [], length, refl, ap, sym, subst, ◌∙◌, ⊎_elim, arith, IsTrue}
-use Rattle.std.specs.Prelude.{slice_get}
 use Rattle.std.specs.List.{AllByRecursion}
-use Rattle.cfb_chains.specs.LinkViews.{ids_of, links_version}
 use Rattle.cfb_chains.specs.Owned.{Becomes, Moves as MovesOne, Owned, Stays}
-use Rattle.cfb_chains.specs.declared.links.Links.{Links}
 use Rattle.cfb_chains.proofs.Owners.{other_left, owned_changed}
 use Rattle.cfb_directory.specs.Entries.{SizesFit}
 use Rattle.cfb_directory.specs.Views.{entries_held}
@@ -25,7 +22,7 @@ use Rattle.cfb_owned.specs.Chains.{GoesOn}
 use Rattle.cfb_owners.specs.Owners.{first_of, mini_stream_owner, stream_owner, Owners}
 use Rattle.cfb_sectors.specs.Header.{IsHeader}
 use Rattle.cfb_sectors.specs.Sectors.{sector}
-use Rattle.cfb_writing.specs.Moving.{Moves, MovesLong}
+use Rattle.cfb_writing.specs.Moving.{MovesLong}
 use Rattle.cfb_writing.proofs.Others.{carries_others}
 
 module _ {F : Type 0} {g : Ghosts F} (old : MiniAllocator F g) (b : Allocator F g) (who : Owners) (id : ℕ) (m : Stands old who) (goes : GoesOn (allocator_of old) b) (live : has_failed_here b ≡ false) (kept : IsKeptOver old)

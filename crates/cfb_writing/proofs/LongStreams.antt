@@ -1,20 +1,17 @@
 -- A long stream that became longer or shorter, or was written over.
-use Rattle.std.proofs.Common.{◌≡◌, ℕ, ◌+◌, ◌*◌, ◌<◌, ◌≤◌, inl, inr, List, [], length, take, ap, sym, subst, ◌∙◌, arith, length-take}
+use Rattle.std.proofs.Common.{◌≡◌, ℕ, ◌*◌, ◌<◌, ◌≤◌, inl, List, length, take, ap, sym, subst, ◌∙◌, arith, length-take}
 use Rattle.std.specs.List.{AllByRecursion}
 use Rattle.cfb_chains.specs.Behind.{AreWhole}
-use Rattle.cfb_chains.specs.LinkViews.{ids_of, links_version}
+use Rattle.cfb_chains.specs.LinkViews.{ids_of}
 use Rattle.cfb_chains.specs.Positions.{sectors_for, tail_in}
 use Rattle.cfb_chains.specs.declared.links.Links.{Links}
-use Rattle.cfb_chains.proofs.ChainWriting.{length-joined, length_within}
-use Rattle.cfb_directory.specs.Views.{entries_held}
+use Rattle.cfb_chains.proofs.ChainWriting.{length-joined}
 use Rattle.cfb_fat.specs.Tables.{bytes_of, version_of}
-use Rattle.cfb_live.specs.Freeing.{Stands}
 use Rattle.cfb_live.specs.Live.{live_of}
-use Rattle.cfb_medium.specs.Bytes.{overwritten}
 use Rattle.cfb_medium.specs.Versions.{sector_len}
 use Rattle.cfb_medium.specs.declared.medium.ReadMedium.{Ghosts}
 use Rattle.cfb_medium.specs.declared.version.Version.{Version}
-use Rattle.cfb_mini.specs.Views.{allocator_of, directory_of}
+use Rattle.cfb_mini.specs.Views.{allocator_of}
 use Rattle.cfb_mini.specs.declared.mini_allocator.MiniAllocator.{MiniAllocator}
 use Rattle.cfb_owned.specs.Chains.{content_of, place_of, Overwrites, Resizes}
 use Rattle.cfb_owners.specs.Held.{HasStream, LiesIn}
@@ -23,7 +20,7 @@ use Rattle.cfb_sectors.specs.Header.{mini_cutoff}
 use Rattle.cfb_sectors.specs.Sectors.{joined, places}
 use Rattle.cfb_sectors.specs.declared.initial.SectorInit.TheVariants.{Zero}
 use Rattle.cfb_tree.specs.Directory.{Entry}
-use Rattle.cfb_writing.specs.Moving.{Houses, Moves, MovesLong}
+use Rattle.cfb_writing.specs.Moving.{Houses, MovesLong}
 use Rattle.cfb_writing.specs.Streams.{resized}
 use Rattle.cfb_writing.proofs.LongBytes.{length-resized, place_there, places_there, resized_is, zeros}
 use Rattle.cfb_writing.proofs.Others.{others_then}

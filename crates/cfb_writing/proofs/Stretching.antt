@@ -1,5 +1,5 @@
 -- The bytes and the places of a long stream that became longer or shorter, told by index.
-use Rattle.std.proofs.Common.{◌≡◌, ℕ, ◌+◌, ◌-◌, ◌*◌, ◌/◌, ◌%◌, ◌<◌, ◌≤◌, List, [], ◌++◌, length, take, get_or, ap, sym, subst, ◌∙◌, ⊎_elim, arith, length-take}
+use Rattle.std.proofs.Common.{◌≡◌, ℕ, ◌+◌, ◌-◌, ◌*◌, ◌/◌, ◌%◌, ◌<◌, ◌≤◌, List, ◌++◌, length, take, get_or, ap, sym, subst, ◌∙◌, ⊎_elim, arith, length-take}
 use Rattle.std.specs.Prelude.{min}
 use Rattle.std.proofs.lemmas.Bool.Decides.{leb_tells}
 use Rattle.std.proofs.lemmas.List.{get_or-take, length-replicate, take-replicate}
@@ -7,7 +7,7 @@ use Rattle.cfb_chains.specs.Behind.{AreWhole}
 use Rattle.cfb_chains.specs.LinkViews.{ids_of}
 use Rattle.cfb_chains.specs.Positions.{sectors_for, tail_in}
 use Rattle.cfb_chains.specs.declared.links.Links.{Links}
-use Rattle.cfb_chains.proofs.ChainWriting.{split, split_below}
+use Rattle.cfb_chains.proofs.ChainWriting.{split_below}
 use Rattle.cfb_chains.proofs.Overwriting.{get_before, get_behind, get_written}
 use Rattle.cfb_fat.specs.Tables.{bytes_of, version_of}
 use Rattle.cfb_fat.specs.declared.allocator.Allocator.{Allocator}

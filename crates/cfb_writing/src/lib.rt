@@ -6,8 +6,10 @@ mod emptying;
 mod lengths;
 mod overwriting;
 mod placing;
+mod taking;
 mod writing;
 
 pub use creating::create_stream;
 pub use emptying::empty_stream;
+pub use taking::take_long;
 pub use writing::{overwrite_long_stream, resize_long_stream};

@@ -1,4 +1,4 @@
-use Rattle.std.proofs.Common.{◌≡◌, [], subst, sym}
+use Rattle.std.proofs.Common.{[], subst, sym}
 use Rattle.cfb_chains.specs.LinkViews.{ids_of}
 use Rattle.cfb_chains.specs.Owned.{Becomes}
 use Rattle.cfb_fat.specs.Seeing.{seen_of}

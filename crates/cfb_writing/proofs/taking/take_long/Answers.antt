@@ -1,0 +1,39 @@
+use Rattle.std.proofs.Common.{◌≡◌, [], ap, sym, subst, ◌∙◌}
+use Rattle.cfb_chains.specs.LinkViews.{ids_of, links_version}
+use Rattle.cfb_chains.specs.Positions.{sectors_for}
+use Rattle.cfb_fat.specs.Keeping.{fails_cause}
+use Rattle.cfb_fat.specs.Tables.{version_of}
+use Rattle.cfb_mini.specs.Views.{allocator_of}
+use Rattle.cfb_owned.specs.Chains.{Resizes}
+use Rattle.cfb_owned.proofs.GoingOn.{goes_cause, goes_then}
+use Rattle.cfb_sectors.specs.declared.initial.SectorInit.TheVariants.{Zero}
+use Rattle.cfb_writing.proofs.TakenHomes.{taken}
+use Rattle.cfb_writing.proofs.taking.take_long.Goals as goal
+
+pub returns-in-Err-overwrite_long-clause-cause : goal.returns-in-Err-overwrite_long-clause-cause
+returns-in-Err-overwrite_long-clause-cause g c =
+    let a = allocator_of c.args.mini.now in
+    let m = allocator_of c.resize_chain.new.mini in
+    let b = allocator_of c.overwrite_long.new.mini in
+    let e = c.in-Err-overwrite_long.error in
+    fails_cause a b (allocator_of c.fail-in-Err-overwrite_long.new.self) e (goes_cause a m b e c.resize_chain.ensures.goes_on c.in_default.ensures.answers.live.1 c.in-Err-overwrite_long.ensures.answers.cause) c.fail-in-Err-overwrite_long.ensures
+
+pub returns-clause-taken : goal.returns-clause-taken
+returns-clause-taken g c = λ who id m nothing up.
+    let m0 = c.args.mini.now in
+    let m1 = c.resize_chain.new.mini in
+    let m2 = c.overwrite_long.new.mini in
+    let links0 = c.in-Ok.links in
+    let links2 = c.resize_chain.new.links in
+    let len = c.args.len in
+    let version : links_version links0 ≡ version_of (allocator_of m0) = c.in-Ok.ensures.links.0 ∙ c.version.ensures in
+    let none : ids_of links0 ≡ [] = c.in-Ok.ensures.links.1 ∙ c.new.ensures.items in
+    let one = c.in_default.ensures.resized who id m (nothing.0 ∙ sym none) version in
+    let next = c.resize_chain.ensures.version ∙ version ∙ sym c.resize_chain.ensures.goes_on.version in
+    let two = c.in_default-overwrite_long.ensures.written one.0.moves.now id one.0.moves.stands one.0.mine next in
+    taken m0 m1 m2 who id len links0 links2 c.args.bytes.now nothing none up
+    one.0 (subst (λ v. Resizes Zero (sectors_for v len) (allocator_of m0) (allocator_of m1) links0 links2) version one.1) (c.in_default.ensures.size ∙ ap (λ v. sectors_for v len) version)
+    two.0 two.1
+
+pub returns-clause-goes_on : goal.returns-clause-goes_on
+returns-clause-goes_on g c = goes_then _ _ _ c.resize_chain.ensures.goes_on c.overwrite_long.ensures.goes_on

@@ -1,0 +1,64 @@
+//! Sectors for a stream that has none ([MS-CFB] 2.3).
+ghost use Rattle.cfb_chains.specs.ChainCalls.{IsInvalidOrFull};
+ghost use Rattle.cfb_chains.specs.LinkViews.{ids_of, links_version};
+ghost use Rattle.cfb_fat.specs.Tables.{has_failed_here, version_of, HasCauseBelow};
+ghost use Rattle.cfb_live.specs.Freeing.{Stands};
+ghost use Rattle.cfb_medium.specs.Calls.{IsFaultUnless};
+ghost use Rattle.cfb_medium.specs.declared.error.Error.TheVariants.{InvalidData};
+ghost use Rattle.cfb_mini.specs.Views.{allocator_of};
+ghost use Rattle.cfb_owned.specs.Chains.{GoesOn};
+ghost use Rattle.cfb_owners.specs.Owners.{first_of, stream_owner, Owners, OwnsNothing};
+ghost use Rattle.cfb_sectors.specs.Header.{mini_cutoff};
+ghost use Rattle.cfb_writing.specs.Moving.{Houses};
+ghost use Rattle.cfb_writing.specs.Streams.{resized};
+ghost use Rattle.std.specs.Prelude.{false, length, true, IfErr, IfOk, IsErrOf, OnErr, OnOk, ℕ, ◌≡◌, ◌≤◌, ◌⊎◌};
+
+use crate::lengths::resize_chain;
+use crate::overwriting::overwrite_long;
+use cfb_chains::Links;
+use cfb_medium::{Error, Medium};
+use cfb_mini::MiniAllocator;
+use std::alloc::Global;
+
+/// Takes sectors for a long stream of so many bytes that owns none: it has these bytes, and zeros behind them. The stream's entry is
+/// to tell of them then. `Full` where fewer numbers of sectors are left, `InvalidData` where the FAT's tables can't be changed.
+/// After an error it has failed ([MS-CFB] 2.3).
+pub fn take_long<F: Medium>(
+    alloc: Global,
+    mini: &mut MiniAllocator<F>,
+    bytes: &[u8],
+    len: u64,
+) -> Result<Links, Error>
+    requires live { has_failed_here (allocator_of mini.old) ≡ false }
+    requires fits { length bytes.now ≤ len }
+    ensures taken { IfOk result (λ links. (who : Owners) (id : ℕ) → Stands mini.old who
+        → OwnsNothing who (stream_owner id) → mini_cutoff ≤ len
+        → (it : Houses id (first_of (ids_of links)) (resized len bytes.now) mini.old mini.new who)
+        × (it.moves.now.sectors (stream_owner id) ≡ ids_of links)) }
+    ensures version { IfOk result (λ links.
+        links_version links ≡ version_of (allocator_of mini.old)) }
+    ensures refused { IsErrOf result InvalidData → (who : Owners) (id : ℕ) → Stands mini.old who
+        → OwnsNothing who (stream_owner id) → mini_cutoff ≤ len → ⊥ }
+    ensures live { OnOk result (has_failed_here (allocator_of mini.new) ≡ false) }
+    ensures failed { OnErr result (has_failed_here (allocator_of mini.new) ≡ true) }
+    ensures goes_on { GoesOn (allocator_of mini.old) (allocator_of mini.new) }
+    ensures cause { IfErr result (HasCauseBelow (allocator_of mini.old) (allocator_of mini.new)) }
+    ensures fault { IfErr result (λ e. IsFaultUnless ⊥ e ⊎ IsInvalidOrFull e) }
+{
+    let mut links = match Links::new(mini.version(), Vec::new(alloc)) {
+        Ok(links) => links,
+        Err(error) => {
+            mini.fail();
+            return Err(error);
+        }
+    };
+    if let Err(error) = resize_chain(mini, &mut links, len) {
+        mini.fail();
+        return Err(error);
+    }
+    if let Err(error) = overwrite_long(mini, &links, 0, bytes) {
+        mini.fail();
+        return Err(error);
+    }
+    Ok(links)
+}
