@@ -11,9 +11,6 @@ use std::process::Abort;
 // More device calls than any of these runs makes.
 const MANY: u64 = 1000;
 
-// Every so many calls a stop is tried, for time.
-const STRIDE: u64 = 12;
-
 // The files of a committed table T with the rows 1 and 2.
 fn two_rows(rt: &impl Abort, alloc: Global) -> Pair {
     let device = committed(rt, alloc);
@@ -72,20 +69,20 @@ fn old_given(rt: &impl Abort, alloc: Global, all: &[Pair], old: &[u8], new: &[u8
 }
 
 #[test]
-fn an_insert_stopped_along_its_commit(rt: HostRuntime) {
+fn an_insert_stopped_after_each_call(rt: HostRuntime) {
     let alloc = rt.alloc();
     let files = two_rows(&rt, alloc);
     let whole = insert_stopped(alloc, &files, u64::MAX).expect(&rt, "no refusal");
     let new = whole.device.bytes(Which::Home);
     let mut stops = 0u64;
-    for part in 0..MANY {
-        let run = insert_stopped(alloc, &files, STRIDE * part).expect(&rt, "no refusal");
-        let all = torn(alloc, &run.device, &files).expect(&rt, "no refusal");
+    for calls in 0..MANY {
+        let run = insert_stopped(alloc, &files, calls).expect(&rt, "no refusal");
+        let all = torn(alloc, &run.device, &files, calls).expect(&rt, "no refusal");
         stops = stops.saturating_add(all.len() as u64);
         let old = old_given(&rt, alloc, &all, &files.home, new);
         if run.done {
             assert_eq!(rt; old, 0);
-            assert!(rt; stops > 0);
+            assert_eq!(rt; stops, 114);
             return finds(&rt, alloc, run.device, &[1, 2, 3]);
         }
     }
@@ -146,18 +143,16 @@ fn insert_then_stop_before_the_gate_keeps_the_committed_rows(rt: HostRuntime) {
 }
 
 #[test]
-fn rows_without_a_commit_are_lost(rt: HostRuntime) {
+fn flushed_rows_without_a_commit_are_lost(rt: HostRuntime) {
     let alloc = rt.alloc();
     let files = two_rows(&rt, alloc);
     let mut session = match Session::open(alloc, files.device(alloc).expect(&rt, "no refusal")) {
         Ok(session) => session,
         Err((_, error)) => panic!(&rt; "{error:?}"),
     };
+    let row = insert(alloc, "T", 3).expect(&rt, "no refusal");
     session
-        .run(&vec![in alloc; insert(alloc, "T", 3).expect(&rt, "no refusal")].expect(
-            &rt,
-            "no refusal",
-        ))
+        .run(&vec![in alloc; row, Command::Flush].expect(&rt, "no refusal"))
         .expect(&rt, "no refusal");
     has_rows(&rt, alloc, &mut session, &[1, 2, 3]);
     finds(&rt, alloc, session.into_device(), &[1, 2])

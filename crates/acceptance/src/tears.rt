@@ -159,15 +159,21 @@ pub fn left(alloc: Global, device: &MemoryDevice, before: &Pair) -> Result<Vec<P
     Ok(all)
 }
 
-/// Some such pairs, with half of the home file as it shows, for longer files.
-pub fn torn(alloc: Global, device: &MemoryDevice, before: &Pair) -> Result<Vec<Pair>, Error> {
-    let mut all = Vec::new(alloc);
+/// One such pair, with half of the home file as it shows, for longer files: which tear of the log is tried goes by turns.
+pub fn torn(
+    alloc: Global,
+    device: &MemoryDevice,
+    before: &Pair,
+    turn: u64,
+) -> Result<Vec<Pair>, Error> {
+    let tear = match turn % 3 {
+        0 => Tear::Shown,
+        1 => Tear::Filled,
+        _ => Tear::First(1),
+    };
     let home = Tear::Half.of(alloc, &before.home, device.bytes(Which::Home))?;
-    for tear in [Tear::Shown, Tear::Filled, Tear::First(1)] {
-        let log = tear.of(alloc, &before.log, device.bytes(Which::Log))?;
-        if device.cut(&home, &log)?.is_some() {
-            all.push(Pair::new(alloc, &home, &log)?)?;
-        }
-    }
+    let log = tear.of(alloc, &before.log, device.bytes(Which::Log))?;
+    let mut all = Vec::new(alloc);
+    push_left(alloc, device, &home, &vec![in alloc; log]?, &mut all)?;
     Ok(all)
 }
