@@ -1,12 +1,16 @@
-//! Answers rows of data on logs, sessions and the program `msidb`: a row names a call and what it is given; what is printed beneath
+//! Answers rows of data on logs, command files, answers and the program `msidb`: a row names a call and what it is given; what is printed beneath
 //! it is the answer.
 #![tactic(auto)]
 
+mod answers;
 mod folder;
+mod forms;
 mod logs;
 mod programs;
 
+use answers::Answers;
 use anyhow::{Result, bail};
+use forms::Forms;
 use logs::Logs;
 use programs::Programs;
 use row_data::print_rows;
@@ -24,8 +28,10 @@ fn print_file(rt: &HostRuntime, path: &str) -> Result<()> {
     let text = fs::read_to_string(rt, path)?;
     println!(rt; "== {path}")?;
     match path {
+        "answers.rows" => print_rows(rt, text.as_str(), Answers),
+        "forms.rows" => print_rows(rt, text.as_str(), Forms),
         "logs.rows" => print_rows(rt, text.as_str(), Logs::new(rt.alloc())),
-        "programs.rows" => print_rows(rt, text.as_str(), Programs::new(rt)?),
+        "programs.rows" | "files.rows" => print_rows(rt, text.as_str(), Programs::new(rt)?),
         _ => bail!("{path}: no such rows"),
     }
 }

@@ -1,10 +1,8 @@
-//! The program `msidb` on files of a disk, and the answers of a session as texts.
+//! The program `msidb` on files of a disk.
 use crate::folder::Folder;
 use cfb_medium::Error;
 use command_line::msidb;
 use file_device::FileDevice;
-use installer::{Answer, answer_text};
-use json_parts::rows_of;
 use msi_texts::decode;
 use plain::{Content, read_tree};
 use row_data::{Row, Subject, bytes_at, copied, runs, told};
@@ -52,7 +50,7 @@ impl Subject for Programs<'_> {
                 self.device = None;
                 copied(alloc, "done")
             }
-            "answer" => answer(alloc, row),
+            "run of" => run_of(self.rt, &self.folder, row.text(1)),
             "streams" => streams(alloc, &self.folder.read(self.rt, row.text(1))?),
             _ => of_files(self.rt, &self.folder, row),
         }
@@ -115,6 +113,34 @@ fn said(rt: &HostRuntime, folder: &Folder, err: &[u8]) -> Result<String, Error> 
     Ok(text.replace(rt.alloc(), front.as_str(), "")?)
 }
 
+// The program on a new package and the command file of this name beside the rows: its status, its answers, a line each, and what it says
+// went wrong.
+fn run_of(rt: &HostRuntime, folder: &Folder, name: &str) -> Result<String, Error> {
+    let (mut out, mut err) = (Vec::new(rt.alloc()), Vec::new(rt.alloc()));
+    let words = words_on(rt, folder, "create")?;
+    msidb(rt, &words, &mut out, &mut err, false);
+    out.clear();
+    let mut words = words_on(rt, folder, "run")?;
+    words.push(copied(rt.alloc(), name)?)?;
+    let status = msidb(rt, &words, &mut out, &mut err, false);
+    folder.take(rt, "new.msi")?;
+    folder.take(rt, "new.log")?;
+    let answered = str::from_utf8(&out).unwrap_or("no text");
+    let lines = answered.replace(rt.alloc(), "\n", " | ")?;
+    let said = str::from_utf8(&err).unwrap_or("no text");
+    Ok(format!(in rt.alloc(); "{status} {lines}{said:?}")?)
+}
+
+// A word with the paths of a package in the folder.
+fn words_on(rt: &HostRuntime, folder: &Folder, word: &str) -> Result<Vec<String>, Error> {
+    let mut words = Vec::new(rt.alloc());
+    words.push(copied(rt.alloc(), word)?)?;
+    for name in ["new.msi", "new.log"] {
+        words.push(copied(rt.alloc(), folder.path_of(rt, name)?.as_str())?)?;
+    }
+    Ok(words)
+}
+
 // A writer whose writes fail.
 #[derive(Drop)]
 struct Closed;
@@ -136,23 +162,6 @@ fn unheard(rt: &HostRuntime, folder: &Folder, row: &Row) -> Result<String, Error
     let status = msidb(rt, &words, &mut Closed, &mut err, false);
     let said = said(rt, folder, &err)?;
     Ok(format!(in rt.alloc(); "{status} {said:?}")?)
-}
-
-// An answer as a text.
-fn answer(alloc: Global, row: &Row) -> Result<String, Error> {
-    let answer = match row.text(1) {
-        "done" => Answer::Done,
-        "refused" => Answer::Refused(Error::AlreadyExists),
-        "bytes" => Answer::Bytes(bytes_at(alloc, row, 2)?),
-        _ => {
-            let names = vec![in alloc; copied(alloc, row.text(2))?]?;
-            let Some(rows) = row.cell(3) else {
-                return Err(Error::NotFound);
-            };
-            Answer::Rows(names, rows_of(alloc, rows)?)
-        }
-    };
-    Ok(answer_text(alloc, &answer)?)
 }
 
 // The streams of a package, those of tables by their names.
