@@ -44,6 +44,7 @@ module _ {F : Type 0} {g : Ghosts F} where
   -- the file was only read, and the stream that it reads is what it was
   pub record KeepsStream (len : ℕ) (old new : CompoundFile F g) : Type 0 where
     pub rests : Rests old new
+    pub links : links_held new ≡ links_held old
     pub content : (content : List ℕ) → HasStream old len content → HasStream new len content
 
   -- the stream has these bytes

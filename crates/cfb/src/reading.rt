@@ -26,10 +26,11 @@ const SMALL: usize = 1024;
 
 impl<F: ReadMedium> CompoundFile<F> {
     // Refuses every call after a fault.
-    fn check_live(&self) -> Result<(), Error>
+    pub(crate) fn check_live(&self) -> Result<(), Error>
         ensures failed { has_failed_here (allocator_of (mini_of self.now)) ≡ true
             → IsErrOf result Failed }
-        ensures error { IfErr result (IsWant self.now) }
+        ensures error { IfErr result (λ e. (e ≡ Failed)
+            × (has_failed_here (allocator_of (mini_of self.now)) ≡ true)) }
     {
         match self.mini.directory().allocator().open_chain(END_OF_CHAIN) {
             Ok(_) => Ok(()),

@@ -35,7 +35,7 @@ module _ (letters : Letters) where
     same_still o same = ap (is_same_name letters wanted) (named o) ∙ same
 
     -- what was changed of a child is lost where the next change hides it
-    changed_twice : (other : Object → Object) → ((o : Object) → other (change o) ≡ other o) → (c : Content)
+    pub changed_twice : (other : Object → Object) → ((o : Object) → other (change o) ≡ other o) → (c : Content)
         → with_changed letters wanted other (with_changed letters wanted change c) ≡ with_changed letters wanted other c
     changed_twice other hides nothing = refl
     changed_twice other hides (stream n s x l) = by_name (is_same_name letters wanted n) refl (changed_twice other hides l)

@@ -1,0 +1,92 @@
+-- A stream that stands is read, and stays where the file was only read.
+use Rattle.std.proofs.Common.{◌≡◌, ℕ, ◌⊎◌, inl, inr, List, [], length, true, false, ap, refl, sym, subst, ◌∙◌, ⊎_elim}
+use Rattle.std.specs.Prelude.{Err, IfErr, IsErrOf, Ok, OnErr, OnOk, Result}
+use Rattle.cfb_chains.specs.ChainCalls.{IsInvalidPlace}
+use Rattle.cfb_live.proofs.Resting.{keeps_rests}
+use Rattle.cfb_medium.specs.Calls.{IsFaultUnless}
+use Rattle.cfb_medium.specs.declared.error.Error.{Error}
+use Rattle.cfb_medium.specs.declared.medium.ReadMedium.{Ghosts}
+use Rattle.cfb_tree.specs.Changes.{changed, with_bytes}
+use Rattle.cfb_tree.specs.Paths.{Path}
+use Rattle.cfb_tree.specs.Tree.{Tree}
+use Rattle.cfb.specs.Streams.{HasStream, KeepsStream}
+use Rattle.cfb.specs.Views.{letters_in, mini_of}
+use Rattle.cfb.specs.Writing.{file_under, id_of, stream_len, IsFaultOrGone, IsLost, IsLostAt, IsWritten, Keeps, KeepsAt, Rests, Rewrites, RewritesAt, Stands}
+use Rattle.cfb.specs.declared.compound_file.CompoundFile.{CompoundFile}
+use Rattle.cfb.specs.declared.written_stream.Stream.{Stream}
+use Rattle.cfb.proofs.Written.{alike_same, reads_written, written_kept}
+
+-- an error is the same whatever the result would have held
+pub err_as : {S T : Type 0} (e x : Error) → IsErrOf {T = S} (Err e) x → IsErrOf {T = T} (Err e) x
+err_as e x is = let same : e ≡ x = cc in ap Err same
+
+-- what follows where a call is done, or refused
+pub on_ok : {T E A B : Type 0} (r : Result T E) → (A → B) → OnOk r A → OnOk r B
+on_ok (Ok x) f h = f h
+on_ok (Err e) f h = h
+
+pub on_err : {T E A B : Type 0} (r : Result T E) → (A → B) → OnErr r A → OnErr r B
+on_err (Ok x) f h = h
+on_err (Err e) f h = f h
+
+module _ {F : Type 0} {g : Ghosts F} where
+  -- a stream stands by its file, its entry and its length
+  pub stands_as : (a b : Stream F g) → file_under b ≡ file_under a → id_of b ≡ id_of a → stream_len b ≡ stream_len a → (path : Path) (tree : Tree) (content : List ℕ)
+      → Stands a path tree content → Stands b path tree content
+  stands_as a b file id len path tree content s = record {
+    written = subst (λ n. IsWritten (file_under b) path tree n content) (sym id) (subst (λ f. IsWritten f path tree (id_of a) content) (sym file) s.written);
+    len = len ∙ s.len;
+  }
+
+  -- the bytes with which it stands are those that are read
+  pub stands_read : (it : Stream F g) (path : Path) (tree : Tree) (content : List ℕ) → Stands it path tree content → HasStream (file_under it) (stream_len it) content
+  stands_read it path tree content s = subst (λ n. HasStream (file_under it) n content) (sym s.len) (reads_written (file_under it) path tree (id_of it) content s.written)
+
+  -- a file of which a stream was read keeps it as one that is written
+  pub read_keeps : (old new : CompoundFile F g) (len : ℕ) → KeepsStream len old new → (path : Path) (tree : Tree) (id : ℕ) (content : List ℕ) → len ≡ length content
+      → IsWritten old path tree id content → IsWritten new path tree id content
+  read_keeps old new len k path tree id content size w =
+      let has = subst (λ n. HasStream old n content) (sym size) (reads_written old path tree id content w) in
+      written_kept old new path tree id content w (keeps_rests (mini_of old) (mini_of new) k.rests.mini) k.rests.letters k.rests.sound (λ _. alike_same _ _ k.links) (k.content content has).ahead
+
+  -- LAW: a stream that was only read stands as it did
+  pub rests_so : (old new : Stream F g) → new.file.ghost_name ≡ old.file.ghost_name → id_of new ≡ id_of old → stream_len new ≡ stream_len old
+      → KeepsStream (stream_len old) (file_under old) (file_under new) → Rests old new
+  rests_so old new file id len k = record {
+    file = file;
+    entry = id;
+    len = len;
+    read = k;
+    keeps = λ path tree content s. record {
+      written = subst (λ n. IsWritten (file_under new) path tree n content) (sym id) (read_keeps (file_under old) (file_under new) (stream_len old) k path tree (id_of old) content s.len s.written);
+      len = len ∙ s.len;
+    };
+  }
+
+  -- an error of a read that has no other cause than that the file hasn't the bytes
+  pub gone_so : (it : Stream F g) (e : Error) → IsFaultUnless ⊥ e ⊎ (IsInvalidPlace e × ((content : List ℕ) → HasStream (file_under it) (stream_len it) content → ⊥)) → IsFaultOrGone it e
+  gone_so it e = ⊎_elim (λ fault. inl fault) (λ lost. inr (lost.0, λ path tree content s. lost.1 content (stands_read it path tree content s)))
+
+  pub if_gone : {T : Type 0} (it : Stream F g) (r : Result T Error) → IfErr r (λ e. IsFaultUnless ⊥ e ⊎ (IsInvalidPlace e × ((content : List ℕ) → HasStream (file_under it) (stream_len it) content → ⊥)))
+      → IfErr r (IsFaultOrGone it)
+  if_gone it (Ok x) h = h
+  if_gone it (Err e) h = gone_so it e h
+
+  -- LAW: what is rewritten in the file is rewritten in the stream, where it knows its length
+  pub rewrites_so : (change : List ℕ → List ℕ) (old new : Stream F g) → RewritesAt (id_of old) change (file_under old) (file_under new) → id_of new ≡ id_of old
+      → ((path : Path) (tree : Tree) (content : List ℕ) → Stands old path tree content → stream_len new ≡ length (change content)) → Rewrites change old new
+  rewrites_so change old new did id len path tree content s = record {
+    written = subst (λ n. IsWritten (file_under new) path (changed (letters_in (file_under old)) (with_bytes (change content)) path tree) n (change content)) (sym id) (did path tree content s.written);
+    len = len path tree content s;
+  }
+
+  -- what is kept in the file is kept in the stream
+  pub keeps_so : (old new : Stream F g) → KeepsAt (id_of old) (file_under old) (file_under new) → id_of new ≡ id_of old → stream_len new ≡ stream_len old → Keeps old new
+  keeps_so old new kept id len path tree content s = record {
+    written = subst (λ n. IsWritten (file_under new) path tree n content) (sym id) (kept path tree content s.written);
+    len = len ∙ s.len;
+  }
+
+  -- a stream that the file hasn't is lost
+  pub lost_so : (it : Stream F g) → IsLostAt (id_of it) (file_under it) → IsLost it
+  lost_so it lost path tree content s = lost path tree content s.written

@@ -1,0 +1,191 @@
+-- A stream that is written, in a file that was only read since, or was rewritten.
+use Rattle.std.proofs.Common.{◌≡◌, ℕ, ◌*◌, ◌≤◌, ◌⊎◌, inl, inr, List, [], length, false, true, ap, refl, sym, subst, ◌∙◌}
+use Rattle.std.specs.Prelude.{slice_get, None, Some}
+use Rattle.cfb_medium.specs.Versions.{sector_len}
+use Rattle.cfb_medium.specs.declared.error.Error.{Error}
+use Rattle.cfb_medium.specs.declared.error.Error.TheVariants.{Failed, InvalidData, InvalidInput, Memory, NotFound}
+use Rattle.cfb_medium.specs.declared.medium.ReadMedium.{Ghosts}
+use Rattle.cfb_fat.specs.Tables.{bytes_of, fat_of, has_failed_here, version_of}
+use Rattle.cfb_chains.specs.LinkViews.{links_version}
+use Rattle.cfb_directory.specs.Views.{entries_held}
+use Rattle.cfb_entries.proofs.StreamsHeld.{stream_held}
+use Rattle.cfb_live.proofs.Resting.{means_stays}
+use Rattle.cfb_live.specs.Live as live
+use Rattle.cfb_meaning.specs.Means.{HasBytes}
+use Rattle.cfb_meaning.specs.TreeRules.{has_bytes, open_read_stream, open_stream, refused, tree_step}
+use Rattle.cfb_mini.specs.Changing.{HasOwners, KeepsOwners}
+use Rattle.cfb_mini.specs.Minis.{AreInside}
+use Rattle.cfb_mini.specs.Views.{allocator_of, directory_of, mini_fat_of, mini_stream_ids, mini_stream_len}
+use Rattle.cfb_mini.specs.declared.mini_allocator.MiniAllocator.{MiniAllocator}
+use Rattle.cfb_sectors.specs.Sectors.{Chain}
+use Rattle.cfb_siblings.specs.Places.{LeadsTo}
+use Rattle.cfb_streams.specs.Content as lower
+use Rattle.cfb_streams.specs.Streams.{sectors_in, IsOfLevel, LiesIn}
+use Rattle.cfb_streams.specs.declared.opening.StreamLinks.{StreamLinks}
+use Rattle.cfb_streams.specs.declared.opening.StreamLinks.TheVariants.{Long, Short}
+use Rattle.cfb_tree.specs.Changes.{changed, with_bytes}
+use Rattle.cfb_tree.specs.Directory.{kind_stream, Entry}
+use Rattle.cfb_tree.specs.Names.{Letters}
+use Rattle.cfb_tree.specs.Objects.{a_storage, a_stream, object_at}
+use Rattle.cfb_tree.specs.Paths.{Path}
+use Rattle.cfb_tree.specs.Tree.{Content, Facts, Tree}
+use Rattle.cfb_tree.proofs.OneContent.{Some_same}
+use Rattle.cfb_writing.specs.Streams.{AreAlike, AreLinksOf, IsStreamAt, RewritesIn}
+use Rattle.cfb_writing.proofs.Placed.{entry_of, found_at}
+use Rattle.cfb.specs.Doing.{Means}
+use Rattle.cfb.specs.Streams.{HasStream, IsWant}
+use Rattle.cfb.specs.Views.{ahead_held, letters_in, links_held, mini_of, sound_of}
+use Rattle.cfb.specs.Writing.{IsWritten}
+use Rattle.cfb.specs.declared.compound_file.CompoundFile.{CompoundFile}
+use Rattle.cfb.proofs.Holding.{entries_hold}
+use Rattle.cfb.proofs.LiveMeaning.{holds_meant}
+use Rattle.cfb.proofs.StreamBytes.{bytes_held, content_len, lies_where}
+use Rattle.cfb.proofs.StreamsFound.{none_ahead}
+
+module _ {F : Type 0} {g : Ghosts F} where
+  -- the mini stream is as long as it was
+  stream_len_kept : (old new : MiniAllocator F g) (k : KeepsOwners old new) (own : ℕ → List ℕ) → HasOwners old own → mini_stream_len new ≡ mini_stream_len old
+  stream_len_kept old new k own h =
+      let now = k.owners own h in
+      let ids : mini_stream_ids new ≡ mini_stream_ids old = sym now.mini_stream ∙ h.mini_stream in
+      let version = now.memory.over.stream_version ∙ k.allocator.sectors.version ∙ sym h.memory.over.stream_version in
+      ap (λ v. length (mini_stream_ids new) * sector_len v) version ∙ ap (λ l. length l * sector_len (links_version old.mini_fat.stream)) ids
+
+  -- each owner has what it had, so the stream lies where it did
+  links_kept : (old new : MiniAllocator F g) (k : KeepsOwners old new) (own : ℕ → List ℕ) → HasOwners old own → (id : ℕ) (links : StreamLinks) → AreLinksOf id links old → AreLinksOf id links new
+  links_kept old new k own h id links are e found =
+      let was = are e (ap (λ es. slice_get es id) (sym k.entries) ∙ found) in
+      let version = k.allocator.sectors.version in
+      let len = stream_len_kept old new k own h in (
+        record {
+          short = λ below.
+              let at = was.0.short below in (
+                subst (λ t. Chain t e.start (sectors_in links)) (sym k.mini_fat) at.0,
+                subst (λ n. AreInside n (sectors_in links)) (sym len) at.1,
+                at.2,
+              );
+          long = λ up.
+              let at = was.0.long up in (
+                subst (λ t. Chain t e.start (sectors_in links)) (sym k.allocator.fat) at.0,
+                subst (λ v. e.size ≤ length (sectors_in links) * sector_len v) (sym version) at.1,
+              );
+        },
+        by_level links was.1,
+      )
+    where
+      by_level : (links : StreamLinks) → IsOfLevel old e.size links → IsOfLevel new e.size links
+      by_level (Short minis) below = below
+      by_level (Long ids) level = (level.0, level.1 ∙ sym k.allocator.sectors.version)
+
+module _ {F : Type 0} {g : Ghosts F} (it : MiniAllocator F g) (id : ℕ) where
+  -- links that tell of the same sectors
+  links_alike : (a b : StreamLinks) → AreAlike a b → AreLinksOf id a it → AreLinksOf id b it
+  links_alike (Short a) (Short b) same are e found =
+      let was = are e found in (subst (λ s. LiesIn it e.start e.size s) (sym same) was.0, was.1)
+  links_alike (Long a) (Long b) same are e found =
+      let was = are e found in (subst (λ s. LiesIn it e.start e.size s) (sym same.0) was.0, (was.1.0, same.1 ∙ was.1.1))
+  links_alike (Short a) (Long b) never are e found = absurd never
+  links_alike (Long a) (Short b) never are e found = absurd never
+
+alike_refl : (a : StreamLinks) → AreAlike a a
+alike_refl (Short a) = refl
+alike_refl (Long a) = (refl, refl)
+
+-- the same links are alike
+pub alike_same : (a b : StreamLinks) → b ≡ a → AreAlike a b
+alike_same a b same = subst (AreAlike a) (sym same) (alike_refl a)
+
+-- the answer of the rules where a stream is there, a storage, or nothing
+module _ (letters : Letters) (tree : Tree) (path : Path) where
+  pub open_found : (name : List ℕ) (bits : ℕ) (bytes : List ℕ) → object_at letters tree path ≡ Some (a_stream name bits bytes) → (tree_step letters tree (open_stream path)).1 ≡ has_bytes bytes
+  open_found name bits bytes at = rw at refl
+
+  pub open_storage : (name : List ℕ) (facts : Facts) (inside : Content) → object_at letters tree path ≡ Some (a_storage name facts inside) → (tree_step letters tree (open_stream path)).1 ≡ refused InvalidInput
+  open_storage name facts inside at = rw at refl
+
+  pub open_missing : object_at letters tree path ≡ None → (tree_step letters tree (open_stream path)).1 ≡ refused NotFound
+  open_missing at = rw at refl
+
+module _ {F : Type 0} {g : Ghosts F} (it : CompoundFile F g) (path : Path) (tree : Tree) (id : ℕ) (content : List ℕ) (means : Means it tree) (at : IsStreamAt (letters_in it) (mini_of it) tree path id content)
+    (e : Entry) (found : slice_get (entries_held (directory_of (mini_of it))) id ≡ Some e) where
+  -- the bytes of the stream in the tree are those that its entry tells of
+  bytes_meant : HasBytes (bytes_of (allocator_of (mini_of it))) (holds_meant it tree means).layout e content
+  bytes_meant =
+      let was = entry_of (letters_in it) (mini_of it) tree path id content at in
+      let same : was.entry ≡ e = Some_same (sym (found_at (letters_in it) (mini_of it) tree path id content at) ∙ found) in
+      let kind = subst (λ (x : Entry). x.kind ≡ kind_stream) same was.of_kind in
+      let h = holds_meant it tree means in
+      let held = stream_held (letters_in it) (HasBytes (bytes_of (allocator_of (mini_of it))) h.layout) (entries_held (directory_of (mini_of it))) tree e kind (entries_hold it tree h) path id at.leads found in
+      let step : (tree_step (letters_in it) tree (open_read_stream path)).1 ≡ has_bytes content = rw at.at_path refl in
+      let same_bytes : has_bytes held.bytes ≡ has_bytes content = sym held.answer ∙ step in
+      let bytes : held.bytes ≡ content = cc in
+      subst (λ b. HasBytes (bytes_of (allocator_of (mini_of it))) h.layout e b) bytes held.reads
+
+  -- it lies in sectors
+  pub lies_somewhere : (sectors : List ℕ) × LiesIn (mini_of it) e.start e.size sectors
+  lies_somewhere = let h = holds_meant it tree means in lies_where (mini_of it) h.layout h.shows h.memory e content bytes_meant
+
+  -- and these links have its bytes
+  pub links_read : (links : StreamLinks) → LiesIn (mini_of it) e.start e.size (sectors_in links) → IsOfLevel (mini_of it) e.size links → lower.HasContent (mini_of it) links e.size content
+  links_read links lies level = let h = holds_meant it tree means in bytes_held (mini_of it) h.layout h.shows h.memory e links lies level h.honest content bytes_meant
+
+  -- so many of them
+  pub size_meant : (links : StreamLinks) → LiesIn (mini_of it) e.start e.size (sectors_in links) → IsOfLevel (mini_of it) e.size links → e.size ≡ length content
+  size_meant links lies level = sym (content_len (mini_of it) links e.size content (links_read links lies level))
+
+  -- why no sectors were found
+  pub want_so : (error : Error) → (error ≡ InvalidData → (sectors : List ℕ) → LiesIn (mini_of it) e.start e.size sectors → ⊥)
+      → ((error ≡ Failed) × (has_failed_here (allocator_of (mini_of it)) ≡ true)) ⊎ (error ≡ InvalidData) ⊎ (error ≡ Memory) → IsWant it error
+  want_so error never why = elim why [
+    | inl failed ↦ inr failed
+    | inr rest ↦ elim rest [
+      | inl wrong ↦ absurd (never wrong lies_somewhere.0 lies_somewhere.1)
+      | inr memory ↦ inl memory
+    ]
+  ]
+
+module _ {F : Type 0} {g : Ghosts F} (it : CompoundFile F g) (path : Path) (tree : Tree) (id : ℕ) (content : List ℕ) (w : IsWritten it path tree id content) where
+  -- the file means the tree
+  pub means_written : Means it tree
+  means_written = record { sound = w.sound; live = w.at.means }
+
+  -- and reads the stream
+  pub reads_written : HasStream it (length content) content
+  reads_written =
+      let was = entry_of (letters_in it) (mini_of it) tree path id content w.at in
+      let found = found_at (letters_in it) (mini_of it) tree path id content w.at in
+      let lies = w.links was.entry found in
+      let here = links_read it path tree id content means_written w.at was.entry found (links_held it) lies.0 lies.1 in
+      let size = size_meant it path tree id content means_written w.at was.entry found (links_held it) lies.0 lies.1 in
+      record { lies = subst (λ n. lower.HasContent (mini_of it) (links_held it) n content) size here; ahead = w.ahead }
+
+module _ {F : Type 0} {g : Ghosts F} (old new : CompoundFile F g) (path : Path) (tree : Tree) (id : ℕ) (content : List ℕ) (w : IsWritten old path tree id content) where
+  -- LAW: a stream stays where each owner has what it had
+  pub written_kept : KeepsOwners (mini_of old) (mini_of new) → letters_in new ≡ letters_in old → sound_of new ≡ sound_of old
+      → (has_failed_here (allocator_of (mini_of new)) ≡ false → AreAlike (links_held old) (links_held new))
+      → lower.IsAheadOf content (ahead_held new) → IsWritten new path tree id content
+  written_kept k letters sound links ahead = record {
+    sound = sound ∙ w.sound;
+    at = record {
+      means = subst (λ l. live.Means l (mini_of new) tree) (sym letters) (means_stays (mini_of old) (mini_of new) k (letters_in old) tree w.at.means);
+      leads = subst (λ l. LeadsTo l (entries_held (directory_of (mini_of new))) 0 path id) (sym letters) (subst (λ es. LeadsTo (letters_in old) es 0 path id) (sym k.entries) w.at.leads);
+      name = w.at.name;
+      bits = w.at.bits;
+      at_path = subst (λ l. object_at l tree path ≡ Some (a_stream w.at.name w.at.bits content)) (sym letters) w.at.at_path;
+    };
+    links = links_alike (mini_of new) id (links_held old) (links_held new) (links (k.allocator.sectors.failed ∙ w.at.means.live))
+        (links_kept (mini_of old) (mini_of new) k w.at.means.who.sectors w.at.means.owners id (links_held old) w.links);
+    ahead = ahead;
+  }
+
+  -- LAW: one that was rewritten has its new bytes
+  pub written_so : (change : List ℕ → List ℕ) → RewritesIn id change (links_held old) (links_held new) (mini_of old) (mini_of new) → letters_in new ≡ letters_in old → sound_of new ≡ sound_of old
+      → lower.ahead_of (ahead_held new) ≡ [] → IsWritten new path (changed (letters_in old) (with_bytes (change content)) path tree) id (change content)
+  written_so change did letters sound none =
+      let (at, links) = did (letters_in old) tree path content w.at w.links in
+      record {
+        sound = sound ∙ w.sound;
+        at = subst (λ l. IsStreamAt l (mini_of new) (changed (letters_in old) (with_bytes (change content)) path tree) path id (change content)) (sym letters) at;
+        links = links;
+        ahead = none_ahead (ahead_held new) (change content) none;
+      }

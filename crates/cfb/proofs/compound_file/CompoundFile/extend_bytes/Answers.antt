@@ -1,0 +1,56 @@
+use Rattle.std.proofs.Common.{[], length, inl, inr, ap, subst, ◌∙◌, ⊎_elim, arith}
+use Rattle.cfb_fat.specs.Keeping.{fails_cause}
+use Rattle.cfb_fat.specs.Resting.{all_rest_refl}
+use Rattle.cfb_medium.specs.Bytes.{overwritten}
+use Rattle.cfb_mini.specs.Views.{allocator_of}
+use Rattle.cfb_owned.proofs.GoingOn.{fails_go_on, goes_cause, goes_then}
+use Rattle.cfb_tree.specs.Changes.{changed, with_bytes}
+use Rattle.cfb_writing.specs.Streams.{resized}
+use Rattle.cfb_writing.proofs.LongBytes.{length-resized}
+use Rattle.cfb.specs.Views.{letters_in, mini_of}
+use Rattle.cfb.specs.Writing.{IsWritten}
+use Rattle.cfb.proofs.Again.{changed_again}
+use Rattle.cfb.proofs.compound_file.CompoundFile.extend_bytes.Goals as goal
+
+pub returns-in-Err-overwrite_bytes-clause-large : goal.returns-in-Err-overwrite_bytes-clause-large
+returns-in-Err-overwrite_bytes-clause-large g c = λ wrong path tree content w.
+    let past = c.in-Err-overwrite_bytes.ensures.past wrong path _ _ (c.in_default.ensures.resized path tree content w) in
+    let size = length-resized content c.args.end in
+    let is = c.requires in absurd (omega (arith, past, size, is))
+
+pub returns-in-Err-overwrite_bytes-clause-refused : goal.returns-in-Err-overwrite_bytes-clause-refused
+returns-in-Err-overwrite_bytes-clause-refused g c = λ wrong path tree content w.
+    c.in-Err-overwrite_bytes.ensures.refused wrong path _ _ (c.in_default.ensures.resized path tree content w)
+
+pub returns-in-Err-overwrite_bytes-clause-goes_on : goal.returns-in-Err-overwrite_bytes-clause-goes_on
+returns-in-Err-overwrite_bytes-clause-goes_on g c =
+    let b = allocator_of (mini_of c.overwrite_bytes.new.self) in
+    fails_go_on 0 [] (allocator_of (mini_of c.args.self.now)) b b (allocator_of c.fail.new.self) (goes_then _ _ _ c.resize_bytes.ensures.goes_on c.overwrite_bytes.ensures.goes_on) (inr (all_rest_refl b)) c.fail.ensures
+
+pub returns-in-Err-overwrite_bytes-clause-answers : goal.returns-in-Err-overwrite_bytes-clause-answers
+returns-in-Err-overwrite_bytes-clause-answers g c =
+    let a = allocator_of (mini_of c.args.self.now) in
+    let m = allocator_of (mini_of c.resize_bytes.new.self) in
+    let b = allocator_of (mini_of c.overwrite_bytes.new.self) in
+    let told = c.in-Err-overwrite_bytes.ensures.answers in
+    let live = c.in_default.ensures.answers.live in
+    record {
+      live = tt;
+      failed = λ failed. absurd (let before = live.0 in cc);
+      after = inl c.fail.ensures.sectors.failed;
+      cause = fails_cause a b (allocator_of c.fail.new.self) c.in-Err-overwrite_bytes.error (goes_cause a m b c.in-Err-overwrite_bytes.error c.resize_bytes.ensures.goes_on live.1 told.cause) c.fail.ensures;
+      fault = ⊎_elim (λ fault. inl fault) (λ place. inr (inl place)) told.fault;
+    }
+
+pub returns-clause-written : goal.returns-clause-written
+returns-clause-written g c = λ path tree content w.
+    let letters = letters_in c.args.self.now in
+    let longer = resized c.args.end content in
+    let later = overwritten longer c.args.at c.args.bytes.now in
+    let there = c.in_default-overwrite_bytes.ensures.written path _ longer (c.in_default.ensures.resized path tree content w) in
+    subst (λ t. IsWritten c.overwrite_bytes.new.self path t c.args.id later)
+    (ap (λ l. changed l (with_bytes later) path (changed letters (with_bytes longer) path tree)) c.resize_bytes.ensures.seen.0 ∙ changed_again letters longer later path tree)
+    there
+
+pub returns-clause-goes_on : goal.returns-clause-goes_on
+returns-clause-goes_on g c = goes_then _ _ _ c.resize_bytes.ensures.goes_on c.overwrite_bytes.ensures.goes_on

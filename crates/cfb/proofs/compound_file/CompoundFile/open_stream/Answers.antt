@@ -1,0 +1,44 @@
+use mathlib.Core.Option.{some}
+use Rattle.std.proofs.Common.{◌≡◌, ◌∙◌, Ok, Err, ap, refl, subst, sym}
+use Rattle.cfb_medium.specs.declared.error.Error.TheVariants.{Failed, InvalidData}
+use Rattle.cfb.specs.Views.{Rests}
+use Rattle.cfb.specs.Writing.{IsWritten}
+use Rattle.cfb.proofs.compound_file.CompoundFile.open_stream.Goals as goal
+
+pub returns-in-Ok : goal.returns-in-Ok
+returns-in-Ok g c =
+    let it = c.args.self.now in
+    let (file, len, position, id) = c.new.ensures.stream in
+    let told = c.in-Ok.ensures in (
+      (ap (λ n. some n) (sym c.new.ensures.same_reference), λ w. refl, tt),
+      (
+        c.new.ensures.same_reference,
+        (
+          subst (Rests it) (sym file) told.rests,
+          (
+            position,
+            (
+              λ tree m.
+                  let f = told.found tree m in
+                  record {
+                    names = f.names;
+                    at_path = f.at_path;
+                    content = f.content;
+                    answer = f.answer;
+                    stands = record {
+                      written = subst (λ x. IsWritten x f.names tree c.new.result.id f.content) (sym file) (subst (λ n. IsWritten c.find_written.new.self f.names tree n f.content) (sym id) f.written);
+                      len = len ∙ f.len_is;
+                    };
+                  },
+              (
+                λ tree m. tt,
+                (
+                  λ failed. let never = told.failed failed in absurd (cc),
+                  λ live unsound. let never = told.unsound live unsound in absurd (cc),
+                ),
+              ),
+            ),
+          ),
+        ),
+      ),
+    )

@@ -1,0 +1,18 @@
+use Rattle.std.proofs.Common.{refl, inl, inr, ⊎_elim}
+use Rattle.cfb_writing.specs.Streams.{resized}
+use Rattle.cfb.specs.Views.{letters_in}
+use Rattle.cfb.proofs.Written.{written_kept, written_so}
+use Rattle.cfb.proofs.compound_file.CompoundFile.resize_bytes.Goals as goal
+
+pub returns-in-Err-clause-refused : goal.returns-in-Err-clause-refused
+returns-in-Err-clause-refused g c = λ wrong path tree content w. c.in-Err.ensures.refused wrong (letters_in c.args.self.now) tree path content w.at w.links
+
+pub returns-in-Err-clause-kept : goal.returns-in-Err-clause-kept
+returns-in-Err-clause-kept g c =
+    ⊎_elim
+    (λ failed. inl failed)
+    (λ k. inr (λ path tree content w. written_kept c.args.self.now _ path tree c.args.id content w k refl refl c.in-Err.ensures.kept w.ahead))
+    c.in-Err.ensures.rests
+
+pub returns-clause-resized : goal.returns-clause-resized
+returns-clause-resized g c = λ path tree content w. written_so c.args.self.now _ path tree c.args.id content w (resized c.args.len) c.in_default.ensures.resized refl refl c.clear.ensures

@@ -1,0 +1,38 @@
+use Rattle.std.proofs.Common.{◌≡◌, ◌≤◌, ◌<◌, length, ap, refl, subst, sym, ◌∙◌, inl, inr, ⊎_elim, arith}
+use Rattle.cfb_chains.proofs.ChainWriting.{length_within}
+use Rattle.cfb_medium.specs.Bytes.{overwritten}
+use Rattle.cfb_tree.specs.Changes.{changed, with_bytes}
+use Rattle.cfb_writing.specs.Streams.{resized}
+use Rattle.cfb_writing.proofs.LongBytes.{length-resized}
+use Rattle.cfb.specs.Views.{letters_in}
+use Rattle.cfb.specs.Writing.{file_under, IsWritten}
+use Rattle.cfb.proofs.Again.{written_behind}
+use Rattle.cfb_medium.specs.declared.error.Error.TheVariants.{InvalidData, InvalidInput}
+use Rattle.cfb.proofs.Standing.{err_as, keeps_so, lost_so}
+use Rattle.cfb.proofs.written_stream.Stream.extend.Goals as goal
+
+pub returns-in-Err-clause-large : goal.returns-in-Err-clause-large
+returns-in-Err-clause-large g c = λ wrong path tree content s. c.in-Err.ensures.large (err_as c.in-Err.error InvalidInput wrong) path tree content s.written
+
+pub returns-in-Err-clause-refused : goal.returns-in-Err-clause-refused
+returns-in-Err-clause-refused g c = λ wrong. lost_so c.args.self.now (c.in-Err.ensures.refused (err_as c.in-Err.error InvalidData wrong))
+
+pub returns-in-Err-clause-kept : goal.returns-in-Err-clause-kept
+returns-in-Err-clause-kept g c = ⊎_elim (λ failed. inl failed) (λ k. inr (keeps_so c.args.self.now _ k refl refl)) c.in-Err.ensures.kept
+
+pub returns-clause-written : goal.returns-clause-written
+returns-clause-written g c = λ path tree content s.
+    let it = c.args.self.now in
+    let at = it.position in
+    let end = c.args.end in
+    let bytes = c.args.bytes.now in
+    let len = s.len in
+    let inside = it.inside in
+    let is = c.requires.end in
+    let behind = c.requires.behind in
+    let same = written_behind content bytes at end (omega (arith, len, inside)) is (omega (arith, len, behind)) in
+    let size = length_within (resized end content) bytes at (let long = length-resized content end in omega (arith, long, is)) ∙ length-resized content end in
+    record {
+      written = subst (λ b. IsWritten c.extend_bytes.new.self path (changed (letters_in (file_under it)) (with_bytes b) path tree) it.id b) same (c.in_default.ensures.written path tree content s.written);
+      len = sym size ∙ ap length same;
+    }

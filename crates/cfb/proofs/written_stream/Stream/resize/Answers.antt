@@ -1,0 +1,14 @@
+use Rattle.std.proofs.Common.{refl, sym, inl, inr, ⊎_elim}
+use Rattle.cfb_writing.specs.Streams.{resized}
+use Rattle.cfb_writing.proofs.LongBytes.{length-resized}
+use Rattle.cfb.proofs.Standing.{keeps_so, lost_so, rewrites_so}
+use Rattle.cfb.proofs.written_stream.Stream.resize.Goals as goal
+
+pub returns-in-Err-clause-refused : goal.returns-in-Err-clause-refused
+returns-in-Err-clause-refused g c = λ wrong. lost_so c.args.self.now (c.in-Err.ensures.refused wrong)
+
+pub returns-in-Err-clause-kept : goal.returns-in-Err-clause-kept
+returns-in-Err-clause-kept g c = ⊎_elim (λ failed. inl failed) (λ k. inr (keeps_so c.args.self.now _ k refl refl)) c.in-Err.ensures.kept
+
+pub returns-clause-resized : goal.returns-clause-resized
+returns-clause-resized g c = rewrites_so (resized c.args.len) c.args.self.now _ c.in_default.ensures.resized refl (λ path tree content s. sym (length-resized content c.args.len))

@@ -1,0 +1,18 @@
+use Rattle.std.proofs.Common.{refl, inl, inr, ⊎_elim}
+use Rattle.cfb.proofs.Standing.{on_err, on_ok, stands_as}
+use Rattle.cfb.proofs.written_stream.Stream.set_len.Goals as goal
+
+pub returns-then-len-stream_len_mask-clause-kept : goal.returns-then-len-stream_len_mask-clause-kept
+returns-then-len-stream_len_mask-clause-kept g c = inr (λ path tree content s. stands_as c.args.self.now _ refl refl refl path tree content s)
+
+pub returns-then-len-ge-TOO_MANY-clause-kept : goal.returns-then-len-ge-TOO_MANY-clause-kept
+returns-then-len-ge-TOO_MANY-clause-kept g c = inr (λ path tree content s. stands_as c.args.self.now _ refl refl refl path tree content s)
+
+pub returns-clause-resized : goal.returns-clause-resized
+returns-clause-resized g c = on_ok c.resize.result (λ did path tree content s. did path tree content (stands_as c.args.self.now _ refl refl refl path tree content s)) c.resize.ensures.resized
+
+pub returns-clause-refused : goal.returns-clause-refused
+returns-clause-refused g c = λ wrong path tree content s. c.resize.ensures.refused wrong path tree content (stands_as c.args.self.now _ refl refl refl path tree content s)
+
+pub returns-clause-kept : goal.returns-clause-kept
+returns-clause-kept g c = on_err c.resize.result (⊎_elim (λ failed. inl failed) (λ k. inr (λ path tree content s. k path tree content (stands_as c.args.self.now _ refl refl refl path tree content s)))) c.resize.ensures.kept

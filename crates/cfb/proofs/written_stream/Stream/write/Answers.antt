@@ -1,0 +1,31 @@
+use Rattle.std.proofs.Common.{◌<◌, inl, inr, refl, subst, ⊎_elim}
+use Rattle.cfb_fat.specs.Tables.{version_of}
+use Rattle.cfb_medium.specs.Versions.{stream_len_mask}
+use Rattle.cfb.specs.Writing.{allocator_under}
+use Rattle.cfb.proofs.Standing.{on_err, on_ok, stands_as}
+use Rattle.cfb.proofs.written_stream.Stream.write.Goals as goal
+
+pub returns-then-end-self-clause-written : goal.returns-then-end-self-clause-written
+returns-then-end-self-clause-written g c = on_ok c.extend.result (λ did path tree content s. did path tree content (stands_as c.args.self.now _ refl refl refl path tree content s)) c.extend.ensures.written
+
+pub returns-then-end-self-clause-large : goal.returns-then-end-self-clause-large
+returns-then-end-self-clause-large g c = λ wrong path tree content s.
+    subst (λ n. stream_len_mask (version_of (allocator_under c.args.self.now)) < n) c.in-Ok.ensures.end.0 (c.extend.ensures.large wrong path tree content (stands_as c.args.self.now _ refl refl refl path tree content s))
+
+pub returns-then-end-self-clause-refused : goal.returns-then-end-self-clause-refused
+returns-then-end-self-clause-refused g c = λ wrong path tree content s. c.extend.ensures.refused wrong path tree content (stands_as c.args.self.now _ refl refl refl path tree content s)
+
+pub returns-then-end-self-clause-kept : goal.returns-then-end-self-clause-kept
+returns-then-end-self-clause-kept g c = on_err c.extend.result (⊎_elim (λ failed. inl failed) (λ k. inr (λ path tree content s. k path tree content (stands_as c.args.self.now _ refl refl refl path tree content s)))) c.extend.ensures.kept
+
+pub returns-clause-written : goal.returns-clause-written
+returns-clause-written g c = on_ok c.overwrite.result (λ did path tree content s. did path tree content (stands_as c.args.self.now _ refl refl refl path tree content s)) c.overwrite.ensures.written
+
+pub returns-clause-large : goal.returns-clause-large
+returns-clause-large g c = λ wrong path tree content s. absurd (c.overwrite.ensures.large wrong path tree content (stands_as c.args.self.now _ refl refl refl path tree content s))
+
+pub returns-clause-refused : goal.returns-clause-refused
+returns-clause-refused g c = λ wrong path tree content s. c.overwrite.ensures.refused wrong path tree content (stands_as c.args.self.now _ refl refl refl path tree content s)
+
+pub returns-clause-kept : goal.returns-clause-kept
+returns-clause-kept g c = on_err c.overwrite.result (⊎_elim (λ failed. inl failed) (λ k. inr (λ path tree content s. k path tree content (stands_as c.args.self.now _ refl refl refl path tree content s)))) c.overwrite.ensures.kept

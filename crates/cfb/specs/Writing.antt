@@ -1,0 +1,130 @@
+-- Streams of a file that are written, by their paths ([MS-CFB] 2.6.3).
+use Rattle.std.specs.Prelude.{◌≡◌, ◌⊎◌, ℕ, ◌-◌, min, List, length, true, Option, Some, Result}
+use Rattle.cfb_chains.specs.ChainCalls.{IsInvalidPlace}
+use Rattle.cfb_fat.specs.Calls.{Answers}
+use Rattle.cfb_fat.specs.declared.allocator.Allocator.{Allocator}
+use Rattle.cfb_meaning.specs.TreeRules.{has_bytes, open_stream, tree_step}
+use Rattle.cfb_medium.specs.Calls.{IsFaultUnless}
+use Rattle.cfb_medium.specs.declared.error.Error.{Error}
+use Rattle.cfb_medium.specs.declared.medium.ReadMedium.{Ghosts}
+use Rattle.cfb_mini.specs.Views.{allocator_of}
+use Rattle.cfb_owned.specs.Chains.{GoesOn}
+use Rattle.cfb_streams.specs.Content.{count_from, IsAheadOf}
+use Rattle.cfb_tree.specs.Changes.{changed, with_bytes}
+use Rattle.cfb_tree.specs.Paths.{Path}
+use Rattle.cfb_tree.specs.Tree.{Tree}
+use Rattle.cfb_writing.specs.Streams as written
+use Rattle.cfb.specs.Streams.{KeepsStream}
+use Rattle.cfb.specs.Views.{ahead_held, letters_in, links_held, mini_of, sound_of}
+use Rattle.cfb.specs.declared.compound_file.CompoundFile.{CompoundFile}
+use Rattle.cfb.specs.declared.written_stream.Stream.{Stream}
+
+module _ {F : Type 0} {g : Ghosts F} where
+  -- the file means the tree, in which the stream at the path has these bytes; it is that of entry `id`, and the file has its sectors
+  pub record IsWritten (it : CompoundFile F g) (path : Path) (tree : Tree) (id : ℕ) (content : List ℕ) : Type 0 where
+    pub sound : sound_of it ≡ true
+    pub at : written.IsStreamAt (letters_in it) (mini_of it) tree path id content
+    pub links : written.AreLinksOf id (links_held it) (mini_of it)
+    pub ahead : IsAheadOf content (ahead_held it)
+
+  -- the stream of entry `id` has then the bytes that come of its own by the change, and nothing else of the tree is changed
+  abbrev pub RewritesAt : ℕ → (List ℕ → List ℕ) → CompoundFile F g → CompoundFile F g → Type 0
+  RewritesAt id change old new = (path : Path) (tree : Tree) (content : List ℕ) → IsWritten old path tree id content
+      → IsWritten new path (changed (letters_in old) (with_bytes (change content)) path tree) id (change content)
+
+  -- the stream of entry `id` is what it was
+  abbrev pub KeepsAt : ℕ → CompoundFile F g → CompoundFile F g → Type 0
+  KeepsAt id old new = (path : Path) (tree : Tree) (content : List ℕ) → IsWritten old path tree id content → IsWritten new path tree id content
+
+  -- it is lost, whatever tree is meant
+  abbrev pub IsLostAt : ℕ → CompoundFile F g → Type 0
+  IsLostAt id it = (path : Path) (tree : Tree) (content : List ℕ) → IsWritten it path tree id content → ⊥
+
+  -- the path leads to the stream of entry `id`
+  pub record IsFound (it : CompoundFile F g) (path : Option Path) (tree : Tree) (id : ℕ) : Type 0 where
+    pub names : Path
+    pub at_path : path ≡ Some names
+    pub content : List ℕ
+    pub at : written.IsStreamAt (letters_in it) (mini_of it) tree names id content
+
+  -- so it does, and the rules answer with its bytes; the second file has its sectors
+  pub record FindsWritten (old new : CompoundFile F g) (path : Option Path) (tree : Tree) (id len : ℕ) : Type 0 where
+    pub names : Path
+    pub at_path : path ≡ Some names
+    pub content : List ℕ
+    pub answer : (tree_step (letters_in old) tree (open_stream names)).1 ≡ has_bytes content
+    pub written : IsWritten new names tree id content
+    pub len_is : len ≡ length content
+
+  -- the file, how many bytes the stream has, and the place from which on they are read and written
+  abbrev pub file_under : Stream F g → CompoundFile F g
+  file_under it = it.file.now
+
+  abbrev pub stream_len : Stream F g → ℕ
+  stream_len it = it.len
+
+  abbrev pub place_of : Stream F g → ℕ
+  place_of it = it.position
+
+  -- the number of its entry
+  abbrev pub id_of : Stream F g → ℕ
+  id_of it = it.id
+
+  -- so many bytes from its place on were read ahead
+  abbrev pub buffered_of : Stream F g → ℕ
+  buffered_of it = min (stream_len it - place_of it) (count_from (ahead_held (file_under it)) (place_of it))
+
+  -- the layer of sectors below the file
+  abbrev pub allocator_under : Stream F g → Allocator F g
+  allocator_under it = allocator_of (mini_of (file_under it))
+
+  -- CLOSING THE STREAM NOW LEAVES THIS TREE, in which the stream at the path has these bytes
+  pub record Stands (it : Stream F g) (path : Path) (tree : Tree) (content : List ℕ) : Type 0 where
+    pub written : IsWritten (file_under it) path tree (id_of it) content
+    pub len : stream_len it ≡ length content
+
+  -- the stream has then the bytes that come of its own by the change, and nothing else of the tree is changed
+  abbrev pub Rewrites : (List ℕ → List ℕ) → Stream F g → Stream F g → Type 0
+  Rewrites change old new = (path : Path) (tree : Tree) (content : List ℕ) → Stands old path tree content
+      → Stands new path (changed (letters_in (file_under old)) (with_bytes (change content)) path tree) (change content)
+
+  -- the stream is what it was
+  abbrev pub Keeps : Stream F g → Stream F g → Type 0
+  Keeps old new = (path : Path) (tree : Tree) (content : List ℕ) → Stands old path tree content → Stands new path tree content
+
+  -- it was only read: it is the same stream of the same file, and what it was
+  pub record Rests (old new : Stream F g) : Type 0 where
+    pub file : new.file.ghost_name ≡ old.file.ghost_name
+    pub entry : id_of new ≡ id_of old
+    pub len : stream_len new ≡ stream_len old
+    pub read : KeepsStream (stream_len old) (file_under old) (file_under new)
+    pub keeps : Keeps old new
+
+  -- so it is where the stream stands, whatever tree it leaves
+  abbrev pub IfStands : Stream F g → Type 0 → Type 0
+  IfStands it P = (path : Path) (tree : Tree) (content : List ℕ) → Stands it path tree content → P
+
+  -- the stream stands for no tree
+  abbrev pub IsLost : Stream F g → Type 0
+  IsLost it = IfStands it ⊥
+
+  -- a fault; or the stream is lost
+  abbrev pub IsFaultOrGone : Stream F g → Error → Type 0
+  IsFaultOrGone it e = IsFaultUnless ⊥ e ⊎ (IsInvalidPlace e × IsLost it)
+
+  -- It is the stream of the same entry in the same file, which goes on. One that had failed answers `Failed`; after an error it has
+  -- failed, or nothing but reads happened. Each error has its cause.
+  pub record Changes {T : Type 0} (refuses : Error → Type 0) (result : Result T Error) (old new : Stream F g) : Type 0 where
+    pub file : new.file.ghost_name ≡ old.file.ghost_name
+    pub entry : id_of new ≡ id_of old
+    pub seen : (letters_in (file_under new) ≡ letters_in (file_under old)) × (sound_of (file_under new) ≡ sound_of (file_under old))
+    pub goes_on : GoesOn (allocator_under old) (allocator_under new)
+    pub answers : Answers refuses result (allocator_under old) (allocator_under new)
+
+  -- the rules answer with the bytes of the stream at the path, and it stands with these
+  pub record Opens (path : Option Path) (old : CompoundFile F g) (tree : Tree) (new : Stream F g) : Type 0 where
+    pub names : Path
+    pub at_path : path ≡ Some names
+    pub content : List ℕ
+    pub answer : (tree_step (letters_in old) tree (open_stream names)).1 ≡ has_bytes content
+    pub stands : Stands new names tree content

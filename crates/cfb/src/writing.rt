@@ -1,0 +1,247 @@
+//! Streams of a file, opened by their paths and written.
+ghost use Rattle.cfb.specs.Doing.{Means as MeansTree};
+ghost use Rattle.cfb.specs.Streams.{IsWant, KeepsStream};
+ghost use Rattle.cfb.specs.Views.{letters_in, mini_of, sound_of, Rests};
+ghost use Rattle.cfb.specs.Writing.{file_under, place_of, FindsWritten, IsFound, IsLostAt, IsWritten, KeepsAt, Opens, RewritesAt};
+ghost use Rattle.cfb_directory.specs.Views.{entries_held};
+ghost use Rattle.cfb.specs.contracts.compound_file.CompoundFile.{the_row};
+ghost use Rattle.cfb_chains.specs.ChainCalls.{IsInvalidPlace};
+ghost use Rattle.cfb_entries.specs.Rules.{answer_at, names_in};
+ghost use Rattle.cfb_fat.specs.Calls.{Answers};
+ghost use Rattle.cfb_fat.specs.Tables.{has_failed_here, version_of, HasCauseBelow};
+ghost use Rattle.cfb_medium.specs.Calls.{IsFaultUnless};
+ghost use Rattle.cfb_meaning.specs.TreeRules.{open_stream, refused};
+ghost use Rattle.cfb_medium.specs.Bytes.{overwritten};
+ghost use Rattle.cfb_medium.specs.Versions.{stream_len_mask};
+ghost use Rattle.cfb_medium.specs.declared.error.Error.TheVariants.{Failed, InvalidData, InvalidInput};
+ghost use Rattle.cfb_mini.specs.Views.{allocator_of, directory_of};
+ghost use Rattle.cfb_owned.specs.Chains.{GoesOn, IsInvalidPlaceOrFull};
+ghost use Rattle.cfb_tree.specs.Directory.{kind_stream};
+ghost use Rattle.cfb_tree.specs.EntryViews.{entry_in};
+ghost use Rattle.cfb_tree.specs.Paths.{Path};
+ghost use Rattle.cfb_tree.specs.Tree.{Tree};
+ghost use Rattle.cfb_writing.specs.Streams.{resized};
+ghost use Rattle.std.specs.Borrow.{sem, RestsIfErr};
+ghost use Rattle.std.specs.Prelude.{false, length, true, IfErr, IfOk, IsErrOf, IsTrue, List, OnErr, OnOk, ℕ, ◌+◌, ◌<◌, ◌^◌, ◌≡◌, ◌↔◌, ◌⊎◌};
+
+use crate::{CompoundFile, Stream};
+use cfb_medium::{Error, Medium, ReadMedium};
+use cfb_sectors::HasSectors;
+use cfb_siblings::find_entry;
+use cfb_streams::open_stream as find_sectors;
+use cfb_tree::{DirEntry, ObjType, name_chain_from_path};
+use cfb_writing::{overwrite_stream, resize_stream};
+
+// Whether the entry is a stream.
+fn is_stream(entry: &DirEntry) -> bool
+    ensures { IsTrue result ↔ ((entry_in entry.now).kind ≡ kind_stream) }
+{
+    match entry.obj_type() {
+        Some(kind) => kind.as_byte() == ObjType::Stream.as_byte(),
+        None => false,
+    }
+}
+
+impl<F: ReadMedium> CompoundFile<F> {
+    // The number of the entry of the stream at a path.
+    fn stream_entry(&self, path: &str) -> Result<u32, Error>
+        ensures inside { IfOk result (λ id.
+            id < length (entries_held (directory_of (mini_of self.now)))) }
+        ensures found { (tree : Tree) → MeansTree self.now tree
+            → IfOk result (λ id. IsFound self.now (names_in path.now) tree id) }
+        ensures refused { (tree : Tree) → MeansTree self.now tree → IfErr result (λ e. IsWant self.now e
+            ⊎ (answer_at (letters_in self.now) tree open_stream (names_in path.now)
+            ≡ refused e)) }
+    {
+        let names = match name_chain_from_path(self.alloc, path) {
+            Ok(names) => names,
+            Err(error) => return Err(error),
+        };
+        let Some(id) = find_entry(&self.letters, self.entries(), &names) else {
+            return Err(Error::NotFound);
+        };
+        let Some(entry) = self.entries().get(id as usize) else {
+            return Err(Error::InvalidData);
+        };
+        if !is_stream(entry) {
+            return Err(Error::InvalidInput);
+        }
+        Ok(id)
+    }
+
+    // Finds the entry and the sectors of the stream at a path, and gives the entry's number and how many bytes the stream has.
+    // Nothing is read ahead of it yet.
+    fn find_written(&mut self, path: &str) -> Result<(u32, u64), Error>
+        ensures rests { Rests self.old self.new }
+        ensures small { IfOk result (λ it. it.1 < 2 ^ 63) }
+        ensures found { (tree : Tree) → MeansTree self.old tree → IfOk result (λ it.
+            FindsWritten self.old self.new (names_in path.now) tree it.0 it.1) }
+        ensures refused { (tree : Tree) → MeansTree self.old tree → IfErr result (λ e. IsWant self.old e
+            ⊎ (answer_at (letters_in self.old) tree open_stream (names_in path.now)
+            ≡ refused e)) }
+        ensures failed { has_failed_here (allocator_of (mini_of self.old)) ≡ true
+            → IsErrOf result Failed }
+        ensures unsound { has_failed_here (allocator_of (mini_of self.old)) ≡ false
+            → sound_of self.old ≡ false → IsErrOf result InvalidData }
+    {
+        match self.check_live() {
+            Ok(()) => {}
+            Err(error) => return Err(error),
+        }
+        if !self.is_sound {
+            return Err(Error::InvalidData);
+        }
+        let id = match self.stream_entry(path) {
+            Ok(id) => id,
+            Err(error) => return Err(error),
+        };
+        let entry = self.mini.directory().dir_entry(id);
+        let size = entry.stream_len;
+        let links = match find_sectors(&self.mini, entry.start_sector, size) {
+            Ok(links) => links,
+            Err(error) => return Err(error),
+        };
+        self.links = links;
+        self.ahead.clear();
+        Ok((id, size))
+    }
+
+    /// The stream at a path, to be read and written. `Failed` after an earlier fault, `InvalidData` where the file isn't sound;
+    /// then `InvalidInput` where the path leads above the root, `NotFound` where no object is there, `InvalidInput` where it is a
+    /// storage. The one other error is `Memory`. The file is only read ([MS-CFB] 2.6.3).
+    pub fn open_stream(&mut self, path: &str) -> Result<Stream<'_, F>, Error>
+        ensures* rests { sem 𝓛 (RestsIfErr (the_row F.row F.ReadMedium) self.entry
+            (λ s. s.file.ghost_name) result (Rests self.old)) }
+        ensures same_reference { IfOk result (λ s.
+            s.file.ghost_name ≡ self.entry.ghost_name) }
+        ensures read { IfOk result (λ s. Rests self.old (file_under s)) }
+        ensures at_start { IfOk result (λ s. place_of s ≡ 0) }
+        ensures opened { (tree : Tree) → MeansTree self.old tree
+            → IfOk result (Opens (names_in path.now) self.old tree) }
+        ensures refused { (tree : Tree) → MeansTree self.old tree → IfErr result (λ e. IsWant self.old e
+            ⊎ (answer_at (letters_in self.old) tree open_stream (names_in path.now)
+            ≡ refused e)) }
+        ensures failed { has_failed_here (allocator_of (mini_of self.old)) ≡ true
+            → IsErrOf result Failed }
+        ensures unsound { has_failed_here (allocator_of (mini_of self.old)) ≡ false
+            → sound_of self.old ≡ false → IsErrOf result InvalidData }
+    {
+        match self.find_written(path) {
+            Ok((id, len)) => Ok(Stream::new(self, id, len)),
+            Err(error) => Err(error),
+        }
+    }
+}
+
+impl<F: Medium> CompoundFile<F> {
+    // Whether every call is refused after a fault.
+    pub(crate) fn is_failed(&self) -> bool
+        ensures { result ≡ has_failed_here (allocator_of (mini_of self.now)) }
+    {
+        self.mini.directory().allocator().is_failed()
+    }
+
+    // Refuses a call after a fault.
+    pub(crate) fn ended(&self) -> Result<(), Error>
+        ensures live { OnOk result (has_failed_here (allocator_of (mini_of self.now)) ≡ false) }
+        ensures failed { IfErr result (λ e. (e ≡ Failed)
+            × (has_failed_here (allocator_of (mini_of self.now)) ≡ true)) }
+    {
+        if self.is_failed() {
+            return Err(Error::Failed);
+        }
+        Ok(())
+    }
+
+    // Passes on what the medium keeps back; the stream of so many bytes that was opened stays.
+    pub(crate) fn flush_under(&mut self, len: u64) -> Result<(), Error>
+        ensures keeps { KeepsStream len self.old self.new }
+        ensures failed { has_failed_here (allocator_of (mini_of self.old)) ≡ true
+            → IsErrOf result Failed }
+        ensures cause { IfErr result (HasCauseBelow (allocator_of (mini_of self.old))
+            (allocator_of (mini_of self.new))) }
+        ensures fault { IfErr result (IsFaultUnless ⊥) }
+    {
+        self.mini.flush()
+    }
+
+    // Writes over bytes of the stream that was opened, from a place on. `InvalidInput` where they don't lie in it.
+    pub(crate) fn overwrite_bytes(&mut self, id: u32, at: u64, bytes: &[u8]) -> Result<(), Error>
+        ensures written { OnOk result (RewritesAt id (λ content. overwritten content at bytes.now)
+            self.old self.new) }
+        ensures past { IsErrOf result InvalidInput → (path : Path) (tree : Tree) (content : List ℕ)
+            → IsWritten self.old path tree id content → length content < at + length bytes.now }
+        ensures refused { IsErrOf result InvalidData → IsLostAt id self.old }
+        ensures kept { OnErr result ((has_failed_here (allocator_of (mini_of self.new)) ≡ true)
+            ⊎ KeepsAt id self.old self.new) }
+        ensures goes_on { GoesOn (allocator_of (mini_of self.old))
+            (allocator_of (mini_of self.new)) }
+        ensures answers { Answers IsInvalidPlace result (allocator_of (mini_of self.old))
+            (allocator_of (mini_of self.new)) }
+        ensures seen { (letters_in self.new ≡ letters_in self.old)
+            × (sound_of self.new ≡ sound_of self.old) }
+    {
+        if let Err(error) = overwrite_stream(&mut self.mini, id, &self.links, at, bytes) {
+            return Err(error);
+        }
+        self.ahead.clear();
+        Ok(())
+    }
+
+    // Makes the stream that was opened so many bytes long. `InvalidInput` where the size doesn't fit into an entry.
+    pub(crate) fn resize_bytes(&mut self, id: u32, len: u64) -> Result<(), Error>
+        ensures resized { OnOk result (RewritesAt id (resized len) self.old self.new) }
+        ensures large { IsErrOf result InvalidInput
+            → stream_len_mask (version_of (allocator_of (mini_of self.old))) < len }
+        ensures refused { IsErrOf result InvalidData → IsLostAt id self.old }
+        ensures kept { OnErr result ((has_failed_here (allocator_of (mini_of self.new)) ≡ true)
+            ⊎ KeepsAt id self.old self.new) }
+        ensures goes_on { GoesOn (allocator_of (mini_of self.old))
+            (allocator_of (mini_of self.new)) }
+        ensures answers { Answers IsInvalidPlaceOrFull result (allocator_of (mini_of self.old))
+            (allocator_of (mini_of self.new)) }
+        ensures seen { (letters_in self.new ≡ letters_in self.old)
+            × (sound_of self.new ≡ sound_of self.old) }
+    {
+        if let Err(error) = resize_stream(self.alloc, &mut self.mini, id, &mut self.links, len) {
+            return Err(error);
+        }
+        self.ahead.clear();
+        Ok(())
+    }
+
+    // Makes the stream that was opened longer, up to the end of bytes that are written from a place on. After an error nothing is
+    // changed, or it has failed.
+    pub(crate) fn extend_bytes(
+        &mut self,
+        id: u32,
+        at: u64,
+        bytes: &[u8],
+        end: u64,
+    ) -> Result<(), Error>
+        requires { end ≡ at + length bytes.now }
+        ensures written { OnOk result (RewritesAt id
+            (λ content. overwritten (resized end content) at bytes.now) self.old self.new) }
+        ensures large { IsErrOf result InvalidInput → (path : Path) (tree : Tree)
+            (content : List ℕ) → IsWritten self.old path tree id content
+            → stream_len_mask (version_of (allocator_of (mini_of self.old))) < end }
+        ensures refused { IsErrOf result InvalidData → IsLostAt id self.old }
+        ensures kept { OnErr result ((has_failed_here (allocator_of (mini_of self.new)) ≡ true)
+            ⊎ KeepsAt id self.old self.new) }
+        ensures goes_on { GoesOn (allocator_of (mini_of self.old))
+            (allocator_of (mini_of self.new)) }
+        ensures answers { Answers IsInvalidPlaceOrFull result (allocator_of (mini_of self.old))
+            (allocator_of (mini_of self.new)) }
+        ensures seen { (letters_in self.new ≡ letters_in self.old)
+            × (sound_of self.new ≡ sound_of self.old) }
+    {
+        if let Err(error) = self.resize_bytes(id, end) {
+            return Err(error);
+        }
+        if let Err(error) = self.overwrite_bytes(id, at, bytes) {
+            self.mini.fail();
+            return Err(error);
+        }
+        Ok(())
+    }
+}
