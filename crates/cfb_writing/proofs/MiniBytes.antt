@@ -11,7 +11,7 @@ use Rattle.cfb_chains.proofs.ChainWriting.{length_within}
 use Rattle.cfb_chains.proofs.Overwriting.{get_filled, get_written, length-filled}
 use Rattle.cfb_fat.proofs.Words.{filled_is}
 use Rattle.cfb_mini.specs.Minis.{mini_joined, mini_place, mini_sector, AreInside}
-use Rattle.cfb_mini.proofs.MiniParts.{get_mini, length-mini_joined}
+use Rattle.cfb_mini.proofs.MiniParts.{get_mini}
 use Rattle.cfb_mini.proofs.Parts.{parts_are}
 use Rattle.cfb_owned.specs.Chains.{place_of}
 use Rattle.cfb_sectors.specs.Sectors.{places, sector_start}

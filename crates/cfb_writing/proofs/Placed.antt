@@ -11,7 +11,6 @@ use Rattle.cfb_live.specs.Freeing.{CarriesBut, FreesStream, Stands}
 use Rattle.cfb_live.specs.Live.{live_of}
 use Rattle.cfb_live.proofs.Carried.{stream_stays, Carries}
 use Rattle.cfb_live.proofs.Directories.{carries, has_owners, kept_later, owners_now}
-use Rattle.cfb_medium.specs.Versions.{stream_len_mask}
 use Rattle.cfb_medium.specs.declared.medium.ReadMedium.{Ghosts}
 use Rattle.cfb_mini.specs.Changing.{ChangesDirectory}
 use Rattle.cfb_mini.specs.LinkViews.{minis_of}

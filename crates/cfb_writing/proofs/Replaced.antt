@@ -1,5 +1,5 @@
 -- A stream that gave up its home and took another one.
-use Rattle.std.proofs.Common.{◌≡◌, ℕ, ◌+◌, ◌<◌, false, List, length, refl, subst, arith}
+use Rattle.std.proofs.Common.{◌≡◌, ℕ, false, List, length, refl, subst, arith}
 use Rattle.cfb_directory.specs.Views.{entries_held}
 use Rattle.cfb_fat.specs.Tables.{has_failed_here, version_of}
 use Rattle.cfb_live.specs.Freeing.{FreesStream}

@@ -2,17 +2,15 @@
 use Rattle.std.proofs.Common.{◌≡◌, ℕ, ◌*◌, ◌<◌, ◌≤◌, List, length, take, refl, ap, sym, subst, ◌∙◌, ⊎_elim}
 use Rattle.std.proofs.lemmas.Bool.Decides.{leb_tells}
 use Rattle.cfb_chains.specs.Grown.{IsLinked}
-use Rattle.cfb_chains.specs.LinkViews.{ids_of}
 use Rattle.cfb_fat.specs.Tables.{bytes_of, fat_of, version_of}
 use Rattle.cfb_live.specs.Live.{live_of}
 use Rattle.cfb_live.proofs.Resting.{means_stays}
 use Rattle.cfb_live.proofs.Standing.{stands_of}
-use Rattle.cfb_directory.specs.Views.{entries_held}
 use Rattle.cfb_medium.specs.declared.medium.ReadMedium.{Ghosts}
 use Rattle.cfb_mini.specs.Changing.{KeepsOwners}
 use Rattle.cfb_mini.specs.LinkViews.{minis_of}
 use Rattle.cfb_mini.specs.Minis.{mini_joined}
-use Rattle.cfb_mini.specs.Views.{allocator_of, directory_of, mini_stream_of}
+use Rattle.cfb_mini.specs.Views.{allocator_of, mini_stream_of}
 use Rattle.cfb_mini.specs.declared.links.MiniLinks.{MiniLinks}
 use Rattle.cfb_mini.specs.declared.mini_allocator.MiniAllocator.{MiniAllocator}
 use Rattle.cfb_owners.specs.Owners.{stream_owner}

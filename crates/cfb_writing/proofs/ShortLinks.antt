@@ -1,11 +1,11 @@
 -- The mini sectors that a short stream is opened with are those that it owns.
-use Rattle.std.proofs.Common.{◌≡◌, ℕ, ◌+◌, ◌*◌, ◌<◌, ◌≤◌, List, length, take, ap, sym, subst, ◌∙◌, arith}
+use Rattle.std.proofs.Common.{◌≡◌, ℕ, ◌*◌, ◌<◌, ◌≤◌, List, length, ap, sym, subst, ◌∙◌, arith}
 use Rattle.cfb_live.specs.Freeing.{Stands}
 use Rattle.cfb_live.specs.Live.{live_of}
 use Rattle.cfb_live.proofs.Freed.{one_chain, own_minis}
 use Rattle.cfb_medium.specs.declared.medium.ReadMedium.{Ghosts}
 use Rattle.cfb_mini.specs.LinkViews.{minis_of}
-use Rattle.cfb_mini.specs.Minis.{mini_joined, AreInside}
+use Rattle.cfb_mini.specs.Minis.{AreInside}
 use Rattle.cfb_mini.specs.Views.{mini_fat_of, mini_stream_len, mini_stream_of}
 use Rattle.cfb_mini.specs.declared.links.MiniLinks.{MiniLinks}
 use Rattle.cfb_mini.specs.declared.mini_allocator.MiniAllocator.{MiniAllocator}

@@ -1,5 +1,5 @@
 -- A short stream that was written over, or took its mini sectors anew.
-use Rattle.std.proofs.Common.{◌≡◌, ℕ, ◌+◌, ◌*◌, ◌<◌, ◌≤◌, ◌⊎◌, inl, inr, false, List, [], length, take, ap, sym, subst, ◌∙◌, ⊎_elim, arith}
+use Rattle.std.proofs.Common.{◌≡◌, ℕ, ◌+◌, ◌*◌, ◌<◌, ◌≤◌, inl, inr, false, List, [], length, take, ap, sym, subst, ◌∙◌, ⊎_elim, arith}
 use Rattle.std.specs.List.{AllByRecursion}
 use Rattle.cfb_fat.specs.Tables.{bytes_of, has_failed_here, version_of}
 use Rattle.cfb_live.specs.Freeing.{Stands}
@@ -18,7 +18,7 @@ use Rattle.cfb_mini.proofs.Keeping.{pick_mine}
 use Rattle.cfb_mini.proofs.Longer.{now_other}
 use Rattle.cfb_mini.proofs.MiniParts.{length-mini_joined}
 use Rattle.cfb_owned.specs.Chains.{place_of, GoesOn}
-use Rattle.cfb_owners.specs.Held.{mini_joined as held_joined, mini_places_of, HasStream, LiesIn}
+use Rattle.cfb_owners.specs.Held.{mini_joined as held_joined, mini_places_of, HasStream}
 use Rattle.cfb_owners.specs.Owners.{first_of, mini_stream_owner, stream_owner, Owners, OwnsNothing}
 use Rattle.cfb_sectors.specs.Header.{mini_cutoff}
 use Rattle.cfb_sectors.specs.Sectors.{places}

@@ -1,7 +1,6 @@
 use Rattle.std.proofs.Common.{◌≡◌, inl, inr, ap, sym, subst, ◌∙◌, ⊎_elim}
-use Rattle.std.specs.Prelude.{slice_get, Err}
+use Rattle.std.specs.Prelude.{Err}
 use Rattle.std.proofs.lemmas.Option.{slice_get_within}
-use Rattle.cfb_fat.specs.Tables.{version_of}
 use Rattle.cfb_live.proofs.Standing.{stands_of}
 use Rattle.cfb_medium.specs.declared.error.Error.TheVariants.{InvalidData}
 use Rattle.cfb_medium.specs.declared.version.Version.{Version}
