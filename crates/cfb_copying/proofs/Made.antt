@@ -22,6 +22,7 @@ use Rattle.cfb_copying.specs.Chains.{CopiesChain}
 use Rattle.cfb_copying.specs.Making.{with_list, IsMade}
 use Rattle.cfb_copying.proofs.Pieces.{whole_still}
 use Rattle.cfb_copying.proofs.Tight.{tight_then}
+use Rattle.cfb_mini.proofs.Headers.{header_stays, u32_same, KeepsFront}
 
 same_test : (k : ℕ) → nat_eq k k ≡ true
 same_test k = grind arith
@@ -98,4 +99,3 @@ module _ {F : Type 0} {g : Ghosts F} where
       made_then d m a b own bytes key [] (ids_of links) (overwritten (bytes key) at xs) made goes live over.chain.has.honest
       (subst (λ l. Becomes (sector (version_of a)) [] l [] (ids_of links) (seen_of a) (seen_of b)) (sym mine) over.becomes) (sym mine ∙ sym (append-nil (own key)))
       (over.content ∙ ap (λ l. overwritten l at xs) (ap (joined (version_of a) (bytes_of a)) (sym mine) ∙ made.holds key)) tt
-use Rattle.cfb_mini.proofs.Headers.{header_stays, u32_same, KeepsFront}
