@@ -20,9 +20,9 @@ use Rattle.cfb_fat.specs.Tables.{bytes_of, has_failed_here, is_honest, version_o
 use Rattle.cfb_owned.specs.Chains.{GoesOn, Overwrites}
 use Rattle.cfb_copying.specs.Chains.{CopiesChain}
 use Rattle.cfb_copying.specs.Making.{with_list, IsMade}
-use Rattle.cfb_live.proofs.Headers.{header_stays, u32_same, KeepsFront}
 use Rattle.cfb_copying.proofs.Pieces.{whole_still}
 use Rattle.cfb_copying.proofs.Tight.{tight_then}
+use Rattle.cfb_mini.proofs.Headers.{header_stays, u32_same, KeepsFront}
 
 same_test : (k : ℕ) → nat_eq k k ≡ true
 same_test k = grind arith
@@ -44,7 +44,7 @@ none_in_front : (xs ys : List ℕ) (n : ℕ) → IsNoneOf (xs ++ ys) n → IsNon
 none_in_front xs ys n none k below same = let size = length-append xs ys in none k (omega (arith, below, size)) (get_or_append_left xs ys 0 k below ∙ same)
 
 -- a change that spares the header's front keeps what it says
-front_kept : (S : List ℕ → ℕ → List ℕ) (a b : Seen) (touched : List ℕ) → Leaves S [] touched a b → KeepsFront a.bytes b.bytes
+front_kept : (S : List ℕ → ℕ → List ℕ) (a b : Seen) (touched : List ℕ) → Leaves S [] touched a b → KeepsFront 68 a.bytes b.bytes
 front_kept S a b touched leaves place count front beside = leaves.header place count front (⊎_elim (λ low. inl (omega (arith, low))) (λ high. inr (omega (arith, high))) beside, tt)
 
 module _ {F : Type 0} {g : Ghosts F} where
@@ -64,9 +64,9 @@ module _ {F : Type 0} {g : Ghosts F} where
         live = live;
         honest = honest;
         orderly = subst IsTrue (sym (goes.orderly live)) made.orderly;
-        header = subst (λ u. IsHeader u (bytes_of b)) (sym goes.version) (header_stays (bytes_of a) (bytes_of b) made.header.whole longer front v made.header);
-        directory_at = u32_same (bytes_of a) (bytes_of b) made.header.whole longer front 48 (omega arith) (inr (omega arith)) ∙ made.directory_at;
-        mini_fat_at = u32_same (bytes_of a) (bytes_of b) made.header.whole longer front 60 (omega arith) (inr (omega arith)) ∙ made.mini_fat_at;
+        header = subst (λ u. IsHeader u (bytes_of b)) (sym goes.version) (header_stays 68 (omega arith) (bytes_of a) (bytes_of b) made.header.whole longer front (omega arith) v made.header);
+        directory_at = u32_same 68 (omega arith) (bytes_of a) (bytes_of b) made.header.whole longer front 48 (omega arith) (inr (omega arith)) ∙ made.directory_at;
+        mini_fat_at = u32_same 68 (omega arith) (bytes_of a) (bytes_of b) made.header.whole longer front 60 (omega arith) (inr (omega arith)) ∙ made.mini_fat_at;
         owned = owned_changed S (seen_of a) (seen_of b) own later key [] ids more made.owned moves;
         holds = λ k. ⊎_elim
             (λ same. subst (λ n. joined (version_of b) (bytes_of b) (later n) ≡ with_list key content bytes n) (sym same.1)

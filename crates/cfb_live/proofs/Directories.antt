@@ -18,13 +18,13 @@ use Rattle.cfb_directory.specs.Views.{directory_ids, entries_held}
 use Rattle.cfb_mini.specs.Changing.{ChangesDirectory, HasOwners}
 use Rattle.cfb_mini.specs.Views.{allocator_of, directory_of}
 use Rattle.cfb_mini.specs.declared.mini_allocator.MiniAllocator.{MiniAllocator}
+use Rattle.cfb_mini.proofs.Headers.{header_stays, u32_same, KeepsFront}
 use Rattle.cfb_mini.proofs.Keeping.{pick, pick_mine, pick_other}
 use Rattle.cfb_owners.specs.Kept.{Kept}
 use Rattle.cfb_owners.specs.Owners.{first_of, mini_stream_owner, Owners}
 use Rattle.cfb_live.specs.Freeing.{Stands}
 use Rattle.cfb_live.specs.Live.{live_of}
 use Rattle.cfb_live.proofs.Carried.{Carries}
-use Rattle.cfb_live.proofs.Headers.{header_stays, u32_same, KeepsFront}
 use Rattle.cfb_live.proofs.KeptNow.{kept_now}
 
 -- the chain begins where it began
@@ -60,7 +60,7 @@ module _ {F : Type 0} {g : Ghosts F} (words : List ℕ) (spare : (place count : 
   unfolding seen_of
   longer = c.becomes.leaves.longer
 
-  keeps_front : KeepsFront (bytes_of (allocator_of old)) (bytes_of (allocator_of new))
+  keeps_front : KeepsFront 68 (bytes_of (allocator_of old)) (bytes_of (allocator_of new))
   unfolding seen_of
   keeps_front place count front beside = c.becomes.leaves.header place count front ((⊎_elim (λ before. inl (omega (arith, before))) (λ behind. inr (omega (arith, behind))) beside), spare place count beside)
 
@@ -85,9 +85,9 @@ module _ {F : Type 0} {g : Ghosts F} (words : List ℕ) (spare : (place count : 
       let front = keeps_front in
       let ids : owners_now.sectors 0 ≡ who.sectors 0 ++ c.more = pick_mine who.sectors 0 (directory_ids (directory_of new)) ∙ c.ids ∙ ap (λ l. l ++ c.more) (sym m.owners.directory) in
       kept_now new owners_now live (subst IsTrue (sym (goes.orderly live)) m.orderly) has_owners root
-      (subst (λ u. IsHeader u (bytes_of b)) (sym goes.version) (header_stays (bytes_of a) (bytes_of b) whole longer front v was.header))
-      (u32_same (bytes_of a) (bytes_of b) whole longer front 48 (omega arith) (inr (omega arith)) ∙ was.directory_at ∙ sym (ap first_of ids ∙ first_same v (bytes_of a) (who.sectors 0) c.more (entries_held (directory_of old)) m.root was.entries was.root_found))
-      (u32_same (bytes_of a) (bytes_of b) whole longer front 60 (omega arith) (inr (omega arith)) ∙ was.mini_fat_at ∙ sym (ap first_of (pick_other who.sectors 0 (directory_ids (directory_of new)) 1 (λ same. omega (arith, same)))))
+      (subst (λ u. IsHeader u (bytes_of b)) (sym goes.version) (header_stays 68 (omega arith) (bytes_of a) (bytes_of b) whole longer front (omega arith) v was.header))
+      (u32_same 68 (omega arith) (bytes_of a) (bytes_of b) whole longer front 48 (omega arith) (inr (omega arith)) ∙ was.directory_at ∙ sym (ap first_of ids ∙ first_same v (bytes_of a) (who.sectors 0) c.more (entries_held (directory_of old)) m.root was.entries was.root_found))
+      (u32_same 68 (omega arith) (bytes_of a) (bytes_of b) whole longer front 60 (omega arith) (inr (omega arith)) ∙ was.mini_fat_at ∙ sym (ap first_of (pick_other who.sectors 0 (directory_ids (directory_of new)) 1 (λ same. omega (arith, same)))))
       found kind
       (subst (λ t. Owned t [] who.minis) (sym c.mini_fat) was.minis_owned)
       (λ k. subst (λ n. AllByRecursion (λ x. 64 * x + 64 ≤ n) (who.minis k)) (ap (λ u. length (who.sectors mini_stream_owner) * sector_len u) (sym goes.version) ∙ ap (λ l. length l * sector_len (version_of b)) (sym (others mini_stream_owner (omega arith)))) (was.minis_there k))

@@ -21,13 +21,13 @@ use Rattle.cfb_mini.specs.Changing.{mini_seen, Frees, FreesChain, HasOwners}
 use Rattle.cfb_mini.specs.Minis.{all_words, mini_sector, AreInside, IsMiniChain}
 use Rattle.cfb_mini.specs.Views.{allocator_of, directory_of, mini_fat_of, mini_stream_ids, mini_stream_len}
 use Rattle.cfb_mini.specs.declared.mini_allocator.MiniAllocator.{MiniAllocator}
+use Rattle.cfb_mini.proofs.Headers.{header_stays, u32_same, KeepsFront}
 use Rattle.cfb_mini.proofs.Keeping.{pick, pick_mine, pick_other}
 use Rattle.cfb_owners.specs.Held.{HasStream}
 use Rattle.cfb_owners.specs.Owners.{first_of, mini_stream_owner, stream_owner, Owners}
 use Rattle.cfb_tree.specs.Directory.{Entry}
 use Rattle.cfb_live.specs.Freeing.{FreesStream, Stands}
 use Rattle.cfb_live.specs.Live.{live_of}
-use Rattle.cfb_live.proofs.Headers.{header_stays, u32_same, KeepsFront}
 use Rattle.cfb_live.proofs.KeptNow.{kept_now}
 use Rattle.cfb_live.proofs.Streams.{chain_is}
 
@@ -72,7 +72,7 @@ module _ {F : Type 0} {g : Ghosts F} (old new : MiniAllocator F g) (who now : Ow
   unfolding seen_of
   longer = becomes.leaves.longer
 
-  keeps_front : KeepsFront (bytes_of (allocator_of old)) (bytes_of (allocator_of new))
+  keeps_front : KeepsFront 68 (bytes_of (allocator_of old)) (bytes_of (allocator_of new))
   unfolding seen_of
   keeps_front place count front beside = becomes.leaves.header place count front (⊎_elim (λ before. inl (omega (arith, before))) (λ behind. inr (omega (arith, behind))) beside, tt)
 
@@ -95,9 +95,9 @@ module _ {F : Type 0} {g : Ghosts F} (old new : MiniAllocator F g) (who now : Ow
         sizes = subst (λ u. SizesFit u (entries_held (directory_of new))) (sym goes.version) (subst (SizesFit v) (sym entries) m.sizes);
         root = m.root;
         kept = kept_now new now live orderly has m.root
-            (subst (λ u. IsHeader u (bytes_of b)) (sym goes.version) (header_stays (bytes_of a) (bytes_of b) whole longer keeps_front v was.header))
-            (u32_same (bytes_of a) (bytes_of b) whole longer keeps_front 48 (omega arith) (inr (omega arith)) ∙ was.directory_at ∙ sym (ap first_of same_directory))
-            (u32_same (bytes_of a) (bytes_of b) whole longer keeps_front 60 (omega arith) (inr (omega arith)) ∙ was.mini_fat_at ∙ sym same_first)
+            (subst (λ u. IsHeader u (bytes_of b)) (sym goes.version) (header_stays 68 (omega arith) (bytes_of a) (bytes_of b) whole longer keeps_front (omega arith) v was.header))
+            (u32_same 68 (omega arith) (bytes_of a) (bytes_of b) whole longer keeps_front 48 (omega arith) (inr (omega arith)) ∙ was.directory_at ∙ sym (ap first_of same_directory))
+            (u32_same 68 (omega arith) (bytes_of a) (bytes_of b) whole longer keeps_front 60 (omega arith) (inr (omega arith)) ∙ was.mini_fat_at ∙ sym same_first)
             (ap (λ l. slice_get l 0) entries ∙ was.root_found) was.root_kind minis
             (there (length (now.sectors mini_stream_owner) * sector_len (version_of b))
             (λ k. subst (λ n. AllByRecursion (λ x. 64 * x + 64 ≤ n) (who.minis k)) (ap (λ u. length (who.sectors mini_stream_owner) * sector_len u) (sym goes.version) ∙ ap (λ l. length l * sector_len (version_of b)) (sym same_stream)) (was.minis_there k)))

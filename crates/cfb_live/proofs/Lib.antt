@@ -9,7 +9,6 @@ pub mod Emptied
 pub mod EmptyStorages
 pub mod FactRules
 pub mod Freed
-pub mod Headers
 pub mod KeptNow
 pub mod Made
 pub mod NewPlaces

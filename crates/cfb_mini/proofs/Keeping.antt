@@ -38,6 +38,7 @@ use Rattle.cfb_mini.specs.declared.links.MiniLinks.{MiniLinks}
 use Rattle.cfb_mini.specs.declared.mini_allocator.MiniAllocator.{MiniAllocator}
 use Rattle.cfb_mini.specs.declared.mini_fat.MiniFat.{MiniFat}
 use Rattle.cfb_mini.proofs.Entries.{content_len}
+use Rattle.cfb_mini.proofs.KeptFile.{file_beside, file_told}
 use Rattle.cfb_mini.proofs.MiniOwners.{becomes_fewer, becomes_more, becomes_none, becomes_same}
 
 -- where a chain starts
@@ -157,6 +158,7 @@ module _ {F : Type 0} {g : Ghosts F} where
         content = ap (λ l. mini_joined l (minis_of links)) same ∙ did.content;
         there = did.there;
         entries = refl;
+        file = file_beside it (moved it b mini) _ goes becomes.leaves refl (ap ids_of lies.links) (ap ids_of lies.stream) refl;
       }
 
   -- mini sectors were freed
@@ -321,6 +323,7 @@ module _ {F : Type 0} {g : Ghosts F} where
         };
         bytes = same;
         entries = refl;
+        file = file_beside it (moved it b mini) _ goes becomes.leaves refl (ap ids_of lies.links) (ap ids_of lies.stream) refl;
       }
 
   -- the mini FAT took in a sector
@@ -362,6 +365,7 @@ module _ {F : Type 0} {g : Ghosts F} where
         stream = ap (λ l. joined (version_of b) (bytes_of b) (ids_of l)) did.stream ∙ bytes_still a b (ids_of it.mini_fat.stream) goes stream_stays;
         told = did.told;
         entries = refl;
+        file = file_told it (moved it b mini) _ goes becomes.leaves did.told.first refl (ap ids_of did.stream) refl;
       }
 
   -- only reads happened, and the mini FAT is the same

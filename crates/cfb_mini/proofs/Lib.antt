@@ -1,7 +1,9 @@
 pub mod Cutting
 pub mod DirectoryChanges
 pub mod Entries
+pub mod Headers
 pub mod Keeping
+pub mod KeptFile
 pub mod Linking
 pub mod Longer
 pub mod LongerTables

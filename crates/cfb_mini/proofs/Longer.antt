@@ -28,6 +28,7 @@ use Rattle.cfb_mini.specs.Views.{allocator_of, directory_of, mini_fat_ids, mini_
 use Rattle.cfb_mini.specs.declared.mini_allocator.MiniAllocator.{MiniAllocator}
 use Rattle.cfb_mini.proofs.Entries.{content_len}
 use Rattle.cfb_mini.proofs.Keeping.{pick, pick_mine, pick_other}
+use Rattle.cfb_mini.proofs.KeptFile.{file_rests, file_same, file_then}
 
 -- a table that became longer has the chains that it had
 entry_stays : (old new : List ℕ) (n x : ℕ) → length old ≤ length new → ((k : ℕ) → k < length old → get_or new k 0 ≡ get_or old k 0) → slice_get old n ≡ Some x → slice_get new n ≡ Some x
@@ -57,7 +58,7 @@ all_behind : (P : ℕ → Type 0) (xs : List ℕ) (x : ℕ) → AllByRecursion P
 all_behind P [] x h p = (p, tt)
 all_behind P (y ∷ xs) x h p = (h.0, all_behind P xs x h.1 p)
 
-all_less : (m n : ℕ) (xs : List ℕ) → m ≤ n → AllByRecursion (λ k. 64 * k + 64 ≤ m) xs → AllByRecursion (λ k. 64 * k + 64 ≤ n) xs
+pub all_less : (m n : ℕ) (xs : List ℕ) → m ≤ n → AllByRecursion (λ k. 64 * k + 64 ≤ m) xs → AllByRecursion (λ k. 64 * k + 64 ≤ n) xs
 all_less m n [] less h = tt
 all_less m n (x ∷ xs) less h = (let p = h.0 in omega (arith, p, less), all_less m n xs less h.1)
 
@@ -107,7 +108,7 @@ module _ {F : Type 0} {g : Ghosts F} where
   now_stream : (it : MiniAllocator F g) (own : ℕ → List ℕ) → own_now it own 2 ≡ mini_stream_ids it
   now_stream it own = pick_mine (pick own 1 (mini_fat_ids it)) 2 (mini_stream_ids it)
 
-  now_other : (it : MiniAllocator F g) (own : ℕ → List ℕ) (k : ℕ) → (k ≡ 1 → ⊥) → (k ≡ 2 → ⊥) → own_now it own k ≡ own k
+  pub now_other : (it : MiniAllocator F g) (own : ℕ → List ℕ) (k : ℕ) → (k ≡ 1 → ⊥) → (k ≡ 2 → ⊥) → own_now it own k ≡ own k
   now_other it own k fat stream = pick_other (pick own 1 (mini_fat_ids it)) 2 (mini_stream_ids it) k stream ∙ pick_other own 1 (mini_fat_ids it) k fat
 
   -- owners that agree with these are these
@@ -131,7 +132,7 @@ module _ {F : Type 0} {g : Ghosts F} where
   }
 
   -- the mini stream's bytes are as many as its sectors have
-  stream_size : (it : MiniAllocator F g) (own : ℕ → List ℕ) → HasOwners it own → length (mini_stream_of it) ≡ mini_stream_len it
+  pub stream_size : (it : MiniAllocator F g) (own : ℕ → List ℕ) → HasOwners it own → length (mini_stream_of it) ≡ mini_stream_len it
   stream_size it own h = content_len (allocator_of it) it.mini_fat.stream h.memory.over.stream_version
 
   stays_same : (it : Allocator F g) (ids : List ℕ) → IsLinked (fat_of it) ids → AreNoneOf (tables_of it) ids → Stays (sector (version_of it)) (seen_of it) (seen_of it) ids
@@ -158,6 +159,7 @@ module _ {F : Type 0} {g : Ghosts F} where
     owners = λ then fat stream others. owners_same it own then (λ k. now_same it own then fat stream others k ∙ sym (now_same it own own h.mini_fat h.mini_stream (λ n one two. refl) k)) h;
     others = λ k past. stays_same (allocator_of it) (own k) (h.owned.linked k) (h.owned.beside k);
     entries = inl (refl, refl);
+    file = file_same it;
   }
 
   -- who owns what then
@@ -201,6 +203,7 @@ module _ {F : Type 0} {g : Ghosts F} where
         owners = λ then is_fat is_stream others. owners_same c (own_now b own) then (now_same b own then (is_fat ∙ fat) (is_stream ∙ ids) others) new;
         others = λ k' past. stays_then (allocator_of a) (allocator_of b) (allocator_of c) (own k') (own_now b own k') version (now_other b own k' (λ same. omega (arith, same, past)) (λ same. omega (arith, same, past))) (h.others k' past) (k.changes.others k' past);
         entries = tells_kept a b c k.entries ids len h.entries;
+        file = file_then a b c h.file k.file;
       }
 
   -- the mini FAT took in a sector
@@ -226,6 +229,7 @@ module _ {F : Type 0} {g : Ghosts F} where
             (eqb_tells n 2));
         others = λ n past. stays_then (allocator_of a) (allocator_of b) (allocator_of c) (own n) (mine n) version (now_other b own n (λ same. omega (arith, same, past)) (λ same. omega (arith, same, past))) (h.others n past) (k.others n (λ same. omega (arith, same, past)));
         entries = tells_kept a b c k.entries ids len h.entries;
+        file = file_then a b c h.file k.file;
       }
 
   -- the mini stream did
@@ -261,6 +265,7 @@ module _ {F : Type 0} {g : Ghosts F} where
             ∙ ap (λ l. set l 0 (record mid_root { start = slice_index_or (mini_stream_ids c) 0 end_of_chain; size = mini_stream_len c })) (told e found)
             ∙ set_again held mid_root (record e { start = slice_index_or (mini_stream_ids c) 0 end_of_chain; size = mini_stream_len c })))
             h.entries;
+        file = file_then a b c h.file k.file;
       }
 
   tables_rest : (b c : Allocator F g) → AllRests b c → tables_of c ≡ tables_of b
@@ -309,6 +314,7 @@ module _ {F : Type 0} {g : Ghosts F} where
         owners = λ then is_fat is_stream others. owners_same c (own_now b own) then (now_same b own then (is_fat ∙ rests.mini_fat_ids) (is_stream ∙ rests.mini_stream_ids) others) new;
         others = λ n past. stays_rest (allocator_of a) (allocator_of b) (allocator_of c) (own n) version was.honest layer (h.others n past);
         entries = tells_kept a b c rests.directory.entries rests.mini_stream_ids len h.entries;
+        file = file_then a b c h.file (file_rests b c was.honest rests);
       }
 
   -- reads one after the other
@@ -401,4 +407,5 @@ module _ {F : Type 0} {g : Ghosts F} where
         owners = λ then fat stream others. k.owners then fat stream (λ n one two. others n one two ∙ sym (now_other b own n one two));
         others = λ n past. stays_then (allocator_of a) (allocator_of b) (allocator_of c) (own n) (own_now b own n) version (now_other b own n (λ same. omega (arith, same, past)) (λ same. omega (arith, same, past))) (h.others n past) (k.others n past);
         entries = tells_then a b c (len_same b c next was.memory new.memory) h.entries k.entries;
+        file = file_then a b c h.file k.file;
       }

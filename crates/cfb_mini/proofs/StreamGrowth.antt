@@ -1,9 +1,9 @@
 -- The mini stream takes in a sector, and the root's entry tells of it.
-use Rattle.std.proofs.Common.{◌≡◌, ℕ, ◌+◌, ◌*◌, ◌<◌, false, List, [], ◌∷◌, ◌++◌, length, take, replicate, set, refl, ap, sym, subst, ◌∙◌, arith, append-nil, length-append, IsTrue}
+use Rattle.std.proofs.Common.{◌≡◌, ℕ, ◌+◌, ◌*◌, ◌<◌, ◌≤◌, false, List, [], ◌∷◌, ◌++◌, length, take, replicate, set, refl, ap, sym, subst, ◌∙◌, arith, append-nil, length-append, IsTrue}
 use Rattle.std.specs.Prelude.{slice_get, slice_index_or, Some}
 use Rattle.std.proofs.lemmas.List.{take_all}
 use Rattle.cfb_medium.specs.Numbers.{numbers}
-use Rattle.cfb_medium.specs.Versions.{sector_len}
+use Rattle.cfb_medium.specs.Versions.{sector_len, stream_len_mask}
 use Rattle.cfb_medium.specs.declared.medium.ReadMedium.{Ghosts}
 use Rattle.cfb_medium.specs.declared.version.Version.{Version}
 use Rattle.cfb_medium.specs.declared.version.Version.TheVariants.{V3, V4}
@@ -26,7 +26,7 @@ use Rattle.cfb_owned.proofs.GoingOn.{goes_then}
 use Rattle.cfb_tree.specs.Directory.{Entry}
 use Rattle.cfb_tree.specs.EntryViews.{entry_in}
 use Rattle.cfb_tree.specs.declared.entry.DirEntry.{DirEntry}
-use Rattle.cfb_directory.specs.Entries.{entries_in}
+use Rattle.cfb_directory.specs.Entries.{entries_in, SizesFit}
 use Rattle.cfb_directory.specs.Changes.{HasDirectory, LiesBeside, SetsEntry}
 use Rattle.cfb_directory.specs.Lent as lent
 use Rattle.cfb_directory.specs.Views as directory
@@ -38,7 +38,9 @@ use Rattle.cfb_mini.specs.NumberViews.{numbers_of}
 use Rattle.cfb_mini.specs.Views.{allocator_of, directory_of}
 use Rattle.cfb_mini.specs.declared.mini_allocator.MiniAllocator.{MiniAllocator}
 use Rattle.cfb_mini.specs.declared.mini_fat.MiniFat.{MiniFat}
+use Rattle.cfb_mini.proofs.Headers.{front_then}
 use Rattle.cfb_mini.proofs.Keeping.{bytes_still, linked_still, others_stay, pick, pick_mine, pick_other, still_owned}
+use Rattle.cfb_mini.proofs.KeptFile.{file_spared, front_kept, longer_by, sizes_set}
 
 -- the first of a list that was set
 set_first : {A : Type 0} (xs : List A) (x y z : A) → slice_get xs 0 ≡ Some x → slice_get (set xs 0 y) 0 ≡ Some z → z ≡ y
@@ -78,11 +80,11 @@ module _ {F : Type 0} {g : Ghosts F} where
   pub grows_stream_is : (it : MiniAllocator F g) (m : Allocator F g) (d : Directory F g) (mini : MiniFat) (own : ℕ → List ℕ) (count start len : ℕ) (e : Entry) → HasOwners it own → GoesOn (allocator_of it) m → has_failed_here m ≡ false
       → GoesOn m (directory.allocator_of d) → lent.IsKeptOver (directory_of it) → mini.links ≡ it.mini_fat.links → numbers_of mini.numbers ≡ numbers_of it.mini_fat.numbers
       → Resizes Zero count (allocator_of it) m it.mini_fat.stream mini.stream → count ≡ length (ids_of it.mini_fat.stream) + 1 → length (ids_of mini.stream) ≡ count
-      → start ≡ slice_index_or (ids_of mini.stream) 0 end_of_chain → len ≡ len_of mini.stream → slice_get (directory.entries_held (directory_of it)) 0 ≡ Some e
+      → start ≡ slice_index_or (ids_of mini.stream) 0 end_of_chain → len ≡ len_of mini.stream → len ≤ stream_len_mask (version_of (allocator_of it)) → slice_get (directory.entries_held (directory_of it)) 0 ≡ Some e
       → SetsEntry 0 (placed e start len) (directory.with_allocator (directory_of it) m) d
       → (directory.IsDirectory (directory.with_allocator (directory_of it) m) → LiesBeside (directory.with_allocator (directory_of it) m) → directory.IsDirectory d)
       → GrowsMiniStream it (record it { directory = d; mini_fat = mini }) own
-  grows_stream_is it m d mini own count start len e h goes live then kept links numbers_same resized is size start_is len_is found sets remembers =
+  grows_stream_is it m d mini own count start len e h goes live then kept links numbers_same resized is size start_is len_is fits found sets remembers =
       let a = allocator_of it in
       let b = directory.allocator_of d in
       let v = version_of a in
@@ -113,6 +115,7 @@ module _ {F : Type 0} {g : Ghosts F} where
       let fat_stays : Stays (sector v) (seen_of a) (seen_of b) fat_ids = subst (Stays (sector v) (seen_of a) (seen_of b)) h.mini_fat (both 1 (λ same. omega (arith, same)) (λ same. omega (arith, same))) in
       let stream_stays : Stays (sector (version_of m)) (seen_of m) (seen_of b) later = subst (Stays (sector (version_of m)) (seen_of m) (seen_of b)) (pick_mine own 2 later) (next 2 (λ same. omega (arith, same))) in
       let all : GoesOn a b = goes_then a m b goes then in
+      let longer : length (bytes_of a) ≤ length (bytes_of b) = let one = longer_by a m [] _ becomes.leaves in let two = longer_by m b [] _ touches.leaves in omega (arith, one, two) in
       let over : IsOver b mini = record {
         version = ap links_version links ∙ h.memory.over.version ∙ sym all.version;
         stream_version = resized.chain.has.version ∙ sym then.version;
@@ -147,6 +150,9 @@ module _ {F : Type 0} {g : Ghosts F} where
             sets.entries ∙ ap (λ y. set (directory.entries_held (directory_of it)) 0 (placed y start len)) (sym same)
             ∙ ap (λ n. set (directory.entries_held (directory_of it)) 0 (placed x n len)) start_is
             ∙ ap (λ n. set (directory.entries_held (directory_of it)) 0 (placed x (slice_index_or later 0 end_of_chain) n)) len_is;
+        file = file_spared it (record it { directory = d; mini_fat = mini }) resized.more all.version longer
+            (front_then 68 (bytes_of a) (bytes_of m) (bytes_of b) (front_kept a m _ becomes.leaves) (front_kept m b _ touches.leaves)) sets.ids (ap ids_of links) sectors
+            (λ fit. subst (SizesFit v) (sym sets.entries) (sizes_set v (directory.entries_held (directory_of it)) 0 (placed e start len) fits fit));
       }
 
   -- the directory over the sectors that the mini stream took in

@@ -15,6 +15,7 @@ use Rattle.cfb_fat.specs.declared.allocator.Allocator.{Allocator}
 use Rattle.cfb_owned.specs.Chains.{place_of, GoesOn}
 use Rattle.cfb_tree.specs.Directory.{Entry}
 use Rattle.cfb_directory.specs.Views as directory
+use Rattle.cfb_mini.specs.Files.{LeavesFile}
 use Rattle.cfb_mini.specs.Growing.{LacksMore, TellsMiniFat}
 use Rattle.cfb_mini.specs.LinkViews.{minis_of}
 use Rattle.cfb_mini.specs.Minis.{all_words, mini_place, mini_sector}
@@ -69,6 +70,7 @@ module _ {F : Type 0} {g : Ghosts F} where
     pub there : (k : ℕ) → at ≤ k → k < at + length bytes
         → place_of (version_of (allocator_of old)) (mini_stream_ids old) (mini_place (minis_of links) k) < length (bytes_of (allocator_of new))
     pub entries : directory.entries_held (directory_of new) ≡ directory.entries_held (directory_of old)
+    pub file : LeavesFile old new
 
   -- these mini sectors are free; no sector but the mini FAT's own is touched
   pub record Frees (minis : List ℕ) (old new : MiniAllocator F g) (own : ℕ → List ℕ) : Type 0 where
@@ -104,6 +106,7 @@ module _ {F : Type 0} {g : Ghosts F} where
     pub changes : Changes minis (taken ∷ []) later old new own own
     pub bytes : mini_stream_of new ≡ mini_stream_of old
     pub entries : directory.entries_held (directory_of new) ≡ directory.entries_held (directory_of old)
+    pub file : LeavesFile old new
 
   -- The mini FAT took in a sector that was in no use, of "free" numbers, and the header tells of it; all else that is owned stays.
   pub record GrowsMiniFat (old new : MiniAllocator F g) (own : ℕ → List ℕ) : Type 0 where
@@ -115,6 +118,7 @@ module _ {F : Type 0} {g : Ghosts F} where
     pub stream : mini_stream_of new ≡ mini_stream_of old
     pub told : TellsMiniFat (bytes_of (allocator_of new)) (mini_fat_ids new)
     pub entries : directory.entries_held (directory_of new) ≡ directory.entries_held (directory_of old)
+    pub file : LeavesFile old new
 
   -- The mini stream took in a sector that was in no use, of zeros, and the root's entry tells where it begins and how many bytes it
   -- has. All other entries stay, and all else that is owned.
@@ -127,6 +131,7 @@ module _ {F : Type 0} {g : Ghosts F} where
     pub mini_fat : mini_fat_of new ≡ mini_fat_of old
     pub root : (e : Entry) → slice_get (directory.entries_held (directory_of old)) 0 ≡ Some e
         → directory.entries_held (directory_of new) ≡ slice_set (directory.entries_held (directory_of old)) 0 (record e { start = slice_index_or (mini_stream_ids new) 0 end_of_chain; size = mini_stream_len new })
+    pub file : LeavesFile old new
 
   -- The directory took in sectors that were in no use, if any; but for these, its own, and these numbers of the header nothing was
   -- touched. All else that is owned stays, and the mini FAT.
@@ -166,6 +171,7 @@ module _ {F : Type 0} {g : Ghosts F} where
     pub owners : (then : ℕ → List ℕ) → then 1 ≡ mini_fat_ids new → then 2 ≡ mini_stream_ids new → ((k : ℕ) → (k ≡ 1 → ⊥) → (k ≡ 2 → ⊥) → then k ≡ own k) → HasOwners new then
     pub others : (k : ℕ) → 2 < k → Stays (sector (version_of (allocator_of old))) (seen_of (allocator_of old)) (seen_of (allocator_of new)) (own k)
     pub entries : TellsStream old new
+    pub file : LeavesFile old new
 
   -- nothing is left for a mini sector more: no number of a sector for the mini FAT or for the mini stream, or no room for its size
   abbrev pub LacksMini : MiniAllocator F g → Type 0

@@ -1,5 +1,6 @@
 -- When a child is refused that the directory is to take in over this layer ([MS-CFB] 2.6.4).
-use Rattle.std.specs.Prelude.{◌≡◌, ◌≢◌, ◌⊎◌, ℕ, List, None, IsTrue, slice_get, Some}
+use Rattle.std.specs.Prelude.{◌≡◌, ◌≢◌, ◌⊎◌, ℕ, Bool, List, None, IsTrue, slice_get, Some}
+use Rattle.cfb_directory.specs.Children.{HoldsStorage}
 use Rattle.cfb_directory.specs.Entries.{SizesFit}
 use Rattle.cfb_directory.specs.Views.{entries_held}
 use Rattle.cfb_fat.specs.Tables.{orderly_of, version_of}
@@ -7,11 +8,13 @@ use Rattle.cfb_medium.specs.Calls.{IsFaultUnless}
 use Rattle.cfb_medium.specs.declared.error.Error.{Error}
 use Rattle.cfb_medium.specs.declared.error.Error.TheVariants.{AlreadyExists, Full, InvalidInput}
 use Rattle.cfb_medium.specs.declared.medium.ReadMedium.{Ghosts}
+use Rattle.cfb_siblings.specs.Places.{path_to}
 use Rattle.cfb_tree.specs.Directory.{kind_root, Entry}
 use Rattle.cfb_tree.specs.Names.{is_name, Letters}
 use Rattle.cfb_tree.specs.Objects.{object_at}
 use Rattle.cfb_tree.specs.Paths.{Path}
 use Rattle.cfb_tree.specs.Tree.{Tree}
+use Rattle.cfb_mini.specs.Changing.{HasOwners}
 use Rattle.cfb_mini.specs.Views.{allocator_of, directory_of}
 use Rattle.cfb_mini.specs.declared.mini_allocator.MiniAllocator.{MiniAllocator}
 
@@ -31,3 +34,8 @@ module _ {F : Type 0} {g : Ghosts F} where
   pub record IsUsable (it : MiniAllocator F g) : Type 0 where
     pub orderly : IsTrue (orderly_of (allocator_of it))
     pub sizes : SizesFit (version_of (allocator_of it)) (entries_held (directory_of it))
+
+  -- of a child of this name in the storage `parent`, told for each tree that the entries hold
+  abbrev pub RefusesChild : Letters → MiniAllocator F g → ℕ → List ℕ → Error → Type 0
+  RefusesChild letters it parent name e = (reads : ℕ → ℕ → List ℕ → Bool) (tree : Tree) (path : Path) (own : ℕ → List ℕ) → HoldsStorage letters reads (entries_held (directory_of it)) tree path parent
+      → HasOwners it own → IsUsable it → IsRefusedChild letters tree (path_to path name) name e

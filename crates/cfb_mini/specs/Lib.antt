@@ -1,6 +1,7 @@
 pub mod Changing
 pub mod Children
 pub mod Entering
+pub mod Files
 pub mod Growing
 pub mod Layers
 pub mod LinkViews

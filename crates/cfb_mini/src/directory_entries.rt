@@ -10,7 +10,7 @@ ghost use Rattle.cfb_medium.specs.Versions.{stream_len_mask};
 ghost use Rattle.cfb_medium.specs.declared.error.Error.TheVariants.{InvalidData, InvalidInput};
 ghost use Rattle.cfb_medium.specs.Times.{units_of};
 ghost use Rattle.cfb_mini.specs.Changing.{ChangesDirectory, HasOwners, KeepsOwners};
-ghost use Rattle.cfb_mini.specs.Children.{HasRoot, IsRefusedChild, IsUsable};
+ghost use Rattle.cfb_mini.specs.Children.{HasRoot, IsUsable, RefusesChild};
 ghost use Rattle.cfb_mini.specs.Views.{allocator_of, directory_of};
 ghost use Rattle.cfb_owned.specs.Chains.{GoesOn};
 ghost use Rattle.cfb_siblings.specs.Changes.{IsAlone};
@@ -92,11 +92,8 @@ impl<F: Medium> MiniAllocator<F> {
             → HasRoot (entries_held (directory_of self.old))
             → ChangesDirectory (count_words (version_of (allocator_of self.old))) self.old
             self.new own) }
-        ensures refused { IfErr result (λ e. (reads : ℕ → ℕ → List ℕ → Bool) (tree : Tree)
-            (path : Path) (own : ℕ → List ℕ) → HoldsStorage (letters_of letters.now) reads
-            (entries_held (directory_of self.old)) tree path parent → HasOwners self.old own
-            → IsUsable self.old → IsRefusedChild (letters_of letters.now) tree
-            (path_to path (chars name.now)) (chars name.now) e) }
+        ensures refused { IfErr result (RefusesChild (letters_of letters.now) self.old parent
+            (chars name.now)) }
         ensures rests { OnErr result ((has_failed_here (allocator_of self.new) ≡ true)
             ⊎ KeepsOwners self.old self.new) }
         ensures goes_on { GoesOn (allocator_of self.old) (allocator_of self.new) }

@@ -4,9 +4,16 @@ pub mod LongBytes
 pub mod LongChains
 pub mod LongLinks
 pub mod LongStreams
+pub mod MiniBytes
+pub mod MiniMoves
+pub mod Moved
 pub mod Others
 pub mod Placed
+pub mod Replaced
 pub mod Rewritten
 pub mod StreamsMade
+pub mod ShortAt
+pub mod ShortLinks
+pub mod ShortStreams
 pub mod Stretching
 pub mod TakenHomes

@@ -35,7 +35,7 @@ pub zero_at : (count i : ℕ) → get_or (zeros count) i 0 ≡ 0
 zero_at count i = ⊎_elim (λ past. get_or_past (zeros count) i 0 (let size = length-replicate {A = ℕ} count 0 in let p = past.1 in omega (arith, size, p))) (λ below. get_or-replicate count i 0 0 below.1) (leb_tells count i)
 
 -- so many zeros are read behind a list's end
-get_padded : (xs : List ℕ) (count k : ℕ) → get_or (xs ++ zeros count) k 0 ≡ get_or xs k 0
+pub get_padded : (xs : List ℕ) (count k : ℕ) → get_or (xs ++ zeros count) k 0 ≡ get_or xs k 0
 get_padded xs count k =
     ⊎_elim
     (λ past. get_or-append_right xs (zeros count) (length xs) k 0 refl past.1 ∙ zero_at count (k - length xs) ∙ sym (get_or_past xs k 0 past.1))

@@ -10,13 +10,13 @@ use Rattle.cfb_fat.specs.Tables.{bytes_of, fat_of, has_failed_here, tables_of, v
 use Rattle.cfb_fat.specs.declared.allocator.Allocator.{Allocator}
 use Rattle.cfb_live.specs.Freeing.{CarriesBut, Stands}
 use Rattle.cfb_live.specs.Live.{live_of}
-use Rattle.cfb_live.proofs.Headers.{header_stays, u32_same, KeepsFront}
 use Rattle.cfb_live.proofs.KeptNow.{kept_now}
 use Rattle.cfb_medium.specs.Versions.{sector_len}
 use Rattle.cfb_medium.specs.declared.medium.ReadMedium.{Ghosts}
 use Rattle.cfb_mini.specs.Changing.{with_allocator, HasOwners, IsKeptOver}
 use Rattle.cfb_mini.specs.Views.{allocator_of, directory_of}
 use Rattle.cfb_mini.specs.declared.mini_allocator.MiniAllocator.{MiniAllocator}
+use Rattle.cfb_mini.proofs.Headers.{header_stays, u32_same, KeepsFront}
 use Rattle.cfb_mini.proofs.Keeping.{pick, pick_mine, pick_other}
 use Rattle.cfb_owned.specs.Chains.{GoesOn}
 use Rattle.cfb_owners.specs.Owners.{first_of, mini_stream_owner, stream_owner, Owners}
@@ -51,7 +51,7 @@ module _ {F : Type 0} {g : Ghosts F} (old : MiniAllocator F g) (b : Allocator F 
   unfolding seen_of
   longer = becomes.leaves.longer
 
-  keeps_front : KeepsFront (bytes_of (allocator_of old)) (bytes_of b)
+  keeps_front : KeepsFront 68 (bytes_of (allocator_of old)) (bytes_of b)
   unfolding seen_of
   keeps_front place count front beside = becomes.leaves.header place count front (⊎_elim (λ before. inl (omega (arith, before))) (λ behind. inr (omega (arith, behind))) beside, tt)
 
@@ -89,9 +89,9 @@ module _ {F : Type 0} {g : Ghosts F} (old : MiniAllocator F g) (b : Allocator F 
         sizes = subst (λ u. SizesFit u (entries_held (directory_of old))) (sym goes.version) m.sizes;
         root = m.root;
         kept = kept_now (with_allocator old b) now live orderly has_owners m.root
-            (subst (λ u. IsHeader u (bytes_of b)) (sym goes.version) (header_stays (bytes_of a) (bytes_of b) whole longer keeps_front v was.header))
-            (u32_same (bytes_of a) (bytes_of b) whole longer keeps_front 48 (omega arith) (inr (omega arith)) ∙ was.directory_at ∙ sym (ap first_of (pick_other who.sectors key later 0 (apart 0 (omega arith)))))
-            (u32_same (bytes_of a) (bytes_of b) whole longer keeps_front 60 (omega arith) (inr (omega arith)) ∙ was.mini_fat_at ∙ sym (ap first_of (pick_other who.sectors key later 1 (apart 1 (omega arith)))))
+            (subst (λ u. IsHeader u (bytes_of b)) (sym goes.version) (header_stays 68 (omega arith) (bytes_of a) (bytes_of b) whole longer keeps_front (omega arith) v was.header))
+            (u32_same 68 (omega arith) (bytes_of a) (bytes_of b) whole longer keeps_front 48 (omega arith) (inr (omega arith)) ∙ was.directory_at ∙ sym (ap first_of (pick_other who.sectors key later 0 (apart 0 (omega arith)))))
+            (u32_same 68 (omega arith) (bytes_of a) (bytes_of b) whole longer keeps_front 60 (omega arith) (inr (omega arith)) ∙ was.mini_fat_at ∙ sym (ap first_of (pick_other who.sectors key later 1 (apart 1 (omega arith)))))
             was.root_found was.root_kind was.minis_owned
             (λ k. subst (λ n. AllByRecursion (λ x. 64 * x + 64 ≤ n) (who.minis k)) (ap (λ u. length (who.sectors mini_stream_owner) * sector_len u) (sym goes.version) ∙ ap (λ l. length l * sector_len (version_of b)) (sym stream)) (was.minis_there k))
             was.minis_of_streams;

@@ -1,5 +1,5 @@
 -- A stream whose sectors were changed, and whose entry tells of them then.
-use Rattle.std.proofs.Common.{◌≡◌, ℕ, ◌+◌, ◌≤◌, ◌⊎◌, inl, false, List, [], ◌∷◌, zero, suc, refl, ap, sym, subst, ◌∙◌, arith, IsTrue}
+use Rattle.std.proofs.Common.{◌≡◌, ℕ, ◌+◌, ◌<◌, ◌≤◌, ◌⊎◌, inl, false, List, [], ◌∷◌, zero, suc, refl, ap, sym, subst, ◌∙◌, arith, IsTrue}
 use Rattle.std.specs.Prelude.{slice_get, slice_set, Some}
 use Rattle.cfb_chains.specs.LinkViews.{ids_of, links_version}
 use Rattle.cfb_chains.specs.declared.links.Links.{Links}
@@ -11,11 +11,11 @@ use Rattle.cfb_live.specs.Freeing.{CarriesBut, FreesStream, Stands}
 use Rattle.cfb_live.specs.Live.{live_of}
 use Rattle.cfb_live.proofs.Carried.{stream_stays, Carries}
 use Rattle.cfb_live.proofs.Directories.{carries, has_owners, kept_later, owners_now}
-use Rattle.cfb_medium.specs.Versions.{stream_len_mask}
 use Rattle.cfb_medium.specs.declared.medium.ReadMedium.{Ghosts}
-use Rattle.cfb_medium.specs.declared.version.Version.{Version}
 use Rattle.cfb_mini.specs.Changing.{ChangesDirectory}
+use Rattle.cfb_mini.specs.LinkViews.{minis_of}
 use Rattle.cfb_mini.specs.Views.{allocator_of, directory_of}
+use Rattle.cfb_mini.specs.declared.links.MiniLinks.{MiniLinks}
 use Rattle.cfb_mini.specs.declared.mini_allocator.MiniAllocator.{MiniAllocator}
 use Rattle.cfb_owned.specs.Chains.{GoesOn}
 use Rattle.cfb_owners.specs.Held.{HasStream, MeansHeld}
@@ -23,10 +23,11 @@ use Rattle.cfb_owners.specs.Kept.{Kept}
 use Rattle.cfb_owners.specs.LiveFile.{LiveFile}
 use Rattle.cfb_owners.specs.Owners.{first_of, stream_owner, Owners}
 use Rattle.cfb_mini.proofs.Keeping.{pick_other}
+use Rattle.cfb_mini.proofs.KeptFile.{sizes_set}
 use Rattle.cfb_sectors.specs.Header.{mini_cutoff}
 use Rattle.cfb_sectors.specs.Sectors.{end_of_chain}
 use Rattle.cfb_streams.specs.Streams.{IsOfLevel, LiesIn}
-use Rattle.cfb_streams.specs.declared.opening.StreamLinks.TheVariants.{Long}
+use Rattle.cfb_streams.specs.declared.opening.StreamLinks.TheVariants.{Long, Short}
 use Rattle.cfb_siblings.specs.Changes.{HasSameLinks}
 use Rattle.cfb_siblings.specs.Places.{LeadsTo}
 use Rattle.cfb_siblings.proofs.Frames.{set_changes_only, set_found}
@@ -42,13 +43,7 @@ use Rattle.cfb_writing.proofs.Links.{differ, own_links, place_links}
 use Rattle.cfb_writing.proofs.LongLinks.{long_links}
 use Rattle.cfb_writing.proofs.Others.{carries_others, others_then}
 use Rattle.cfb_writing.proofs.Rewritten.{found_rewritten, held_rewritten, mid_same, not_zero, stream_entry, StreamEntry, StreamFound}
-
-sizes_set : (v : Version) (xs : List Entry) (id : ℕ) (f : Entry) → f.size ≤ stream_len_mask v → SizesFit v xs → SizesFit v (slice_set xs id f)
-sizes_set v [] id f few fits k x at = absurd (cc)
-sizes_set v (y ∷ xs) zero f few fits zero x at = subst (λ (z : Entry). z.size ≤ stream_len_mask v) (Some_same at) few
-sizes_set v (y ∷ xs) zero f few fits (suc k) x at = fits (suc k) x at
-sizes_set v (y ∷ xs) (suc id) f few fits zero x at = fits 0 x at
-sizes_set v (y ∷ xs) (suc id) f few fits (suc k) x at = sizes_set v xs id f few (λ j. fits (suc j)) k x at
+use Rattle.cfb_writing.proofs.ShortLinks.{short_links}
 
 -- where all streams stay, those of others do
 any_others : (key : ℕ) (s t : LiveFile) (who now : Owners) → Carries s t who now → CarriesBut key s t who now
@@ -208,6 +203,12 @@ module _ {F : Type 0} {g : Ghosts F} (letters : Letters) (old mid new : MiniAllo
       let one : f ≡ e = Some_same (sym new_at ∙ found) in
       subst (λ (x : Entry). LiesIn new x.start x.size (ids_of links) × IsOfLevel new x.size (Long links)) one
       (long_links new now stands_new id f content' links has_now up (pick_other moved.now.sectors 0 (directory_ids (directory_of new)) (stream_owner id) (λ is. omega (arith, is)) ∙ mine) (version ∙ sym goes.version))
+
+  -- or in its mini sectors
+  pub placed_minis : (links : MiniLinks) → moved.now.minis (stream_owner id) ≡ minis_of links → size < mini_cutoff → AreLinksOf id (Short links) new
+  placed_minis links mine below e found =
+      let one : f ≡ e = Some_same (sym new_at ∙ found) in
+      subst (λ (x : Entry). LiesIn new x.start x.size (minis_of links) × IsOfLevel new x.size (Short links)) one (short_links new now stands_new id f content' links has_now below mine)
 
 set_same : (xs : List Entry) (id : ℕ) (e : Entry) → slice_get xs id ≡ Some e → xs ≡ slice_set xs id e
 set_same [] id e found = refl

@@ -1,19 +1,31 @@
 -- What a live file is while the sectors of one of its streams are in change: all others stay.
 use Rattle.std.specs.Prelude.{◌≡◌, ℕ, ◌<◌, ◌≤◌, ◌⊎◌, List, [], length, slice_get, slice_set, Some}
+use Rattle.cfb_chains.specs.LinkViews.{ids_of, links_version}
 use Rattle.cfb_directory.specs.Views.{entries_held}
 use Rattle.cfb_live.specs.Freeing.{Stands}
 use Rattle.cfb_live.specs.Live.{live_of}
 use Rattle.cfb_fat.specs.Tables.{version_of}
 use Rattle.cfb_medium.specs.Versions.{stream_len_mask}
 use Rattle.cfb_medium.specs.declared.medium.ReadMedium.{Ghosts}
+use Rattle.cfb_medium.specs.declared.version.Version.{Version}
 use Rattle.cfb_mini.specs.Changing.{ChangesDirectory, HasOwners}
+use Rattle.cfb_mini.specs.LinkViews.{minis_of}
 use Rattle.cfb_mini.specs.Views.{allocator_of, directory_of}
 use Rattle.cfb_mini.specs.declared.mini_allocator.MiniAllocator.{MiniAllocator}
 use Rattle.cfb_owners.specs.Held.{mini_joined, mini_places_of, HasStream}
 use Rattle.cfb_owners.specs.LiveFile.{LiveFile}
 use Rattle.cfb_owners.specs.Owners.{mini_stream_owner, stream_owner, Owners}
+use Rattle.cfb_sectors.specs.Header.{mini_cutoff}
 use Rattle.cfb_sectors.specs.Sectors.{joined}
+use Rattle.cfb_streams.specs.declared.opening.StreamLinks.{StreamLinks}
+use Rattle.cfb_streams.specs.declared.opening.StreamLinks.TheVariants.{Long, Short}
 use Rattle.cfb_tree.specs.Directory.{Entry}
+
+-- the links are of what the stream of entry `id` owns: of mini sectors where it has fewer than 4096 bytes, and else of sectors
+-- ([MS-CFB] 2.4)
+abbrev pub AreOwned : Version → Owners → ℕ → ℕ → StreamLinks → Type 0
+AreOwned version who id size (Short minis) = (size < mini_cutoff) × (who.minis (stream_owner id) ≡ minis_of minis)
+AreOwned version who id size (Long links) = (mini_cutoff ≤ size) × (who.sectors (stream_owner id) ≡ ids_of links) × (links_version links ≡ version)
 
 -- the same version, at least as many bytes, and all streams but this owner's have the sectors and the mini sectors that they had,
 -- with their bytes

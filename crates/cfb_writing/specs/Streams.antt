@@ -1,13 +1,16 @@
 -- A stream of a live file, and what a call does to its bytes ([MS-CFB] 2.6.3).
 use Rattle.std.specs.Prelude.{◌≡◌, ℕ, ◌+◌, ◌-◌, ◌<◌, ◌++◌, List, length, replicate, slice_get, take, Some}
+use Rattle.cfb_chains.specs.LinkViews.{ids_of, links_version}
 use Rattle.cfb_directory.specs.Views.{entries_held}
 use Rattle.cfb_live.specs.Live.{Means}
 use Rattle.cfb_medium.specs.declared.medium.ReadMedium.{Ghosts}
+use Rattle.cfb_mini.specs.LinkViews.{minis_of}
 use Rattle.cfb_mini.specs.Views.{directory_of}
 use Rattle.cfb_mini.specs.declared.mini_allocator.MiniAllocator.{MiniAllocator}
 use Rattle.cfb_siblings.specs.Places.{LeadsTo}
 use Rattle.cfb_streams.specs.Streams.{sectors_in, IsOfLevel, LiesIn}
 use Rattle.cfb_streams.specs.declared.opening.StreamLinks.{StreamLinks}
+use Rattle.cfb_streams.specs.declared.opening.StreamLinks.TheVariants.{Long, Short}
 use Rattle.cfb_tree.specs.Changes.{changed, with_bytes}
 use Rattle.cfb_tree.specs.Directory.{Entry}
 use Rattle.cfb_tree.specs.Names.{Letters}
@@ -18,6 +21,18 @@ use Rattle.cfb_tree.specs.Tree.{Tree}
 -- so many bytes: the first of these, and then zeros
 abbrev pub resized : ℕ → List ℕ → List ℕ
 resized len content = take len content ++ replicate (len - length content) 0
+
+-- mini sectors, of a stream below 4096 bytes
+abbrev pub IsShort : StreamLinks → Type 0
+IsShort (Short minis) = Unit {0}
+IsShort (Long links) = ⊥
+
+-- the same sectors, of the same level
+abbrev pub AreAlike : StreamLinks → StreamLinks → Type 0
+AreAlike (Short before) (Short after) = minis_of after ≡ minis_of before
+AreAlike (Long before) (Long after) = (ids_of after ≡ ids_of before) × (links_version after ≡ links_version before)
+AreAlike (Short before) (Long after) = ⊥
+AreAlike (Long before) (Short after) = ⊥
 
 module _ {F : Type 0} {g : Ghosts F} where
   -- the live file means the tree, and the path leads to entry `id`: the object there is a stream with these bytes
@@ -45,6 +60,11 @@ module _ {F : Type 0} {g : Ghosts F} where
   abbrev pub RewritesIn : ℕ → (List ℕ → List ℕ) → StreamLinks → StreamLinks → MiniAllocator F g → MiniAllocator F g → Type 0
   RewritesIn id change before after old new = (letters : Letters) (tree : Tree) (path : Path) (content : List ℕ) → IsStreamAt letters old tree path id content → AreLinksOf id before old
       → IsStreamAt letters new (changed letters (with_bytes (change content)) path tree) path id (change content) × AreLinksOf id after new
+
+  -- a stream of entry `id` has then these bytes, in these sectors, and nothing else of the tree is changed
+  abbrev pub Replaces : ℕ → List ℕ → StreamLinks → MiniAllocator F g → MiniAllocator F g → Type 0
+  Replaces id bytes after old new = (letters : Letters) (tree : Tree) (path : Path) (content : List ℕ) → IsStreamAt letters old tree path id content
+      → IsStreamAt letters new (changed letters (with_bytes bytes) path tree) path id bytes × AreLinksOf id after new
 
   -- entry `id` is no stream with these sectors
   abbrev pub HasNoLinks : ℕ → StreamLinks → MiniAllocator F g → Type 0

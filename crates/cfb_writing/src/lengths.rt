@@ -17,7 +17,7 @@ ghost use Rattle.cfb_sectors.specs.declared.initial.SectorInit.TheVariants.{Zero
 ghost use Rattle.cfb_writing.specs.Moving.{Houses, MovesLong};
 ghost use Rattle.cfb_writing.specs.Streams.{resized};
 ghost use Rattle.cfb_tree.specs.Directory.{Entry};
-ghost use Rattle.std.specs.Prelude.{length, replicate, true, IsErrOf, List, OnErr, OnOk, ℕ, ◌+◌, ◌<◌, ◌≡◌, ◌≤◌, ◌⊎◌};
+ghost use Rattle.std.specs.Prelude.{false, length, replicate, true, IsErrOf, List, OnErr, OnOk, ℕ, ◌+◌, ◌<◌, ◌≡◌, ◌≤◌, ◌⊎◌};
 
 use crate::overwriting::overwrite_long;
 use cfb_chains::Links;
@@ -47,6 +47,8 @@ pub(crate) fn resize_chain<F: Medium>(
         → links_version links.old ≡ version_of (allocator_of mini.old) → ⊥ }
     ensures size { OnOk result (length (ids_of links.new)
         ≡ sectors_for (links_version links.old) len) }
+    ensures kept { OnErr result (has_failed_here (allocator_of mini.new) ≡ false
+        → ids_of links.new ≡ ids_of links.old) }
     ensures version { links_version links.new ≡ links_version links.old }
     ensures rests { OnErr result ((has_failed_here (allocator_of mini.new) ≡ true)
         ⊎ KeepsOwners mini.old mini.new) }
@@ -99,6 +101,8 @@ pub(crate) fn stretch_long<F: Medium>(
     ensures refused { IsErrOf result InvalidData → (who : Owners) (id : ℕ) → Stands mini.old who
         → who.sectors (stream_owner id) ≡ ids_of links.old
         → links_version links.old ≡ version_of (allocator_of mini.old) → ⊥ }
+    ensures kept { OnErr result (has_failed_here (allocator_of mini.new) ≡ false
+        → ids_of links.new ≡ ids_of links.old) }
     ensures version { links_version links.new ≡ links_version links.old }
     ensures rests { OnErr result ((has_failed_here (allocator_of mini.new) ≡ true)
         ⊎ KeepsOwners mini.old mini.new) }

@@ -4,12 +4,15 @@
 mod creating;
 mod emptying;
 mod lengths;
+mod moving;
 mod overwriting;
 mod placing;
+mod streams;
 mod taking;
 mod writing;
 
 pub use creating::create_stream;
 pub use emptying::empty_stream;
+pub use streams::{overwrite_stream, resize_stream};
 pub use taking::take_long;
 pub use writing::{overwrite_long_stream, resize_long_stream};

@@ -1,23 +1,27 @@
-//! Sectors for a stream that has none ([MS-CFB] 2.3).
+//! Sectors and mini sectors for a stream that has none ([MS-CFB] 2.3, 2.4).
 ghost use Rattle.cfb_chains.specs.ChainCalls.{IsInvalidOrFull};
 ghost use Rattle.cfb_chains.specs.LinkViews.{ids_of, links_version};
 ghost use Rattle.cfb_fat.specs.Tables.{has_failed_here, version_of, HasCauseBelow};
 ghost use Rattle.cfb_live.specs.Freeing.{Stands};
 ghost use Rattle.cfb_medium.specs.Calls.{IsFaultUnless};
 ghost use Rattle.cfb_medium.specs.declared.error.Error.TheVariants.{InvalidData};
+ghost use Rattle.cfb_mini.specs.LinkViews.{minis_of};
 ghost use Rattle.cfb_mini.specs.Views.{allocator_of};
 ghost use Rattle.cfb_owned.specs.Chains.{GoesOn};
 ghost use Rattle.cfb_owners.specs.Owners.{first_of, stream_owner, Owners, OwnsNothing};
 ghost use Rattle.cfb_sectors.specs.Header.{mini_cutoff};
-ghost use Rattle.cfb_writing.specs.Moving.{Houses};
+ghost use Rattle.cfb_streams.specs.Streams.{sectors_in};
+ghost use Rattle.cfb_writing.specs.Moving.{AreOwned, Houses};
 ghost use Rattle.cfb_writing.specs.Streams.{resized};
-ghost use Rattle.std.specs.Prelude.{false, length, true, IfErr, IfOk, IsErrOf, OnErr, OnOk, ℕ, ◌≡◌, ◌≤◌, ◌⊎◌};
+ghost use Rattle.std.specs.Prelude.{false, length, true, IfErr, IfOk, IsErrOf, OnErr, OnOk, ℕ, ◌<◌, ◌≡◌, ◌≤◌, ◌⊎◌};
 
 use crate::lengths::resize_chain;
 use crate::overwriting::overwrite_long;
 use cfb_chains::Links;
 use cfb_medium::{Error, Medium};
-use cfb_mini::MiniAllocator;
+use cfb_mini::{MiniAllocator, MiniLinks};
+use cfb_sectors::{MINI_SECTOR_LEN, MINI_STREAM_CUTOFF};
+use cfb_streams::StreamLinks;
 use std::alloc::Global;
 
 /// Takes sectors for a long stream of so many bytes that owns none: it has these bytes, and zeros behind them. The stream's entry is
@@ -61,4 +65,73 @@ pub fn take_long<F: Medium>(
         return Err(error);
     }
     Ok(links)
+}
+
+// Takes mini sectors for a short stream of these bytes that owns none. The stream's entry is to tell of them then. `Full` where
+// fewer numbers are left, `InvalidData` where the FAT's tables can't be changed. After an error it has failed ([MS-CFB] 2.4).
+fn take_short<F: Medium>(
+    alloc: Global,
+    mini: &mut MiniAllocator<F>,
+    bytes: &[u8],
+) -> Result<MiniLinks, Error>
+    requires live { has_failed_here (allocator_of mini.old) ≡ false }
+    requires short { length bytes.now < mini_cutoff }
+    ensures taken { IfOk result (λ links. (who : Owners) (id : ℕ) → Stands mini.old who
+        → OwnsNothing who (stream_owner id)
+        → (it : Houses id (first_of (minis_of links)) bytes.now mini.old mini.new who)
+        × (it.moves.now.minis (stream_owner id) ≡ minis_of links)) }
+    ensures refused { IsErrOf result InvalidData → (who : Owners) (id : ℕ) → Stands mini.old who
+        → OwnsNothing who (stream_owner id) → ⊥ }
+    ensures live { OnOk result (has_failed_here (allocator_of mini.new) ≡ false) }
+    ensures failed { OnErr result (has_failed_here (allocator_of mini.new) ≡ true) }
+    ensures goes_on { GoesOn (allocator_of mini.old) (allocator_of mini.new) }
+    ensures cause { IfErr result (HasCauseBelow (allocator_of mini.old) (allocator_of mini.new)) }
+    ensures fault { IfErr result (λ e. IsFaultUnless ⊥ e ⊎ IsInvalidOrFull e) }
+{
+    let mut links = MiniLinks::new(alloc);
+    let count = bytes.len().div_ceil(MINI_SECTOR_LEN);
+    if let Err(error) = mini.lengthen_mini_chain(&mut links, count) {
+        mini.fail();
+        return Err(error);
+    }
+    if let Err(error) = mini.overwrite_mini_chain(&links, 0, bytes) {
+        mini.fail();
+        return Err(error);
+    }
+    Ok(links)
+}
+
+// Takes mini sectors for a stream of so many bytes that owns none where they are fewer than 4096, and else sectors: it has these
+// bytes, and zeros behind them. After an error it has failed ([MS-CFB] 2.4).
+pub(crate) fn take_home<F: Medium>(
+    alloc: Global,
+    mini: &mut MiniAllocator<F>,
+    bytes: &[u8],
+    len: u64,
+) -> Result<StreamLinks, Error>
+    requires live { has_failed_here (allocator_of mini.old) ≡ false }
+    requires fits { length bytes.now ≤ len }
+    requires whole { len < mini_cutoff → length bytes.now ≡ len }
+    ensures taken { IfOk result (λ links. (who : Owners) (id : ℕ) → Stands mini.old who
+        → OwnsNothing who (stream_owner id)
+        → (it : Houses id (first_of (sectors_in links)) (resized len bytes.now) mini.old mini.new who)
+        × AreOwned (version_of (allocator_of mini.old)) it.moves.now id len links) }
+    ensures refused { IsErrOf result InvalidData → (who : Owners) (id : ℕ) → Stands mini.old who
+        → OwnsNothing who (stream_owner id) → ⊥ }
+    ensures live { OnOk result (has_failed_here (allocator_of mini.new) ≡ false) }
+    ensures failed { OnErr result (has_failed_here (allocator_of mini.new) ≡ true) }
+    ensures goes_on { GoesOn (allocator_of mini.old) (allocator_of mini.new) }
+    ensures cause { IfErr result (HasCauseBelow (allocator_of mini.old) (allocator_of mini.new)) }
+    ensures fault { IfErr result (λ e. IsFaultUnless ⊥ e ⊎ IsInvalidOrFull e) }
+{
+    if len < u64::from(MINI_STREAM_CUTOFF) {
+        return match take_short(alloc, mini, bytes) {
+            Ok(links) => Ok(StreamLinks::Short(links)),
+            Err(error) => Err(error),
+        };
+    }
+    match take_long(alloc, mini, bytes, len) {
+        Ok(links) => Ok(StreamLinks::Long(links)),
+        Err(error) => Err(error),
+    }
 }

@@ -12,8 +12,8 @@ ghost use Rattle.cfb_owned.specs.Chains.{GoesOn, IsInvalidPlaceOrFull};
 ghost use Rattle.cfb_owners.specs.Owners.{first_of};
 ghost use Rattle.cfb_sectors.specs.Header.{mini_cutoff};
 ghost use Rattle.cfb_streams.specs.declared.opening.StreamLinks.TheVariants.{Long};
-ghost use Rattle.cfb_writing.specs.Streams.{resized, HasNoLinks, IsPast, RewritesIn};
-ghost use Rattle.std.specs.Prelude.{length, true, IsErrOf, IsTrue, OnErr, OnOk, ◌+◌, ◌<◌, ◌≡◌, ◌≤◌, ◌↔◌, ◌⊎◌};
+ghost use Rattle.cfb_writing.specs.Streams.{resized, AreAlike, HasNoLinks, IsPast, RewritesIn};
+ghost use Rattle.std.specs.Prelude.{false, length, true, IsErrOf, IsTrue, OnErr, OnOk, ◌+◌, ◌<◌, ◌≡◌, ◌≤◌, ◌↔◌, ◌⊎◌};
 
 use crate::lengths::stretch_long;
 use crate::overwriting::overwrite_long;
@@ -24,7 +24,7 @@ use cfb_mini::MiniAllocator;
 use cfb_sectors::{END_OF_CHAIN, HasSectors};
 
 // Whether so many bytes from a place on lie in a stream of this size.
-fn lies_in(size: u64, at: u64, count: usize) -> bool
+pub(crate) fn lies_in(size: u64, at: u64, count: usize) -> bool
     ensures { IsTrue result ↔ (at + count ≤ size) }
 {
     match at.checked_add(count as u64) {
@@ -71,7 +71,7 @@ pub fn overwrite_long_stream<F: Medium>(
 }
 
 // The first of a chain's sectors; "end of chain" where there is none.
-fn first_sector(links: &Links) -> u32
+pub(crate) fn first_sector(links: &Links) -> u32
     ensures { result ≡ first_of (ids_of links.now) }
 {
     match links.sector_ids().first() {
@@ -94,6 +94,8 @@ pub fn resize_long_stream<F: Medium>(
     requires { mini_cutoff ≤ len }
     ensures resized { OnOk result (RewritesIn id (resized len) (Long links.old) (Long links.new)
         mini.old mini.new) }
+    ensures kept { OnErr result (has_failed_here (allocator_of mini.new) ≡ false
+        → AreAlike (Long links.old) (Long links.new)) }
     ensures large { IsErrOf result InvalidInput
         → stream_len_mask (version_of (allocator_of mini.old)) < len }
     ensures refused { IsErrOf result InvalidData → HasNoLinks id (Long links.old) mini.old }

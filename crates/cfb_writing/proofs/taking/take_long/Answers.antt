@@ -1,8 +1,10 @@
 use Rattle.std.proofs.Common.{◌≡◌, [], ap, sym, subst, ◌∙◌}
+use Rattle.std.specs.Prelude.{Err}
 use Rattle.cfb_chains.specs.LinkViews.{ids_of, links_version}
 use Rattle.cfb_chains.specs.Positions.{sectors_for}
 use Rattle.cfb_fat.specs.Keeping.{fails_cause}
 use Rattle.cfb_fat.specs.Tables.{version_of}
+use Rattle.cfb_medium.specs.declared.error.Error.TheVariants.{InvalidData}
 use Rattle.cfb_mini.specs.Views.{allocator_of}
 use Rattle.cfb_owned.specs.Chains.{Resizes}
 use Rattle.cfb_owned.proofs.GoingOn.{goes_cause, goes_then}
@@ -17,6 +19,14 @@ returns-in-Err-overwrite_long-clause-cause g c =
     let b = allocator_of c.overwrite_long.new.mini in
     let e = c.in-Err-overwrite_long.error in
     fails_cause a b (allocator_of c.fail-in-Err-overwrite_long.new.self) e (goes_cause a m b e c.resize_chain.ensures.goes_on c.in_default.ensures.answers.live.1 c.in-Err-overwrite_long.ensures.answers.cause) c.fail-in-Err-overwrite_long.ensures
+
+pub returns-in-Err-overwrite_long-clause-refused : goal.returns-in-Err-overwrite_long-clause-refused
+returns-in-Err-overwrite_long-clause-refused g c = λ wrong who id m nothing up.
+    let version : links_version c.in-Ok.links ≡ version_of (allocator_of c.args.mini.now) = c.in-Ok.ensures.links.0 ∙ c.version.ensures in
+    let none : ids_of c.in-Ok.links ≡ [] = c.in-Ok.ensures.links.1 ∙ c.new.ensures.items in
+    let one = c.in_default.ensures.resized who id m (nothing.0 ∙ sym none) version in
+    let is : c.in-Err-overwrite_long.error ≡ InvalidData = cc in
+    c.in-Err-overwrite_long.ensures.refused (ap Err is) one.0.moves.now id one.0.moves.stands one.0.mine (c.resize_chain.ensures.version ∙ version ∙ sym c.resize_chain.ensures.goes_on.version)
 
 pub returns-clause-taken : goal.returns-clause-taken
 returns-clause-taken g c = λ who id m nothing up.

@@ -1,4 +1,4 @@
-use Rattle.std.proofs.Common.{rules, ◌+◌, ◌*◌, inl, inr, [], length, refl, ap, sym, subst, ◌∙◌, arith, ⊎_elim, IsTrue}
+use Rattle.std.proofs.Common.{rules, ◌+◌, ◌*◌, ◌≤◌, inl, inr, [], length, refl, ap, sym, subst, ◌∙◌, arith, ⊎_elim, IsTrue}
 use Rattle.std.specs.Prelude.{Err}
 use Rattle.cfb_medium.specs.Versions.{sector_len, stream_len_mask}
 use Rattle.cfb_sectors.specs.declared.initial.SectorInit.TheVariants.{Zero}
@@ -6,7 +6,7 @@ use Rattle.cfb_chains.specs.LinkViews.{ids_of, links_version}
 use Rattle.cfb_chains.specs.Positions.{sectors_for}
 use Rattle.cfb_fat.specs.Keeping.{fails_cause}
 use Rattle.cfb_fat.specs.Resting.{all_rest_refl}
-use Rattle.cfb_fat.specs.Tables.{has_failed_here, orderly_of, AllFails, AllRests}
+use Rattle.cfb_fat.specs.Tables.{has_failed_here, orderly_of, version_of, AllFails, AllRests}
 use Rattle.cfb_owned.specs.Chains.{GoesOn, HasChain, LacksSectors, Resizes}
 use Rattle.cfb_owned.proofs.GoingOn.{fails_go_on, goes_cause, goes_then, rests_go_on}
 use Rattle.cfb_directory.specs.Views as directory
@@ -103,8 +103,11 @@ returns-clause-grown g c = λ own h.
     let resized = subst (λ x. Resizes Zero count x m stream later) same (did.resized (subst (λ x. HasChain x stream) (sym same) (stream_chain it own h))) in
     let root = first_there it.directory.entries.items.items it.directory.entries.some in
     let long = len_more v (length (ids_of stream)) (length (ids_of later)) c.stream_len.result c.sector_len.result c.stream_len.ensures each (did.size ∙ exact) ∙ ap (λ u. length (ids_of later) * sector_len u) (sym c.set_chain_len.ensures.version) in
+    let mask = c.stream_len_mask.ensures ∙ ap stream_len_mask c.version.ensures in
+    let room = c.if-len-stream_len_mask.false in
+    let fits : c.stream_len.result + c.sector_len.result ≤ stream_len_mask (version_of a) = omega (arith, mask, room) in
     grows_stream_is it m c.with_root_dir_entry_mut.new.self _ own count c.start_of.result (c.stream_len.result + c.sector_len.result) root.0 h goes did.answers.live.1 c.with_root_dir_entry_mut.ensures.goes_on c.allocator_mut.ensures.kept refl refl
-    resized exact did.size c.start_of.ensures long root.1 (c.in_default-with_root_dir_entry_mut.ensures.set root.0 root.1) c.with_root_dir_entry_mut.ensures.memory
+    resized exact did.size c.start_of.ensures long fits root.1 (c.in_default-with_root_dir_entry_mut.ensures.set root.0 root.1) c.with_root_dir_entry_mut.ensures.memory
 
 pub returns-clause-goes_on : goal.returns-clause-goes_on
 returns-clause-goes_on g c =

@@ -1,0 +1,111 @@
+-- The bytes of mini sectors and their places, by index.
+use Rattle.std.proofs.Common.{◌≡◌, ℕ, ◌+◌, ◌-◌, ◌*◌, ◌/◌, ◌%◌, ◌<◌, ◌≤◌, ◌⊎◌, inl, inr, List, [], ◌∷◌, ◌++◌, length, take, drop, get_or, suc, refl, ap, sym, subst, ◌∙◌, arith, append_assoc, append-nil, length-take, length-append, ⊎_elim}
+use Rattle.std.specs.Prelude.{min, slice_range}
+use Rattle.std.specs.List.{flat_map, range_with_len, AllByRecursion}
+use Rattle.std.proofs.lemmas.Bool.Decides.{leb_tells}
+use Rattle.std.proofs.lemmas.List.{ext_get_or, get_or-take, get_or_append_left, take_all}
+use Rattle.cfb_medium.specs.Bytes.{overwritten}
+use Rattle.cfb_medium.specs.Versions.{sector_len}
+use Rattle.cfb_medium.specs.declared.version.Version.{Version}
+use Rattle.cfb_chains.proofs.ChainWriting.{length_within}
+use Rattle.cfb_chains.proofs.Overwriting.{get_filled, get_written, length-filled}
+use Rattle.cfb_fat.proofs.Words.{filled_is}
+use Rattle.cfb_mini.specs.Minis.{mini_joined, mini_place, mini_sector, AreInside}
+use Rattle.cfb_mini.proofs.MiniParts.{get_mini}
+use Rattle.cfb_mini.proofs.Parts.{parts_are}
+use Rattle.cfb_owned.specs.Chains.{place_of}
+use Rattle.cfb_sectors.specs.Sectors.{places, sector_start}
+use Rattle.cfb_writing.specs.Streams.{resized}
+use Rattle.cfb_writing.proofs.LongBytes.{all_by_index, get_padded, get_places, length-places, length-resized, zeros}
+
+-- the parts of 64 bytes of a list, at these mini sectors
+abbrev pub parts_of : List ℕ → List ℕ → List ℕ
+parts_of xs minis = flat_map (λ n. slice_range xs (64 * n) (64 * n + 64)) minis
+
+-- a mini sector is the same where zeros follow the mini stream
+sector_padded : (xs : List ℕ) (count n : ℕ) → mini_sector (xs ++ zeros count) n ≡ mini_sector xs n
+sector_padded xs count n =
+    ext_get_or 0 _ _ (length-filled (xs ++ zeros count) (64 * n) 64 ∙ sym (length-filled xs (64 * n) 64)) (λ i below.
+    let within : i < 64 = let size = length-filled (xs ++ zeros count) (64 * n) 64 in omega (arith, below, size) in
+    get_filled (xs ++ zeros count) (64 * n) 64 i within ∙ get_padded xs count (64 * n + i) ∙ sym (get_filled xs (64 * n) 64 i within))
+
+pub joined_padded : (xs : List ℕ) (count : ℕ) (minis : List ℕ) → mini_joined (xs ++ zeros count) minis ≡ mini_joined xs minis
+joined_padded xs count [] = refl
+joined_padded xs count (n ∷ minis) = ap (λ l. l ++ mini_joined (xs ++ zeros count) minis) (sector_padded xs count n) ∙ ap (λ l. mini_sector xs n ++ l) (joined_padded xs count minis)
+
+-- parts of a front
+part_front : (xs ys : List ℕ) (n : ℕ) → 64 * n + 64 ≤ length xs → slice_range (xs ++ ys) (64 * n) (64 * n + 64) ≡ slice_range xs (64 * n) (64 * n + 64)
+part_front xs ys n inside =
+    let size : 64 ≡ 64 * n + 64 - 64 * n = omega arith in
+    let long = length-append xs ys in
+    let filled : mini_sector (xs ++ ys) n ≡ mini_sector xs n =
+    ext_get_or 0 _ _ (length-filled (xs ++ ys) (64 * n) 64 ∙ sym (length-filled xs (64 * n) 64)) (λ i below.
+    let within : i < 64 = let all = length-filled (xs ++ ys) (64 * n) 64 in omega (arith, below, all) in
+    get_filled (xs ++ ys) (64 * n) 64 i within ∙ get_or_append_left xs ys 0 (64 * n + i) (omega (arith, within, inside)) ∙ sym (get_filled xs (64 * n) 64 i within)) in
+    ap (λ k. take k (drop (64 * n) (xs ++ ys))) (sym size) ∙ sym (filled_is (xs ++ ys) (64 * n) 64 (omega (arith, inside, long))) ∙ filled ∙ filled_is xs (64 * n) 64 inside ∙ ap (λ k. take k (drop (64 * n) xs)) size
+
+pub parts_front : (xs ys minis : List ℕ) → AreInside (length xs) minis → parts_of (xs ++ ys) minis ≡ parts_of xs minis
+parts_front xs ys [] inside = refl
+parts_front xs ys (n ∷ minis) inside =
+    ap (λ l. l ++ parts_of (xs ++ ys) minis) (part_front xs ys n (inside 0 (omega arith)))
+    ∙ ap (λ l. slice_range xs (64 * n) (64 * n + 64) ++ l) (parts_front xs ys minis (λ k below. inside (suc k) (omega (arith, below))))
+
+pub places_both : (v : Version) (xs ys : List ℕ) → places v (xs ++ ys) ≡ places v xs ++ places v ys
+places_both v [] ys = refl
+places_both v (x ∷ xs) ys =
+    ap (λ l. range_with_len (sector_start v x) (sector_len v) ++ l) (places_both v xs ys) ∙ sym (append_assoc (range_with_len (sector_start v x) (sector_len v)) (places v xs) (places v ys))
+
+-- as many places of mini sectors lie in a file as lie there by index
+pub mini_places_there : (v : Version) (ids minis : List ℕ) (few len : ℕ) → AreInside (length ids * sector_len v) minis → len ≤ 64 * length minis → ((k : ℕ) → k < len → place_of v ids (mini_place minis k) < few)
+    → AllByRecursion (λ p. p < few) (take len (parts_of (places v ids) minis))
+mini_places_there v ids minis few len inside fits each =
+    let all = places v ids in
+    let within : AreInside (length all) minis = subst (λ n. AreInside n minis) (sym (length-places v ids)) inside in
+    let is = parts_are all minis within in
+    all_by_index (λ p. p < few) (take len (parts_of all minis)) (λ k below.
+    let size = length-take len (parts_of all minis) in
+    let early : k < len = omega (arith, below, size) in
+    let q = k / 64 in
+    let there : q < length minis = omega (arith, early, fits) in
+    let split : 64 * q + k % 64 ≡ k = omega arith in
+    let one = inside q there in
+    let low : mini_place minis k < length ids * sector_len v = under (get_or minis q 0) (k % 64) (length ids * sector_len v) (omega arith) one in
+    subst (λ p. p < few) (sym (get_or-take len (parts_of all minis) k 0 early ∙ ap (λ l. get_or l k 0) (sym is) ∙ ap (λ i. get_or (mini_joined all minis) i 0) (sym split)
+    ∙ get_mini all minis q (k % 64) there (omega arith) ∙ get_places v ids (mini_place minis k) low)) (each k early))
+  where
+    under : (x r n : ℕ) → r < 64 → 64 * x + 64 ≤ n → 64 * x + r < n
+    under x r n few below = omega (arith, few, below)
+
+-- bytes that lie over the front of others
+pub over_front : (xs bytes : List ℕ) → length bytes ≤ length xs → take (length bytes) (overwritten xs 0 bytes) ≡ bytes
+over_front xs bytes fits =
+    let long : length (overwritten xs 0 bytes) ≡ length xs = length_within xs bytes 0 (omega (arith, fits)) in
+    let size = length-take (length bytes) (overwritten xs 0 bytes) in
+    ext_get_or 0 _ _ (omega (arith, size, long, fits)) (λ k below.
+    let early : k < length bytes = omega (arith, below, size) in
+    get_or-take (length bytes) (overwritten xs 0 bytes) k 0 early
+    ∙ ap (λ i. get_or (overwritten xs 0 bytes) i 0) (let same : k ≡ 0 + k = omega arith in same) ∙ get_written xs 0 bytes k early)
+
+-- bytes that are all there
+pub resized_whole : (bytes : List ℕ) (len : ℕ) → length bytes ≡ len → resized len bytes ≡ bytes
+resized_whole bytes len same =
+    let none : len - length bytes ≡ 0 = omega (arith, same) in
+    ap (λ n. take len bytes ++ zeros n) none ∙ append-nil (take len bytes) ∙ take_all len bytes (omega (arith, same))
+
+-- what was resized to all of them, or to so many
+pub resized_again : (content : List ℕ) (count len : ℕ) → (count ≡ len) ⊎ (count ≡ length content) → resized len (resized count content) ≡ resized len content
+resized_again content count len (inl same) = ap (λ n. resized len (resized n content)) same ∙ resized_whole (resized len content) len (length-resized content len)
+resized_again content count len (inr whole) = ap (resized len) (resized_whole content count (sym whole))
+
+-- those at the front, padded
+pub resized_front : (content : List ℕ) (size count : ℕ) → length content ≡ size → resized count (take (min size count) content) ≡ resized count content
+resized_front content size count same = ⊎_elim
+    (λ more.
+    let is : min size count ≡ size = let m = more.1 in omega (arith, m) in
+    ap (resized count) (ap (λ n. take n content) is ∙ take_all size content (omega (arith, same))))
+    (λ fewer.
+    let is : min size count ≡ count = let f = fewer.1 in omega (arith, f) in
+    let none : count - length content ≡ 0 = let f = fewer.1 in omega (arith, f, same) in
+    let size_is : length (take count content) ≡ count = let l = length-take count content in let f = fewer.1 in omega (arith, l, f, same) in
+    ap (λ n. resized count (take n content)) is ∙ resized_whole (take count content) count size_is ∙ sym (ap (λ n. take count content ++ zeros n) none ∙ append-nil (take count content)))
+    (leb_tells size count)

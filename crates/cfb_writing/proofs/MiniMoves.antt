@@ -1,0 +1,240 @@
+-- The mini sectors of one stream were changed by the layer below, over which all else stays.
+use Rattle.std.proofs.Common.{◌≡◌, ℕ, ◌+◌, ◌*◌, ◌<◌, ◌≤◌, inl, inr, false, List, [], ◌∷◌, length, refl, ap, sym, subst, ◌∙◌, ⊎_elim, arith, length-append, IsTrue}
+use Rattle.std.specs.Prelude.{get_or, slice_get, slice_index_or, Some}
+use Rattle.std.specs.List.{flat_map, AllByRecursion}
+use Rattle.std.proofs.lemmas.Bool.Decides.{eqb_tells}
+use Rattle.cfb_chains.specs.Changes.{AreNoneOf, IsFreeIn, IsNoneOf, StayBut}
+use Rattle.cfb_chains.specs.Grown.{IsLinked}
+use Rattle.cfb_chains.specs.Owned.{Becomes, Moves as MovesOne, Owned, Stays}
+use Rattle.cfb_chains.proofs.ChainGrowing.{in_use, kept_entry}
+use Rattle.cfb_chains.proofs.Owners.{none_of_nothing, other_left, owned_changed}
+use Rattle.cfb_directory.specs.Views.{entries_held}
+use Rattle.cfb_fat.specs.Seeing.{seen_of}
+use Rattle.cfb_fat.specs.Tables.{bytes_of, has_failed_here, version_of}
+use Rattle.cfb_live.specs.Freeing.{Stands}
+use Rattle.cfb_live.specs.Live.{live_of}
+use Rattle.cfb_live.proofs.Freed.{own_minis}
+use Rattle.cfb_live.proofs.KeptNow.{kept_now}
+use Rattle.cfb_medium.specs.Versions.{sector_len}
+use Rattle.cfb_medium.specs.declared.medium.ReadMedium.{Ghosts}
+use Rattle.cfb_medium.specs.declared.version.Version.{Version}
+use Rattle.cfb_medium.specs.declared.version.Version.TheVariants.{V3, V4}
+use Rattle.cfb_mini.specs.Changing.{mini_seen, HasOwners, Lengthens, Overwrites, TellsStream}
+use Rattle.cfb_mini.specs.Files.{HasHeader, LeavesFile}
+use Rattle.cfb_mini.specs.LinkViews.{minis_of}
+use Rattle.cfb_mini.specs.Minis.{all_words, mini_joined, mini_sector, AreInside}
+use Rattle.cfb_mini.specs.Views.{allocator_of, directory_of, mini_fat_of, mini_stream_ids, mini_stream_len, mini_stream_of}
+use Rattle.cfb_mini.specs.declared.links.MiniLinks.{MiniLinks}
+use Rattle.cfb_mini.specs.declared.mini_allocator.MiniAllocator.{MiniAllocator}
+use Rattle.cfb_mini.proofs.Keeping.{pick, pick_mine, pick_other}
+use Rattle.cfb_mini.proofs.Longer.{all_less, lengthened_owners, now_other, own_now, stream_size}
+use Rattle.cfb_mini.proofs.Parts.{parts_are}
+use Rattle.cfb_owned.specs.Chains.{GoesOn}
+use Rattle.cfb_owners.specs.Held.{mini_joined as held_joined, mini_places_of}
+use Rattle.cfb_owners.specs.Owners.{first_of, mini_stream_owner, stream_owner, Owners}
+use Rattle.cfb_sectors.specs.Sectors.{end_of_chain, places, sector, Chain as IsChain}
+use Rattle.cfb_siblings.proofs.Frames.{set_found}
+use Rattle.cfb_tree.specs.Directory.{kind_root, Entry}
+use Rattle.cfb_tree.proofs.OneContent.{Some_same}
+use Rattle.cfb_writing.specs.Moving.{CarriesOthers, Moves, MovesRoot}
+use Rattle.cfb_writing.proofs.LongBytes.{all_at, all_by_index, length-places}
+use Rattle.cfb_writing.proofs.MiniBytes.{joined_padded, parts_front, parts_of, places_both}
+
+more_bytes : (v : Version) (a b c : ℕ) → c ≡ a + b → a * sector_len v ≤ c * sector_len v
+more_bytes V3 a b c is = omega (arith, is)
+more_bytes V4 a b c is = omega (arith, is)
+
+-- chains of which no number is touched stay
+chain_stays : (entries old new : List ℕ) → StayBut entries old new → (start : ℕ) (ids : List ℕ) → IsChain old start ids → AreNoneOf entries ids → IsChain new start ids
+chain_stays entries old new stays start [] is none = is
+chain_stays entries old new stays start (x ∷ ids) (is, regular, next, found, rest) none =
+    (is, regular, next, kept_entry entries old new stays start next (subst (IsNoneOf entries) is none.0) found, chain_stays entries old new stays next ids rest none.1)
+
+-- what was free is in no chain
+module _ (table : List ℕ) (start : ℕ) (ids taken : List ℕ) (chain : IsChain table start ids) (were : AllByRecursion (IsFreeIn table) taken) where
+  taken_none : AreNoneOf taken ids
+  taken_none = all_by_index (IsNoneOf taken) ids (λ k below j there same. in_use table start ids (get_or taken j 0) chain (all_at (IsFreeIn table) taken j were there) k below (sym same))
+
+  none_taken : AreNoneOf ids taken
+  none_taken = all_by_index (IsNoneOf ids) taken (λ j there. in_use table start ids (get_or taken j 0) chain (all_at (IsFreeIn table) taken j were there))
+
+-- an owner of nothing took in what was free, in a table that may have become longer
+module _ (old new : List ℕ) (own : ℕ → List ℕ) (key : ℕ) (taken : List ℕ) (owned : Owned old [] own) (were : AllByRecursion (IsFreeIn old) taken) (stays : StayBut taken old new) (linked : IsLinked new taken) where
+  abbrev later : ℕ → List ℕ
+  later = pick own key taken
+
+  others_linked : (k : ℕ) → IsLinked new (own k)
+  others_linked k = chain_stays taken old new stays (slice_index_or (own k) 0 end_of_chain) (own k) (owned.linked k) (taken_none old (slice_index_or (own k) 0 end_of_chain) (own k) taken (owned.linked k) were)
+
+  pub owned_more : Owned new [] (pick own key taken)
+  owned_more = record {
+    linked = λ k. ⊎_elim
+        (λ same. subst (IsLinked new) (sym (ap later same.1 ∙ pick_mine own key taken)) linked)
+        (λ other. subst (IsLinked new) (sym (pick_other own key taken k other.1)) (others_linked k))
+        (eqb_tells k key);
+    apart = λ k l differ. ⊎_elim
+        (λ first. ⊎_elim
+        (λ second. absurd (differ (first.1 ∙ sym second.1)))
+        (λ other. subst (λ x. AreNoneOf x (later l)) (sym (ap later first.1 ∙ pick_mine own key taken))
+        (subst (AreNoneOf taken) (sym (pick_other own key taken l other.1)) (taken_none old (slice_index_or (own l) 0 end_of_chain) (own l) taken (owned.linked l) were)))
+        (eqb_tells l key))
+        (λ other. ⊎_elim
+        (λ second. subst (λ x. AreNoneOf x (later l)) (sym (pick_other own key taken k other.1))
+        (subst (AreNoneOf (own k)) (sym (ap later second.1 ∙ pick_mine own key taken)) (none_taken old (slice_index_or (own k) 0 end_of_chain) (own k) taken (owned.linked k) were)))
+        (λ both. subst (λ x. AreNoneOf x (later l)) (sym (pick_other own key taken k other.1)) (subst (AreNoneOf (own k)) (sym (pick_other own key taken l both.1)) (owned.apart k l differ)))
+        (eqb_tells l key))
+        (eqb_tells k key);
+    beside = λ k. none_of_nothing (later k);
+    marked = λ n freed k inside same. absurd (omega (arith, inside));
+  }
+
+module _ {F : Type 0} {g : Ghosts F} where
+  pub stream_len_by : (it : MiniAllocator F g) (own : ℕ → List ℕ) → HasOwners it own → mini_stream_len it ≡ length (own mini_stream_owner) * sector_len (version_of (allocator_of it))
+  stream_len_by it own h =
+      ap (λ v. length (mini_stream_ids it) * sector_len v) h.memory.over.stream_version ∙ ap (λ l. length l * sector_len (version_of (allocator_of it))) (sym h.mini_stream)
+
+  module _ (it : MiniAllocator F g) (who : Owners) (m : Stands it who) where
+    -- the mini stream has what each owner has
+    pub minis_there : (k : ℕ) → AllByRecursion (λ n. 64 * n + 64 ≤ mini_stream_len it) (who.minis k)
+    unfolding live_of
+    minis_there k = subst (λ c. AllByRecursion (λ n. 64 * n + 64 ≤ c) (who.minis k)) (sym (stream_len_by it who.sectors m.owners)) (m.kept.minis_there k)
+
+    -- its bytes are its parts of the mini stream
+    pub minis_joined : (minis : List ℕ) → AreInside (mini_stream_len it) minis → held_joined (live_of it) who minis ≡ mini_joined (mini_stream_of it) minis
+    unfolding live_of
+    minis_joined minis inside =
+        ap (λ ids. parts_of (flat_map (sector (version_of (allocator_of it)) (bytes_of (allocator_of it))) ids) minis) m.owners.mini_stream
+        ∙ sym (parts_are (mini_stream_of it) minis (subst (λ n. AreInside n minis) (sym (stream_size it who.sectors m.owners)) inside))
+
+    pub minis_owned : Owned (mini_fat_of it) [] who.minis
+    unfolding live_of
+    minis_owned = m.kept.minis_owned
+
+    pub root_there : slice_get (entries_held (directory_of it)) 0 ≡ Some m.root
+    unfolding live_of
+    root_there = m.kept.root_found
+
+    header_there : HasHeader it
+    unfolding live_of
+    header_there = record { header = m.kept.header; directory = m.kept.directory_at ∙ ap first_of m.owners.directory; mini_fat = m.kept.mini_fat_at ∙ ap first_of m.owners.mini_fat }
+
+module _ {F : Type 0} {g : Ghosts F} (old new : MiniAllocator F g) (who : Owners) (m : Stands old who) (goes : GoesOn (allocator_of old) (allocator_of new)) (file : LeavesFile old new) (own' : ℕ → List ℕ) (has : HasOwners new own') where
+  pub longer_stream : mini_stream_len old ≤ mini_stream_len new
+  longer_stream =
+      let v = version_of (allocator_of old) in
+      let ids = ap length has.mini_stream ∙ ap length file.stream ∙ length-append (mini_stream_ids old) file.more in
+      let more = more_bytes v (length (mini_stream_ids old)) (length file.more) (length (own' mini_stream_owner)) ids in
+      let was = stream_len_by old who.sectors m.owners ∙ ap (λ l. length l * sector_len v) m.owners.mini_stream in
+      let is = stream_len_by new own' has ∙ ap (λ u. length (own' mini_stream_owner) * sector_len u) goes.version in
+      omega (arith, was, is, more)
+
+module _ {F : Type 0} {g : Ghosts F} (old new : MiniAllocator F g) (who : Owners) (id : ℕ) (m : Stands old who) (goes : GoesOn (allocator_of old) (allocator_of new)) (live : has_failed_here (allocator_of new) ≡ false) (file : LeavesFile old new)
+    (own' : ℕ → List ℕ) (has : HasOwners new own') (same : (k : ℕ) → 2 < k → own' k ≡ who.sectors k)
+    (stay : (k : ℕ) → 2 < k → Stays (sector (version_of (allocator_of old))) (seen_of (allocator_of old)) (seen_of (allocator_of new)) (who.sectors k))
+    (minis' : ℕ → List ℕ) (owned' : Owned (mini_fat_of new) [] minis') (others' : (k : ℕ) → (k ≡ stream_owner id → ⊥) → minis' k ≡ who.minis k) (inside' : AllByRecursion (λ n. 64 * n + 64 ≤ mini_stream_len new) (minis' (stream_owner id)))
+    (bytes' : (k : ℕ) → (k ≡ stream_owner id → ⊥) → mini_joined (mini_stream_of new) (who.minis k) ≡ mini_joined (mini_stream_of old) (who.minis k)) (entries : MovesRoot (entries_held (directory_of old)) (entries_held (directory_of new))) where
+  abbrev key : ℕ
+  key = stream_owner id
+
+  abbrev now : Owners
+  now = record { sectors = own'; minis = minis' }
+
+  there_now : (k : ℕ) → AllByRecursion (λ n. 64 * n + 64 ≤ length (own' mini_stream_owner) * sector_len (version_of (allocator_of new))) (minis' k)
+  there_now k =
+      subst (λ c. AllByRecursion (λ n. 64 * n + 64 ≤ c) (minis' k)) (stream_len_by new own' has)
+      (⊎_elim
+      (λ is. subst (λ j. AllByRecursion (λ n. 64 * n + 64 ≤ mini_stream_len new) (minis' j)) (sym is.1) inside')
+      (λ other. subst (AllByRecursion (λ n. 64 * n + 64 ≤ mini_stream_len new)) (sym (others' k other.1)) (all_less (mini_stream_len old) (mini_stream_len new) (who.minis k) (longer_stream old new who m goes file own' has) (minis_there old who m k)))
+      (eqb_tells k key))
+
+  -- the root then
+  root_now : (r : Entry) × (slice_get (entries_held (directory_of new)) 0 ≡ Some r) × (r.kind ≡ kind_root)
+  unfolding live_of
+  root_now =
+      ⊎_elim
+      (λ is. (m.root, ap (λ l. slice_get l 0) is ∙ m.kept.root_found, m.kept.root_kind))
+      (λ it.
+      let r : Entry = record it.0 { start = it.1; size = it.2 } in
+      (r, ap (λ l. slice_get l 0) it.4 ∙ set_found (entries_held (directory_of old)) 0 it.0 r it.3, ap (λ (x : Entry). x.kind) (Some_same (sym it.3 ∙ m.kept.root_found)) ∙ m.kept.root_kind))
+      entries
+
+  header_now : HasHeader new
+  header_now = file.header (header_there old who m)
+
+  stands_now : Stands new now
+  unfolding live_of
+  stands_now =
+      let orderly = subst IsTrue (sym (goes.orderly live)) m.orderly in
+      let root = root_now in
+      record {
+        live = live;
+        orderly = orderly;
+        owners = has;
+        sizes = file.sizes m.sizes;
+        root = root.0;
+        kept = kept_now new now live orderly has root.0 header_now.header (header_now.directory ∙ ap first_of (sym has.directory)) (header_now.mini_fat ∙ ap first_of (sym has.mini_fat)) root.1 root.2 owned' there_now
+            (λ k low. others' k (λ is. omega (arith, is, low)) ∙ m.kept.minis_of_streams k low);
+      }
+
+  places_kept : (k : ℕ) → mini_places_of (live_of new) now (who.minis k) ≡ mini_places_of (live_of old) who (who.minis k)
+  unfolding live_of
+  places_kept k =
+      let v = version_of (allocator_of old) in
+      let ids = mini_stream_ids old in
+      let inside : AreInside (length (places v ids)) (who.minis k) = subst (λ n. AreInside n (who.minis k)) (stream_len_by old who.sectors m.owners ∙ ap (λ l. length l * sector_len v) m.owners.mini_stream ∙ sym (length-places v ids)) (own_minis old who m k).inside in
+      ap (λ u. parts_of (places u (own' mini_stream_owner)) (who.minis k)) goes.version
+      ∙ ap (λ l. parts_of (places v l) (who.minis k)) (has.mini_stream ∙ file.stream)
+      ∙ ap (λ l. parts_of l (who.minis k)) (places_both v ids file.more) ∙ parts_front (places v ids) (places v file.more) (who.minis k) inside
+      ∙ ap (λ l. parts_of (places v l) (who.minis k)) (sym m.owners.mini_stream)
+
+  inside_still : (k : ℕ) → AreInside (mini_stream_len new) (who.minis k)
+  inside_still k = let was = (own_minis old who m k).inside in λ j below. let one = was j below in let more = longer_stream old new who m goes file own' has in omega (arith, one, more)
+
+  carries : CarriesOthers key (live_of old) (live_of new) who now
+  unfolding live_of seen_of places_kept
+  carries = record {
+    version = goes.version;
+    longer = file.longer;
+    sectors = λ k past other. same k past;
+    minis = others';
+    joined = λ k past other. (stay k past).bytes;
+    mini_joined = λ k other. minis_joined new now stands_now (who.minis k) (inside_still k) ∙ bytes' k other ∙ sym (minis_joined old who m (who.minis k) (own_minis old who m k).inside);
+    mini_places = λ k other. places_kept k;
+  }
+
+  -- all other streams have what they had
+  pub mini_moves : (it : Moves id old new who) × (it.now ≡ record { sectors = own'; minis = minis' })
+  mini_moves = (record { now = now; stands = stands_now; carries = carries; entries = entries }, refl)
+
+-- where the root's entry tells of another mini stream
+root_moved : {F : Type 0} {g : Ghosts F} (old new : MiniAllocator F g) (root : Entry) → slice_get (entries_held (directory_of old)) 0 ≡ Some root → TellsStream old new → MovesRoot (entries_held (directory_of old)) (entries_held (directory_of new))
+root_moved old new root found tells = ⊎_elim (λ same. inl same.0) (λ told. inr (root, _, _, found, told root found)) tells
+
+module _ {F : Type 0} {g : Ghosts F} (old new : MiniAllocator F g) (who : Owners) (id : ℕ) (m : Stands old who) (goes : GoesOn (allocator_of old) (allocator_of new)) (live : has_failed_here (allocator_of new) ≡ false) where
+  -- a stream's mini sectors were written over
+  pub moves_over : (at : ℕ) (bytes : List ℕ) (links : MiniLinks) → who.minis (stream_owner id) ≡ minis_of links → Overwrites at bytes old new links who.sectors → (it : Moves id old new who) × (it.now ≡ who)
+  unfolding mini_seen
+  moves_over at bytes links mine over =
+      let key = stream_owner id in
+      let becomes : Becomes mini_sector all_words (who.minis key) [] (who.minis key) (mini_seen old) (mini_seen new) = subst (λ l. Becomes mini_sector all_words l [] l (mini_seen old) (mini_seen new)) (sym mine) over.changes.becomes in
+      let moved : MovesOne mini_sector all_words key (who.minis key) [] (mini_seen old) (mini_seen new) who.minis who.minis = record { becomes = becomes; mine = refl; others = λ k other. refl } in
+      let owned = minis_owned old who m in
+      let left = other_left mini_sector (mini_seen old) (mini_seen new) who.minis who.minis key all_words (who.minis key) [] owned moved in
+      mini_moves old new who id m goes live over.file who.sectors over.changes.owners (λ k past. refl) over.changes.others who.minis
+      (owned_changed mini_sector (mini_seen old) (mini_seen new) who.minis who.minis key all_words (who.minis key) [] owned moved) (λ k other. refl)
+      (all_less (mini_stream_len old) (mini_stream_len new) (who.minis key) (longer_stream old new who m goes over.file who.sectors over.changes.owners) (minis_there old who m key))
+      (λ k other. (left k other).bytes) (inl over.entries)
+
+  -- a stream without mini sectors took some in
+  pub moves_more : (later : List ℕ) → (l : Lengthens old new [] later who.sectors)
+      → (it : Moves id old new who) × (it.now ≡ record { sectors = own_now new who.sectors; minis = pick who.minis (stream_owner id) later })
+  moves_more later l =
+      let key = stream_owner id in
+      let is : l.taken ≡ later = sym l.minis_are in
+      let owned = owned_more (mini_fat_of old) (mini_fat_of new) who.minis key later (minis_owned old who m) (subst (AllByRecursion (IsFreeIn (mini_fat_of old))) is l.were_free) l.numbers l.linked in
+      mini_moves old new who id m goes live l.file (own_now new who.sectors) (lengthened_owners old new [] later who.sectors l)
+      (λ k past. now_other new who.sectors k (λ same. omega (arith, same, past)) (λ same. omega (arith, same, past))) l.others
+      (pick who.minis key later) owned (pick_other who.minis key later)
+      (subst (AllByRecursion (λ n. 64 * n + 64 ≤ mini_stream_len new)) (is ∙ sym (pick_mine who.minis key later)) l.inside)
+      (λ k other. ap (λ s. mini_joined s (who.minis k)) l.stream ∙ joined_padded (mini_stream_of old) l.zeros (who.minis k))
+      (root_moved old new m.root (root_there old who m) l.entries)
