@@ -1,5 +1,6 @@
 //! Calls on a compound file in memory.
 use crate::faults::{call_fails, open_fails};
+use crate::streams::{append, limited, pieces_of, set_len, sums_of, write_at};
 use crate::told::{bytes_of, count_of, tree_of};
 use cfb::CompoundFile;
 use cfb_medium::{Error, Medium, MemoryMedium, Timestamp};
@@ -49,6 +50,10 @@ impl Subject for Files {
                 let medium = self.taken()?;
                 self.file = Some(strict(alloc, medium)?);
             }
+            "at most" => {
+                let medium = self.taken()?;
+                self.file = Some(limited(alloc, medium, row.number(1))?);
+            }
             "open fails" | "fails" => return self.failing(alloc, row),
             _ => {}
         }
@@ -76,10 +81,12 @@ fn answered(
     row: &Row,
 ) -> Result<String, Error> {
     match row.call() {
-        "file" | "again" => told(alloc, file.is_sound()),
+        "file" | "again" | "at most" => told(alloc, file.is_sound()),
         "tree" => tree_of(alloc, file),
         "count" => count_of(alloc, file),
         "bytes" => bytes_of(alloc, file, row.text(1)),
+        "pieces" => pieces_of(alloc, file, row),
+        "sums" => sums_of(alloc, file),
         "each" => each(alloc, file, row),
         _ => {
             change(alloc, file, row)?;
@@ -116,6 +123,9 @@ pub fn change<F: Medium>(
         "beside" => make_beside(alloc, file, path, row.number(2)),
         "stream" => file.create_new_stream(path),
         "stream anew" => file.create_stream(path),
+        "write" => write_at(alloc, file, row),
+        "append" => append(alloc, file, row),
+        "set len" => set_len(file, row),
         "remove" => file.remove_stream(path),
         "remove storage" => file.remove_storage(path),
         "remove all" => file.remove_storage_all(path),

@@ -6,6 +6,7 @@ mod creating;
 mod failing;
 mod faults;
 mod files;
+mod streams;
 mod told;
 
 use anyhow::Result;
