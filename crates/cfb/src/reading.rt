@@ -13,7 +13,7 @@ ghost use Rattle.cfb_streams.specs.Content.{count_from, ReadsPart};
 ghost use Rattle.cfb_tree.specs.Directory.{Entry};
 ghost use Rattle.cfb_tree.specs.Tree.{Tree};
 ghost use Rattle.std.specs.Borrow.{sem, RestsIfErr};
-ghost use Rattle.std.specs.Prelude.{drop, length, min, take, true, IfErr, IfOk, IsErrOf, List, OnOk, ℕ, ◌+◌, ◌-◌, ◌<◌, ◌^◌, ◌≡◌, ◌≤◌, ◌⊎◌};
+ghost use Rattle.std.specs.Prelude.{drop, false, length, min, take, true, IfErr, IfOk, IsErrOf, List, OnOk, ℕ, ◌+◌, ◌-◌, ◌<◌, ◌^◌, ◌≡◌, ◌≤◌, ◌⊎◌};
 
 use crate::{CompoundFile, ReadStream};
 use cfb_entries::stream_at;
@@ -29,6 +29,7 @@ impl<F: ReadMedium> CompoundFile<F> {
     pub(crate) fn check_live(&self) -> Result<(), Error>
         ensures failed { has_failed_here (allocator_of (mini_of self.now)) ≡ true
             → IsErrOf result Failed }
+        ensures live { OnOk result (has_failed_here (allocator_of (mini_of self.now)) ≡ false) }
         ensures error { IfErr result (λ e. (e ≡ Failed)
             × (has_failed_here (allocator_of (mini_of self.now)) ≡ true)) }
     {

@@ -16,31 +16,19 @@ ghost use Rattle.cfb_medium.specs.Versions.{stream_len_mask};
 ghost use Rattle.cfb_medium.specs.declared.error.Error.TheVariants.{Failed, InvalidData, InvalidInput};
 ghost use Rattle.cfb_mini.specs.Views.{allocator_of, directory_of};
 ghost use Rattle.cfb_owned.specs.Chains.{GoesOn, IsInvalidPlaceOrFull};
-ghost use Rattle.cfb_tree.specs.Directory.{kind_stream};
-ghost use Rattle.cfb_tree.specs.EntryViews.{entry_in};
 ghost use Rattle.cfb_tree.specs.Paths.{Path};
 ghost use Rattle.cfb_tree.specs.Tree.{Tree};
 ghost use Rattle.cfb_writing.specs.Streams.{resized};
 ghost use Rattle.std.specs.Borrow.{sem, RestsIfErr};
-ghost use Rattle.std.specs.Prelude.{false, length, true, IfErr, IfOk, IsErrOf, IsTrue, List, OnErr, OnOk, ℕ, ◌+◌, ◌<◌, ◌^◌, ◌≡◌, ◌↔◌, ◌⊎◌};
+ghost use Rattle.std.specs.Prelude.{false, length, true, IfErr, IfOk, IsErrOf, List, OnErr, OnOk, ℕ, ◌+◌, ◌<◌, ◌^◌, ◌≡◌, ◌⊎◌};
 
 use crate::{CompoundFile, Stream};
 use cfb_medium::{Error, Medium, ReadMedium};
 use cfb_sectors::HasSectors;
 use cfb_siblings::find_entry;
 use cfb_streams::open_stream as find_sectors;
-use cfb_tree::{DirEntry, ObjType, name_chain_from_path};
-use cfb_writing::{overwrite_stream, resize_stream};
-
-// Whether the entry is a stream.
-fn is_stream(entry: &DirEntry) -> bool
-    ensures { IsTrue result ↔ ((entry_in entry.now).kind ≡ kind_stream) }
-{
-    match entry.obj_type() {
-        Some(kind) => kind.as_byte() == ObjType::Stream.as_byte(),
-        None => false,
-    }
-}
+use cfb_tree::name_chain_from_path;
+use cfb_writing::{is_stream, overwrite_stream, resize_stream};
 
 impl<F: ReadMedium> CompoundFile<F> {
     // The number of the entry of the stream at a path.
@@ -139,18 +127,6 @@ impl<F: Medium> CompoundFile<F> {
         ensures { result ≡ has_failed_here (allocator_of (mini_of self.now)) }
     {
         self.mini.directory().allocator().is_failed()
-    }
-
-    // Refuses a call after a fault.
-    pub(crate) fn ended(&self) -> Result<(), Error>
-        ensures live { OnOk result (has_failed_here (allocator_of (mini_of self.now)) ≡ false) }
-        ensures failed { IfErr result (λ e. (e ≡ Failed)
-            × (has_failed_here (allocator_of (mini_of self.now)) ≡ true)) }
-    {
-        if self.is_failed() {
-            return Err(Error::Failed);
-        }
-        Ok(())
     }
 
     // Passes on what the medium keeps back; the stream of so many bytes that was opened stays.

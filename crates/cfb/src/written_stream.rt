@@ -398,6 +398,6 @@ impl<'a, F: Medium> Stream<'a, F> {
             len: _,
             position: _,
         } = self;
-        file.ended()
+        file.check_live()
     }
 }

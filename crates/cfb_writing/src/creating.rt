@@ -20,8 +20,8 @@ use cfb_siblings::find_entry;
 use cfb_tree::{CaseMapper, DirEntry, ObjType, name_chain_from_path};
 use std::alloc::Global;
 
-// Whether the entry is a stream.
-fn is_stream(entry: &DirEntry) -> bool
+/// Whether the entry is a stream.
+pub fn is_stream(entry: &DirEntry) -> bool
     ensures { IsTrue result ↔ ((entry_in entry.now).kind ≡ kind_stream) }
 {
     match entry.obj_type() {

@@ -11,7 +11,7 @@ mod streams;
 mod taking;
 mod writing;
 
-pub use creating::create_stream;
+pub use creating::{create_stream, is_stream};
 pub use emptying::empty_stream;
 pub use streams::{overwrite_stream, resize_stream};
 pub use taking::take_long;

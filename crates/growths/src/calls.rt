@@ -7,7 +7,9 @@ use cfb_medium::{Error, MemoryMedium, Timestamp};
 use cfb_mini::MiniLinks;
 use cfb_owned::set_chain_len;
 use cfb_sectors::SectorInit;
+use cfb_streams::StreamLinks;
 use cfb_tree::CaseMapper;
+use cfb_writing::resize_stream;
 use std::alloc::Global;
 
 // The bytes of more sectors than the FAT's first sector has entries for.
@@ -18,6 +20,9 @@ const MANY_MINIS: usize = 1100;
 
 // More storages than the directory's first sector has entries for.
 const MANY_STORAGES: usize = 40;
+
+// Lengths of a stream that lies in mini sectors, in sectors, in mini sectors again, and in none.
+const LENGTHS: [u64; 4] = [100, 5000, 4095, 0];
 
 /// Opens a file.
 pub fn open_file(alloc: Global) -> Result<bool, Error> {
@@ -69,6 +74,21 @@ pub fn make_storages(alloc: Global) -> Result<bool, Error> {
         let before = bytes_now(alloc, &file)?;
         let storage = NewObject::Storage(Timestamp::zero());
         if let Err(error) = make_object(alloc, &mut file, &letters, &path, storage) {
+            return stays(&file, &before, error);
+        }
+    }
+    Ok(true)
+}
+
+/// Makes a stream longer and shorter, so that it moves from mini sectors to sectors and back.
+pub fn move_stream(alloc: Global) -> Result<bool, Error> {
+    let mut file = opened(alloc)?;
+    let letters = CaseMapper::ascii(alloc)?;
+    make_object(alloc, &mut file, &letters, "/a", NewObject::Stream)?;
+    let mut links = StreamLinks::Short(MiniLinks::new(alloc));
+    for len in LENGTHS {
+        let before = bytes_now(alloc, &file)?;
+        if let Err(error) = resize_stream(alloc, &mut file, 1, &mut links, len) {
             return stays(&file, &before, error);
         }
     }

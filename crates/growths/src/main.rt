@@ -31,5 +31,8 @@ fn all_are_done(alloc: Global) -> Result<bool, Error> {
     if !calls::lengthen_mini_chain(alloc)? {
         return Ok(false);
     }
+    if !calls::move_stream(alloc)? {
+        return Ok(false);
+    }
     calls::make_storages(alloc)
 }
