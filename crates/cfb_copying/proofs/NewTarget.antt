@@ -80,6 +80,10 @@ new_owned = record {
     marks (suc n) found zero below same = omega (arith, same)
     marks (suc n) found (suc k) below same = omega (arith, below)
 
+front : (v : Version) → take 2 (new_fat v) ≡ table
+unfolding new_fat
+front v = refl
+
 module _ {F : Type 0} {g : Ghosts F} where
   pub new_begun : (v : Version) (it : Allocator F g) → has_failed_here it ≡ false → IsTrue (is_honest it) → version_of it ≡ v → bytes_of it ≡ new_file v → difat_sectors_of it ≡ [] → fat_sectors_of it ≡ 0 ∷ []
       → fat_of it ≡ take (count_of (sectors_of it)) (fat_in v (new_file v) (0 ∷ [])) → IsBegun v it
@@ -123,10 +127,6 @@ module _ {F : Type 0} {g : Ghosts F} where
         of_version = of_version;
       }
     where
-      front : (v : Version) → take 2 (new_fat v) ≡ table
-      unfolding new_fat
-      front v = refl
-
       by_number : (n : ℕ) → n < 2 → tables_of it ≡ 0 ∷ [] → IsOneOf (tables_of it) n ⊎ ((key : ℕ) × IsOneOf (own key) n)
       by_number zero below is = inl (subst (λ l. IsOneOf l 0) (sym is) (0, omega arith, refl))
       by_number (suc zero) below is = inr (directory_owner, subst (λ l. IsOneOf l 1) (sym mine) (0, omega arith, refl))
