@@ -46,7 +46,7 @@ entry_more v i before after e old new fits more is size held =
     let one = length-entry_bytes v (entry_in e) fits in (
       ap length is ∙ length-append old (entry_bytes (entry_in e)) ∙ omega (arith, size, one),
       ap (entries_of v) is ∙ entries_behind v i 1 old (entry_bytes (entry_in e)) size (omega (arith, one)) ∙ ap (λ l. l ++ entries_of v (entry_bytes (entry_in e))) held ∙ ap (λ l. entries_in before ++ l) (one_entry v (entry_in e) fits)
-      ∙ sym (ap (map entry_in) more ∙ map-append entry_in before (e ∷ [])),
+          ∙ sym (ap (map entry_in) more ∙ map-append entry_in before (e ∷ [])),
     )
 
 -- a list that takes another's place twice

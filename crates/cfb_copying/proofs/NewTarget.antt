@@ -1,10 +1,14 @@
 -- A new file is one in the making, of which the directory owns a sector.
-use Rattle.std.proofs.Common.{◌≡◌, ◌⊎◌, ℕ, zero, suc, ◌+◌, ◌*◌, ◌<◌, ◌≤◌, false, IsTrue, inl, inr, List, [], ◌∷◌, ◌++◌, length, take, refl, ap, sym, subst, ◌∙◌, arith, append-nil, ⊎_elim}
-use Rattle.std.specs.Prelude.{nat_eq, slice_get, slice_index, Some}
+use Rattle.std.proofs.Common.{◌≡◌, ◌⊎◌, ℕ, zero, suc, ◌+◌, ◌*◌, ◌<◌, ◌≤◌, false, true, IsTrue, inl, inr, List, [], ◌∷◌, ◌++◌, length, take, refl, ap, sym, subst, ◌∙◌, arith, append-nil, ⊎_elim}
+use Rattle.std.specs.Prelude.{nat_eq, slice_get, slice_index, Bool, Some, ◌||◌}
 use Rattle.std.proofs.lemmas.Bool.Decides.{eqb_tells}
 use Rattle.std.proofs.lemmas.Grind.{merely}
 use Rattle.std.proofs.lemmas.Option.{slice_get_within}
+use Rattle.std.specs.List.{AllByRecursion}
+use Rattle.cfb_medium.specs.Calls.{IsFaultUnless}
 use Rattle.cfb_medium.specs.Numbers.{numbers}
+use Rattle.cfb_medium.specs.declared.error.Error.{Error}
+use Rattle.cfb_medium.specs.declared.error.Error.TheVariants.{AlreadyExists, Device, Failed, Full, InvalidData, InvalidInput, Memory, NotFound, UnexpectedEof}
 use Rattle.cfb_medium.specs.Versions.{sector_len}
 use Rattle.cfb_medium.specs.declared.version.Version.{Version}
 use Rattle.cfb_medium.specs.declared.version.Version.TheVariants.{V3, V4}
@@ -60,6 +64,12 @@ table = fat_sector ∷ end_of_chain ∷ []
 own_once : AreOnce (0 ∷ [])
 own_once k l first second same = omega (arith, first, second)
 
+some_same : (a b : ℕ) → Some a ≡ Some b → a ≡ b
+some_same a b same = cc
+
+not_free : Some fat_sector ≡ Some free → ⊥
+not_free same = let both : fat_sector ≡ free = some_same fat_sector free same in omega (arith, both)
+
 new_owned : Owned table (0 ∷ []) own
 new_owned = record {
   linked = each_owner (IsLinked table) (refl, omega arith, end_of_chain, refl, refl) refl;
@@ -76,13 +86,46 @@ new_owned = record {
     beside_one (suc k) below same = omega (arith, below)
 
     marks : (n : ℕ) → slice_get table n ≡ Some free → IsNoneOf (0 ∷ []) n
-    marks zero found = absurd (cc)
+    marks zero found zero below same = absurd (let wrong : Some fat_sector ≡ Some free = found in not_free wrong)
+    marks zero found (suc k) below same = omega (arith, below)
     marks (suc n) found zero below same = omega (arith, same)
     marks (suc n) found (suc k) below same = omega (arith, below)
 
 front : (v : Version) → take 2 (new_fat v) ≡ table
 unfolding new_fat
 front v = refl
+
+-- what has not failed tells of no earlier fault
+pub never_earlier : (b : Bool) → b ≡ false → IsTrue (b || false) → ⊥
+never_earlier false live wrong = not_so wrong
+  where
+    not_so : false ≡ true → ⊥
+    not_so e = cc
+never_earlier true live wrong = not_so live
+  where
+    not_so : true ≡ false → ⊥
+    not_so e = cc
+
+-- the sectors of a new file are there
+pub first_counted : (v : Version) (bytes ids : List ℕ) (len count : ℕ) → bytes ≡ new_file v → len ≡ length bytes → count ≡ sectors_in v len → ids ≡ 0 ∷ [] → AllByRecursion (λ n. n < count) ids
+first_counted v bytes ids len count is size many are =
+    let two : count ≡ 2 = many ∙ ap (sectors_in v) (size ∙ ap length is ∙ length-new_file v) ∙ two_sectors v in
+    subst (AllByRecursion (λ n. n < count)) (sym are) (omega (arith, two), tt)
+
+-- an error that no device and no fault before gives is want of memory
+pub only_memory : (e : Error) → IsFaultUnless ⊥ e ⊎ (e ≡ InvalidData) → (e ≡ InvalidData → ⊥) → (e ≡ Device → ⊥) → (e ≡ Failed → ⊥) → e ≡ Memory
+only_memory e fault there device failed = ⊎_elim (λ is. by_kind e is device failed) (λ invalid. absurd (there invalid)) fault
+  where
+    by_kind : (e : Error) → IsFaultUnless ⊥ e → (e ≡ Device → ⊥) → (e ≡ Failed → ⊥) → e ≡ Memory
+    by_kind Memory is device failed = refl
+    by_kind Device is device failed = absurd (device refl)
+    by_kind Failed is device failed = absurd (failed refl)
+    by_kind InvalidInput is device failed = absurd is
+    by_kind InvalidData is device failed = absurd is
+    by_kind NotFound is device failed = absurd is
+    by_kind AlreadyExists is device failed = absurd is
+    by_kind UnexpectedEof is device failed = absurd is
+    by_kind Full is device failed = absurd is
 
 module _ {F : Type 0} {g : Ghosts F} where
   pub new_begun : (v : Version) (it : Allocator F g) → has_failed_here it ≡ false → IsTrue (is_honest it) → version_of it ≡ v → bytes_of it ≡ new_file v → difat_sectors_of it ≡ [] → fat_sectors_of it ≡ 0 ∷ []

@@ -13,10 +13,7 @@ use std::alloc::Global;
 const FAT_AT: u32 = 0;
 
 // A new file of a version, in memory.
-pub(crate) fn begin_file(
-    alloc: Global,
-    version: Version,
-) -> Result<Allocator<MemoryMedium>, Error>
+pub(crate) fn begin_file(alloc: Global, version: Version) -> Result<Allocator<MemoryMedium>, Error>
     ensures begun { IfOk result (IsBegun version) }
     ensures error { IfErr result (λ e. e ≡ Memory) }
 {

@@ -23,7 +23,7 @@ use cfb_mini::MiniAllocator;
 use cfb_sectors::{END_OF_CHAIN, HasSectors};
 use cfb_soundness::tree_entries;
 use cfb_tree::DirEntry;
-use std::alloc::Global;
+use std::alloc::{AllocError, Global};
 
 // The bytes of a copy of a file that has these entries, of which these numbers are the tree's. The entries are told where the
 // copy's chains begin.
@@ -72,6 +72,35 @@ fn mini_fat_start<F: ReadMedium>(mini: &MiniAllocator<F>) -> u32
     }
 }
 
+// So for a file whose layers above lend it.
+fn copy_lent<F: ReadMedium>(
+    alloc: Global,
+    mini: &mut MiniAllocator<F>,
+    mini_fat_at: u32,
+    ids: &[u32],
+    entries: &mut [DirEntry],
+) -> Result<Vec<u8>, Error>
+    ensures copied { IfOk result (λ bytes. (s : LiveFile) (who : Owners)
+        → IsOriginal (allocator_of mini.old) s who ids.now → s.entries ≡ entries_in entries.old
+        → mini_fat_at ≡ first_of (who.sectors mini_fat_owner)
+        → HasCopy s who ids.now bytes.items) }
+    ensures refused { IfErr result (λ e. (s : LiveFile) (who : Owners)
+        → IsOriginal (allocator_of mini.old) s who ids.now → s.entries ≡ entries_in entries.old
+        → mini_fat_at ≡ first_of (who.sectors mini_fat_owner) → IsFault e) }
+    ensures rests { Rests mini.old mini.new }
+    ensures cause { IfErr result (HasCauseBelow (allocator_of mini.old) (allocator_of mini.new)) }
+    ensures fault { IfErr result IsCopyFault }
+{
+    copy_file(alloc, mini.allocator_mut(), mini_fat_at, ids, entries)
+}
+
+// The entries again.
+fn entries_again(alloc: Global, entries: &[DirEntry]) -> Result<Vec<DirEntry>, AllocError>
+    ensures { IfOk result (λ again. again.items ≡ entries.now) }
+{
+    entries.iter().copied().collect(alloc)
+}
+
 /// The bytes of a copy of a live file: a file of the same version that means the same tree, and has no sector that serves no use.
 /// Each chain of the file is copied whole, so that it needs as much memory as the copy has bytes, besides a list of the entries.
 /// The file is only read. `Failed` after an earlier fault, before all else; `InvalidData` only where the file means no tree; `Full`
@@ -91,7 +120,10 @@ pub fn copy_of<F: ReadMedium>(alloc: Global, mini: &mut MiniAllocator<F>) -> Res
         return Err(Error::Failed);
     }
     let ids = tree_entries(alloc, mini.directory())?;
-    let mut entries = mini.directory().dir_entries().to_vec(alloc)?;
+    let mut entries = entries_again(alloc, mini.directory().dir_entries())?;
     let mini_fat_at = mini_fat_start(mini);
-    copy_file(alloc, mini.allocator_mut(), mini_fat_at, &ids, &mut entries)
+    match copy_lent(alloc, mini, mini_fat_at, &ids, &mut entries) {
+        Ok(bytes) => Ok(bytes),
+        Err(error) => Err(error),
+    }
 }
