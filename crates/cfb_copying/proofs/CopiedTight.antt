@@ -20,7 +20,7 @@ use Rattle.cfb_copying.specs.Making.{IsOneOf}
 use Rattle.cfb_copying.proofs.CopiedMeans.{copy_held, copy_ids, now}
 use Rattle.cfb_copying.proofs.Restarted.{is_long}
 
-one_behind : (xs : List ℕ) (x n : ℕ) → IsOneOf (x ∷ xs) n → (x ≡ n) ⊎ IsOneOf xs n
+pub one_behind : (xs : List ℕ) (x n : ℕ) → IsOneOf (x ∷ xs) n → (x ≡ n) ⊎ IsOneOf xs n
 one_behind xs x n (zero, below, is) = inl is
 one_behind xs x n (suc k, below, is) = inr (k, omega (arith, below), is)
 
@@ -44,7 +44,7 @@ used_of_key part f (x ∷ keys) k one used = ⊎_elim
     (λ behind. used_behind part (f x) (flat_map f keys) (used_of_key part f keys k behind used))
     (one_behind keys x k one)
 
-one_of_two : (xs ys : List ℕ) (n : ℕ) → IsOneOf (xs ++ ys) n → IsOneOf xs n ⊎ IsOneOf ys n
+pub one_of_two : (xs ys : List ℕ) (n : ℕ) → IsOneOf (xs ++ ys) n → IsOneOf xs n ⊎ IsOneOf ys n
 one_of_two [] ys n one = inr one
 one_of_two (x ∷ xs) ys n one = ⊎_elim
     (λ same. inl (zero, omega arith, same))

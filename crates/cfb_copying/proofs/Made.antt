@@ -27,7 +27,7 @@ use Rattle.cfb_mini.proofs.Headers.{header_stays, u32_same, KeepsFront}
 same_test : (k : ℕ) → nat_eq k k ≡ true
 same_test k = grind arith
 
-other_test : (k key : ℕ) → (k ≡ key → ⊥) → nat_eq k key ≡ false
+pub other_test : (k key : ℕ) → (k ≡ key → ⊥) → nat_eq k key ≡ false
 other_test k key other = grind arith
 
 pub at_key : (key : ℕ) (xs : List ℕ) (lists : ℕ → List ℕ) → with_list key xs lists key ≡ xs

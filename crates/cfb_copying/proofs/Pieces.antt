@@ -29,7 +29,7 @@ use Rattle.cfb_owned.proofs.WrittenParts.{over_then}
 use Rattle.cfb_copying.specs.Chains.{CopiesChain}
 
 -- bytes as many as there are, over all of them
-over_whole : (old xs : List ℕ) → length xs ≡ length old → overwritten old 0 xs ≡ xs
+pub over_whole : (old xs : List ℕ) → length xs ≡ length old → overwritten old 0 xs ≡ xs
 over_whole old xs is =
     let size = length_within old xs 0 (omega (arith, is)) in
     ext_get_or 0 (overwritten old 0 xs) xs (size ∙ sym is) (λ k below.

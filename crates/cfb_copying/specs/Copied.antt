@@ -1,5 +1,6 @@
 -- A file that is a copy of a live one: the same entries, but for where chains begin, and the same bytes in sectors of its own.
 use Rattle.std.specs.Prelude.{◌≡◌, ◌⊎◌, ℕ, ◌<◌, ◌≤◌, List, [], ◌∷◌, length, slice_get, Some}
+use Rattle.cfb_medium.specs.declared.version.Version.{Version}
 use Rattle.cfb_sectors.specs.Header.{first_directory_sector, first_mini_fat_sector, mini_cutoff, IsHeader}
 use Rattle.cfb_sectors.specs.Sectors.{fat_in, joined, sectors_in}
 use Rattle.cfb_chains.specs.Behind.{AreWhole}
@@ -59,3 +60,8 @@ pub record IsTight (letters : Letters) (bytes : List ℕ) (tree : Tree) : Type 0
   pub layout : Layout
   pub sound : IsSoundBy layout letters bytes tree
   pub each : (n : ℕ) → n < sectors_in layout.version (length bytes) → IsUsed (in_file n) sound.parts
+
+-- THE BYTES HOLD A COPY: a file of this version that means the tree, is sound, and has no sector that serves no use
+pub record HoldsCopy (version : Version) (letters : Letters) (bytes : List ℕ) (tree : Tree) : Type 0 where
+  pub header : IsHeader version bytes
+  pub tight : IsTight letters bytes tree

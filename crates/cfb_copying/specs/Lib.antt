@@ -1,3 +1,4 @@
 pub mod Chains
 pub mod Making
 pub mod Copied
+pub mod Steps

@@ -2,9 +2,9 @@
 ghost use Rattle.cfb_chains.specs.ChainCalls.{IsInvalidPlace};
 ghost use Rattle.cfb_chains.specs.LinkViews.{ids_of, links_version};
 ghost use Rattle.cfb_copying.specs.Chains.{CopiesChain, HasCauseInEither, IsCopyFault};
-ghost use Rattle.cfb_fat.specs.Tables.{orderly_of, AllRests};
+ghost use Rattle.cfb_fat.specs.Tables.{has_failed_here, orderly_of, AllRests};
 ghost use Rattle.cfb_owned.specs.Chains.{content_of, len_of, GoesOn, HasChain, HasLinks, Overwrites};
-ghost use Rattle.std.specs.Prelude.{length, IfErr, IsTrue, OnOk, ◌<◌, ◌^◌, ◌≡◌, ◌≤◌};
+ghost use Rattle.std.specs.Prelude.{false, length, IfErr, IsTrue, OnOk, ◌<◌, ◌^◌, ◌≡◌, ◌≤◌};
 
 use cfb_chains::Links;
 use cfb_fat::Allocator;
@@ -37,6 +37,7 @@ fn copy_bytes<F: ReadMedium, T: Medium>(
         → HasChain target.old to.now → ⊥) }
     ensures rests { AllRests source.old source.new }
     ensures goes_on { GoesOn target.old target.new }
+    ensures live { OnOk result (has_failed_here target.new ≡ false) }
     ensures cause { IfErr result (HasCauseInEither source.old source.new target.old target.new) }
     ensures fault { IfErr result IsCopyFault }
 {
@@ -77,6 +78,7 @@ pub fn copy_chain<F: ReadMedium, T: Medium>(
         → HasChain target.old to.old → IsTrue (orderly_of target.old) → ⊥) }
     ensures rests { AllRests source.old source.new }
     ensures goes_on { GoesOn target.old target.new }
+    ensures live { OnOk result (has_failed_here target.new ≡ false) }
     ensures cause { IfErr result (HasCauseInEither source.old source.new target.old target.new) }
     ensures fault { IfErr result IsCopyFault }
 {

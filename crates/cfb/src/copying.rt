@@ -1,0 +1,59 @@
+//! Files that are copied to another medium.
+ghost use Rattle.cfb_copying.specs.Chains.{IsCopyFault};
+ghost use Rattle.cfb_copying.specs.Copied.{HoldsCopy};
+ghost use Rattle.cfb_fat.specs.Tables.{has_failed_here, version_of, HasCauseBelow};
+ghost use Rattle.cfb_live.specs.Doing.{IsFault};
+ghost use Rattle.cfb_medium.specs.Calls.{Extends, HasCauseSince};
+ghost use Rattle.cfb_medium.specs.declared.error.Error.TheVariants.{Failed, InvalidData};
+ghost use Rattle.cfb_mini.specs.Views.{allocator_of};
+ghost use Rattle.cfb_tree.specs.Tree.{Tree};
+ghost use Rattle.std.specs.Prelude.{false, true, IfErr, IsErrOf, IsTrue, OnErr, OnOk, [], ◌≡◌, ◌⊎◌};
+
+use crate::CompoundFile;
+use cfb_copying::copy_of;
+use cfb_medium::{Error, Medium, ReadMedium};
+use cfb_sectors::HasSectors;
+
+impl<F: ReadMedium> CompoundFile<F> {
+    ghost use Rattle.cfb.specs.Doing.{Means};
+    ghost use Rattle.cfb.specs.Views.{letters_in, mini_of, sound_of, Rests};
+
+    /// Copies the file to an empty medium: there is then a file of the same version that means the same tree, is sound, and has no
+    /// sector that serves no use; what the file holds in sectors and mini sectors of streams is copied whole. The file is only read.
+    /// The copy is made in memory, and takes as much as it has bytes, besides a list of the file's entries; then it is written to
+    /// the medium by one call, and nothing is published. `Failed` after an earlier fault of the file, before all else;
+    /// `InvalidData` where the file isn't sound. The other errors are `Memory`, `Device`, `Full` where numbers of sectors are
+    /// missing, and `Failed` of a medium that has failed. After an error the medium is as it was ([MS-CFB] 2).
+    pub fn copy_to<T: Medium>(&mut self, target: &mut T) -> Result<(), Error>
+        requires { IsTrue (T.honest target.old) → T.bytes target.old ≡ [] }
+        ensures copied { OnOk result (IsTrue (T.honest target.old) → (tree : Tree)
+            → Means self.old tree → HoldsCopy (version_of (allocator_of (mini_of self.old)))
+            (letters_in self.old) (T.bytes target.new) tree) }
+        ensures refused { IfErr result (λ e. (tree : Tree) → Means self.old tree → IsFault e) }
+        ensures failed { has_failed_here (allocator_of (mini_of self.old)) ≡ true
+            → IsErrOf result Failed }
+        ensures unsound { has_failed_here (allocator_of (mini_of self.old)) ≡ false
+            → sound_of self.old ≡ false → IsErrOf result InvalidData }
+        ensures rests { Rests self.old self.new }
+        ensures unwritten { IsTrue (T.honest target.old)
+            → OnErr result (T.bytes target.new ≡ T.bytes target.old) }
+        ensures honest { T.honest target.new ≡ T.honest target.old }
+        ensures continues { Extends T.continues target.old target.new }
+        ensures cause { IfErr result (λ e. HasCauseBelow (allocator_of (mini_of self.old))
+            (allocator_of (mini_of self.new)) e ⊎ HasCauseSince T.continues T.failures T.failed
+            target.old target.new e) }
+        ensures fault { IfErr result IsCopyFault }
+    {
+        if self.mini.directory().allocator().is_failed() {
+            return Err(Error::Failed);
+        }
+        if !self.is_sound {
+            return Err(Error::InvalidData);
+        }
+        let bytes = match copy_of(self.alloc, &mut self.mini) {
+            Ok(bytes) => bytes,
+            Err(error) => return Err(error),
+        };
+        target.write_at(0, &bytes)
+    }
+}

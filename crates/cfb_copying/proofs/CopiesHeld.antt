@@ -1,0 +1,63 @@
+-- The copy of a file that means a tree.
+use Rattle.std.proofs.Common.{◌≡◌, ℕ, List, length, refl, ap, sym, subst, ◌∙◌, ⊎_elim}
+use Rattle.std.specs.List.{IsDistinct}
+use Rattle.std.proofs.lemmas.Bool.Decides.{leb_tells}
+use Rattle.cfb_medium.specs.declared.medium.ReadMedium.{Ghosts}
+use Rattle.cfb_sectors.specs.Header.{mini_cutoff, IsHeader}
+use Rattle.cfb_directory.specs.Taken.{HasSize}
+use Rattle.cfb_directory.specs.Views.{entries_held}
+use Rattle.cfb_fat.specs.Tables.{version_of}
+use Rattle.cfb_live.specs.Live.{live_of, Means}
+use Rattle.cfb_mini.specs.Views.{allocator_of, directory_of, mini_fat_ids}
+use Rattle.cfb_mini.specs.declared.mini_allocator.MiniAllocator.{MiniAllocator}
+use Rattle.cfb_owners.specs.Held.{HasStream}
+use Rattle.cfb_owners.specs.Owners.{first_of, mini_fat_owner}
+use Rattle.cfb_owners.proofs.HoldsById.{holds_so}
+use Rattle.cfb_soundness.specs.Entries.{AreTreeEntries}
+use Rattle.cfb_tree.specs.Directory.{Entry}
+use Rattle.cfb_tree.specs.Names.{Letters}
+use Rattle.cfb_tree.specs.Tree.{Tree}
+use Rattle.cfb_copying.specs.Copied.{HoldsCopy, IsCopied, IsTight}
+use Rattle.cfb_copying.specs.Steps.{HasCopy, IsOriginal}
+use Rattle.cfb_copying.proofs.CopiedTight.{copy_tight}
+
+module _ {F : Type 0} {g : Ghosts F} (mini : MiniAllocator F g) (letters : Letters) (tree : Tree) (m : Means letters mini tree) where
+  has_size : (id : ℕ) (e : Entry) (bytes : List ℕ) → HasStream (live_of mini) m.who id e bytes → HasSize e bytes
+  has_size id e bytes has = ⊎_elim (λ long. (has.long long.1).1.whole) (λ short. (has.short short.1).1.whole) (leb_tells mini_cutoff e.size)
+
+  -- the entries of the tree are those that were listed
+  listed : (ids : List ℕ) → AreTreeEntries (entries_held (directory_of mini)) ids → ids ≡ m.held.ids
+  unfolding live_of IsDistinct
+  listed ids all =
+      all m.held.root m.held.children m.held.ids tree.content m.held.kept.root_found m.held.siblings (holds_so (live_of mini).entries (HasStream (live_of mini) m.who) HasSize has_size tree.content m.held.children m.held.ids m.held.holds) m.held.once.1
+
+  pub original : (ids : List ℕ) → AreTreeEntries (entries_held (directory_of mini)) ids → IsOriginal (allocator_of mini) (live_of mini) m.who ids
+  unfolding live_of
+  original ids all = record {
+    letters = letters;
+    tree = tree;
+    held = m.held;
+    all = listed ids all;
+    sizes = m.sizes;
+    honest = m.owners.honest;
+    version = refl;
+    bytes = refl;
+    fat = refl;
+  }
+
+  pub held_entries : (live_of mini).entries ≡ entries_held (directory_of mini)
+  unfolding live_of
+  held_entries = refl
+
+  pub mini_fat_first : first_of (mini_fat_ids mini) ≡ first_of (m.who.sectors mini_fat_owner)
+  mini_fat_first = ap first_of (sym m.owners.mini_fat)
+
+  pub copy_holds : (ids bytes : List ℕ) → AreTreeEntries (entries_held (directory_of mini)) ids → HasCopy (live_of mini) m.who ids bytes → HoldsCopy (version_of (allocator_of mini)) letters bytes tree
+  unfolding live_of
+  copy_holds ids bytes all has =
+      let s = live_of mini in
+      let copied : IsCopied s m.who m.held.ids has.file has.own = subst (λ l. IsCopied s m.who l has.file has.own) (listed ids all) has.copied in
+      record {
+        header = subst (IsHeader (version_of (allocator_of mini))) has.bytes_are (subst (λ v. IsHeader v has.file.bytes) copied.version copied.header);
+        tight = subst (λ l. IsTight letters l tree) has.bytes_are (copy_tight s has.file m.who has.own letters tree m.held copied);
+      }

@@ -1,0 +1,104 @@
+-- A number of the header that is written in a file in the making.
+use Rattle.std.proofs.Common.{◌≡◌, ℕ, ◌+◌, ◌-◌, ◌^◌, ◌<◌, ◌≤◌, ◌⊎◌, inl, inr, false, IsTrue, List, [], ◌∷◌, length, take, drop, refl, ap, sym, subst, ◌∙◌, arith, ⊎_elim}
+use Rattle.std.specs.Int.{from_le_bytes, to_le_bytes, w16, w32}
+use Rattle.cfb_medium.specs.Bytes.{overwritten}
+use Rattle.cfb_medium.specs.Numbers.{u16_at, u32_at}
+use Rattle.cfb_medium.specs.declared.version.Version.{Version}
+use Rattle.cfb_medium.specs.declared.medium.ReadMedium.{Ghosts}
+use Rattle.cfb_sectors.specs.Header.{first_mini_fat_sector, IsHeader}
+use Rattle.cfb_sectors.specs.Sectors.{filled_part, joined, sector}
+use Rattle.cfb_chains.specs.Behind.{AreWhole}
+use Rattle.cfb_chains.specs.Owned.{AreBesideWords, Leaves}
+use Rattle.cfb_chains.proofs.Owners.{each_left, owned_still}
+use Rattle.cfb_fat.specs.Seeing.{seen_of}
+use Rattle.cfb_fat.specs.Tables.{bytes_of, has_failed_here, version_of}
+use Rattle.cfb_fat.specs.declared.allocator.Allocator.{Allocator}
+use Rattle.cfb_fat.proofs.TableWords.{header_word, word, word_written}
+use Rattle.cfb_fat.proofs.Words.{filled_is}
+use Rattle.cfb_owned.specs.Chains.{GoesOn}
+use Rattle.cfb_copying.specs.Making.{IsMade}
+use Rattle.cfb_copying.proofs.Pieces.{whole_still}
+use Rattle.cfb_copying.proofs.Tight.{tight_then}
+
+-- the number at byte 40, or one behind the header's constants
+abbrev pub IsTold : ℕ → Type 0
+IsTold word = (word ≡ 40) ⊎ (60 ≤ word)
+
+module _ (old new : List ℕ) (word : ℕ) (told : IsTold word) (whole : 512 ≤ length old) (longer : length old ≤ length new)
+    (keeps : (place count : ℕ) → place + count ≤ 68 → AreBesideWords (44 ∷ word ∷ []) place count → filled_part new place count ≡ filled_part old place count) where
+  beside : (place count : ℕ) → place + count ≤ 60 → (place + count ≤ 40) ⊎ (48 ≤ place) → AreBesideWords (44 ∷ word ∷ []) place count
+  beside place count front either = (
+    ⊎_elim (λ low. inl (omega (arith, low))) (λ high. inr (omega (arith, high))) either,
+    (⊎_elim (λ low. inl (⊎_elim (λ is. omega (arith, is, low)) (λ high. omega (arith, high, front)) told)) (λ high. ⊎_elim (λ is. inr (omega (arith, is, high))) (λ far. inl (omega (arith, far, front))) told) either, tt),
+  )
+
+  part_same : (place count : ℕ) → place + count ≤ 60 → (place + count ≤ 40) ⊎ (48 ≤ place) → take count (drop place new) ≡ take count (drop place old)
+  part_same place count front either =
+      sym (filled_is new place count (omega (arith, whole, longer, front))) ∙ keeps place count (omega (arith, front)) (beside place count front either) ∙ filled_is old place count (omega (arith, whole, front))
+
+  pub u32_kept : (place : ℕ) → place + 4 ≤ 60 → (place + 4 ≤ 40) ⊎ (48 ≤ place) → u32_at new place ≡ u32_at old place
+  u32_kept place front either =
+      let four : place + 4 - place ≡ 4 = omega arith in
+      ap (from_le_bytes w32) (ap (λ n. take n (drop place new)) four ∙ part_same place 4 front either ∙ sym (ap (λ n. take n (drop place old)) four))
+
+  u16_kept : (place : ℕ) → place + 2 ≤ 40 → u16_at new place ≡ u16_at old place
+  u16_kept place front =
+      let two : place + 2 - place ≡ 2 = omega arith in
+      ap (from_le_bytes w16) (ap (λ n. take n (drop place new)) two ∙ part_same place 2 (omega (arith, front)) (inl front) ∙ sym (ap (λ n. take n (drop place old)) two))
+
+  pub header_kept : (v : Version) → IsHeader v old → IsHeader v new
+  header_kept v h = record {
+    whole = omega (arith, whole, longer);
+    signed = part_same 0 8 (omega arith) (inl (omega arith)) ∙ h.signed;
+    for_version = u16_kept 26 (omega arith) ∙ h.for_version;
+    low_byte_first = u16_kept 28 (omega arith) ∙ h.low_byte_first;
+    sectors = u16_kept 30 (omega arith) ∙ h.sectors;
+    mini_sectors = u16_kept 32 (omega arith) ∙ h.mini_sectors;
+    cutoff = u32_kept 56 (omega arith) (inr (omega arith)) ∙ h.cutoff;
+  }
+
+module _ {F : Type 0} {g : Ghosts F} where
+  pub made_word : (d m word : ℕ) (a b : Allocator F g) (own bytes : ℕ → List ℕ) → IsMade d m a own bytes → GoesOn a b → has_failed_here b ≡ false → IsTold word
+      → Leaves (sector (version_of a)) (word ∷ []) [] (seen_of a) (seen_of b) → IsMade d (first_mini_fat_sector (bytes_of b)) b own bytes
+  unfolding seen_of
+  made_word d m word a b own bytes made goes live told leaves =
+      let v = version_of a in
+      let S = sector v in
+      let longer = leaves.longer in
+      let old = bytes_of a in
+      let new = bytes_of b in
+      record {
+        live = live;
+        honest = subst IsTrue (sym goes.honest) made.honest;
+        orderly = subst IsTrue (sym (goes.orderly live)) made.orderly;
+        header = subst (λ u. IsHeader u new) (sym goes.version) (header_kept old new word told made.header.whole longer leaves.header v made.header);
+        directory_at = u32_kept old new word told made.header.whole longer leaves.header 48 (omega arith) (inr (omega arith)) ∙ made.directory_at;
+        mini_fat_at = refl;
+        owned = owned_still S (seen_of a) (seen_of b) own (word ∷ []) made.owned leaves;
+        holds = λ k. ap (λ u. joined u new (own k)) goes.version ∙ (each_left S (seen_of a) (seen_of b) own (word ∷ []) made.owned leaves k).bytes ∙ made.holds k;
+        whole = λ k. subst (λ u. AreWhole u new (own k)) (sym goes.version) (whole_still v (own k) old new longer (made.whole k));
+        tight = tight_then S (word ∷ []) [] 0 (seen_of a) (seen_of b) own own made.tight leaves (λ n loose k below same. absurd (omega (arith, below))) (λ n loose. loose) (λ k other. refl);
+      }
+
+  -- how many sectors the directory has
+  pub count_told : (d m : ℕ) (a b : Allocator F g) (own bytes : ℕ → List ℕ) → IsMade d m a own bytes → GoesOn a b → has_failed_here b ≡ false
+      → Leaves (sector (version_of a)) (40 ∷ []) [] (seen_of a) (seen_of b) → IsMade d m b own bytes
+  unfolding seen_of
+  count_told d m a b own bytes made goes live leaves =
+      let whole = made.header.whole in
+      let longer = leaves.longer in
+      let four : 60 + 4 - 60 ≡ 4 = omega arith in
+      let part : take 4 (drop 60 (bytes_of b)) ≡ take 4 (drop 60 (bytes_of a)) =
+      sym (filled_is (bytes_of b) 60 4 (omega (arith, whole, longer))) ∙ leaves.header 60 4 (omega arith) (inr (omega arith), (inr (omega arith), tt)) ∙ filled_is (bytes_of a) 60 4 (omega (arith, whole)) in
+      let same : first_mini_fat_sector (bytes_of b) ≡ m = ap (from_le_bytes w32) part ∙ made.mini_fat_at in
+      subst (λ n. IsMade d n b own bytes) same (made_word d m 40 a b own bytes made goes live (inl refl) leaves)
+
+  -- where the mini FAT begins
+  pub first_told : (d m : ℕ) (a b : Allocator F g) (own bytes : ℕ → List ℕ) (x : ℕ) {first : ℕ} → IsMade d m a own bytes → GoesOn a b → has_failed_here b ≡ false
+      → Leaves (sector (version_of a)) (60 ∷ []) [] (seen_of a) (seen_of b) → bytes_of b ≡ overwritten (bytes_of a) 60 (to_le_bytes w32 x) → x < 2 ^ 32 → x ≡ first → IsMade d first b own bytes
+  unfolding seen_of
+  first_told d m a b own bytes x made goes live leaves written small is =
+      let whole = made.header.whole in
+      let longer = leaves.longer in
+      let told : first_mini_fat_sector (bytes_of b) ≡ x = header_word (bytes_of b) 60 15 refl (omega (arith, whole, longer)) ∙ ap (λ l. word l 15) written ∙ word_written (bytes_of a) 15 x small in
+      subst (λ n. IsMade d n b own bytes) (told ∙ is) (made_word d m 60 a b own bytes made goes live (inr (omega arith)) leaves)

@@ -1,0 +1,34 @@
+use Rattle.std.proofs.Common.{subst, sym, ◌∙◌}
+use Rattle.cfb_sectors.specs.Sectors.{end_of_chain}
+use Rattle.cfb_chains.specs.LinkViews.{ids_of}
+use Rattle.cfb_directory.specs.Entries.{entries_in}
+use Rattle.cfb_owned.proofs.GoingOn.{goes_cause, goes_then}
+use Rattle.cfb_owners.specs.Owners.{directory_owner}
+use Rattle.cfb_copying.specs.Making.{with_list}
+use Rattle.cfb_copying.specs.Steps.{FillSectors}
+use Rattle.cfb_copying.proofs.Ended.{copy_ended, fill_again}
+use Rattle.cfb_copying.proofs.entries.end_copy.Goals as goal
+
+pub returns-in-Err-clause-refused : goal.returns-in-Err-clause-refused
+returns-in-Err-clause-refused g c = λ s who ids fills has.
+    let later = entries_in c.args.entries.now in
+    c.in-Err.ensures.refused end_of_chain has.own has.bytes has.made has.directory (subst (λ v. FillSectors v later) (sym has.version) (fill_again s.version s.entries later ids has.own has.restarts fills))
+
+pub returns-clause-ended : goal.returns-clause-ended
+returns-clause-ended g c = λ s who ids fills has.
+    let later = entries_in c.args.entries.now in
+    let put = c.in-Ok.ensures in
+    let first = c.in_default.ensures in
+    let second = c.in_default-tell_mini_fat.ensures in
+    let did = put.put end_of_chain has.own has.bytes has.made has.directory (subst (λ v. FillSectors v later) (sym has.version) (fill_again s.version s.entries later ids has.own has.restarts fills)) in
+    let dir = ids_of c.in-Ok.links in
+    let own = with_list directory_owner dir has.own in
+    let bytes = with_list directory_owner did.content has.bytes in
+    copy_ended s who ids (ids_of c.args.mini_fat.now) dir did.content later c.args.target.now c.tell_mini_fat.new.target has
+    (c.tell_mini_fat.ensures.goes_on.version ∙ c.tell_directory.ensures.goes_on.version ∙ c.put_directory.ensures.goes_on.version)
+    (second.told 1 end_of_chain own bytes (first.told 1 end_of_chain own bytes did.made)) did.begins did.held
+
+pub returns-in-Err-tell_mini_fat-clause-cause : goal.returns-in-Err-tell_mini_fat-clause-cause
+returns-in-Err-tell_mini_fat-clause-cause g c =
+    goes_cause c.args.target.now c.tell_directory.new.target c.tell_mini_fat.new.target c.in-Err-tell_mini_fat.error
+    (goes_then c.args.target.now c.put_directory.new.target c.tell_directory.new.target c.put_directory.ensures.goes_on c.tell_directory.ensures.goes_on) c.in_default.ensures.live c.in-Err-tell_mini_fat.ensures.cause

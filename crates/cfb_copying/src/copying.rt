@@ -1,0 +1,129 @@
+//! Files that are copied whole.
+ghost use Rattle.cfb_copying.specs.Chains.{IsCopyFault};
+ghost use Rattle.cfb_copying.specs.Copied.{HoldsCopy};
+ghost use Rattle.cfb_copying.specs.Steps.{HasCopy, IsOriginal};
+ghost use Rattle.cfb_directory.specs.Entries.{entries_in};
+ghost use Rattle.cfb_fat.specs.Tables.{has_failed_here, version_of, AllRests, HasCauseBelow};
+ghost use Rattle.cfb_live.specs.Doing.{IsFault};
+ghost use Rattle.cfb_live.specs.Live.{Means};
+ghost use Rattle.cfb_medium.specs.declared.error.Error.TheVariants.{Failed};
+ghost use Rattle.cfb_mini.specs.Views.{allocator_of, mini_fat_ids, Rests};
+ghost use Rattle.cfb_owners.specs.LiveFile.{LiveFile};
+ghost use Rattle.cfb_owners.specs.Owners.{first_of, mini_fat_owner, Owners};
+ghost use Rattle.cfb_tree.specs.Names.{Letters};
+ghost use Rattle.cfb_tree.specs.Tree.{Tree};
+ghost use Rattle.std.specs.Prelude.{true, IfErr, IfOk, IsErrOf, ◌≡◌};
+
+use crate::beginning::begin_file;
+use crate::entries::end_copy;
+use crate::streams::{copy_minis, copy_streams};
+use cfb_fat::Allocator;
+use cfb_medium::{Error, ReadMedium};
+use cfb_mini::MiniAllocator;
+use cfb_sectors::{END_OF_CHAIN, HasSectors};
+use cfb_soundness::tree_entries;
+use cfb_tree::DirEntry;
+use std::alloc::{AllocError, Global};
+
+// The bytes of a copy of a file that has these entries, of which these numbers are the tree's. The entries are told where the
+// copy's chains begin.
+fn copy_file<F: ReadMedium>(
+    alloc: Global,
+    source: &mut Allocator<F>,
+    mini_fat_at: u32,
+    ids: &[u32],
+    entries: &mut [DirEntry],
+) -> Result<Vec<u8>, Error>
+    ensures copied { IfOk result (λ bytes. (s : LiveFile) (who : Owners)
+        → IsOriginal source.old s who ids.now → s.entries ≡ entries_in entries.old
+        → mini_fat_at ≡ first_of (who.sectors mini_fat_owner)
+        → HasCopy s who ids.now bytes.items) }
+    ensures refused { IfErr result (λ e. (s : LiveFile) (who : Owners)
+        → IsOriginal source.old s who ids.now → s.entries ≡ entries_in entries.old
+        → mini_fat_at ≡ first_of (who.sectors mini_fat_owner) → IsFault e) }
+    ensures rests { AllRests source.old source.new }
+    ensures cause { IfErr result (HasCauseBelow source.old source.new) }
+    ensures fault { IfErr result IsCopyFault }
+{
+    let mut target = match begin_file(alloc, source.version()) {
+        Ok(target) => target,
+        Err(error) => return Err(error),
+    };
+    let mini_fat = match copy_minis(alloc, source, mini_fat_at, entries, &mut target) {
+        Ok(links) => links,
+        Err(error) => return Err(error),
+    };
+    if let Err(error) = copy_streams(alloc, source, ids, entries, &mut target) {
+        return Err(error);
+    }
+    if let Err(error) = end_copy(alloc, &mut target, entries, &mini_fat) {
+        return Err(error);
+    }
+    Ok(target.into_inner().into_bytes())
+}
+
+// The mini FAT's first sector; "end of chain" where it has none.
+fn mini_fat_start<F: ReadMedium>(mini: &MiniAllocator<F>) -> u32
+    ensures { result ≡ first_of (mini_fat_ids mini.now) }
+{
+    match mini.mini_fat_sectors().first() {
+        Some(sector_id) => *sector_id,
+        None => END_OF_CHAIN,
+    }
+}
+
+// So for a file whose layers above lend it.
+fn copy_lent<F: ReadMedium>(
+    alloc: Global,
+    mini: &mut MiniAllocator<F>,
+    mini_fat_at: u32,
+    ids: &[u32],
+    entries: &mut [DirEntry],
+) -> Result<Vec<u8>, Error>
+    ensures copied { IfOk result (λ bytes. (s : LiveFile) (who : Owners)
+        → IsOriginal (allocator_of mini.old) s who ids.now → s.entries ≡ entries_in entries.old
+        → mini_fat_at ≡ first_of (who.sectors mini_fat_owner)
+        → HasCopy s who ids.now bytes.items) }
+    ensures refused { IfErr result (λ e. (s : LiveFile) (who : Owners)
+        → IsOriginal (allocator_of mini.old) s who ids.now → s.entries ≡ entries_in entries.old
+        → mini_fat_at ≡ first_of (who.sectors mini_fat_owner) → IsFault e) }
+    ensures rests { Rests mini.old mini.new }
+    ensures cause { IfErr result (HasCauseBelow (allocator_of mini.old) (allocator_of mini.new)) }
+    ensures fault { IfErr result IsCopyFault }
+{
+    copy_file(alloc, mini.allocator_mut(), mini_fat_at, ids, entries)
+}
+
+// The entries again.
+fn entries_again(alloc: Global, entries: &[DirEntry]) -> Result<Vec<DirEntry>, AllocError>
+    ensures { IfOk result (λ again. again.items ≡ entries.now) }
+{
+    entries.iter().copied().collect(alloc)
+}
+
+/// The bytes of a copy of a live file: a file of the same version that means the same tree, and has no sector that serves no use.
+/// Each chain of the file is copied whole, so that it needs as much memory as the copy has bytes, besides a list of the entries.
+/// The file is only read. `Failed` after an earlier fault, before all else; `InvalidData` only where the file means no tree; `Full`
+/// where numbers of sectors are missing. The other errors are `Memory` and `Device` ([MS-CFB] 2).
+pub fn copy_of<F: ReadMedium>(alloc: Global, mini: &mut MiniAllocator<F>) -> Result<Vec<u8>, Error>
+    ensures copied { IfOk result (λ bytes. (letters : Letters) (tree : Tree)
+        → Means letters mini.old tree
+        → HoldsCopy (version_of (allocator_of mini.old)) letters bytes.items tree) }
+    ensures refused { IfErr result (λ e. (letters : Letters) (tree : Tree)
+        → Means letters mini.old tree → IsFault e) }
+    ensures failed { has_failed_here (allocator_of mini.old) ≡ true → IsErrOf result Failed }
+    ensures rests { Rests mini.old mini.new }
+    ensures cause { IfErr result (HasCauseBelow (allocator_of mini.old) (allocator_of mini.new)) }
+    ensures fault { IfErr result IsCopyFault }
+{
+    if mini.directory().allocator().is_failed() {
+        return Err(Error::Failed);
+    }
+    let ids = tree_entries(alloc, mini.directory())?;
+    let mut entries = entries_again(alloc, mini.directory().dir_entries())?;
+    let mini_fat_at = mini_fat_start(mini);
+    match copy_lent(alloc, mini, mini_fat_at, &ids, &mut entries) {
+        Ok(bytes) => Ok(bytes),
+        Err(error) => Err(error),
+    }
+}

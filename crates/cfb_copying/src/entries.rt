@@ -1,0 +1,155 @@
+//! The directory of a copy, and what its header says ([MS-CFB] 2.2, 2.6).
+ghost use Rattle.cfb_chains.specs.LinkViews.{ids_of};
+ghost use Rattle.cfb_copying.specs.Chains.{IsCopyFault};
+ghost use Rattle.cfb_copying.specs.Making.{IsMade};
+ghost use Rattle.cfb_copying.specs.Steps.{FillSectors, HasCopied, HasCopy, HasEntries};
+ghost use Rattle.cfb_directory.specs.Entries.{entries_in, SizesFit};
+ghost use Rattle.cfb_fat.specs.Tables.{bytes_of, has_failed_here, version_of, HasCauseBelow};
+ghost use Rattle.cfb_live.specs.Doing.{IsFault};
+ghost use Rattle.cfb_medium.specs.Calls.{IsFaultUnless};
+ghost use Rattle.cfb_medium.specs.declared.error.Error.TheVariants.{InvalidData, Memory};
+ghost use Rattle.cfb_owned.specs.Chains.{GoesOn};
+ghost use Rattle.cfb_owners.specs.LiveFile.{LiveFile};
+ghost use Rattle.cfb_owners.specs.Owners.{directory_owner, first_of, Owners};
+ghost use Rattle.cfb_tree.specs.Directory.{entries_of};
+ghost use Rattle.std.specs.Prelude.{false, length, IfErr, IfOk, List, OnOk, [], ℕ, ◌*◌, ◌∷◌, ◌≡◌, ◌⊎◌};
+
+use crate::streams::start_of;
+use cfb_chains::Links;
+use cfb_fat::{Allocator, HeaderWord};
+use cfb_medium::{Error, Medium, Version};
+use cfb_owned::{overwrite_chain, set_chain_len, write_word};
+use cfb_sectors::SectorInit;
+use cfb_tree::DirEntry;
+use std::alloc::Global;
+
+// The sector of a new file with which its directory begins.
+const DIRECTORY_AT: u32 = 1;
+
+// The bytes of a directory of these entries. `InvalidData` where one's size doesn't fit into its bytes.
+fn directory_bytes(alloc: Global, version: Version, entries: &[DirEntry]) -> Result<Vec<u8>, Error>
+    ensures held { IfOk result (λ bytes. entries_of version bytes.items ≡ entries_in entries.now) }
+    ensures size { IfOk result (λ bytes. length bytes.items ≡ length entries.now * 128) }
+    ensures refused { IfErr result (λ e. SizesFit version (entries_in entries.now)
+        → e ≡ Memory) }
+    ensures error { IfErr result (λ e. (e ≡ Memory) ⊎ (e ≡ InvalidData)) }
+{
+    let mut bytes = Vec::new(alloc);
+    'write: for entry in entries {
+        if entry.stream_len > version.stream_len_mask() {
+            return Err(Error::InvalidData);
+        }
+        entry.fits(version);
+        entry.write_to(&mut bytes)?;
+    }
+    Ok(bytes)
+}
+
+// Writes the directory of a file in the making, of which it has one sector.
+fn put_directory<T: Medium>(
+    alloc: Global,
+    target: &mut Allocator<T>,
+    entries: &[DirEntry],
+) -> Result<Links, Error>
+    requires { has_failed_here target.old ≡ false }
+    ensures put { IfOk result (λ links. (mini_fat : ℕ) (own bytes : ℕ → List ℕ)
+        → IsMade 1 mini_fat target.old own bytes → own directory_owner ≡ 1 ∷ []
+        → FillSectors (version_of target.old) (entries_in entries.now)
+        → HasEntries (version_of target.old) mini_fat own bytes (entries_in entries.now)
+        (ids_of links) target.new) }
+    ensures refused { IfErr result (λ e. (mini_fat : ℕ) (own bytes : ℕ → List ℕ)
+        → IsMade 1 mini_fat target.old own bytes → own directory_owner ≡ 1 ∷ []
+        → FillSectors (version_of target.old) (entries_in entries.now) → IsFault e) }
+    ensures goes_on { GoesOn target.old target.new }
+    ensures live { OnOk result (has_failed_here target.new ≡ false) }
+    ensures cause { IfErr result (HasCauseBelow target.old target.new) }
+    ensures fault { IfErr result IsCopyFault }
+{
+    let bytes = match directory_bytes(alloc, target.version(), entries) {
+        Ok(bytes) => bytes,
+        Err(error) => return Err(error),
+    };
+    let mut links = match target.open_chain(DIRECTORY_AT) {
+        Ok(links) => links,
+        Err(error) => return Err(error),
+    };
+    if let Err(error) = set_chain_len(target, &mut links, bytes.len() as u64, SectorInit::Zero) {
+        return Err(error);
+    }
+    if let Err(error) = overwrite_chain(target, &links, 0, &bytes) {
+        return Err(error);
+    }
+    Ok(links)
+}
+
+// Tells the header how many sectors the directory has, in version 4.
+fn tell_directory<T: Medium>(target: &mut Allocator<T>, links: &Links) -> Result<(), Error>
+    requires { has_failed_here target.old ≡ false }
+    ensures told { OnOk result ((directory mini_fat : ℕ) (own bytes : ℕ → List ℕ)
+        → IsMade directory mini_fat target.old own bytes
+        → IsMade directory mini_fat target.new own bytes) }
+    ensures goes_on { GoesOn target.old target.new }
+    ensures live { OnOk result (has_failed_here target.new ≡ false) }
+    ensures cause { IfErr result (HasCauseBelow target.old target.new) }
+    ensures fault { IfErr result (IsFaultUnless ⊥) }
+{
+    if let Version::V3 = target.version() {
+        return Ok(());
+    }
+    let count = links.sector_ids().len() as u32;
+    if let Err(error) = write_word(target, HeaderWord::DirectorySectors, count) {
+        return Err(error);
+    }
+    Ok(())
+}
+
+// Tells the header where the mini FAT begins, and how many sectors it has.
+fn tell_mini_fat<T: Medium>(target: &mut Allocator<T>, links: &Links) -> Result<(), Error>
+    requires { has_failed_here target.old ≡ false }
+    ensures told { OnOk result ((directory mini_fat : ℕ) (own bytes : ℕ → List ℕ)
+        → IsMade directory mini_fat target.old own bytes
+        → IsMade directory (first_of (ids_of links.now)) target.new own bytes) }
+    ensures goes_on { GoesOn target.old target.new }
+    ensures live { OnOk result (has_failed_here target.new ≡ false) }
+    ensures cause { IfErr result (HasCauseBelow target.old target.new) }
+    ensures fault { IfErr result (IsFaultUnless ⊥) }
+{
+    let count = links.sector_ids().len() as u32;
+    if let Err(error) = write_word(target, HeaderWord::MiniFatSectors, count) {
+        return Err(error);
+    }
+    if let Err(error) = write_word(target, HeaderWord::FirstMiniFatSector, start_of(links)) {
+        return Err(error);
+    }
+    Ok(())
+}
+
+// Ends a copy: its directory with these entries, and the header's numbers.
+pub(crate) fn end_copy<T: Medium>(
+    alloc: Global,
+    target: &mut Allocator<T>,
+    entries: &[DirEntry],
+    mini_fat: &Links,
+) -> Result<(), Error>
+    requires { has_failed_here target.old ≡ false }
+    ensures ended { OnOk result ((s : LiveFile) (who : Owners) (ids : List ℕ)
+        → FillSectors s.version s.entries → HasCopied s who ids (ids_of mini_fat.now)
+        (entries_in entries.now) target.old → HasCopy s who ids (bytes_of target.new)) }
+    ensures refused { IfErr result (λ e. (s : LiveFile) (who : Owners) (ids : List ℕ)
+        → FillSectors s.version s.entries → HasCopied s who ids (ids_of mini_fat.now)
+        (entries_in entries.now) target.old → IsFault e) }
+    ensures cause { IfErr result (HasCauseBelow target.old target.new) }
+    ensures fault { IfErr result IsCopyFault }
+{
+    let directory = match put_directory(alloc, target, entries) {
+        Ok(links) => links,
+        Err(error) => return Err(error),
+    };
+    if let Err(error) = tell_directory(target, &directory) {
+        return Err(error);
+    }
+    if let Err(error) = tell_mini_fat(target, mini_fat) {
+        return Err(error);
+    }
+    Ok(())
+}
