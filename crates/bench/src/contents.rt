@@ -89,7 +89,8 @@ fn open_and_read(rt: &HostRuntime, medium: MemoryMedium) -> Result<()> {
     for entry in entries {
         if entry.is_stream() {
             bytes.clear();
-            file.open_read_stream(entry.path())?.read_to_end(&mut bytes)?;
+            file.open_read_stream(entry.path())?
+                .read_to_end(&mut bytes)?;
         }
     }
     print_time(rt, "objects read", count, begin.elapsed(rt)?)

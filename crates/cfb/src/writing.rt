@@ -37,8 +37,8 @@ impl<F: ReadMedium> CompoundFile<F> {
             id < length (entries_held (directory_of (mini_of self.now)))) }
         ensures found { (tree : Tree) → MeansTree self.now tree
             → IfOk result (λ id. IsFound self.now (names_in path.now) tree id) }
-        ensures refused { (tree : Tree) → MeansTree self.now tree → IfErr result (λ e. IsWant self.now e
-            ⊎ (answer_at (letters_in self.now) tree open_stream (names_in path.now)
+        ensures refused { (tree : Tree) → MeansTree self.now tree
+            → IfErr result (λ e. IsWant self.now e ⊎ (answer_at (letters_in self.now) tree open_stream (names_in path.now)
             ≡ refused e)) }
     {
         let names = match name_chain_from_path(self.alloc, path) {
@@ -64,8 +64,8 @@ impl<F: ReadMedium> CompoundFile<F> {
         ensures small { IfOk result (λ it. it.1 < 2 ^ 63) }
         ensures found { (tree : Tree) → MeansTree self.old tree → IfOk result (λ it.
             FindsWritten self.old self.new (names_in path.now) tree it.0 it.1) }
-        ensures refused { (tree : Tree) → MeansTree self.old tree → IfErr result (λ e. IsWant self.old e
-            ⊎ (answer_at (letters_in self.old) tree open_stream (names_in path.now)
+        ensures refused { (tree : Tree) → MeansTree self.old tree
+            → IfErr result (λ e. IsWant self.old e ⊎ (answer_at (letters_in self.old) tree open_stream (names_in path.now)
             ≡ refused e)) }
         ensures failed { has_failed_here (allocator_of (mini_of self.old)) ≡ true
             → IsErrOf result Failed }
@@ -106,8 +106,8 @@ impl<F: ReadMedium> CompoundFile<F> {
         ensures at_start { IfOk result (λ s. place_of s ≡ 0) }
         ensures opened { (tree : Tree) → MeansTree self.old tree
             → IfOk result (Opens (names_in path.now) self.old tree) }
-        ensures refused { (tree : Tree) → MeansTree self.old tree → IfErr result (λ e. IsWant self.old e
-            ⊎ (answer_at (letters_in self.old) tree open_stream (names_in path.now)
+        ensures refused { (tree : Tree) → MeansTree self.old tree
+            → IfErr result (λ e. IsWant self.old e ⊎ (answer_at (letters_in self.old) tree open_stream (names_in path.now)
             ≡ refused e)) }
         ensures failed { has_failed_here (allocator_of (mini_of self.old)) ≡ true
             → IsErrOf result Failed }

@@ -1,5 +1,6 @@
 //! Calls on a compound file in memory.
 use crate::faults::{call_fails, open_fails};
+use crate::names::names_sum;
 use crate::streams::{append, limited, pieces_of, set_len, sums_of, write_at};
 use crate::told::{bytes_of, count_of, tree_of};
 use cfb::CompoundFile;
@@ -87,6 +88,7 @@ fn answered(
         "bytes" => bytes_of(alloc, file, row.text(1)),
         "pieces" => pieces_of(alloc, file, row),
         "sums" => sums_of(alloc, file),
+        "names" => names_sum(alloc, file, row),
         "each" => each(alloc, file, row),
         _ => {
             change(alloc, file, row)?;

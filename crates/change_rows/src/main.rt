@@ -6,6 +6,7 @@ mod creating;
 mod failing;
 mod faults;
 mod files;
+mod names;
 mod streams;
 mod told;
 

@@ -94,10 +94,16 @@ fn read_pieces<F: ReadMedium>(
 }
 
 /// The file, opened so that at most so many bytes of a stream are read at once.
-pub fn limited(alloc: Global, medium: MemoryMedium, limit: i64) -> Result<CompoundFile<MemoryMedium>, Error> {
+pub fn limited(
+    alloc: Global,
+    medium: MemoryMedium,
+    limit: i64,
+) -> Result<CompoundFile<MemoryMedium>, Error> {
     let limit = usize::try_from(limit).unwrap_or(1);
     let options = OpenOptions::new(alloc)?.max_buffer_size(limit);
-    options.open_with(alloc, medium).map_err(|refused| refused.1)
+    options
+        .open_with(alloc, medium)
+        .map_err(|refused| refused.1)
 }
 
 /// Each stream with its length and the sum of its bytes, to each of which 257 times the sum so far is added.
