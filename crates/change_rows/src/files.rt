@@ -28,6 +28,18 @@ impl Files {
         Ok(file.into_inner())
     }
 
+    // Copies the file, which then is the copy, and tells how many bytes that has.
+    fn copy(&mut self, alloc: Global) -> Result<String, Error> {
+        let mut target = MemoryMedium::new(alloc);
+        match &mut self.file {
+            Some(file) => file.copy_to(&mut target)?,
+            None => return Err(Error::NotFound),
+        }
+        let len = target.bytes().len();
+        self.file = Some(strict(alloc, target)?);
+        Ok(format!(in alloc; "{len} bytes")?)
+    }
+
     // Opens the file, or makes a call on it, over media that fail.
     fn failing(&mut self, alloc: Global, row: &Row) -> Result<String, Error> {
         let bytes = self.taken()?.into_bytes();
@@ -56,6 +68,7 @@ impl Subject for Files {
                 self.file = Some(limited(alloc, medium, row.number(1))?);
             }
             "open fails" | "fails" => return self.failing(alloc, row),
+            "copy" => return self.copy(alloc),
             _ => {}
         }
         match &mut self.file {
