@@ -131,7 +131,7 @@ fn a_first_commit_of_one_page(rt: HostRuntime) {
     let alloc = rt.alloc();
     let files = Pair::new(alloc, &[], &[]).expect(&rt, "no refusal");
     let stops = commit_with_stops(&rt, alloc, &files, 5, &[2]);
-    assert_eq!(rt; stops, 258);
+    assert_eq!(rt; stops, 250);
 }
 
 #[test]
@@ -139,7 +139,7 @@ fn a_commit_behind_a_log_of_one_byte(rt: HostRuntime) {
     let alloc = rt.alloc();
     let files = Pair::new(alloc, &[7; 512], &[1]).expect(&rt, "no refusal");
     let stops = commit_with_stops(&rt, alloc, &files, 511, &[8, 8]);
-    assert_eq!(rt; stops, 419);
+    assert_eq!(rt; stops, 387);
 }
 
 #[test]
@@ -147,7 +147,7 @@ fn a_commit_of_three_pages_to_a_last_page_that_is_cut(rt: HostRuntime) {
     let alloc = rt.alloc();
     let files = Pair::new(alloc, &[7; 1100], &[0; 600]).expect(&rt, "no refusal");
     let stops = commit_with_stops(&rt, alloc, &files, 500, &[8; 560]);
-    assert_eq!(rt; stops, 719);
+    assert_eq!(rt; stops, 632);
 }
 
 #[test]
@@ -155,7 +155,7 @@ fn a_commit_of_four_pages_to_a_home_file_that_grows(rt: HostRuntime) {
     let alloc = rt.alloc();
     let files = Pair::new(alloc, &[7; 600], &[0]).expect(&rt, "no refusal");
     let stops = commit_with_stops(&rt, alloc, &files, 300, &[8; 1500]);
-    assert_eq!(rt; stops, 1322);
+    assert_eq!(rt; stops, 1107);
 }
 
 // The first stop of a commit of the bytes 01 00 00 00 00 02 to an empty device at which its files are at least this long.

@@ -17,6 +17,3 @@ pub const RECORDS: u64 = 25;
 
 /// The number of bytes of a record: the page's number, and its bytes.
 pub const RECORD_LEN: u64 = 520;
-
-/// Where the first record's page begins.
-pub const FIRST_PAGE: u64 = 33;
