@@ -28,8 +28,9 @@ pub(crate) fn cut(
     condition: &Option<Expr>,
     found: (Table, Vec<Vec<ValueRef>>),
 ) -> Result<(Table, Vec<Vec<ValueRef>>), Error>
-    ensures { Answers answered result (cut pool.now.pool (map string_bytes names.now)
+    ensures answer { Answers answered result (cut pool.now.pool (map string_bytes names.now)
         (condition_of condition.now) (answered found)) }
+    ensures width { IfOk result (λ cut. (heading_of cut.0).long ≡ (heading_of found.0).long) }
 {
     let (table, rows) = found;
     if !has_each(&table, names) {
@@ -101,8 +102,9 @@ fn projected(
     table: Table,
     rows: Vec<Vec<ValueRef>>,
 ) -> Result<(Table, Vec<Vec<ValueRef>>), Error>
-    ensures { Answers answered result (Ok
+    ensures answer { Answers answered result (Ok
         (projected (map string_bytes names.now) (table_held table rows.items))) }
+    ensures width { IfOk result (λ cut. (heading_of cut.0).long ≡ (heading_of table).long) }
 {
     if names.is_empty() {
         return Ok((table, rows));

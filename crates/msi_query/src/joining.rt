@@ -32,13 +32,14 @@ pub(crate) fn inner_joined(
     left: (Table, Vec<Vec<ValueRef>>),
     right: (Table, Vec<Vec<ValueRef>>),
 ) -> Result<(Table, Vec<Vec<ValueRef>>), Error>
-    ensures { Answers answered result (inner_joined pool.now.pool (formula_of on.now)
+    ensures answer { Answers answered result (inner_joined pool.now.pool (formula_of on.now)
         (answered left) (answered right)) }
+    ensures width { IfOk result (λ joined. (heading_of joined.0).long ≡ pool.now.pool.long) }
 {
     let mut columns = prefixed(alloc, left.0.name(), left.0.columns())?;
     let mut others = prefixed(alloc, right.0.name(), right.0.columns())?;
     columns.append(&mut others)?;
-    let table = Table::from_parts(String::new(alloc), columns, left.0.long_string_refs());
+    let table = Table::from_parts(String::new(alloc), columns, pool.long_string_refs());
     if !knows(alloc, &table, on)? {
         return Err(Error::InvalidInput);
     }
@@ -56,14 +57,15 @@ pub(crate) fn left_joined(
     left: (Table, Vec<Vec<ValueRef>>),
     right: (Table, Vec<Vec<ValueRef>>),
 ) -> Result<(Table, Vec<Vec<ValueRef>>), Error>
-    ensures { Answers answered result (left_joined pool.now.pool (formula_of on.now) (answered left)
-        (answered right)) }
+    ensures answer { Answers answered result (left_joined pool.now.pool (formula_of on.now)
+        (answered left) (answered right)) }
+    ensures width { IfOk result (λ joined. (heading_of joined.0).long ≡ pool.now.pool.long) }
 {
     let width = right.0.columns().len();
     let mut columns = prefixed(alloc, left.0.name(), left.0.columns())?;
     let mut others = prefixed_nullable(alloc, right.0.name(), right.0.columns())?;
     columns.append(&mut others)?;
-    let table = Table::from_parts(String::new(alloc), columns, left.0.long_string_refs());
+    let table = Table::from_parts(String::new(alloc), columns, pool.long_string_refs());
     if !knows(alloc, &table, on)? {
         return Err(Error::InvalidInput);
     }

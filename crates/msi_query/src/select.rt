@@ -1,5 +1,6 @@
 //! Selects.
-ghost use Rattle.std.specs.Prelude.{◌≡◌, [], Ok, Some, None, codes, map, option_map};
+ghost use Rattle.msi_tables.specs.Held.{heading_of};
+ghost use Rattle.std.specs.Prelude.{◌≡◌, [], IfOk, Ok, Some, None, codes, map, option_map};
 ghost use Rattle.std.specs.Fmt.{DisplaysOnOk, ◌++?◌};
 ghost use Rattle.msi_texts.specs.Results.{Answers};
 ghost use Rattle.msi_expr.specs.Formula.{formula_of};
@@ -111,10 +112,10 @@ impl Select {
         })
     }
 
-    /// The table and the rows that it asks for: those of its source that the condition lets through, cut to its columns. Of
-    /// a join the left side is judged first, then the right one. `NotFound` where a table isn't there; `InvalidInput` where a
-    /// column isn't there that is asked for or that a condition names. Other errors are faults of the source, or `Memory`;
-    /// the source is only read.
+    /// The table and the rows that it asks for: those of its source that the condition lets through, cut to its columns. Its
+    /// references are as wide as the pool's. Of a join the left side is judged first, then the right one. `NotFound` where a
+    /// table isn't there; `InvalidInput` where a column isn't there that is asked for or that a condition names. Other errors
+    /// are faults of the source, or `Memory`; the source is only read.
     #[cycle(applied)]
     pub fn apply<S: TableSource>(
         &self,
@@ -124,6 +125,7 @@ impl Select {
     ) -> Result<(Table, Vec<Vec<ValueRef>>), Error>
         ensures answer { AnswersOf (S.has_tables source.old) (S.has_cause source.old source.new)
             answered result (λ tables. selected tables pool.now.pool (query_of self.now)) }
+        ensures width { IfOk result (λ found. (heading_of found.0).long ≡ pool.now.pool.long) }
         ensures rests { S.rests source.old source.new }
     {
         let found = self.from.found(alloc, source, pool)?;
@@ -202,10 +204,11 @@ impl Join {
     ) -> Result<(Table, Vec<Vec<ValueRef>>), Error>
         ensures answer { AnswersOf (S.has_tables source.old) (S.has_cause source.old source.new)
             answered result (λ tables. source_rows tables pool.now.pool (source_of self.now)) }
+        ensures width { IfOk result (λ found. (heading_of found.0).long ≡ pool.now.pool.long) }
         ensures rests { S.rests source.old source.new }
     {
         match self {
-            Join::Table(name) => stored(alloc, source, name),
+            Join::Table(name) => stored(alloc, source, pool, name),
             Join::Inner(left, right, on) => {
                 let first = left.apply(alloc, source, pool)?;
                 let second = right.apply(alloc, source, pool)?;

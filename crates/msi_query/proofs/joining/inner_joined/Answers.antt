@@ -12,8 +12,8 @@ use Rattle.msi_columns.specs.Held.{column_of, columns_of}
 use Rattle.msi_tables.specs.Held.{heading_of, rows_held}
 use Rattle.msi_query.proofs.joining.inner_joined.Goals as goal
 
-pub returns : goal.returns
-returns c =
+pub returns-clause-answer : goal.returns-clause-answer
+returns-clause-answer c =
     let l = answered c.args.left in
     let r = answered c.args.right in
     let h = heading_of c.from_parts-table.result in
