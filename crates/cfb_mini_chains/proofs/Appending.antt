@@ -31,11 +31,11 @@ use Rattle.cfb_mini.proofs.MiniParts.{length-mini_joined}
 use Rattle.cfb_mini_chains.specs.MiniGrowing.{Appends}
 
 -- what holds of bytes that a call took holds of so many as it tells
-pub took : {E : Type 0} (r : Result ℕ E) (P : ℕ → List ℕ → Type 0) (Q : ℕ → Type 0) (bytes : List ℕ) (k : ℕ) → k ≤ length bytes → OnOk r (P (length (take k bytes)) (take k bytes)) → IfOk r (λ n. (n ≡ length (take k bytes)) × Q n) → IfOk r (λ n. P n (take n bytes))
-took (Ok n) P Q bytes k few p there =
+pub took : {E : Type 0} (r : Result ℕ E) (P : ℕ → List ℕ → Type 0) (bytes : List ℕ) (k : ℕ) → k ≤ length bytes → OnOk r (P (length (take k bytes)) (take k bytes)) → IfOk r (λ n. n ≡ length (take k bytes)) → IfOk r (λ n. P n (take n bytes))
+took (Ok n) P bytes k few p is =
     let size = length-take-le k bytes few in
-    subst (λ m. P m (take m bytes)) (sym (there.0 ∙ size)) (subst (λ m. P m (take k bytes)) size p)
-took (Err e) P Q bytes k few p there = tt
+    subst (λ m. P m (take m bytes)) (sym (is ∙ size)) (subst (λ m. P m (take k bytes)) size p)
+took (Err e) P bytes k few p is = tt
 
 abbrev zeros : ℕ → List ℕ
 zeros count = replicate count 0
