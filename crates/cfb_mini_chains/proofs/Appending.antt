@@ -1,10 +1,10 @@
 -- Mini chains that took mini sectors in, with the bytes that were written there.
-use Rattle.std.proofs.Common.{◌≡◌, ℕ, ◌+◌, ◌-◌, ◌*◌, ◌<◌, ◌≤◌, inl, inr, List, [], ◌∷◌, ◌++◌, zero, suc, length, take, replicate, get_or, set, refl, ap, sym, subst, ◌∙◌, arith, ⊎_elim, append-nil, length-append}
+use Rattle.std.proofs.Common.{◌≡◌, ℕ, ◌+◌, ◌-◌, ◌*◌, ◌<◌, ◌≤◌, inl, inr, List, [], ◌∷◌, ◌++◌, zero, suc, length, take, replicate, get_or, set, refl, ap, sym, subst, ◌∙◌, arith, ⊎_elim, append-nil, length-append, length-take}
 use Rattle.std.specs.Prelude.{Err, IfOk, Ok, OnOk, Result, slice_index, slice_index_or}
-use Rattle.std.specs.List.{flat_map, AllByRecursion}
+use Rattle.std.specs.List.{AllByRecursion}
 use Rattle.std.proofs.lemmas.Bool.Decides.{leb_tells}
 use Rattle.std.proofs.lemmas.Grind.{flat_map-append}
-use Rattle.std.proofs.lemmas.List.{ext_get_or, get_or-append_right, get_or-replicate, get_or_append_left, get_or_past, length-replicate, length-take-le}
+use Rattle.std.proofs.lemmas.List.{ext_get_or, get_or-append_right, get_or-replicate, get_or-take, get_or_append_left, get_or_past, length-replicate, length-take-le}
 use Rattle.cfb_medium.specs.Bytes.{overwritten}
 use Rattle.cfb_medium.specs.Versions.{sector_len}
 use Rattle.cfb_medium.specs.declared.medium.ReadMedium.{Ghosts}
@@ -19,14 +19,14 @@ use Rattle.cfb_fat.specs.Tables.{version_of}
 use Rattle.cfb_fat.specs.declared.allocator.Allocator.{Allocator}
 use Rattle.cfb_owned.specs.Chains.{GoesOn}
 use Rattle.cfb_directory.specs.Views as directory
-use Rattle.cfb_mini.specs.Changing.{mini_seen, HasOwners, Lengthens, Overwrites, TellsStream}
+use Rattle.cfb_mini.specs.Changing.{mini_seen, HasOwners, Lengthens, Overwrites, Shortens, TellsStream}
 use Rattle.cfb_mini.specs.LinkViews.{minis_of}
 use Rattle.cfb_mini.specs.Minis.{mini_joined, mini_sector, AreInside, IsMiniChain}
 use Rattle.cfb_mini.specs.Views.{allocator_of, directory_of, mini_content_of, mini_fat_ids, mini_fat_of, mini_stream_ids, mini_stream_len, mini_stream_of, IsMini}
 use Rattle.cfb_mini.specs.declared.links.MiniLinks.{MiniLinks}
 use Rattle.cfb_mini.specs.declared.mini_allocator.MiniAllocator.{MiniAllocator}
 use Rattle.cfb_mini.proofs.KeptFile.{file_then}
-use Rattle.cfb_mini.proofs.Longer.{all_less, lengthened_owners, now_other, own_now, stream_size}
+use Rattle.cfb_mini.proofs.Longer.{lengthened_owners, now_other, own_now, stream_size}
 use Rattle.cfb_mini.proofs.MiniParts.{length-mini_joined}
 use Rattle.cfb_mini_chains.specs.MiniGrowing.{Appends}
 
@@ -90,6 +90,12 @@ inside_both n [] ys inside all k below = inside_all n ys all k below
 inside_both n (x ∷ xs) ys inside all zero below = inside 0 (omega arith)
 inside_both n (x ∷ xs) ys inside all (suc k) below = inside_both n xs ys (λ j there. inside (suc j) (omega (arith, there))) all k (omega (arith, below))
 
+inside_front : (n count : ℕ) (xs : List ℕ) → AreInside n xs → (k : ℕ) → k < length (take count xs) → 64 * slice_index (take count xs) k + 64 ≤ n
+inside_front n count xs inside k below =
+    let size = length-take count xs in
+    let is : get_or (take count xs) k 0 ≡ get_or xs k 0 = get_or-take count xs k 0 (omega (arith, below, size)) in
+    subst (λ m. 64 * m + 64 ≤ n) (sym is) (inside k (omega (arith, below, size)))
+
 module _ {F : Type 0} {g : Ghosts F} where
   stays_then : (a b c : Allocator F g) (ids now : List ℕ) → version_of b ≡ version_of a → now ≡ ids → Stays (sector (version_of a)) (seen_of a) (seen_of b) ids → Stays (sector (version_of b)) (seen_of b) (seen_of c) now → Stays (sector (version_of a)) (seen_of a) (seen_of c) ids
   unfolding seen_of
@@ -108,6 +114,25 @@ module _ {F : Type 0} {g : Ghosts F} where
   len_same : (b c : MiniAllocator F g) → version_of (allocator_of c) ≡ version_of (allocator_of b) → IsMini b → IsMini c → mini_stream_ids c ≡ mini_stream_ids b → mini_stream_len c ≡ mini_stream_len b
   len_same b c version is now ids =
       ap (λ v. length (mini_stream_ids c) * sector_len v) (now.over.stream_version ∙ version ∙ sym is.over.stream_version) ∙ ap (λ l. length l * sector_len (links_version b.mini_fat.stream)) ids
+
+  len_kept : (a b : MiniAllocator F g) (own : ℕ → List ℕ) → GoesOn (allocator_of a) (allocator_of b) → HasOwners a own → HasOwners b own → mini_stream_len b ≡ mini_stream_len a
+  len_kept a b own goes h now = len_same a b goes.version h.memory now.memory (sym now.mini_stream ∙ h.mini_stream)
+
+  -- the mini FAT has the chain that was written over, and the one that became shorter
+  pub chain_over : (a b : MiniAllocator F g) (links : MiniLinks) (own : ℕ → List ℕ) (at : ℕ) (bytes : List ℕ) → GoesOn (allocator_of a) (allocator_of b) → HasOwners a own → IsMiniChain (mini_fat_of a) (mini_stream_len a) (minis_of links) → Overwrites at bytes a b links own
+      → IsMiniChain (mini_fat_of b) (mini_stream_len b) (minis_of links)
+  unfolding mini_seen
+  chain_over a b links own at bytes goes h chain over =
+      record { linked = over.changes.becomes.linked; inside = subst (λ n. AreInside n (minis_of links)) (sym (len_kept a b own goes h over.changes.owners)) chain.inside }
+
+  pub chain_fewer : (a b : MiniAllocator F g) (count : ℕ) (minis later : List ℕ) (own : ℕ → List ℕ) → GoesOn (allocator_of a) (allocator_of b) → HasOwners a own → IsMiniChain (mini_fat_of a) (mini_stream_len a) minis → Shortens count a b minis later own
+      → IsMiniChain (mini_fat_of b) (mini_stream_len b) later
+  unfolding mini_seen
+  chain_fewer a b count minis later own goes h chain cut =
+      record {
+        linked = cut.changes.becomes.linked;
+        inside = subst (λ n. AreInside n later) (sym (len_kept a b own goes h cut.changes.owners)) (subst (AreInside (mini_stream_len a)) (sym cut.minis_are) (inside_front (mini_stream_len a) count minis chain.inside));
+      }
 
   -- the mini FAT has the chain that became longer, and the mini stream its mini sectors
   pub chain_then : (a m : MiniAllocator F g) (minis later : List ℕ) (own : ℕ → List ℕ) → HasOwners a own → IsMiniChain (mini_fat_of a) (mini_stream_len a) minis → Lengthens a m minis later own → IsMiniChain (mini_fat_of m) (mini_stream_len m) later

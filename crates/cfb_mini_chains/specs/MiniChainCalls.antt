@@ -1,8 +1,7 @@
 -- What calls that change a mini chain say of it ([MS-CFB] 2.4).
-use Rattle.std.specs.Prelude.{◌≡◌, ℕ, ◌+◌, ◌-◌, ◌/◌, ◌%◌, ◌⊎◌, ◌<◌, false, true, min, List, length, IsErrOf, IsTrue, OnErr, Result}
+use Rattle.std.specs.Prelude.{◌≡◌, ℕ, ◌+◌, ◌-◌, ◌/◌, ◌%◌, ◌⊎◌, false, true, min, List, length, IsTrue, OnErr, Result}
 use Rattle.cfb_fat.specs.Tables.{has_failed_here, orderly_of}
 use Rattle.cfb_medium.specs.declared.error.Error.{Error}
-use Rattle.cfb_medium.specs.declared.error.Error.TheVariants.{InvalidData}
 use Rattle.cfb_medium.specs.declared.medium.ReadMedium.{Ghosts}
 use Rattle.cfb_mini.specs.Views.{Rests}
 use Rattle.cfb_mini_chains.specs.MiniChainViews.{allocator_under, mini_of, mini_sectors_of, position_of, HasChain}

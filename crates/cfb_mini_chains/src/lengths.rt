@@ -48,7 +48,7 @@ impl<'a, F: Medium> MiniChain<'a, F> {
     fn shorten_to(&mut self, count: usize) -> Result<(), Error>
         ensures shortened { OnOk result ((own : ℕ → List ℕ) → HasChain self.old own
             → Shortens count (mini_of self.old) (mini_of self.new) (mini_sectors_of self.old)
-            (mini_sectors_of self.new) own) }
+            (mini_sectors_of self.new) own × HasChain self.new own) }
         ensures position { OnOk result (position_of self.new
             ≡ min (position_of self.old) (len_of self.new)) }
         ensures same { IsSame self.old self.new }
@@ -108,7 +108,7 @@ impl<'a, F: Medium> MiniChain<'a, F> {
         ensures shorter { minis_for len ≤ length (mini_sectors_of self.old)
             → OnOk result ((own : ℕ → List ℕ) → HasChain self.old own
             → Shortens (minis_for len) (mini_of self.old) (mini_of self.new)
-            (mini_sectors_of self.old) (mini_sectors_of self.new) own) }
+            (mini_sectors_of self.old) (mini_sectors_of self.new) own × HasChain self.new own) }
         ensures position { OnOk result (position_of self.new
             ≡ min (position_of self.old) (len_of self.new)) }
         ensures same { IsSame self.old self.new }

@@ -9,7 +9,7 @@ ghost use Rattle.cfb_mini_chains.specs.MiniChainCalls.{mini_tail_in, taken_count
 ghost use Rattle.cfb_mini_chains.specs.MiniGrowing.{Appends};
 ghost use Rattle.cfb_owned.specs.Chains.{GoesOn, IsInvalidPlaceOrFull};
 ghost use Rattle.cfb_sectors.specs.Sectors.{greatest_regular};
-ghost use Rattle.std.specs.Prelude.{false, length, replicate, take, IfOk, IsErrOf, List, OnErr, OnOk, ℕ, ◌*◌, ◌+◌, ◌++◌, ◌-◌, ◌<◌, ◌≡◌, ◌≤◌, ◌⊎◌};
+ghost use Rattle.std.specs.Prelude.{false, length, replicate, take, IfOk, IsErrOf, List, OnErr, OnOk, ℕ, ◌*◌, ◌+◌, ◌++◌, ◌-◌, ◌<◌, ◌≡◌, ◌≤◌, ◌↔◌, ◌⊎◌};
 
 use crate::MiniChain;
 use crate::growing::append;
@@ -26,7 +26,7 @@ impl<'a, F: Medium> MiniChain<'a, F> {
     fn write_inside(&mut self, bytes: &[u8]) -> Result<usize, Error>
         ensures written { OnOk result ((own : ℕ → List ℕ) → HasChain self.old own
             → Overwrites (position_of self.old) bytes.now (mini_of self.old) (mini_of self.new)
-            (links_of self.old) own) }
+            (links_of self.old) own × HasChain self.new own) }
         ensures there { IfOk result (λ n. (n ≡ length bytes.now)
             × (position_of self.new ≡ position_of self.old + n)
             × (position_of self.old + n ≤ len_of self.old)) }
@@ -86,7 +86,7 @@ impl<'a, F: Medium> MiniChain<'a, F> {
         ensures inside { position_of self.old + taken_count bytes.now self.old ≤ len_of self.old
             → IfOk result (λ n. (own : ℕ → List ℕ) → HasChain self.old own
             → Overwrites (position_of self.old) (take n bytes.now) (mini_of self.old)
-            (mini_of self.new) (links_of self.old) own) }
+            (mini_of self.new) (links_of self.old) own × HasChain self.new own) }
         ensures behind { len_of self.old < position_of self.old + taken_count bytes.now self.old
             → IfOk result (λ n. (own : ℕ → List ℕ) → HasChain self.old own
             → Appends (take n bytes.now ++ replicate (64 - n) 0) (mini_of self.old)
@@ -123,9 +123,10 @@ impl<'a, F: Medium> MiniChain<'a, F> {
     pub fn zero_tail(&mut self, len: u64) -> Result<(), Error>
         ensures zeroed { OnOk result ((own : ℕ → List ℕ) → HasChain self.old own
             → Overwrites len (replicate (mini_tail_in len) 0) (mini_of self.old)
-            (mini_of self.new) (links_of self.old) own) }
+            (mini_of self.new) (links_of self.old) own × HasChain self.new own) }
         ensures there { OnOk result (len ≤ len_of self.old) }
-        ensures past { IsErrOf result InvalidInput → len_of self.old < len }
+        ensures past { IsErrOf result InvalidInput
+            ↔ ((has_failed_here (allocator_under self.old) ≡ false) × (len_of self.old < len)) }
         ensures refused { IsErrOf result InvalidData → IsLost self.old }
         ensures same { IsSame self.old self.new × (links_of self.new ≡ links_of self.old)
             × (position_of self.new ≡ position_of self.old) }

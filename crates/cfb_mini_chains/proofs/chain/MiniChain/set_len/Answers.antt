@@ -11,7 +11,7 @@ returns-then-count-mini_sector_ids-clause-shorter g c = λ fewer.
     let it = c.args.self.now in
     let new = c.shorten_to.new.self in
     let count : c.div_ceil-count.result ≡ minis_for c.args.len = let is = c.div_ceil-count.ensures in omega (arith, is) in
-    subst (λ n. OnOk c.shorten_to.result ((own : ℕ → List ℕ) → HasChain it own → Shortens n (mini_of it) (mini_of new) (mini_sectors_of it) (mini_sectors_of new) own)) count c.shorten_to.ensures.shortened
+    subst (λ n. OnOk c.shorten_to.result ((own : ℕ → List ℕ) → HasChain it own → Shortens n (mini_of it) (mini_of new) (mini_sectors_of it) (mini_sectors_of new) own × HasChain new own)) count c.shorten_to.ensures.shortened
 
 pub returns-clause-longer : goal.returns-clause-longer
 returns-clause-longer g c = λ more.

@@ -12,7 +12,7 @@ returns-then-self-len-clause-inside g c = λ within.
     let new = c.write_inside-then-self-len.new.self in
     let bytes = c.args.bytes.now in
     let few : c.min.result ≤ length bytes = let is = c.min.ensures in omega (arith, is) in
-    took c.write_inside-then-self-len.result (λ n l. (own : ℕ → List ℕ) → HasChain it own → Overwrites (position_of it) l (mini_of it) (mini_of new) (links_of it) own)
+    took c.write_inside-then-self-len.result (λ n l. (own : ℕ → List ℕ) → HasChain it own → Overwrites (position_of it) l (mini_of it) (mini_of new) (links_of it) own × HasChain new own)
     bytes c.min.result few c.write_inside-then-self-len.ensures.written (IfOk-weaker c.write_inside-then-self-len.result _ _ (λ n told. told.0) c.write_inside-then-self-len.ensures.there)
 
 pub returns-clause-behind : goal.returns-clause-behind
