@@ -1,0 +1,3 @@
+pub mod MiniChainCalls
+pub mod MiniChainViews
+pub mod MiniGrowing
