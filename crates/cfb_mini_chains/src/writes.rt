@@ -91,9 +91,9 @@ impl<'a, F: Medium> MiniChain<'a, F> {
             → IfOk result (λ n. (own : ℕ → List ℕ) → HasChain self.old own
             → Appends (take n bytes.now ++ replicate (64 - n) 0) (mini_of self.old)
             (mini_of self.new) (links_of self.old) (links_of self.new) own) }
-        ensures stays { position_of self.old + taken_count bytes.now self.old ≤ len_of self.old
+        ensures kept { position_of self.old + taken_count bytes.now self.old ≤ len_of self.old
             → mini_sectors_of self.new ≡ mini_sectors_of self.old }
-        ensures count { IfOk result (λ n. (n ≡ taken_count bytes.now self.old)
+        ensures took { IfOk result (λ n. (n ≡ taken_count bytes.now self.old)
             × (position_of self.new ≡ position_of self.old + n)) }
         ensures same { IsSame self.old self.new }
         ensures past { IsErrOf result InvalidInput → len_of self.old < position_of self.old }
