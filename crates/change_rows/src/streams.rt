@@ -32,7 +32,7 @@ pub fn append<F: Medium>(
     row: &Row,
 ) -> Result<(), Error> {
     let bytes = bytes_at(alloc, row, 3)?;
-    let count = usize::try_from(row.number(2)).unwrap_or(1).max(1);
+    let count = usize::try_from(row.number(2)).unwrap_or(1);
     let mut stream = file.open_stream(row.text(1))?;
     let done = append_pieces(&mut stream, count, &bytes);
     let closed = stream.close();
@@ -46,7 +46,7 @@ fn append_pieces<F: Medium>(
     bytes: &[u8],
 ) -> Result<(), Error> {
     stream.seek(SeekFrom::End(0))?;
-    for piece in bytes.chunks(count) {
+    for piece in bytes.chunks(count.max(1)) {
         stream.write(piece)?;
     }
     Ok(())
