@@ -164,6 +164,9 @@ first_unused v es all id is at fits = record {
   of_kind = refl;
 }
 
+pub length_longer : (v : Version) (es : List Entry) → length (longer v es) ≡ length es + dir_entries_per_sector v
+length_longer v es = simp (length-append, length-replicate) refl
+
 leaves_words : (S : List ℕ → ℕ → List ℕ) (ws xs : List ℕ) (a b : Seen) → Leaves S [] xs a b → Leaves S ws xs a b
 leaves_words S ws xs a b h = record {
   longer = h.longer;

@@ -1,11 +1,12 @@
 -- The tree with a child more, over entries that may have become more.
-use Rattle.std.proofs.Common.{◌≡◌, ℕ, ◌<◌, Bool, false, List, [], ◌∷◌, ◌++◌, length, replicate, zero, suc, refl, sym, ap, subst, ◌∙◌, ⊎_elim, arith}
+use Rattle.std.proofs.Common.{◌≡◌, ℕ, ◌+◌, ◌<◌, ◌≤◌, Bool, false, List, [], ◌∷◌, ◌++◌, length, replicate, zero, suc, refl, sym, ap, subst, ◌∙◌, ⊎_elim, arith}
 use Rattle.std.specs.Prelude.{nat_eq, slice_get, slice_set, Option, Some, None}
 use Rattle.std.proofs.lemmas.Bool.Decides.{eqb_tells}
+use Rattle.std.proofs.lemmas.Option.{slice_get_past}
 use Rattle.cfb_medium.specs.Versions.{dir_entries_per_sector}
 use Rattle.cfb_medium.specs.declared.version.Version.{Version}
 use Rattle.cfb_tree.specs.Changes.{added}
-use Rattle.cfb_tree.specs.Directory.{Entry}
+use Rattle.cfb_tree.specs.Directory.{greatest_entry, no_entry, Entry}
 use Rattle.cfb_tree.specs.Entries.{empty_entry}
 use Rattle.cfb_tree.specs.Names.{Letters}
 use Rattle.cfb_tree.specs.declared.entry.DirEntry.{DirEntry}
@@ -13,7 +14,7 @@ use Rattle.cfb_tree.specs.Objects.{a_storage, a_stream, name_of, HoldsTree, IsOb
 use Rattle.cfb_tree.specs.Paths.{Path}
 use Rattle.cfb_tree.specs.Tree.{Tree}
 use Rattle.cfb_tree.proofs.OneContent.{Some_same}
-use Rattle.cfb_siblings.specs.Changes.{HoldsOn, IsAlone, IsUnused}
+use Rattle.cfb_siblings.specs.Changes.{HoldsOn, HoldsOneMore, IsAlone, IsUnused}
 use Rattle.cfb_siblings.specs.Links.{holder, joined_by, linked_to, relinked, taken_out, with_entry}
 use Rattle.cfb_siblings.specs.Places.{path_to, HasEntry, IsFree, IsStorageAt}
 use Rattle.cfb_siblings.specs.Reading.{ReadBy}
@@ -24,10 +25,11 @@ use Rattle.cfb_siblings.specs.declared.links.Link.TheVariants.{Child, Left, Righ
 use Rattle.cfb_siblings.proofs.Adding.{grows}
 use Rattle.cfb_siblings.proofs.Frames.{append_keeps, either_same, holds_stays, set_changes_only, set_found}
 use Rattle.cfb_siblings.proofs.Unused.{read_by_place, same_stay}
-use Rattle.cfb_directory.specs.Children.{AddsAt, HasAt, HoldsMore, IsAs, LinksNew, RemovesAt, StayBut}
+use Rattle.cfb_directory.specs.Children.{AddsAt, HasAt, IsAs, LinksNew, RemovesAt, StayBut}
 use Rattle.cfb_directory.specs.Entries.{entries_in, SizesFit}
 use Rattle.cfb_directory.proofs.Readiness.{sizes_behind, sizes_set}
 use Rattle.cfb_directory.proofs.Longer.{free_more, siblings_more, storage_more}
+use Rattle.cfb_directory.proofs.LongerColors.{tree_colored}
 
 -- a tree stays where entries are appended, of the same entries
 appended_on : (letters : Letters) (Reads : Entry → List ℕ → Type 0) (old more : List Entry) (tree : Tree) → (h : HoldsTree letters Reads old tree) → HoldsOn letters Reads (old ++ more) tree h.ids
@@ -49,26 +51,36 @@ appended_on letters Reads old more tree h =
     }
 
 module _ (reads : ℕ → ℕ → List ℕ → Bool) (letters : Letters) (tree : Tree) (path : Path) (parent : ℕ) (link : Link) (e : Entry) (object : Object) (alone : IsAlone (ReadBy reads) e object) where
+  abbrev HoldsWith : List Entry → List Entry → List ℕ → ℕ → Type 0
+  HoldsWith old new ids id = HoldsOneMore letters (ReadBy reads) old new (added letters object (path_to path (name_of object)) tree) ids id
+
   added_to : (old new : List Entry) (id : ℕ) → (h : HoldsTree letters (ReadBy reads) old tree) → IsStorageAt letters old path parent → IsFree letters old parent (name_of object) link → IsUnused old id
-      → new ≡ relinked link id (slice_set old id e) → HoldsMore letters (ReadBy reads) new (added letters object (path_to path (name_of object)) tree) h.ids id
+      → new ≡ relinked link id (slice_set old id e) → HoldsWith old new h.ids id
   added_to old new id h s free unused is =
-      let more = grows letters (ReadBy reads) (read_by_place reads) old tree path parent link id e object h s free unused alone in
-      subst (λ l. HoldsMore letters (ReadBy reads) l (added letters object (path_to path (name_of object)) tree) h.ids id) (sym is) (record { holds = more.holds; all_are = more.all_are })
+      subst (λ l. HoldsWith old l h.ids id) (sym is) (grows letters (ReadBy reads) (read_by_place reads) old tree path parent link id e object h s free unused alone)
+
+  -- where entries came behind those of the tree
+  added_behind : (old more new : List Entry) (id : ℕ) → (h : HoldsTree letters (ReadBy reads) old tree) → IsStorageAt letters old path parent → IsFree letters old parent (name_of object) link
+      → length (old ++ more) ≤ greatest_entry + 1 → IsUnused (old ++ more) id → new ≡ relinked link id (slice_set (old ++ more) id e) → HoldsWith old new h.ids id
+  added_behind old more new id h s free few unused is =
+      let keep = λ (k : ℕ) (x : Entry) (found : slice_get old k ≡ Some x). append_keeps old more k x found in
+      let on = appended_on letters (ReadBy reads) old more tree h in
+      let with_it = subst (λ ids. HoldsWith (old ++ more) new ids id) on.ids_are
+      (added_to (old ++ more) new id on.holds (storage_more letters old (old ++ more) keep path parent s) (free_more letters old (old ++ more) keep parent (name_of object) link free) unused is) in
+      record {
+        holds = with_it.holds;
+        all_are = with_it.all_are;
+        colors = λ right. with_it.colors (tree_colored old (old ++ more) keep (slice_get_past (old ++ more) no_entry (omega (arith, few))) letters (ReadBy reads) tree h right);
+      }
 
   pub inserted_holds_tree : (version : Version) (old new : List Entry) (id : ℕ) → LinksNew version link e old new id → (h : HoldsTree letters (ReadBy reads) old tree) → IsStorageAt letters old path parent
-      → IsFree letters old parent (name_of object) link → HoldsMore letters (ReadBy reads) new (added letters object (path_to path (name_of object)) tree) h.ids id
+      → IsFree letters old parent (name_of object) link → HoldsWith old new h.ids id
   inserted_holds_tree version old new id links h s free =
       let more = replicate (dir_entries_per_sector version) empty_entry in
-      let keep = λ (k : ℕ) (x : Entry) (found : slice_get old k ≡ Some x). append_keeps old more k x found in
-      let P : List Entry → Type 0 = λ es. IsUnused es id → new ≡ relinked link id (slice_set es id e) → HoldsMore letters (ReadBy reads) new (added letters object (path_to path (name_of object)) tree) h.ids id in
+      let P : List Entry → Type 0 = λ es. length es ≤ greatest_entry + 1 → IsUnused es id → new ≡ relinked link id (slice_set es id e) → HoldsWith old new h.ids id in
       ⊎_elim
-      (λ same. subst P (sym same) (λ unused is. added_to old new id h s free unused is) links.unused links.entries)
-      (λ longer. subst P (sym longer)
-      (λ unused is.
-      let on = appended_on letters (ReadBy reads) old more tree h in
-      subst (λ ids. HoldsMore letters (ReadBy reads) new (added letters object (path_to path (name_of object)) tree) ids id) on.ids_are
-      (added_to (old ++ more) new id on.holds (storage_more letters old (old ++ more) keep path parent s) (free_more letters old (old ++ more) keep parent (name_of object) link free) unused is))
-      links.unused links.entries)
+      (λ same. subst (λ es. IsUnused es id → new ≡ relinked link id (slice_set es id e) → HoldsWith old new h.ids id) (sym same) (λ unused is. added_to old new id h s free unused is) links.unused links.entries)
+      (λ longer. subst P (sym longer.0) (λ few unused is. added_behind old more new id h s free few unused is) longer.1 links.unused links.entries)
       links.behind
 
 as_itself : (e : Entry) → IsAs e e
@@ -126,7 +138,7 @@ pub inserted_others : (version : Version) (link : Link) (e : Entry) (old new : L
 inserted_others version link e old new id links =
     let more = replicate (dir_entries_per_sector version) empty_entry in
     let keep : (k : ℕ) (x : Entry) → slice_get old k ≡ Some x → slice_get links.grown k ≡ Some x = λ k x found.
-    ⊎_elim (λ same. ap (λ l. slice_get l k) same ∙ found) (λ longer. ap (λ l. slice_get l k) longer ∙ append_keeps old more k x found) links.behind in
+    ⊎_elim (λ same. ap (λ l. slice_get l k) same ∙ found) (λ longer. ap (λ l. slice_get l k) longer.0 ∙ append_keeps old more k x found) links.behind in
     record {
       entry = inserted_at version link e old new id links;
       unused = λ x found. ap (λ (y : Entry). y.kind) (Some_same (sym (keep id x found) ∙ links.unused.found)) ∙ links.unused.of_kind;

@@ -8,6 +8,7 @@ pub mod Joining
 pub mod Judging
 pub mod Lists
 pub mod Longer
+pub mod LongerColors
 pub mod Parts
 pub mod ReadTrees
 pub mod Readiness

@@ -1,5 +1,5 @@
 -- A directory that can take in entries can take in more after one was written.
-use Rattle.std.proofs.Common.{◌≡◌, ℕ, ◌≤◌, ◌⊎◌, false, List, [], ◌∷◌, ◌++◌, replicate, set, zero, suc, ap, sym, subst, ◌∙◌, arith, ⊎_elim, IsTrue}
+use Rattle.std.proofs.Common.{◌≡◌, ℕ, ◌≤◌, false, List, [], ◌∷◌, ◌++◌, replicate, set, zero, suc, ap, sym, subst, ◌∙◌, arith, ⊎_elim, IsTrue}
 use Rattle.std.specs.Prelude.{slice_get}
 use Rattle.std.proofs.lemmas.Bool.Decides.{eqb_tells}
 use Rattle.cfb_medium.specs.Versions.{dir_entries_per_sector, stream_len_mask}
@@ -14,18 +14,14 @@ use Rattle.cfb_siblings.specs.Places.{HasEntry}
 use Rattle.cfb_siblings.proofs.Frames.{append_keeps, set_changes_only, set_found}
 use Rattle.cfb_directory.specs.Changes.{SetsEntry}
 use Rattle.cfb_directory.specs.Entries.{SizesFit}
-use Rattle.cfb_directory.specs.Growth.{longer, GrowsDirectory, IsReady}
+use Rattle.cfb_directory.specs.Growth.{GrowsDirectory, IsReady, MayGrow}
 use Rattle.cfb_directory.specs.Views.{allocator_of, entries_held}
 use Rattle.cfb_directory.specs.declared.directory.Directory.{Directory}
 use Rattle.cfb_directory.proofs.EntrySizes.{sizes_same}
 
--- the entries may have become more
-abbrev pub MayGrow : Version → List Entry → List Entry → Type 0
-MayGrow v old new = (new ≡ old) ⊎ (new ≡ longer v old)
-
 entry_kept : (v : Version) (old new : List Entry) (k : ℕ) → MayGrow v old new → HasEntry old k → HasEntry new k
 entry_kept v old new k grown (e, found) =
-    (e, ⊎_elim (λ same. ap (λ l. slice_get l k) same ∙ found) (λ more. ap (λ l. slice_get l k) more ∙ append_keeps old (replicate (dir_entries_per_sector v) empty_entry) k e found) grown)
+    (e, ⊎_elim (λ same. ap (λ l. slice_get l k) same ∙ found) (λ more. ap (λ l. slice_get l k) more.0 ∙ append_keeps old (replicate (dir_entries_per_sector v) empty_entry) k e found) grown)
 
 entry_set : (es : List Entry) (id k : ℕ) (f : Entry) → HasEntry es k → HasEntry (set es id f) k
 entry_set es id k f (e, found) =
@@ -59,7 +55,7 @@ pub sizes_behind : (v w : Version) (old new : List Entry) → MayGrow w old new 
 sizes_behind v w old new grown fits =
     ⊎_elim
     (λ same. subst (SizesFit v) (sym same) fits)
-    (λ more. subst (SizesFit v) (sym more) (sizes_append v old (replicate (dir_entries_per_sector w) empty_entry) fits (unused_fit v (dir_entries_per_sector w))))
+    (λ more. subst (SizesFit v) (sym more.0) (sizes_append v old (replicate (dir_entries_per_sector w) empty_entry) fits (unused_fit v (dir_entries_per_sector w))))
     grown
 
 module _ {F : Type 0} {g : Ghosts F} where

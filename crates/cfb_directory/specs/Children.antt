@@ -1,23 +1,23 @@
 -- Entries of a directory that come and go ([MS-CFB] 2.6.3, 2.6.4).
-use Rattle.std.specs.Prelude.{◌≡◌, ℕ, ◌⊎◌, ◌↔◌, Bool, false, List, ◌∷◌, nat_eq, slice_get, slice_set, IfSome, Some}
+use Rattle.std.specs.Prelude.{◌≡◌, ◌≢◌, ℕ, ◌⊎◌, Bool, List, slice_get, slice_set, IfSome, None, Some}
 use Rattle.cfb_medium.specs.declared.error.Error.{Error}
 use Rattle.cfb_medium.specs.declared.error.Error.TheVariants.{AlreadyExists, Full, InvalidData, InvalidInput, NotFound}
 use Rattle.cfb_medium.specs.declared.version.Version.{Version}
-use Rattle.cfb_siblings.specs.Changes.{HoldsOneLess, IsApart, IsUnused}
+use Rattle.cfb_siblings.specs.Changes.{HoldsOneLess, HoldsOneMore, IsAlone, IsUnused}
 use Rattle.cfb_siblings.specs.Links.{holder, relinked}
 use Rattle.cfb_siblings.specs.Places.{path_to, HasEntry, IsStorageAt, IsTaken}
 use Rattle.cfb_siblings.specs.Reading.{ReadBy}
 use Rattle.cfb_siblings.specs.declared.links.Link.{Link}
 use Rattle.cfb_siblings.specs.declared.removal.Removal.{Removal}
 use Rattle.cfb_tree.specs.Names.{Letters}
-use Rattle.cfb_tree.specs.Changes.{removed}
-use Rattle.cfb_tree.specs.Objects.{HoldsTree, IsObject, Object}
+use Rattle.cfb_tree.specs.Changes.{added, removed}
+use Rattle.cfb_tree.specs.Objects.{name_of, object_at, HoldsTree, IsObject, Object}
 use Rattle.cfb_tree.specs.Paths.{Path}
 use Rattle.cfb_tree.specs.Tree.{Tree}
 use Rattle.cfb_tree.specs.Directory.{kind_unallocated, Entry}
 use Rattle.cfb_tree.specs.Entries.{empty_entry}
 use Rattle.cfb_directory.specs.Entries.{SizesFit}
-use Rattle.cfb_directory.specs.Growth.{longer}
+use Rattle.cfb_directory.specs.Growth.{MayGrow}
 
 -- refusals by rule of a new child: the name is taken or invalid, no number is left, or the directory isn't there as it must be
 abbrev pub IsRefusedInsert : Error → Type 0
@@ -37,10 +37,17 @@ pub record HoldsChild (letters : Letters) (reads : ℕ → ℕ → List ℕ → 
   pub within : HoldsStorage letters reads entries tree path parent
   pub taken : IsTaken letters entries parent name link id
 
--- the entries hold the tree, which is made of the root, of the entries `ids` and of entry `id`
-pub record HoldsMore (letters : Letters) (Reads : Entry → List ℕ → Type 0) (entries : List Entry) (tree : Tree) (ids : List ℕ) (id : ℕ) : Type 0 where
-  pub holds : HoldsTree letters Reads entries tree
-  pub all_are : (k : ℕ) → IsApart k (0 ∷ holds.ids) ↔ (nat_eq k id ≡ false) × IsApart k (0 ∷ ids)
+-- of each tree that the entries hold with such a storage: it has an object of this name in it
+abbrev pub IsNameTaken : Letters → List Entry → ℕ → List ℕ → Type 0
+IsNameTaken letters entries parent name = (reads : ℕ → ℕ → List ℕ → Bool) (tree : Tree) (path : Path)
+    → HoldsStorage letters reads entries tree path parent → object_at letters tree (path_to path name) ≢ None
+
+-- what it leaves of a tree with such a storage, where the new entry is an object of this name on its own: the tree with it, of one
+-- entry more; colours stay right
+abbrev pub AddsChild : Letters → List Entry → List Entry → ℕ → List ℕ → Entry → ℕ → Type 0
+AddsChild letters old new parent name e id = (reads : ℕ → ℕ → List ℕ → Bool) (tree : Tree) (path : Path) (object : Object)
+    → (h : HoldsStorage letters reads old tree path parent) → IsAlone (ReadBy reads) e object → name_of object ≡ name
+    → HoldsOneMore letters (ReadBy reads) old new (added letters object (path_to path name) tree) h.holds.ids id
 
 -- the other entry is this one but for its links and its colour ([MS-CFB] 2.6.1)
 pub record IsAs (e other : Entry) : Type 0 where
@@ -58,7 +65,7 @@ HasAt entries id e = (other : Entry) × (slice_get entries id ≡ Some other) ×
 -- the entry stands at a number that was in no use, perhaps of a sector that was taken in, and the link leads to it
 pub record LinksNew (version : Version) (link : Link) (e : Entry) (old new : List Entry) (id : ℕ) : Type 0 where
   pub grown : List Entry
-  pub behind : (grown ≡ old) ⊎ (grown ≡ longer version old)
+  pub behind : MayGrow version old grown
   pub unused : IsUnused grown id
   pub entries : new ≡ relinked link id (slice_set grown id e)
 

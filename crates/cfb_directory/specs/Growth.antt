@@ -1,5 +1,5 @@
 -- What a directory is that took in entries in no use ([MS-CFB] 2.6.3).
-use Rattle.std.specs.Prelude.{◌≡◌, ℕ, List, [], ◌∷◌, ◌++◌, ⊤, length, replicate, IsTrue}
+use Rattle.std.specs.Prelude.{◌≡◌, ◌⊎◌, ℕ, ◌+◌, ◌≤◌, List, [], ◌∷◌, ◌++◌, ⊤, length, replicate, IsTrue}
 use Rattle.std.specs.Int.{to_le_bytes, w32}
 use Rattle.cfb_medium.specs.Versions.{dir_entries_per_sector}
 use Rattle.cfb_medium.specs.declared.medium.ReadMedium.{Ghosts}
@@ -9,7 +9,7 @@ use Rattle.cfb_sectors.specs.Sectors.{filled_part, sector}
 use Rattle.cfb_chains.specs.Owned.{Becomes}
 use Rattle.cfb_fat.specs.Seeing.{seen_of}
 use Rattle.cfb_fat.specs.Tables.{bytes_of, orderly_of, version_of}
-use Rattle.cfb_tree.specs.Directory.{Entry}
+use Rattle.cfb_tree.specs.Directory.{greatest_entry, Entry}
 use Rattle.cfb_tree.specs.Entries.{empty_entry}
 use Rattle.cfb_directory.specs.Changes.{HasDirectory}
 use Rattle.cfb_directory.specs.Entries.{SizesFit}
@@ -29,6 +29,10 @@ IsCounted V4 bytes count = filled_part bytes 40 4 ≡ to_le_bytes w32 count
 -- the entries, and those of a sector in no use behind them
 abbrev pub longer : Version → List Entry → List Entry
 longer version entries = entries ++ replicate (dir_entries_per_sector version) empty_entry
+
+-- the entries, or with those of a sector in no use behind them, where each has a number ([MS-CFB] 2.6.1)
+abbrev pub MayGrow : Version → List Entry → List Entry → Type 0
+MayGrow version old new = (new ≡ old) ⊎ ((new ≡ longer version old) × (length new ≤ greatest_entry + 1))
 
 module _ {F : Type 0} {g : Ghosts F} where
   -- the directory has its sectors, and behind them others that were in no use; where the header counted them it does. No other

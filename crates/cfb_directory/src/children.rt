@@ -1,7 +1,7 @@
 //! Entries that come and go: children of storages by name ([MS-CFB] 2.6.4).
 ghost use Rattle.cfb_chains.specs.ChainCalls.{IsInvalid, IsInvalidOrFull};
 ghost use Rattle.cfb_directory.specs.Changes.{HasDirectory, KeepsEntries, LiesBeside, SetsEntry};
-ghost use Rattle.cfb_directory.specs.Children.{AddsAt, HasHolders, HoldsChild, HoldsMore, HoldsStorage, IsRefusedInsert, IsRefusedRemove, LinksNew, Removes, RemovesAt, RemovesChild};
+ghost use Rattle.cfb_directory.specs.Children.{AddsAt, AddsChild, HasHolders, HoldsChild, HoldsStorage, IsNameTaken, IsRefusedInsert, IsRefusedRemove, LinksNew, Removes, RemovesAt, RemovesChild};
 ghost use Rattle.cfb_directory.specs.Entries.{SizesFit};
 ghost use Rattle.cfb_directory.specs.Growth.{GrowsDirectory, IsReady};
 ghost use Rattle.cfb_directory.specs.Views.{allocator_of, entries_held, IsDirectory};
@@ -10,17 +10,14 @@ ghost use Rattle.cfb_fat.specs.Tables.{has_failed_here, version_of};
 ghost use Rattle.cfb_medium.specs.Times.{units_of};
 ghost use Rattle.cfb_medium.specs.declared.error.Error.TheVariants.{AlreadyExists, Full, InvalidData, InvalidInput, NotFound};
 ghost use Rattle.cfb_owned.specs.Chains.{GoesOn};
-ghost use Rattle.cfb_siblings.specs.Changes.{IsAlone};
 ghost use Rattle.cfb_siblings.specs.Links.{holder, joined_by, linked_to, taken_out};
 ghost use Rattle.cfb_siblings.specs.Places.{path_to, HasEntry};
-ghost use Rattle.cfb_siblings.specs.Reading.{ReadBy};
-ghost use Rattle.cfb_tree.specs.Changes.{added};
 ghost use Rattle.cfb_tree.specs.Directory.{Entry};
 ghost use Rattle.cfb_tree.specs.EntryViews.{entry_in, kind_of};
 ghost use Rattle.cfb_tree.specs.Entries.{empty_entry, new_entry};
 ghost use Rattle.cfb_tree.specs.LetterViews.{letters_of};
 ghost use Rattle.cfb_tree.specs.Names.{is_name, Letters};
-ghost use Rattle.cfb_tree.specs.Objects.{name_of, object_at, Object};
+ghost use Rattle.cfb_tree.specs.Objects.{object_at};
 ghost use Rattle.cfb_tree.specs.Paths.{Path};
 ghost use Rattle.cfb_tree.specs.Tree.{Tree};
 ghost use Rattle.std.specs.Prelude.{chars, false, length, slice_get, slice_set, true, Bool, IfOk, IfSome, IsErrOf, IsTrue, List, None, OnErr, OnOk, Some, ℕ, ◌<◌, ◌≡◌, ◌⊎◌};
@@ -106,20 +103,13 @@ impl<F: Medium> Directory<F> {
         obj_type: ObjType,
         moment: Timestamp,
     ) -> Result<u32, Error>
-        ensures added { IfOk result (λ id. (reads : ℕ → ℕ → List ℕ → Bool) (tree : Tree)
-            (path : Path) (object : Object) → (h : HoldsStorage (letters_of letters.now) reads
-            (entries_held self.old) tree path parent) → IsAlone (ReadBy reads)
-            (new_entry (chars name.now) (kind_of obj_type) (units_of moment)) object
-            → name_of object ≡ chars name.now
-            → HoldsMore (letters_of letters.now) (ReadBy reads) (entries_held self.new)
-            (added (letters_of letters.now) object (path_to path (chars name.now)) tree)
-            h.holds.ids id) }
+        ensures added { IfOk result (AddsChild (letters_of letters.now) (entries_held self.old)
+            (entries_held self.new) parent (chars name.now)
+            (new_entry (chars name.now) (kind_of obj_type) (units_of moment))) }
         ensures entry { IfOk result (AddsAt (entries_held self.old) (entries_held self.new)
             (new_entry (chars name.now) (kind_of obj_type) (units_of moment))) }
         ensures taken { IsErrOf result AlreadyExists
-            → (reads : ℕ → ℕ → List ℕ → Bool) (tree : Tree) (path : Path)
-            → HoldsStorage (letters_of letters.now) reads (entries_held self.old) tree path parent
-            → object_at (letters_of letters.now) tree (path_to path (chars name.now)) ≡ None → ⊥ }
+            → IsNameTaken (letters_of letters.now) (entries_held self.old) parent (chars name.now) }
         ensures named { IsErrOf result InvalidInput → IsTrue (is_name (chars name.now)) → ⊥ }
         ensures refused { IsErrOf result InvalidData
             → (reads : ℕ → ℕ → List ℕ → Bool) (tree : Tree) (path : Path)

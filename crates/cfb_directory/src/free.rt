@@ -3,7 +3,7 @@ ghost use Rattle.cfb_chains.specs.ChainCalls.{IsInvalidOrFull};
 ghost use Rattle.cfb_chains.specs.Owned.{Leaves};
 ghost use Rattle.cfb_directory.specs.Changes.{HasDirectory, KeepsEntries, LiesBeside};
 ghost use Rattle.cfb_directory.specs.Entries.{entries_in};
-ghost use Rattle.cfb_directory.specs.Growth.{count_words, longer, GrowsDirectory, IsCounted};
+ghost use Rattle.cfb_directory.specs.Growth.{count_words, longer, GrowsDirectory, IsCounted, MayGrow};
 ghost use Rattle.cfb_fat.specs.Calls.{Answers};
 ghost use Rattle.cfb_fat.specs.Seeing.{seen_of};
 ghost use Rattle.cfb_fat.specs.Tables.{bytes_of, has_failed_here, is_honest, orderly_of, version_of};
@@ -13,7 +13,7 @@ ghost use Rattle.cfb_sectors.specs.Sectors.{sector};
 ghost use Rattle.cfb_siblings.specs.Changes.{IsUnused};
 ghost use Rattle.cfb_tree.specs.Directory.{greatest_entry};
 ghost use Rattle.cfb_tree.specs.Entries.{empty_entry};
-ghost use Rattle.std.specs.Prelude.{false, length, replicate, vec_capacity, vec_len, IfErr, IfOk, IfSome, IsErrOf, IsTrue, OnErr, OnOk, [], ◌+◌, ◌++◌, ◌≡◌, ◌≤◌, ◌⊎◌};
+ghost use Rattle.std.specs.Prelude.{false, length, replicate, vec_capacity, vec_len, IfErr, IfOk, IfSome, IsErrOf, IsTrue, OnErr, OnOk, [], ◌+◌, ◌++◌, ◌≡◌, ◌≤◌};
 
 use crate::Directory;
 use crate::directory::Entries;
@@ -150,6 +150,7 @@ impl<F: Medium> Directory<F> {
         ensures first { IfOk result (IsUnused (entries_held self.new)) }
         ensures entries { OnOk result (entries_held self.new
             ≡ longer (version_of (allocator_of self.old)) (entries_held self.old)) }
+        ensures fits { OnOk result (length (entries_held self.new) ≤ greatest_entry + 1) }
         ensures grown { OnOk result (HasDirectory self.old → GrowsDirectory self.old self.new) }
         ensures kept { OnErr result (has_failed_here (allocator_of self.new) ≡ false
             → KeepsEntries self.old self.new) }
@@ -192,9 +193,8 @@ impl<F: Medium> Directory<F> {
     // The number of an entry in no use; where none is known the directory takes in a sector of them.
     pub(crate) fn free_entry(&mut self) -> Result<u32, Error>
         ensures found { IfOk result (IsUnused (entries_held self.new)) }
-        ensures entries { OnOk result ((entries_held self.new ≡ entries_held self.old)
-            ⊎ (entries_held self.new
-            ≡ longer (version_of (allocator_of self.old)) (entries_held self.old))) }
+        ensures entries { OnOk result (MayGrow (version_of (allocator_of self.old))
+            (entries_held self.old) (entries_held self.new)) }
         ensures grown { OnOk result (HasDirectory self.old → GrowsDirectory self.old self.new) }
         ensures kept { OnErr result (has_failed_here (allocator_of self.new) ≡ false
             → KeepsEntries self.old self.new) }

@@ -9,9 +9,9 @@ use Rattle.cfb_tree.specs.Directory.{kind_stream, Entry, Siblings}
 use Rattle.cfb_tree.specs.Names.{Letters}
 use Rattle.cfb_tree.specs.Tree.{Tree}
 use Rattle.cfb_tree.proofs.OneContent.{Some_same}
-use Rattle.cfb_siblings.specs.Changes.{IsApart}
+use Rattle.cfb_siblings.specs.Changes.{HoldsOneMore, IsApart}
 use Rattle.cfb_siblings.specs.Reading.{ReadBy}
-use Rattle.cfb_directory.specs.Children.{AddsAt, HoldsMore}
+use Rattle.cfb_directory.specs.Children.{AddsAt}
 use Rattle.cfb_owners.specs.Held.{mini_joined, mini_places_of, HasStream, IsStreamAmong, MeansHeld}
 use Rattle.cfb_owners.specs.Kept.{Kept}
 use Rattle.cfb_owners.specs.LiveFile.{LiveFile}
@@ -42,7 +42,7 @@ unfolding IsDistinct
 zero_apart ids once = once.0
 
 module _ (s t : LiveFile) (who now : Owners) (letters : Letters) (tree later : Tree) (h : MeansHeld s who letters tree) (c : Carries s t who now) (root : Entry) (kept : Kept t now root)
-    (e : Entry) (id : ℕ) (more : HoldsMore letters (ReadBy (reads s who)) t.entries later h.ids id) (adds : AddsAt s.entries t.entries e id) (small : e.size ≡ 0) (starts : e.kind ≡ kind_stream → e.start ≡ end_of_chain) where
+    (e : Entry) (id : ℕ) (more : HoldsOneMore letters (ReadBy (reads s who)) s.entries t.entries later h.ids id) (adds : AddsAt s.entries t.entries e id) (small : e.size ≡ 0) (starts : e.kind ≡ kind_stream → e.start ≡ end_of_chain) where
   old_part : (k : ℕ) → IsOneOf h.ids k → IsPart s.entries (HasStream s who) k
   old_part k one = all_one (IsPart s.entries (HasStream s who)) h.ids k (each_part s.entries (HasStream s who) tree.content h.children h.ids h.holds) one
 

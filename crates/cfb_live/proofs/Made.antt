@@ -16,10 +16,10 @@ use Rattle.cfb_tree.specs.Entries.{new_entry}
 use Rattle.cfb_tree.specs.Names.{is_name, Letters}
 use Rattle.cfb_tree.specs.Objects.{name_of}
 use Rattle.cfb_tree.specs.Tree.{Tree}
-use Rattle.cfb_siblings.specs.Changes.{IsAlone}
+use Rattle.cfb_siblings.specs.Changes.{HoldsOneMore, IsAlone}
 use Rattle.cfb_siblings.specs.Reading.{ReadBy}
 use Rattle.cfb_siblings.proofs.Made.{short_name, storage_alone, stream_alone}
-use Rattle.cfb_directory.specs.Children.{AddsAt, HoldsMore}
+use Rattle.cfb_directory.specs.Children.{AddsAt}
 use Rattle.cfb_directory.specs.Entries.{SizesFit}
 use Rattle.cfb_directory.specs.Growth.{count_words}
 use Rattle.cfb_directory.specs.Views.{entries_held}
@@ -61,7 +61,7 @@ module _ {F : Type 0} {g : Ghosts F} (letters : Letters) (old : MiniAllocator F 
   has_root = record { root = m.held.root; found = m.held.kept.root_found; of_kind = m.held.kept.root_kind }
 
   pub made_means : (new : MiniAllocator F g) (e : Entry) (id : ℕ) → AddsAt (entries_held (directory_of old)) (entries_held (directory_of new)) e id
-      → HoldsMore letters (ReadBy (reads (live_of old) m.who)) (entries_held (directory_of new)) later m.held.ids id → e.size ≡ 0 → (e.kind ≡ kind_stream → e.start ≡ end_of_chain)
+      → HoldsOneMore letters (ReadBy (reads (live_of old) m.who)) (entries_held (directory_of old)) (entries_held (directory_of new)) later m.held.ids id → e.size ≡ 0 → (e.kind ≡ kind_stream → e.start ≡ end_of_chain)
       → GoesOn (allocator_of old) (allocator_of new) → has_failed_here (allocator_of new) ≡ false → ChangesDirectory (count_words (version_of (allocator_of old))) old new m.who.sectors → Means letters new later
   unfolding live_of
   made_means new e id adds more small starts goes live c =

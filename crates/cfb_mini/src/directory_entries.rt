@@ -1,7 +1,7 @@
 //! Entries of the directory, changed, added and taken out over this layer.
 ghost use Rattle.cfb_chains.specs.ChainCalls.{IsInvalid};
 ghost use Rattle.cfb_directory.specs.Changes.{changed_entry};
-ghost use Rattle.cfb_directory.specs.Children.{AddsAt, HoldsChild, HoldsMore, HoldsStorage, IsRefusedInsert, RemovesAt, RemovesChild};
+ghost use Rattle.cfb_directory.specs.Children.{AddsAt, AddsChild, HoldsChild, IsRefusedInsert, RemovesAt, RemovesChild};
 ghost use Rattle.cfb_directory.specs.Growth.{count_words};
 ghost use Rattle.cfb_directory.specs.Views.{entries_held};
 ghost use Rattle.cfb_fat.specs.Calls.{Answers};
@@ -13,16 +13,11 @@ ghost use Rattle.cfb_mini.specs.Changing.{ChangesDirectory, HasOwners, KeepsOwne
 ghost use Rattle.cfb_mini.specs.Children.{HasRoot, IsUsable, RefusesChild};
 ghost use Rattle.cfb_mini.specs.Views.{allocator_of, directory_of};
 ghost use Rattle.cfb_owned.specs.Chains.{GoesOn};
-ghost use Rattle.cfb_siblings.specs.Changes.{IsAlone};
-ghost use Rattle.cfb_siblings.specs.Places.{path_to};
-ghost use Rattle.cfb_siblings.specs.Reading.{ReadBy};
-ghost use Rattle.cfb_tree.specs.Changes.{added};
 ghost use Rattle.cfb_tree.specs.Directory.{Entry};
 ghost use Rattle.cfb_tree.specs.Entries.{new_entry};
 ghost use Rattle.cfb_tree.specs.EntryViews.{kind_of};
 ghost use Rattle.cfb_tree.specs.LetterViews.{letters_of};
 ghost use Rattle.cfb_tree.specs.Names.{Letters};
-ghost use Rattle.cfb_tree.specs.Objects.{name_of, Object};
 ghost use Rattle.cfb_tree.specs.Paths.{Path};
 ghost use Rattle.cfb_tree.specs.Tree.{Tree};
 ghost use Rattle.std.specs.Prelude.{chars, false, length, slice_get, slice_set, true, Bool, IfErr, IfOk, IsErrOf, List, OnErr, OnOk, [], Some, ℕ, ◌<◌, ◌≡◌, ◌↔◌, ◌⊎◌};
@@ -76,15 +71,10 @@ impl<F: Medium> MiniAllocator<F> {
         obj_type: ObjType,
         moment: Timestamp,
     ) -> Result<u32, Error>
-        ensures added { IfOk result (λ id. (reads : ℕ → ℕ → List ℕ → Bool) (tree : Tree)
-            (path : Path) (object : Object) → (h : HoldsStorage (letters_of letters.now) reads
-            (entries_held (directory_of self.old)) tree path parent) → IsAlone (ReadBy reads)
-            (new_entry (chars name.now) (kind_of obj_type) (units_of moment)) object
-            → name_of object ≡ chars name.now
-            → HoldsMore (letters_of letters.now) (ReadBy reads)
-            (entries_held (directory_of self.new))
-            (added (letters_of letters.now) object (path_to path (chars name.now)) tree)
-            h.holds.ids id) }
+        ensures added { IfOk result (AddsChild (letters_of letters.now)
+            (entries_held (directory_of self.old)) (entries_held (directory_of self.new))
+            parent (chars name.now)
+            (new_entry (chars name.now) (kind_of obj_type) (units_of moment))) }
         ensures entry { IfOk result (AddsAt (entries_held (directory_of self.old))
             (entries_held (directory_of self.new))
             (new_entry (chars name.now) (kind_of obj_type) (units_of moment))) }

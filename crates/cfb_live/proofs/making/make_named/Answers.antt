@@ -8,11 +8,11 @@ use Rattle.cfb_tree.specs.LetterViews.{letters_of}
 use Rattle.cfb_tree.specs.Names.{is_name}
 use Rattle.cfb_tree.specs.Objects.{object_at, HoldsTree}
 use Rattle.cfb_siblings.specs.Places.{path_of, path_to}
-use Rattle.cfb_siblings.specs.Changes.{IsAlone}
+use Rattle.cfb_siblings.specs.Changes.{HoldsOneMore, IsAlone}
 use Rattle.cfb_siblings.specs.Reading.{ReadBy}
 use Rattle.cfb_sectors.specs.Sectors.{end_of_chain}
 use Rattle.cfb_meaning.specs.TreeRules.{done}
-use Rattle.cfb_directory.specs.Children.{AddsAt, HoldsMore, HoldsStorage}
+use Rattle.cfb_directory.specs.Children.{AddsAt, HoldsStorage}
 use Rattle.cfb_directory.specs.Entries.{entries_in}
 use Rattle.cfb_directory.specs.Views.{entries_held}
 use Rattle.cfb_mini.specs.Views.{directory_of}
@@ -86,8 +86,8 @@ returns-clause-made g c = λ tree m.
     let storage : HoldsStorage l Reads (entries_held (directory_of it)) tree (parent_of path) c.in-Ok.parent = record { holds = held; storage = free.storage } in
     let more = c.in_default.ensures.added Reads tree (parent_of path) (object_of object name) storage alone_is (named object name) in
     let later = added l (object_of object name) path tree in
-    let more_is : HoldsMore l (ReadBy Reads) (entries_held (directory_of new)) later m.held.ids id = subst (λ ids. HoldsMore l (ReadBy Reads) (entries_held (directory_of new)) later ids id) (means_ids l it tree m)
-    (subst (λ p. HoldsMore l (ReadBy Reads) (entries_held (directory_of new)) (added l (object_of object name) p tree) held.ids id) whole more) in
+    let more_is : HoldsOneMore l (ReadBy Reads) (entries_held (directory_of it)) (entries_held (directory_of new)) later m.held.ids id = subst (λ ids. HoldsOneMore l (ReadBy Reads) (entries_held (directory_of it)) (entries_held (directory_of new)) later ids id) (means_ids l it tree m)
+    (subst (λ p. HoldsOneMore l (ReadBy Reads) (entries_held (directory_of it)) (entries_held (directory_of new)) (added l (object_of object name) p tree) held.ids id) whole more) in
     let rule = free.rule object ∙ ap (λ n. (added l (object_of object n) path tree, done)) last in
     record {
       accepted = ap (λ o. o.1) rule;

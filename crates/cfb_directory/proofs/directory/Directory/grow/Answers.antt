@@ -14,7 +14,7 @@ use Rattle.cfb_tree.specs.EntryViews.{entry_in}
 use Rattle.cfb_directory.specs.Growth.{longer, IsCounted}
 use Rattle.cfb_directory.specs.Views.{allocator_of, entries_held, links_of}
 use Rattle.cfb_directory.specs.Entries.{entries_in}
-use Rattle.cfb_directory.proofs.Growing.{directory_grown, first_unused, grown_kept, more_is_one, one_more}
+use Rattle.cfb_directory.proofs.Growing.{directory_grown, first_unused, grown_kept, length_longer, more_is_one, one_more}
 use Rattle.cfb_directory.proofs.directory.Directory.grow.Goals as goal
 
 pub returns-in-Err-write_count-clause-answers : goal.returns-in-Err-write_count-clause-answers
@@ -42,6 +42,20 @@ returns-clause-first g c =
     let count : c.dir_entries_per_sector-count.result ≡ dir_entries_per_sector v = c.dir_entries_per_sector-count.ensures ∙ ap dir_entries_per_sector c.version.ensures in
     let few = c.if-first-count.false in
     first_unused v old (entries_in c.append_unused.new.self.items.items) c.len-first.result is (omega (arith, size, at)) (omega (arith, few, count))
+
+pub returns-clause-fits : goal.returns-clause-fits
+returns-clause-fits g c =
+    let v = version_of (allocator_of c.args.self.now) in
+    let old = entries_held c.args.self.now in
+    let items = c.args.self.now.entries.items.items in
+    let is : entries_in c.append_unused.new.self.items.items ≡ longer v old = search rules in
+    let size = length-map items entry_in in
+    let at = c.len-first.ensures in
+    let count : c.dir_entries_per_sector-count.result ≡ dir_entries_per_sector v = c.dir_entries_per_sector-count.ensures ∙ ap dir_entries_per_sector c.version.ensures in
+    let few = c.if-first-count.false in
+    let long = length_longer v old in
+    let same = ap length is in
+    omega (arith, size, at, count, few, long, same)
 
 pub returns-clause-grown : goal.returns-clause-grown
 returns-clause-grown g c = λ has.

@@ -1,6 +1,7 @@
 use Rattle.std.proofs.Common.{◌≡◌, chars, ap, sym, subst, ◌∙◌, Some, None, Ok, Err}
 use Rattle.std.specs.Prelude.{IfOk, Result}
 use Rattle.cfb_fat.specs.Tables.{version_of}
+use Rattle.cfb_siblings.specs.Changes.{HoldsOneMore}
 use Rattle.cfb_siblings.specs.Places.{path_to, HasEntry, IsFree, IsPlace, IsStorageAt}
 use Rattle.cfb_siblings.specs.Links.{holder}
 use Rattle.cfb_siblings.specs.Reading.{ReadBy}
@@ -8,7 +9,7 @@ use Rattle.cfb_tree.specs.Changes.{added}
 use Rattle.cfb_tree.specs.EntryViews.{entry_in}
 use Rattle.cfb_tree.specs.LetterViews.{letters_of}
 use Rattle.cfb_tree.specs.Objects.{name_of, HoldsTree}
-use Rattle.cfb_directory.specs.Children.{AddsAt, HoldsMore, LinksNew}
+use Rattle.cfb_directory.specs.Children.{AddsAt, LinksNew}
 use Rattle.cfb_directory.specs.Entries.{entries_in}
 use Rattle.cfb_directory.specs.Views.{allocator_of, entries_held}
 use Rattle.cfb_directory.proofs.Inserted.{inserted_holds_tree, inserted_others}
@@ -39,7 +40,7 @@ returns-clause-added g c =
     let place = c.in-Some-Free.ensures reads tree path (subst (λ es. HoldsTree l (ReadBy reads) es tree) (sym same) h) (subst (λ es. IsStorageAt l es path c.args.parent) (sym same) s) in
     let at = subst (IsPlace (ReadBy reads) l (entries_in c.deref.result.now) tree path c.args.parent (chars c.args.name.now)) c.in-Some-Free.field-0-is place in
     let free = subst (λ es. IsFree l es c.args.parent (name_of object) c.in-Some-Free.link) same (subst (λ n. IsFree l (entries_in c.deref.result.now) c.args.parent n c.in-Some-Free.link) (sym named) at.0) in
-    subst (λ n. HoldsMore l (ReadBy reads) (entries_held c.add_child.new.self) (added l object (path_to path n) tree) h.ids id) named
+    subst (λ n. HoldsOneMore l (ReadBy reads) old (entries_held c.add_child.new.self) (added l object (path_to path n) tree) h.ids id) named
     (inserted_holds_tree reads l tree path c.args.parent c.in-Some-Free.link _ object alone (version_of (allocator_of c.args.self.now)) old (entries_held c.add_child.new.self) id
     (subst (λ e. LinksNew (version_of (allocator_of c.args.self.now)) c.in-Some-Free.link e old (entries_held c.add_child.new.self) id) c.new.ensures links) h s free))
     c.add_child.ensures.added
