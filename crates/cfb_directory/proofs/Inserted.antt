@@ -52,7 +52,7 @@ appended_on letters Reads old more tree h =
 
 module _ (reads : ℕ → ℕ → List ℕ → Bool) (letters : Letters) (tree : Tree) (path : Path) (parent : ℕ) (link : Link) (e : Entry) (object : Object) (alone : IsAlone (ReadBy reads) e object) where
   abbrev HoldsWith : List Entry → List Entry → List ℕ → ℕ → Type 0
-  HoldsWith old new ids id = HoldsOneMore letters (ReadBy reads) old new (added letters object (path_to path (name_of object)) tree) ids id
+  HoldsWith old new ids id = HoldsOneMore letters (ReadBy reads) old new (added letters object (path_to path (name_of object)) tree) ids (path_to path (name_of object)) id
 
   added_to : (old new : List Entry) (id : ℕ) → (h : HoldsTree letters (ReadBy reads) old tree) → IsStorageAt letters old path parent → IsFree letters old parent (name_of object) link → IsUnused old id
       → new ≡ relinked link id (slice_set old id e) → HoldsWith old new h.ids id
@@ -70,6 +70,7 @@ module _ (reads : ℕ → ℕ → List ℕ → Bool) (letters : Letters) (tree :
       record {
         holds = with_it.holds;
         all_are = with_it.all_are;
+        at_path = with_it.at_path;
         colors = λ right. with_it.colors (tree_colored old (old ++ more) keep (slice_get_past (old ++ more) no_entry (omega (arith, few))) letters (ReadBy reads) tree h right);
       }
 

@@ -43,11 +43,11 @@ IsNameTaken letters entries parent name = (reads : ℕ → ℕ → List ℕ → 
     → HoldsStorage letters reads entries tree path parent → object_at letters tree (path_to path name) ≢ None
 
 -- what it leaves of a tree with such a storage, where the new entry is an object of this name on its own: the tree with it, of one
--- entry more; colours stay right
+-- entry more, to which its path leads; colours stay right
 abbrev pub AddsChild : Letters → List Entry → List Entry → ℕ → List ℕ → Entry → ℕ → Type 0
 AddsChild letters old new parent name e id = (reads : ℕ → ℕ → List ℕ → Bool) (tree : Tree) (path : Path) (object : Object)
     → (h : HoldsStorage letters reads old tree path parent) → IsAlone (ReadBy reads) e object → name_of object ≡ name
-    → HoldsOneMore letters (ReadBy reads) old new (added letters object (path_to path name) tree) h.holds.ids id
+    → HoldsOneMore letters (ReadBy reads) old new (added letters object (path_to path name) tree) h.holds.ids (path_to path name) id
 
 -- the other entry is this one but for its links and its colour ([MS-CFB] 2.6.1)
 pub record IsAs (e other : Entry) : Type 0 where

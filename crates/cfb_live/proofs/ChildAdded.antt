@@ -7,6 +7,7 @@ use Rattle.cfb_chains.specs.Changes.{IsNoneOf}
 use Rattle.cfb_sectors.specs.Sectors.{end_of_chain}
 use Rattle.cfb_tree.specs.Directory.{kind_stream, Entry, Siblings}
 use Rattle.cfb_tree.specs.Names.{Letters}
+use Rattle.cfb_tree.specs.Paths.{Path}
 use Rattle.cfb_tree.specs.Tree.{Tree}
 use Rattle.cfb_tree.proofs.OneContent.{Some_same}
 use Rattle.cfb_siblings.specs.Changes.{HoldsOneMore, IsApart}
@@ -42,7 +43,7 @@ unfolding IsDistinct
 zero_apart ids once = once.0
 
 module _ (s t : LiveFile) (who now : Owners) (letters : Letters) (tree later : Tree) (h : MeansHeld s who letters tree) (c : Carries s t who now) (root : Entry) (kept : Kept t now root)
-    (e : Entry) (id : ℕ) (more : HoldsOneMore letters (ReadBy (reads s who)) s.entries t.entries later h.ids id) (adds : AddsAt s.entries t.entries e id) (small : e.size ≡ 0) (starts : e.kind ≡ kind_stream → e.start ≡ end_of_chain) where
+    (e : Entry) (path : Path) (id : ℕ) (more : HoldsOneMore letters (ReadBy (reads s who)) s.entries t.entries later h.ids path id) (adds : AddsAt s.entries t.entries e id) (small : e.size ≡ 0) (starts : e.kind ≡ kind_stream → e.start ≡ end_of_chain) where
   old_part : (k : ℕ) → IsOneOf h.ids k → IsPart s.entries (HasStream s who) k
   old_part k one = all_one (IsPart s.entries (HasStream s who)) h.ids k (each_part s.entries (HasStream s who) tree.content h.children h.ids h.holds) one
 

@@ -15,6 +15,7 @@ use Rattle.cfb_tree.specs.Directory.{kind_stream, Entry}
 use Rattle.cfb_tree.specs.Entries.{new_entry}
 use Rattle.cfb_tree.specs.Names.{is_name, Letters}
 use Rattle.cfb_tree.specs.Objects.{name_of}
+use Rattle.cfb_tree.specs.Paths.{Path}
 use Rattle.cfb_tree.specs.Tree.{Tree}
 use Rattle.cfb_siblings.specs.Changes.{HoldsOneMore, IsAlone}
 use Rattle.cfb_siblings.specs.Reading.{ReadBy}
@@ -60,11 +61,11 @@ module _ {F : Type 0} {g : Ghosts F} (letters : Letters) (old : MiniAllocator F 
   unfolding live_of
   has_root = record { root = m.held.root; found = m.held.kept.root_found; of_kind = m.held.kept.root_kind }
 
-  pub made_means : (new : MiniAllocator F g) (e : Entry) (id : ℕ) → AddsAt (entries_held (directory_of old)) (entries_held (directory_of new)) e id
-      → HoldsOneMore letters (ReadBy (reads (live_of old) m.who)) (entries_held (directory_of old)) (entries_held (directory_of new)) later m.held.ids id → e.size ≡ 0 → (e.kind ≡ kind_stream → e.start ≡ end_of_chain)
+  pub made_means : (new : MiniAllocator F g) (e : Entry) (path : Path) (id : ℕ) → AddsAt (entries_held (directory_of old)) (entries_held (directory_of new)) e id
+      → HoldsOneMore letters (ReadBy (reads (live_of old) m.who)) (entries_held (directory_of old)) (entries_held (directory_of new)) later m.held.ids path id → e.size ≡ 0 → (e.kind ≡ kind_stream → e.start ≡ end_of_chain)
       → GoesOn (allocator_of old) (allocator_of new) → has_failed_here (allocator_of new) ≡ false → ChangesDirectory (count_words (version_of (allocator_of old))) old new m.who.sectors → Means letters new later
   unfolding live_of
-  made_means new e id adds more small starts goes live c =
+  made_means new e path id adds more small starts goes live c =
       let words = count_words (version_of (allocator_of old)) in
       let spare = spare_words (version_of (allocator_of old)) in
       let apart : 0 ≡ id → ⊥ = λ same. let unused = adds.unused m.held.root (ap (slice_get (entries_held (directory_of old))) (sym same) ∙ m.held.kept.root_found) in let kind = m.held.kept.root_kind in omega (arith, unused, kind) in
@@ -76,5 +77,5 @@ module _ {F : Type 0} {g : Ghosts F} (letters : Letters) (old : MiniAllocator F 
         owners = has_owners words spare old new m.who (stands_of letters old tree m) goes live c;
         sizes = subst (λ v. SizesFit v (entries_held (directory_of new))) (sym goes.version) (adds.sizes (version_of (allocator_of old)) small m.sizes);
         held = means_more (live_of old) (live_of new) m.who (owners_now words spare old new m.who (stands_of letters old tree m) goes live c) letters tree later m.held (carries words spare old new m.who (stands_of letters old tree m) goes live c)
-            place.0 (kept_later words spare old new m.who (stands_of letters old tree m) goes live c place.0 place.1 (place.2.kind ∙ m.held.kept.root_kind)) e id more adds small starts;
+            place.0 (kept_later words spare old new m.who (stands_of letters old tree m) goes live c place.0 place.1 (place.2.kind ∙ m.held.kept.root_kind)) e path id more adds small starts;
       }

@@ -1,5 +1,5 @@
 -- A new child of a storage of a tree.
-use Rattle.std.proofs.Common.{◌≡◌, ◌↔◌, ℕ, false, List, [], ◌∷◌, ◌++◌, sym, ◌∙◌, ap, subst}
+use Rattle.std.proofs.Common.{◌≡◌, ◌↔◌, ℕ, false, List, [], ◌∷◌, ◌++◌, refl, sym, ◌∙◌, ap, subst}
 use Rattle.std.specs.Prelude.{slice_get, slice_set, Some, nat_eq}
 use Rattle.std.specs.List.{IsDistinct}
 use Rattle.cfb_tree.specs.Names.{Letters}
@@ -8,10 +8,11 @@ use Rattle.cfb_tree.specs.Tree.{Tree}
 use Rattle.cfb_tree.specs.Directory.{Entry, Siblings, no_entry}
 use Rattle.cfb_tree.specs.Objects.{Object, name_of, HoldsTree}
 use Rattle.cfb_tree.specs.Changes.{added, changed, holding, with_child}
+use Rattle.cfb_tree.proofs.NameOrder.{name_cmp_equal}
 use Rattle.cfb_tree.proofs.OneContent.{Some_same}
 use Rattle.cfb_siblings.specs.Changes.{IsApart, IsUnused, IsAlone, HoldsOneMore}
 use Rattle.cfb_siblings.specs.Links.{holder, relinked}
-use Rattle.cfb_siblings.specs.Places.{Hangs, IsStorageAt, IsFree, path_to}
+use Rattle.cfb_siblings.specs.Places.{Hangs, IsChild, IsStorageAt, IsFree, LeadsTo, path_to}
 use Rattle.cfb_siblings.specs.declared.links.Link.{Link}
 use Rattle.cfb_siblings.specs.declared.links.Link.TheVariants.{Child, Left, Right}
 use Rattle.cfb_siblings.proofs.Parts.{ChangesOnly, AllStay, ReadsByPlace, Relinks, root_after, IsOutside, IsPlaced}
@@ -22,10 +23,11 @@ use Rattle.cfb_siblings.proofs.Relinking.{hangs_apart}
 use Rattle.cfb_siblings.proofs.Objects.{placed}
 use Rattle.cfb_siblings.proofs.Choosing.{gap_of}
 use Rattle.cfb_siblings.proofs.Owners.{IsLinkOf, link_of, relinks, holder_found, Owner, owner_after, held_in, link_inside}
-use Rattle.cfb_siblings.proofs.Inserting.{inserted_siblings, inserted_holds, inserted_ordered, outside_tail}
+use Rattle.cfb_siblings.proofs.Inserting.{inserted_found, inserted_siblings, inserted_holds, inserted_ordered, outside_tail}
 use Rattle.cfb_siblings.proofs.Colors.{black_stays, colored_stays, black_colored, black_relinked, colored_relinked}
 use Rattle.cfb_siblings.proofs.Coloring.{colored_more}
-use Rattle.cfb_siblings.proofs.Leading.{parent_of_path}
+use Rattle.cfb_siblings.proofs.Leading.{leads_on, parent_of_path}
+use Rattle.cfb_siblings.proofs.Searching.{object_named}
 use Rattle.cfb_siblings.proofs.Trees.{HoldsJust, Storing, storing, storing_once}
 use Rattle.cfb_siblings.proofs.Unused.{unused_apart, made_object, made_ordered}
 
@@ -119,6 +121,38 @@ module _ (letters : Letters) (Reads : Entry → List ℕ → Type 0) (by_place :
   owner : Owner new p st.entry (root_after link st.entry.child n)
   owner = owner_after mid new p st.entry link n linked own_link p_found
 
+  -- the storage's children, and the new one among them
+  siblings : Siblings new owner.now.child (gap.front ++ n ∷ gap.back)
+  siblings = subst (λ k. Siblings new k (gap.front ++ n ∷ gap.back)) (sym owner.child_is)
+      (inserted_siblings old mid new Reads by_place letters object n f p st.entry.child st.children st.inside st.within link gap within_once n_behind.1
+      outside unused.fits only n_found alone.left alone.right (made_object mid Reads n f object n_found alone.is) linked)
+
+  new_child : IsChild letters new p (name_of object) n
+  new_child =
+      let is_object = made_object mid Reads n f object n_found alone.is in
+      let same : s.owner.entry ≡ st.entry = Some_same (sym s.owner.found ∙ st.found) in
+      record {
+        owner = record { entry = owner.now; found = owner.found; holds = λ kind. s.owner.holds (ap (λ y. y.kind) same ∙ sym owner.same.kind ∙ kind) };
+        front = gap.front;
+        back = gap.back;
+        siblings = siblings;
+        named = record {
+          entry = f;
+          found = inserted_found old mid new Reads by_place letters object n f p st.entry.child st.children st.inside st.within link gap within_once n_behind.1
+              outside unused.fits only n_found alone.left alone.right is_object linked;
+          name = name_of object;
+          named = object_named mid Reads n object [] f is_object n_found;
+          compared = (name_cmp_equal letters (name_of object) (name_of object)).1 refl;
+        };
+      }
+
+  -- the path of the new child
+  led : LeadsTo letters new 0 (path_to path (name_of object)) n
+  led =
+      let links = all_parts (λ k. nat_eq (holder link) k ≡ false) st.sooner st.further link_apart in
+      leads_on letters new path 0 p (name_of object) n
+      (st.leads_so new owner.now owner.found owner.same owner.left owner.right (stay st.sooner n_sooner links.0) (stay st.further n_behind.2 links.1)) new_child
+
   grown : HoldsJust letters Reads new (changed letters (holding (with_child letters object)) path tree)
       (st.sooner ++ p ∷ ((gap.earlier_all ++ n ∷ gap.later_all) ++ st.further))
   grown =
@@ -126,9 +160,7 @@ module _ (letters : Letters) (Reads : Entry → List ℕ → Type 0) (by_place :
       let is_object = made_object mid Reads n f object n_found alone.is in
       st.changed_so new (with_child letters object) (gap.earlier_all ++ n ∷ gap.later_all) (gap.front ++ n ∷ gap.back) owner.now owner.found owner.same
       owner.left owner.right (stay st.sooner n_sooner links.0) (stay st.further n_behind.2 links.1)
-      (subst (λ k. Siblings new k (gap.front ++ n ∷ gap.back)) (sym owner.child_is)
-      (inserted_siblings old mid new Reads by_place letters object n f p st.entry.child st.children st.inside st.within link gap within_once n_behind.1
-      outside unused.fits only n_found alone.left alone.right is_object linked))
+      siblings
       (inserted_holds old mid new Reads by_place letters object n f p st.entry.child st.children st.inside st.within link gap within_once n_behind.1
       outside unused.fits only n_found alone.left alone.right is_object linked)
       (distinct_inside st.sooner p gap.earlier_all gap.later_all st.further n (subst (IsDistinct nat_eq) whole_is h.once)
@@ -149,10 +181,11 @@ module _ (letters : Letters) (Reads : Entry → List ℕ → Type 0) (by_place :
       )
 
   -- LAW: the entries hold the tree with the new object
-  pub grows : HoldsOneMore letters Reads old new (added letters object (path_to path (name_of object)) tree) h.ids n
+  pub grows : HoldsOneMore letters Reads old new (added letters object (path_to path (name_of object)) tree) h.ids (path_to path (name_of object)) n
   grows = record {
     holds = with_it.holds;
     all_are = with_all;
+    at_path = led;
     colors = λ right. (
       black_relinked mid link n 0 (black_stays old n f 0 alone.color right.0),
       colored_more old new h.ids with_it.holds.ids n (λ k apart. (with_all k).1 apart) with_it.holds.once

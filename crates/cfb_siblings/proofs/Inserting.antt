@@ -96,14 +96,19 @@ module _ (old mid new : List Entry) (Reads : Entry → List ℕ → Type 0) (by_
       (subst (Holds old Reads (it.front ++ it.back) (joined_contents it.earlier it.later)) (sym it.all_is)
       (join old Reads it.front it.back it.earlier it.later it.earlier_all it.later_all it.holds_earlier it.holds_later)))) once)
 
-  -- LAW: its siblings are the old ones, with the new one in its place
-  pub inserted_siblings : Siblings new (root_after link root n) (it.front ++ n ∷ it.back)
-  inserted_siblings =
+  -- it stands there still once the link leads to it
+  pub inserted_found : slice_get new n ≡ Some f
+  inserted_found =
       let place = placed mid owner root link no_entry it.front [] it.back all walk (outside_tail link n all outside) in
       let apart = holder_apart link n (it.front ++ it.back) all place outside
       (all_append (λ k. nat_eq n k ≡ false) it.front it.back front_apart back_apart) in
+      linked.only n f apart found
+
+  -- LAW: its siblings are the old ones, with the new one in its place
+  pub inserted_siblings : Siblings new (root_after link root n) (it.front ++ n ∷ it.back)
+  inserted_siblings =
       let lone : Siblings new n (n ∷ []) =
-      some f [] [] fits (linked.only n f apart found) (none no_left refl) (none no_right refl) refl in
+      some f [] [] fits inserted_found (none no_left refl) (none no_right refl) refl in
       siblings_relinked mid new owner root link no_entry n it.front it.back (n ∷ []) linked walk once_before lone
 
   -- LAW: the names still rise

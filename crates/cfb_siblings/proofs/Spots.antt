@@ -2,6 +2,7 @@
 use Rattle.std.proofs.Common.{◌≡◌, ℕ, List, [], ◌∷◌, ◌++◌, refl, sym, ◌∙◌, ap, subst, append_assoc}
 use Rattle.std.specs.Prelude.{slice_get, Some}
 use Rattle.std.specs.List.{AllByRecursion}
+use Rattle.std.specs.declared.cmp.Ordering.TheVariants.{Equal}
 use Rattle.cfb_tree.specs.Names.{Letters}
 use Rattle.cfb_tree.specs.Paths.{Path}
 use Rattle.cfb_tree.specs.Tree.{Facts, Content, IsOrdered}
@@ -10,11 +11,11 @@ use Rattle.cfb_tree.specs.Objects.{Object, a_stream, a_storage, name_of, object_
 use Rattle.cfb_tree.specs.Changes.{with_changed, changed_below}
 use Rattle.cfb_tree.proofs.NamesRead.{all_append}
 use Rattle.cfb_tree.proofs.OneContent.{siblings_unique, Some_same}
-use Rattle.cfb_siblings.specs.Places.{IsChild, LeadsTo}
+use Rattle.cfb_siblings.specs.Places.{IsChild, IsNamed, IsOwner, LeadsTo}
 use Rattle.cfb_siblings.proofs.Parts.{LinksStay, Stays, AllStay}
 use Rattle.cfb_siblings.proofs.Records.{Chosen}
 use Rattle.cfb_siblings.proofs.Lists.{all_parts, all_map}
-use Rattle.cfb_siblings.proofs.Frames.{outermost, siblings_links}
+use Rattle.cfb_siblings.proofs.Frames.{name_stays, outermost, siblings_links}
 use Rattle.cfb_siblings.proofs.Changing.{storage_changed, changed_holds}
 use Rattle.cfb_siblings.proofs.Choosing.{choose, chosen_child}
 use Rattle.cfb_siblings.proofs.Ordering.{IsOrderedObject}
@@ -55,6 +56,10 @@ as_storage directory Reads id e (a_storage n f i) own (g, children, at, siblings
     }
 
 module _ (old : List Entry) (Reads Reads' : Entry → List ℕ → Type 0) (letters : Letters) where
+  -- entry `id` keeps its name
+  abbrev pub NameStays : List Entry → ℕ → Type 0
+  NameStays new id = (wanted : List ℕ) → IsNamed letters old wanted Equal id → IsNamed letters new wanted Equal id
+
   -- the path leads from the siblings `ids`, which hold the content, to entry `at`; and what they hold with another object there
   pub record Spot (ids : List ℕ) (c : Content) (all : List ℕ) (path : Path) (at : ℕ) : Type 0 where
     pub object : Object
@@ -66,6 +71,8 @@ module _ (old : List Entry) (Reads Reads' : Entry → List ℕ → Type 0) (lett
     pub found : (name : List ℕ) (facts : Facts) → object_from letters (Some (a_storage name facts c)) path ≡ Some object
     pub ordered : IsOrdered letters c → IsOrderedObject letters object
     pub links : (new : List Entry) → LinksStay old new at → AllStay old new Reads Reads' sooner → AllStay old new Reads Reads' further → AllByRecursion (LinksStay old new) ids
+    pub leads : (new : List Entry) → LinksStay old new at → NameStays new at → AllStay old new Reads Reads' sooner → AllStay old new Reads Reads' further
+        → (parent : ℕ) → (owner : IsOwner new parent) → Siblings new owner.entry.child ids → LeadsTo letters new parent path at
     pub held : (new : List Entry) (change : Object → Object) (own' : List ℕ) → LinksStay old new at → AllStay old new Reads Reads' sooner
         → AllStay old new Reads Reads' further → IsObject new Reads' at (change object) own'
         → Holds new Reads' ids (changed_inside letters change path c) (sooner ++ at ∷ (own' ++ further))
@@ -77,6 +84,11 @@ module _ (old : List Entry) (Reads Reads' : Entry → List ℕ → Type 0) (lett
 
   stays_linked : (new : List Entry) (k : ℕ) → Whole new k → LinksStay old new k
   stays_linked new k stays x found = let here = stays x found in (here.now, here.found, here.left, here.right)
+
+  stays_named : (new : List Entry) (k : ℕ) → Whole new k → NameStays new k
+  stays_named new k stays wanted is =
+      let here = stays is.entry is.found in
+      record { entry = here.now; found = here.found; name = is.name; named = name_stays is.entry here.now is.name here.same is.named; compared = is.compared }
 
   -- siblings keep their links where one does and the others stay
   around_linked : (new : List Entry) (wanted : List ℕ) (ids : List ℕ) (c : Content) (all : List ℕ) (at : ℕ) (it : Chosen old Reads letters wanted ids c all at)
@@ -91,8 +103,8 @@ module _ (old : List Entry) (Reads Reads' : Entry → List ℕ → Type 0) (lett
 
   -- one name
   spot_one : (wanted : List ℕ) (ids : List ℕ) (c : Content) (all : List ℕ) (at : ℕ) → Chosen old Reads letters wanted ids c all at
-      → Spot ids c all (wanted ∷ []) at
-  spot_one wanted ids c all at it = record {
+      → IsNamed letters old wanted Equal at → Spot ids c all (wanted ∷ []) at
+  spot_one wanted ids c all at it named = record {
     object = it.object;
     sooner = it.earlier_all;
     own = it.own;
@@ -102,15 +114,26 @@ module _ (old : List Entry) (Reads Reads' : Entry → List ℕ → Type 0) (lett
     found = λ name facts. ap (λ o. object_from letters o []) (chosen_child old Reads letters wanted ids c all at it);
     ordered = chosen_ordered old Reads letters wanted ids c all at it;
     links = λ new. around_linked new wanted ids c all at it;
+    leads = λ new links still sooner further parent owner siblings. (
+      at,
+      record {
+        owner = owner;
+        front = it.front;
+        back = it.back;
+        siblings = subst (Siblings new owner.entry.child) it.ids_are siblings;
+        named = still wanted named;
+      },
+      refl,
+    );
     held = λ new change own' links sooner further h. changed_holds old new Reads Reads' letters wanted ids c all at it change own' sooner further h;
     reordered = λ change named inside ordered. changed_ordered old Reads letters wanted ids c all at it change named inside ordered;
   }
 
   -- one name more in front
   spot_more : (wanted : List ℕ) (ids : List ℕ) (c : Content) (all : List ℕ) (p : ℕ) (it : Chosen old Reads letters wanted ids c all p)
-      (e : Entry) → slice_get old p ≡ Some e → (so : AsStorage old Reads p e it.object it.own)
+      → IsNamed letters old wanted Equal p → (e : Entry) → slice_get old p ≡ Some e → (e.kind ≡ kind_stream → ⊥) → (so : AsStorage old Reads p e it.object it.own)
       (next : List ℕ) (names : Path) (at : ℕ) → Spot so.children so.inside it.own (next ∷ names) at → Spot ids c all (wanted ∷ next ∷ names) at
-  spot_more wanted ids c all p it e e_found so next names at inner = record {
+  spot_more wanted ids c all p it named e e_found owns so next names at inner = record {
     object = inner.object;
     sooner = it.earlier_all ++ p ∷ inner.sooner;
     own = inner.own;
@@ -124,6 +147,22 @@ module _ (old : List Entry) (Reads Reads' : Entry → List ℕ → Type 0) (lett
         let a = all_parts (Whole new) it.earlier_all (p ∷ inner.sooner) sooner in
         let b = all_parts (Whole new) inner.further it.later_all further in
         around_linked new wanted ids c all p it (stays_linked new p a.1.0) a.0 b.1;
+    leads = λ new links still sooner further parent owner siblings.
+        let a = all_parts (Whole new) it.earlier_all (p ∷ inner.sooner) sooner in
+        let b = all_parts (Whole new) inner.further it.later_all further in
+        let here = a.1.0 e e_found in
+        let below : Siblings new here.now.child so.children = subst (λ k. Siblings new k so.children) (sym here.child)
+        (siblings_links old new e.child so.children (inner.links new links a.1.1 b.0) so.siblings) in (
+          p,
+          record {
+            owner = owner;
+            front = it.front;
+            back = it.back;
+            siblings = subst (Siblings new owner.entry.child) it.ids_are siblings;
+            named = stays_named new p a.1.0 wanted named;
+          },
+          inner.leads new links still a.1.1 b.0 p (record { entry = here.now; found = here.found; holds = λ kind. owns (sym here.same.kind ∙ kind) }) below,
+        );
     held = λ new change own' links sooner further h.
         let a = all_parts (Whole new) it.earlier_all (p ∷ inner.sooner) sooner in
         let b = all_parts (Whole new) inner.further it.later_all further in
@@ -162,10 +201,10 @@ module _ (old : List Entry) (Reads Reads' : Entry → List ℕ → Type 0) (lett
       → LeadsTo letters old parent (wanted ∷ names) at → Spot ids c all (wanted ∷ names) at
   spot [] wanted parent e ids c all at found siblings holds ordered (next, child, at_is) =
       subst (Spot ids c all (wanted ∷ [])) (sym at_is)
-      (spot_one wanted ids c all next (chosen_of wanted parent e ids c all next found siblings holds ordered child))
+      (spot_one wanted ids c all next (chosen_of wanted parent e ids c all next found siblings holds ordered child) child.named)
   spot (name ∷ names) wanted parent e ids c all at found siblings holds ordered (next, child, (after, deeper, rest)) =
       let it = chosen_of wanted parent e ids c all next found siblings holds ordered child in
       let so = as_storage old Reads next deeper.owner.entry it.object it.own it.is_object deeper.owner.found deeper.owner.holds in
-      spot_more wanted ids c all next it deeper.owner.entry deeper.owner.found so name names at
+      spot_more wanted ids c all next it child.named deeper.owner.entry deeper.owner.found deeper.owner.holds so name names at
       (spot names name next deeper.owner.entry so.children so.inside it.own at deeper.owner.found so.siblings so.holds
       (subst (IsOrderedObject letters) so.object_is (chosen_ordered old Reads letters wanted ids c all next it ordered)) (after, deeper, rest))

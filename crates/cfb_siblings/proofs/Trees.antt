@@ -1,18 +1,19 @@
 -- The storage at the end of a path of a tree, and another content in it.
-use Rattle.std.proofs.Common.{◌≡◌, ℕ, List, [], ◌∷◌, ◌++◌, refl, sym, ◌∙◌, ap, subst, append-nil}
+use Rattle.std.proofs.Common.{◌≡◌, ℕ, List, [], ◌∷◌, ◌++◌, refl, sym, ◌∙◌, ap, subst, append-nil, arith}
 use Rattle.std.specs.Prelude.{slice_get, Some, nat_eq, codes}
 use Rattle.std.specs.List.{IsDistinct}
+use Rattle.std.specs.declared.cmp.Ordering.TheVariants.{Equal}
 use Rattle.cfb_tree.specs.Names.{Letters}
 use Rattle.cfb_tree.specs.Paths.{Path}
 use Rattle.cfb_tree.specs.Tree.{Facts, Content, Tree, IsOrdered}
-use Rattle.cfb_tree.specs.Directory.{Entry, Siblings, Holds}
+use Rattle.cfb_tree.specs.Directory.{Entry, Siblings, Holds, HasName, kind_root, kind_stream}
 use Rattle.cfb_tree.specs.Objects.{a_storage, name_of, object_at, IsObject, HoldsTree}
 use Rattle.cfb_tree.specs.Changes.{holding, changed}
 use Rattle.cfb_tree.proofs.OneContent.{Some_same}
-use Rattle.cfb_siblings.specs.Places.{IsOwner, LeadsTo, IsStorageAt}
-use Rattle.cfb_siblings.proofs.Parts.{HasSameFacts, AllStay}
+use Rattle.cfb_siblings.specs.Places.{IsNamed, IsOwner, LeadsTo, IsStorageAt}
+use Rattle.cfb_siblings.proofs.Parts.{HasSameFacts, LinksStay, AllStay}
 use Rattle.cfb_siblings.proofs.Lists.{distinct_parts}
-use Rattle.cfb_siblings.proofs.Frames.{siblings_links}
+use Rattle.cfb_siblings.proofs.Frames.{name_stays, siblings_links}
 use Rattle.cfb_siblings.proofs.Changing.{storage_changed}
 use Rattle.cfb_siblings.proofs.Ordering.{IsOrderedObject}
 use Rattle.cfb_siblings.proofs.Spots.{spot, as_storage}
@@ -44,6 +45,8 @@ module _ (old : List Entry) (Reads Reads' : Entry → List ℕ → Type 0) (lett
         → Siblings new f.child children' → Holds new Reads' children' (change inside) within' → IsDistinct nat_eq (sooner ++ p ∷ (within' ++ further))
         → IsOrdered letters (change inside)
         → HoldsJust letters Reads' new (changed letters (holding change) path tree) (sooner ++ p ∷ (within' ++ further))
+    pub leads_so : (new : List Entry) (f : Entry) → slice_get new p ≡ Some f → HasSameFacts entry f → f.left ≡ entry.left → f.right ≡ entry.right
+        → AllStay old new Reads Reads' sooner → AllStay old new Reads Reads' further → LeadsTo letters new 0 path p
 
   module _ (h : HoldsTree letters Reads old tree) where
     -- the root
@@ -78,6 +81,24 @@ module _ (old : List Entry) (Reads Reads' : Entry → List ℕ → Type 0) (lett
         };
         all_is = ap (λ ids. 0 ∷ ids) (sym (append-nil within'));
       };
+      leads_so = λ new f found same left right sooner further. refl;
+    }
+
+    -- a storage that stays but for what hangs below it keeps its links and its name
+    links_still : (p : ℕ) (owner : IsOwner old p) (new : List Entry) (f : Entry) → slice_get new p ≡ Some f → f.left ≡ owner.entry.left → f.right ≡ owner.entry.right
+        → LinksStay old new p
+    links_still p owner new f found left right x x_found =
+        subst (λ y. (z : Entry) × (slice_get new p ≡ Some z) × (z.left ≡ y.left) × (z.right ≡ y.right)) (Some_same (sym owner.found ∙ x_found))
+        (f, found, left, right)
+
+    name_still : (p : ℕ) (owner : IsOwner old p) (new : List Entry) (f : Entry) → slice_get new p ≡ Some f → HasSameFacts owner.entry f
+        → (wanted : List ℕ) → IsNamed letters old wanted Equal p → IsNamed letters new wanted Equal p
+    name_still p owner new f found same wanted is = record {
+      entry = f;
+      found = found;
+      name = is.name;
+      named = name_stays owner.entry f is.name same (subst (λ y. HasName y is.name) (Some_same (sym is.found ∙ owner.found)) is.named);
+      compared = is.compared;
     }
 
     -- a storage below it
@@ -103,9 +124,7 @@ module _ (old : List Entry) (Reads Reads' : Entry → List ℕ → Type 0) (lett
           ordered = subst (IsOrderedObject letters) so.object_is (s.ordered h.ordered);
           changed_so = λ new change within' children' f found same left right sooner further siblings holds once ordered.
               let root = sooner.0 h.root h.root_found in
-              let p_links = λ (x : Entry) (x_found : slice_get old p ≡ Some x).
-              subst (λ y. (z : Entry) × (slice_get new p ≡ Some z) × (z.left ≡ y.left) × (z.right ≡ y.right)) (Some_same (sym owner.found ∙ x_found))
-              (f, found, left, right) in
+              let p_links = links_still p owner new f found left right in
               let object = storage_changed old new Reads Reads' p so.name so.facts so.facts so.inside (change so.inside) s.own within' children' owner.entry f
               owner.found found same.name_units same.name_len same.kind (same.facts ∙ so.facts_are) siblings holds
               (subst (λ o. IsObject old Reads p o s.own) so.object_is s.is_object) in
@@ -127,6 +146,16 @@ module _ (old : List Entry) (Reads Reads' : Entry → List ℕ → Type 0) (lett
                 };
                 all_is = refl;
               };
+          leads_so = λ new f found same left right sooner further.
+              let root = sooner.0 h.root h.root_found in
+              let p_links = links_still p owner new f found left right in
+              s.leads new p_links (name_still p owner new f found same) sooner.1 further 0
+              (record {
+                entry = root.now;
+                found = root.found;
+                holds = λ kind. let never : kind_root ≡ kind_stream = sym h.root_kind ∙ sym root.same.kind ∙ kind in omega (arith, never);
+              })
+              (subst (λ k. Siblings new k h.children) (sym root.child) (siblings_links old new h.root.child h.children (s.links new p_links sooner.1 further) h.siblings));
         }
 
     -- LAW: the storage to which a path leads

@@ -10,7 +10,7 @@ use Rattle.cfb_tree.specs.Objects.{Object, a_stream, a_storage, IsObject, HoldsT
 use Rattle.cfb_tree.specs.Changes.{removed}
 use Rattle.cfb_siblings.specs.declared.removal.Removal.{Removal}
 use Rattle.cfb_siblings.specs.Links.{holder, taken_out}
-use Rattle.cfb_siblings.specs.Places.{HasEntry}
+use Rattle.cfb_siblings.specs.Places.{HasEntry, LeadsTo}
 
 -- the number is none of these
 abbrev pub IsApart : ℕ → List ℕ → Type 0
@@ -46,10 +46,12 @@ IsColored directory id = IfSome (slice_get directory id) (λ e.
 abbrev pub AreColored : List Entry → List ℕ → Type 0
 AreColored directory ids = IsBlackAt directory 0 × AllByRecursion (IsColored directory) ids
 
--- the entries hold the tree, which is made of the root, of `ids` and of `id`; colours stay right
-pub record HoldsOneMore (letters : Letters) (Reads : Entry → List ℕ → Type 0) (old new : List Entry) (tree : Tree) (ids : List ℕ) (id : ℕ) : Type 0 where
+-- the entries hold the tree, which is made of the root, of `ids` and of `id`, to which the path leads; colours stay right
+pub record HoldsOneMore (letters : Letters) (Reads : Entry → List ℕ → Type 0) (old new : List Entry) (tree : Tree) (ids : List ℕ)
+    (path : Path) (id : ℕ) : Type 0 where
   pub holds : HoldsTree letters Reads new tree
   pub all_are : (k : ℕ) → IsApart k (0 ∷ holds.ids) ↔ (nat_eq k id ≡ false) × IsApart k (0 ∷ ids)
+  pub at_path : LeadsTo letters new 0 path id
   pub colors : AreColored old ids → AreColored new holds.ids
 
 -- the entries hold the tree, which is made of the root and of `ids` without `id` and those inside of it, `own`; colours stay right

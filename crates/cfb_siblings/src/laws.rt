@@ -17,7 +17,7 @@ ghost use Rattle.std.specs.List.{AllByRecursion};
 ghost use Rattle.std.specs.Prelude.{slice_get, slice_set, Bool, IsTrue, List, [], ℕ, Some, ◌++◌, ◌≡◌, ◌∷◌};
 
 /// A new child: an entry that is not in use becomes an object without siblings, and then the free link leads to it. The
-/// entries hold the tree with this object, and the tree has the one entry more ([MS-CFB] 2.6.4).
+/// entries hold the tree with this object, which has the one entry more, and the object's path leads there ([MS-CFB] 2.6.4).
 pub fn linked_entries_are_added()
     ensures { (reads : ℕ → ℕ → List ℕ → Bool) (letters : Letters) (directory : List Entry)
         (tree : Tree) (path : Path) (parent : ℕ) (link : Way) (id : ℕ) (e : Entry)
@@ -26,7 +26,8 @@ pub fn linked_entries_are_added()
         → IsFree letters directory parent (name_of object) link → IsUnused directory id
         → IsAlone (ReadBy reads) e object
         → HoldsOneMore letters (ReadBy reads) directory (relinked link id (slice_set directory id e))
-        (added letters object (path_to path (name_of object)) tree) h.ids id }
+        (added letters object (path_to path (name_of object)) tree) h.ids
+        (path_to path (name_of object)) id }
 {}
 
 /// An entry that is not in use is outside of the tree, and may become any other.

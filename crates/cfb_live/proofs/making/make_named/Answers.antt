@@ -86,11 +86,11 @@ returns-clause-made g c = λ tree m.
     let storage : HoldsStorage l Reads (entries_held (directory_of it)) tree (parent_of path) c.in-Ok.parent = record { holds = held; storage = free.storage } in
     let more = c.in_default.ensures.added Reads tree (parent_of path) (object_of object name) storage alone_is (named object name) in
     let later = added l (object_of object name) path tree in
-    let more_is : HoldsOneMore l (ReadBy Reads) (entries_held (directory_of it)) (entries_held (directory_of new)) later m.held.ids id = subst (λ ids. HoldsOneMore l (ReadBy Reads) (entries_held (directory_of it)) (entries_held (directory_of new)) later ids id) (means_ids l it tree m)
-    (subst (λ p. HoldsOneMore l (ReadBy Reads) (entries_held (directory_of it)) (entries_held (directory_of new)) (added l (object_of object name) p tree) held.ids id) whole more) in
+    let more_is : HoldsOneMore l (ReadBy Reads) (entries_held (directory_of it)) (entries_held (directory_of new)) later m.held.ids path id = subst (λ ids. HoldsOneMore l (ReadBy Reads) (entries_held (directory_of it)) (entries_held (directory_of new)) later ids path id) (means_ids l it tree m)
+    (subst (λ p. HoldsOneMore l (ReadBy Reads) (entries_held (directory_of it)) (entries_held (directory_of new)) (added l (object_of object name) p tree) held.ids p id) whole more) in
     let rule = free.rule object ∙ ap (λ n. (added l (object_of object n) path tree, done)) last in
     record {
       accepted = ap (λ o. o.1) rule;
       means = subst (Means l new) (sym (ap (λ o. o.0) rule))
-          (made_means l it tree later m new made id adds more_is refl (starts_nowhere object name) c.insert_dir_entry.ensures.goes_on c.in_default.ensures.answers.live.1 (c.in_default.ensures.changes m.who.sectors m.owners (has_root l it tree later m)));
+          (made_means l it tree later m new made path id adds more_is refl (starts_nowhere object name) c.insert_dir_entry.ensures.goes_on c.in_default.ensures.answers.live.1 (c.in_default.ensures.changes m.who.sectors m.owners (has_root l it tree later m)));
     }

@@ -40,7 +40,7 @@ returns-clause-added g c =
     let place = c.in-Some-Free.ensures reads tree path (subst (λ es. HoldsTree l (ReadBy reads) es tree) (sym same) h) (subst (λ es. IsStorageAt l es path c.args.parent) (sym same) s) in
     let at = subst (IsPlace (ReadBy reads) l (entries_in c.deref.result.now) tree path c.args.parent (chars c.args.name.now)) c.in-Some-Free.field-0-is place in
     let free = subst (λ es. IsFree l es c.args.parent (name_of object) c.in-Some-Free.link) same (subst (λ n. IsFree l (entries_in c.deref.result.now) c.args.parent n c.in-Some-Free.link) (sym named) at.0) in
-    subst (λ n. HoldsOneMore l (ReadBy reads) old (entries_held c.add_child.new.self) (added l object (path_to path n) tree) h.ids id) named
+    subst (λ n. HoldsOneMore l (ReadBy reads) old (entries_held c.add_child.new.self) (added l object (path_to path n) tree) h.ids (path_to path n) id) named
     (inserted_holds_tree reads l tree path c.args.parent c.in-Some-Free.link _ object alone (version_of (allocator_of c.args.self.now)) old (entries_held c.add_child.new.self) id
     (subst (λ e. LinksNew (version_of (allocator_of c.args.self.now)) c.in-Some-Free.link e old (entries_held c.add_child.new.self) id) c.new.ensures links) h s free))
     c.add_child.ensures.added
