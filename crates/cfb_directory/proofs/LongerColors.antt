@@ -1,5 +1,5 @@
 -- Colours stay right where entries came behind those of a tree, as long as no link that leads nowhere leads to one of them.
-use Rattle.std.proofs.Common.{◌≡◌, ◌⊎◌, ℕ, List, [], ◌∷◌, ◌++◌, sym, subst}
+use Rattle.std.proofs.Common.{◌≡◌, ◌⊎◌, ℕ, List, ◌∷◌, sym, subst}
 use Rattle.std.specs.Prelude.{slice_get, Option, Some, None, IfSome}
 use Rattle.std.specs.List.{AllByRecursion}
 use Rattle.cfb_tree.specs.Directory.{black, no_entry, red, Entry, Holds, Siblings, none, some}
