@@ -5,11 +5,10 @@ ghost use Rattle.cfb_entries.specs.Lists.{TellsEntries};
 ghost use Rattle.cfb_entries.specs.Rules.{answer_at, names_in, TellsEntry};
 ghost use Rattle.cfb_fat.specs.Tables.{has_failed, medium_of, version_of};
 ghost use Rattle.cfb_meaning.specs.TreeRules.{entry, exists, is_storage, is_stream, read_root_storage, read_storage, root_entry, tree_step, walk, walk_storage, yes};
-ghost use Rattle.cfb_medium.specs.declared.error.Error.TheVariants.{Memory};
 ghost use Rattle.cfb_mini.specs.Views.{allocator_of, directory_of};
 ghost use Rattle.cfb_tree.specs.LetterViews.{letters_of};
 ghost use Rattle.cfb_tree.specs.Tree.{Tree};
-ghost use Rattle.std.specs.Prelude.{IfErr, IfOk, ◌≡◌};
+ghost use Rattle.std.specs.Prelude.{◌≡◌};
 
 use cfb_entries::{Entries, Entry, children_at, entry_at, is_stream_at, walk_at};
 use cfb_medium::{Error, Medium, ReadMedium, Version};
@@ -87,34 +86,31 @@ impl<F: ReadMedium> CompoundFile<F> {
         entry_at(self.alloc, &self.letters, self.entries(), path)
     }
 
-    /// Whether an object is at a path; above the root none is. The one error is `Memory`.
-    pub fn exists(&self, path: &str) -> Result<bool, Error>
-        ensures told { (tree : Tree) → Shows self.now tree → IfOk result (λ is. yes is
-            ≡ said_at (letters_in self.now) tree exists (names_in path.now)) }
-        ensures error { IfErr result (λ e. e ≡ Memory) }
+    /// Whether an object is at a path; above the root none is. It takes no memory.
+    pub fn exists(&self, path: &str) -> bool
+        ensures { (tree : Tree) → Shows self.now tree → yes result
+            ≡ said_at (letters_in self.now) tree exists (names_in path.now) }
     {
-        let kind = is_stream_at(self.alloc, &self.letters, self.entries(), path)?;
-        Ok(kind.is_some())
+        let kind = is_stream_at(&self.letters, self.entries(), path);
+        kind.is_some()
     }
 
-    /// Whether the object at a path is a stream; above the root none is. The one error is `Memory`.
-    pub fn is_stream(&self, path: &str) -> Result<bool, Error>
-        ensures told { (tree : Tree) → Shows self.now tree → IfOk result (λ is. yes is
-            ≡ said_at (letters_in self.now) tree is_stream (names_in path.now)) }
-        ensures error { IfErr result (λ e. e ≡ Memory) }
+    /// Whether the object at a path is a stream; above the root none is. It takes no memory.
+    pub fn is_stream(&self, path: &str) -> bool
+        ensures { (tree : Tree) → Shows self.now tree → yes result
+            ≡ said_at (letters_in self.now) tree is_stream (names_in path.now) }
     {
-        let kind = is_stream_at(self.alloc, &self.letters, self.entries(), path)?;
-        Ok(kind.unwrap_or(false))
+        let kind = is_stream_at(&self.letters, self.entries(), path);
+        kind.unwrap_or(false)
     }
 
-    /// Whether the object at a path is a storage, as the root is; above the root none is. The one error is `Memory`.
-    pub fn is_storage(&self, path: &str) -> Result<bool, Error>
-        ensures told { (tree : Tree) → Shows self.now tree → IfOk result (λ is. yes is
-            ≡ said_at (letters_in self.now) tree is_storage (names_in path.now)) }
-        ensures error { IfErr result (λ e. e ≡ Memory) }
+    /// Whether the object at a path is a storage, as the root is; above the root none is. It takes no memory.
+    pub fn is_storage(&self, path: &str) -> bool
+        ensures { (tree : Tree) → Shows self.now tree → yes result
+            ≡ said_at (letters_in self.now) tree is_storage (names_in path.now) }
     {
-        let kind = is_stream_at(self.alloc, &self.letters, self.entries(), path)?;
-        Ok(!kind.unwrap_or(true))
+        let kind = is_stream_at(&self.letters, self.entries(), path);
+        !kind.unwrap_or(true)
     }
 
     /// The children of the root, in their order. The one error is `Memory` ([MS-CFB] 2.6.4).

@@ -1,7 +1,10 @@
+pub mod Cutting
+pub mod Following
 pub mod Found
 pub mod Items
 pub mod Preorder
 pub mod Sides
 pub mod Telling
 pub mod Texts
+pub mod Turning
 pub mod StreamsHeld

@@ -2,7 +2,6 @@
 use Rattle.std.proofs.Common.{◌≡◌, ◌≢◌, ℕ, ◌<◌, ◌==◌, Bool, true, false, List, [], ◌∷◌, ◌++◌, length, take, refl, sym, ◌∙◌, ap, arith, ◌⊎◌, inl, inr, Ok, Err, ◌-◌, chars}
 use Rattle.std.specs.Prelude.{slice_get, Some, None, Result, IfOk, IfErr}
 use Rattle.std.specs.Borrow.{Bor}
-use Rattle.std.specs.Option.{option_map}
 use Rattle.std.proofs.lemmas.List.{length-map, take-map}
 use Rattle.cfb_siblings.specs.Places.{path_of}
 use Rattle.cfb_meaning.specs.TreeRules.{refused, entries, an_entry, Call, tree_step, entry, open_read_stream, read_storage, walk_storage, shown, all_shown, children_shown, stored_path, parent_of}
@@ -16,7 +15,7 @@ use Rattle.cfb_tree.specs.Objects.{Object, a_stream, a_storage, name_of, inside_
 use Rattle.cfb_tree.proofs.OneContent.{Some_same}
 use Rattle.cfb_entries.specs.Holding.{HasSize}
 use Rattle.cfb_entries.specs.Listed.{listed, listed_at, root_listed, prefix_of_listed, prefix_text, Listed}
-use Rattle.cfb_entries.specs.Rules.{answer_at, is_stream_object, kind_at, names_in}
+use Rattle.cfb_entries.specs.Rules.{answer_at, kind_at, names_in}
 use Rattle.cfb_entries.proofs.Found.{Found}
 use Rattle.cfb_entries.proofs.Preorder.{listed_as, listed_object, object_named, shown_prefix}
 
@@ -189,12 +188,3 @@ module _ (letters : Letters) (tree : Tree) (directory : List Entry) (path : Path
       by_kind : (b : Bool) → (e.kind == kind_stream) ≡ b → Some (e.kind == kind_stream) ≡ kind_at letters tree (Some path)
       by_kind true is = let (n, b, x, stream) = is_a_stream letters tree directory path id e at it is in rw (is, it.at_path, stream) refl
       by_kind false isnt = let (n, f, i, storage) = is_a_storage letters tree directory path id e at it isnt in rw (isnt, it.at_path, storage) refl
-
-pub kind_lost : (letters : Letters) (tree : Tree) (text : List ℕ) (e : Error) → IsLost letters tree text e → (e ≡ Memory → ⊥) → None ≡ kind_at letters tree (names_in text)
-kind_lost letters tree text e h not_memory = elim h [
-  | inl memory ↦ absurd (not_memory memory)
-  | inr rest ↦ elim rest [
-    | inl (is, none_there) ↦ ap (kind_at letters tree) (sym none_there)
-    | inr (is, names, some, nowhere) ↦ sym (ap (kind_at letters tree) some ∙ ap (option_map is_stream_object) nowhere)
-  ]
-]

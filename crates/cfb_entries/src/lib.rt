@@ -5,6 +5,7 @@ mod entry;
 mod finding;
 mod kinds;
 mod listing;
+mod parts;
 mod siblings;
 mod streams;
 mod walking;

@@ -42,7 +42,7 @@ fn print_file(rt: &HostRuntime, path: &str) -> Result<()> {
         print_entry(rt, &mut file, &entry)?;
     }
     for path in NOWHERE {
-        println!(rt; "{path}\t{}", kind_at(&file, path)?)?;
+        println!(rt; "{path}\t{}", kind_at(&file, path))?;
     }
     Ok(())
 }
@@ -55,7 +55,7 @@ fn print_entry<F: ReadMedium>(
 ) -> Result<()> {
     let path = listed.path();
     let shown = escaped(rt.alloc(), path)?;
-    let kind = kind_at(file, path)?;
+    let kind = kind_at(file, path);
     if kind == "stream" {
         let len = file.entry(path)?.len();
         let hex = hex::encode(rt.alloc(), digest_of(rt.alloc(), file, path)?)?;
@@ -69,17 +69,17 @@ fn print_entry<F: ReadMedium>(
 }
 
 // What is at a path.
-fn kind_at<F: ReadMedium>(file: &CompoundFile<F>, path: &str) -> Result<&'static str, Error> {
-    if file.is_stream(path)? {
-        return Ok("stream");
+fn kind_at<F: ReadMedium>(file: &CompoundFile<F>, path: &str) -> &'static str {
+    if file.is_stream(path) {
+        return "stream";
     }
-    if file.is_storage(path)? {
-        return Ok("storage");
+    if file.is_storage(path) {
+        return "storage";
     }
-    if file.exists(path)? {
-        return Ok("neither");
+    if file.exists(path) {
+        return "neither";
     }
-    Ok("missing")
+    "missing"
 }
 
 // The SHA-256 of a stream's bytes, which are read in pieces and whole.

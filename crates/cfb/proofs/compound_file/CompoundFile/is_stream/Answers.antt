@@ -6,8 +6,8 @@ use Rattle.cfb_tree.specs.LetterViews.{letters_of}
 use Rattle.cfb.proofs.Saying.{stream_said}
 use Rattle.cfb.proofs.compound_file.CompoundFile.is_stream.Goals as goal
 
-pub returns-clause-told : goal.returns-clause-told
-returns-clause-told g c = λ tree h.
+pub returns : goal.returns
+returns g c = λ tree h.
     let letters = letters_of c.args.self.now.letters in
-    let kind = c.in_ok-kind.ensures.kind tree (subst (λ directory. HoldsSizes letters directory tree) (sym c.entries.ensures) h) in
+    let kind = c.is_stream_at-kind.ensures tree (subst (λ directory. HoldsSizes letters directory tree) (sym c.entries.ensures) h) in
     ap yes (c.unwrap_or.ensures ∙ ap (λ k. unwrap_or k false) kind) ∙ stream_said letters tree (names_in c.args.path.now)
