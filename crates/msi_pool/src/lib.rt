@@ -14,6 +14,8 @@ pub use laws::{
     cells_compare_equal, pools_are_read_as_they_are_held, uses_leave_places_kept,
     written_pools_are_read,
 };
+pub use parts::{PoolParts, StdParts};
+pub use places::Places;
 pub use poolbuilder::StringPoolBuilder;
 pub use stringpool::StringPool;
 pub use stringref::{StringRef, ValueRef};

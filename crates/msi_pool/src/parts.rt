@@ -10,36 +10,36 @@ use cfb_medium::Error;
 use std::alloc::Global;
 use std::collections::{BTreeMap, BTreeSet};
 
-// The three parts, reached by these calls alone. A look-up, insertion or removal in the set, in the map or in the set of a
-// text is a step, and so is a place of the list that is read or written.
-pub(crate) trait PoolParts: Drop {
+/// The three parts, reached by these calls alone. A look-up, insertion or removal in the set, in the map or in the set of a
+/// text is a step, and so is a place of the list that is read or written.
+pub trait PoolParts: Drop {
     ghost use Rattle.msi_pool.specs.PoolIndex.{Parts, KeepsAll, KeepsFree, KeepsRoom, SetsFree, SetsRoom, Takes, IsLeast};
 
     ghost seen: { Self → Parts };
 
-    // The number of places.
+    /// The number of places.
     fn len(&self) -> usize
         ensures { result ≡ length (seen self.now).places };
 
-    // The number of uses at a place; past the last 0.
+    /// The number of uses at a place; past the last 0.
     fn count(&mut self, index: u32) -> u16
         ensures count { result ≡ (slice_index_or (seen self.old).places index no_place).count }
         ensures same { KeepsAll (seen self.old) (seen self.new) }
         ensures cost { Takes 1 (seen self.old) (seen self.new) };
 
-    // The least free place.
+    /// The least free place.
     fn least_free(&mut self) -> Option<u32>
         ensures least { IsLeast (seen self.old).free result }
         ensures same { KeepsAll (seen self.old) (seen self.new) }
         ensures cost { Takes 1 (seen self.old) (seen self.new) };
 
-    // The least place with room for one more use of the text.
+    /// The least place with room for one more use of the text.
     fn least_with_room(&mut self, text: &str) -> Option<u32>
         ensures least { IsLeast ((seen self.old).room text.now) result }
         ensures same { KeepsAll (seen self.old) (seen self.new) }
         ensures cost { Takes 2 (seen self.old) (seen self.new) };
 
-    // Notes that a place is free. The one error is Memory.
+    /// Notes that a place is free. The one error is Memory.
     fn add_free(&mut self, index: u32) -> Result<(), Error>
         ensures ok { OnOk result (SetsFree index true (seen self.old) (seen self.new)) }
         ensures err { OnErr result (KeepsFree (seen self.old) (seen self.new)) }
@@ -48,14 +48,14 @@ pub(crate) trait PoolParts: Drop {
         ensures room { KeepsRoom (seen self.old) (seen self.new) }
         ensures cost { Takes 1 (seen self.old) (seen self.new) };
 
-    // Notes that a place is not free.
+    /// Notes that a place is not free.
     fn remove_free(&mut self, index: u32)
         ensures free { SetsFree index false (seen self.old) (seen self.new) }
         ensures places { (seen self.new).places ≡ (seen self.old).places }
         ensures room { KeepsRoom (seen self.old) (seen self.new) }
         ensures cost { Takes 1 (seen self.old) (seen self.new) };
 
-    // Notes that a place has room for one more use of the text. The one error is Memory.
+    /// Notes that a place has room for one more use of the text. The one error is Memory.
     fn add_room(&mut self, text: &str, index: u32) -> Result<(), Error>
         ensures ok { OnOk result (SetsRoom text.now index true (seen self.old) (seen self.new)) }
         ensures err { OnErr result (KeepsRoom (seen self.old) (seen self.new)) }
@@ -64,7 +64,7 @@ pub(crate) trait PoolParts: Drop {
         ensures free { KeepsFree (seen self.old) (seen self.new) }
         ensures cost { Takes 3 (seen self.old) (seen self.new) };
 
-    // Notes that a place has room for one more use of the text that it holds. The one error is Memory.
+    /// Notes that a place has room for one more use of the text that it holds. The one error is Memory.
     fn add_room_again(&mut self, index: u32) -> Result<(), Error>
         requires { index < length (seen self.old).places }
         ensures ok { OnOk result
@@ -76,7 +76,7 @@ pub(crate) trait PoolParts: Drop {
         ensures free { KeepsFree (seen self.old) (seen self.new) }
         ensures cost { Takes 4 (seen self.old) (seen self.new) };
 
-    // Notes that a place has no room for one more use of the text that it holds.
+    /// Notes that a place has no room for one more use of the text that it holds.
     fn remove_room(&mut self, index: u32)
         requires { index < length (seen self.old).places }
         ensures room { SetsRoom (slice_index_or (seen self.old).places index no_place).text index
@@ -85,7 +85,7 @@ pub(crate) trait PoolParts: Drop {
         ensures free { KeepsFree (seen self.old) (seen self.new) }
         ensures cost { Takes 4 (seen self.old) (seen self.new) };
 
-    // Writes a text and its number of uses to a place.
+    /// Writes a text and its number of uses to a place.
     fn write(&mut self, index: u32, text: String, count: u16)
         requires { index < length (seen self.old).places }
         ensures places { (seen self.new).places ≡ slice_set (seen self.old).places index
@@ -94,7 +94,7 @@ pub(crate) trait PoolParts: Drop {
         ensures room { KeepsRoom (seen self.old) (seen self.new) }
         ensures cost { Takes 1 (seen self.old) (seen self.new) };
 
-    // Takes a use from a place, and with the last its text.
+    /// Takes a use from a place, and with the last its text.
     fn take_use(&mut self, index: u32)
         requires inside { index < length (seen self.old).places }
         requires used { 0 < (slice_index_or (seen self.old).places index no_place).count }
@@ -104,7 +104,7 @@ pub(crate) trait PoolParts: Drop {
         ensures room { KeepsRoom (seen self.old) (seen self.new) }
         ensures cost { Takes 1 (seen self.old) (seen self.new) };
 
-    // Makes a place behind the last, for a text with one use. The one error is Memory.
+    /// Makes a place behind the last, for a text with one use. The one error is Memory.
     fn push(&mut self, text: String) -> Result<(), Error>
         ensures ok { OnOk result ((seen self.new).places ≡ (seen self.old).places
             ++ record { text = string_bytes text; count = 1 } ∷ []) }
@@ -114,7 +114,7 @@ pub(crate) trait PoolParts: Drop {
         ensures room { KeepsRoom (seen self.old) (seen self.new) }
         ensures cost { Takes 1 (seen self.old) (seen self.new) };
 
-    // Takes the last place away.
+    /// Takes the last place away.
     fn pop(&mut self)
         ensures places { (p : Place) (ps : List Place) → (seen self.old).places ≡ ps ++ p ∷ []
             → (seen self.new).places ≡ ps }
@@ -123,9 +123,9 @@ pub(crate) trait PoolParts: Drop {
         ensures cost { Takes 1 (seen self.old) (seen self.new) };
 }
 
-// The list, set and map of std.
+/// The list, set and map of std, which count no steps when they run.
 #[derive(Drop)]
-pub(crate) struct StdParts {
+pub struct StdParts {
     pub(crate) list: Vec<(String, u16)>,
     pub(crate) free: BTreeSet<u32>,
     pub(crate) room: BTreeMap<String, BTreeSet<u32>>,

@@ -11,9 +11,9 @@ use std::alloc::Global;
 use std::collections::{BTreeMap, BTreeSet};
 use std::marker::Model;
 
-/// The places of a pool, and the steps that were taken on them.
+/// The places of a pool with their index, over whatever meets `PoolParts`, and the steps that were taken on them.
 #[derive(Drop)]
-pub(crate) struct Places<P: PoolParts = StdParts> {
+pub struct Places<P: PoolParts = StdParts> {
     parts: P,
 }
 
@@ -79,9 +79,9 @@ impl Places {
 }
 
 impl<P: PoolParts> Places<P> {
-    // Counts a use of the text at the least place that takes it, else at a new place, and tells its number. InvalidInput where
-    // that is above the last; then, and after Memory, the places are as they were.
-    pub(crate) fn incref(&mut self, text: String, last: u32) -> Result<u32, Error>
+    /// Counts a use of the text at the least place that takes it, else at a new place, and tells its number, in at most sixteen
+    /// steps. InvalidInput where that is above the last; then, and after Memory, the places are as they were.
+    pub fn incref(&mut self, text: String, last: u32) -> Result<u32, Error>
         requires { last < 2 ^ 24 }
         ensures place { IfOk result (λ n. n ≡ place_among (string_bytes text) self.old.places) }
         ensures inside { IfOk result (λ n. (0 < n) × (n ≤ last)) }
@@ -102,9 +102,9 @@ impl<P: PoolParts> Places<P> {
         Ok(index + 1)
     }
 
-    // Takes back a use at the place of this index. InvalidData where it has none; then, and after Memory, the places are as
-    // they were.
-    pub(crate) fn decref(&mut self, index: u32) -> Result<(), Error>
+    /// Takes back a use at the place of this index, in at most sixteen steps. InvalidData where it has none; then, and after
+    /// Memory, the places are as they were.
+    pub fn decref(&mut self, index: u32) -> Result<(), Error>
         ensures ok { OnOk result (self.new.places ≡ without_use (index + 1) self.old.places) }
         ensures unused { IsErrOf result InvalidData
             ↔ ((at_place self.old.places (index + 1)).count ≡ 0) }
