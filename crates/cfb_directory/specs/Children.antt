@@ -86,12 +86,12 @@ pub record HasHolders (entries : List Entry) (removal : Removal) : Type 0 where
   pub joined : IfSome removal.joined (λ it. HasEntry entries (holder it.link))
 
 -- entry `id` was an object, and the entries hold the tree without the object at the path and what is in it, which is made of the
--- root and of the entries `ids` without these
+-- root and of the entries `ids` without these; the way to the storage above goes over the same entries
 pub record Removes (letters : Letters) (reads : ℕ → ℕ → List ℕ → Bool) (old new : List Entry) (tree : Tree) (ids : List ℕ) (path : Path) (id : ℕ) : Type 0 where
   pub object : Object
   pub own : List ℕ
   pub is_object : IsObject old (ReadBy reads) id object own
-  pub holds : HoldsOneLess letters (ReadBy reads) old new (removed letters path tree) ids id own
+  pub holds : HoldsOneLess letters (ReadBy reads) old new (removed letters path tree) ids path id own
 
 -- what it leaves of a tree with such a child: the tree without it
 abbrev pub RemovesChild : List Entry → List Entry → Link → ℕ → Type 0

@@ -73,8 +73,8 @@ stream_there s who letters tree h id e one found kind =
     (λ it. (it.1, subst (λ x. HasStream s who id x it.1) same it.2))
     part.2
 
-module _ (s t : LiveFile) (who now : Owners) (letters : Letters) (tree later : Tree) (h : MeansHeld s who letters tree) (id : ℕ) (c : CarriesBut (stream_owner id) s t who now) (nothing : OwnsNothing now (stream_owner id))
-    (root : Entry) (kept : Kept t now root) (less : HoldsOneLess letters (ReadBy (reads s who)) s.entries t.entries later h.ids id []) (at : RemovesAt s.entries t.entries id) where
+module _ (s t : LiveFile) (who now : Owners) (letters : Letters) (tree later : Tree) (h : MeansHeld s who letters tree) (path : Path) (id : ℕ) (c : CarriesBut (stream_owner id) s t who now) (nothing : OwnsNothing now (stream_owner id))
+    (root : Entry) (kept : Kept t now root) (less : HoldsOneLess letters (ReadBy (reads s who)) s.entries t.entries later h.ids path id []) (at : RemovesAt s.entries t.entries id) where
   old_part : (k : ℕ) → IsOneOf h.ids k → IsPart s.entries (HasStream s who) k
   old_part k one = all_one (IsPart s.entries (HasStream s who)) h.ids k (each_part s.entries (HasStream s who) tree.content h.children h.ids h.holds) one
 
@@ -160,9 +160,9 @@ module _ (s t : LiveFile) (who now : Owners) (letters : Letters) (tree later : T
             (eqb_tells k id);
       }
 
-module _ {F : Type 0} {g : Ghosts F} (letters : Letters) (old mid new : MiniAllocator F g) (tree later : Tree) (m : Means letters old tree) (id : ℕ) (frees : FreesStream id old mid m.who) where
+module _ {F : Type 0} {g : Ghosts F} (letters : Letters) (old mid new : MiniAllocator F g) (tree later : Tree) (m : Means letters old tree) (path : Path) (id : ℕ) (frees : FreesStream id old mid m.who) where
   -- a stream gave up its sectors, and then its entry was taken out
-  pub removed_means : RemovesAt (entries_held (directory_of old)) (entries_held (directory_of new)) id → HoldsOneLess letters (ReadBy (reads (live_of old) m.who)) (entries_held (directory_of old)) (entries_held (directory_of new)) later m.held.ids id []
+  pub removed_means : RemovesAt (entries_held (directory_of old)) (entries_held (directory_of new)) id → HoldsOneLess letters (ReadBy (reads (live_of old) m.who)) (entries_held (directory_of old)) (entries_held (directory_of new)) later m.held.ids path id []
       → (id ≡ 0 → ⊥) → GoesOn (allocator_of mid) (allocator_of new) → has_failed_here (allocator_of new) ≡ false → ChangesDirectory (count_words (version_of (allocator_of mid))) mid new frees.now.sectors → Means letters new later
   unfolding live_of
   removed_means at less other goes live c =
@@ -178,7 +178,7 @@ module _ {F : Type 0} {g : Ghosts F} (letters : Letters) (old mid new : MiniAllo
         who = now;
         owners = has_owners words spare mid new frees.now stands goes live c;
         sizes = subst (λ v. SizesFit v (entries_held (directory_of new))) (sym (goes.version ∙ frees.carries.version)) (at.sizes (version_of (allocator_of old)) m.sizes);
-        held = object_removed (live_of old) (live_of new) m.who now letters tree later m.held id all
+        held = object_removed (live_of old) (live_of new) m.who now letters tree later m.held path id all
             (pick_other frees.now.sectors 0 (directory_ids (directory_of new)) (stream_owner id) (λ same. omega (arith, same)) ∙ frees.nothing.0, frees.nothing.1)
             place.0 (kept_later words spare mid new frees.now stands goes live c place.0 place.1 (place.2.kind ∙ m.held.kept.root_kind)) less at;
       }

@@ -87,7 +87,7 @@ module _ {F : Type 0} {g : Ghosts F} (letters : Letters) (it : MiniAllocator F g
       let Reads = reads (live_of it) m.who in
       let removes = subst (λ es. RemovesChild es later link id) frees.entries removed_child letters Reads tree path leaf.parent name leaf_child in
       let none = leaf_inside directory (ReadBy Reads) id removes.object removes.own leaf.empty removes.is_object in
-      let less : HoldsOneLess letters (ReadBy Reads) directory later (removed letters (path_to path name) tree) m.held.ids id [] =
-      subst (λ own. HoldsOneLess letters (ReadBy Reads) directory later (removed letters (path_to path name) tree) m.held.ids id own) none
-      (subst (λ ids. HoldsOneLess letters (ReadBy Reads) directory later (removed letters (path_to path name) tree) ids id removes.own) (means_ids letters it tree m) removes.holds) in
-      removed_means letters it mid new tree (removed letters (path_to path name) tree) m id frees (subst (λ es. RemovesAt es later id) frees.entries at) less leaf_below goes live changes
+      let less : HoldsOneLess letters (ReadBy Reads) directory later (removed letters (path_to path name) tree) m.held.ids (path_to path name) id [] =
+      subst (λ own. HoldsOneLess letters (ReadBy Reads) directory later (removed letters (path_to path name) tree) m.held.ids (path_to path name) id own) none
+      (subst (λ ids. HoldsOneLess letters (ReadBy Reads) directory later (removed letters (path_to path name) tree) ids (path_to path name) id removes.own) (means_ids letters it tree m) removes.holds) in
+      removed_means letters it mid new tree (removed letters (path_to path name) tree) m (path_to path name) id frees (subst (λ es. RemovesAt es later id) frees.entries at) less leaf_below goes live changes

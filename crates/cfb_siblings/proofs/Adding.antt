@@ -151,7 +151,7 @@ module _ (letters : Letters) (Reads : Entry → List ℕ → Type 0) (by_place :
   led =
       let links = all_parts (λ k. nat_eq (holder link) k ≡ false) st.sooner st.further link_apart in
       leads_on letters new path 0 p (name_of object) n
-      (st.leads_so new owner.now owner.found owner.same owner.left owner.right (stay st.sooner n_sooner links.0) (stay st.further n_behind.2 links.1)) new_child
+      ((st.leads_so new owner.now owner.found owner.same owner.left owner.right (stay st.sooner n_sooner links.0) (stay st.further n_behind.2 links.1)).0) new_child
 
   grown : HoldsJust letters Reads new (changed letters (holding (with_child letters object)) path tree)
       (st.sooner ++ p ∷ ((gap.earlier_all ++ n ∷ gap.later_all) ++ st.further))

@@ -1,5 +1,5 @@
 -- What stands at a place among siblings that hold a content.
-use Rattle.std.proofs.Common.{◌≡◌, ℕ, ◌≤◌, false, List, [], ◌∷◌, ◌++◌, refl, sym, ◌∙◌, ap, subst, append_assoc, append-nil, arith}
+use Rattle.std.proofs.Common.{◌≡◌, ℕ, ◌≤◌, true, false, List, [], ◌∷◌, ◌++◌, refl, sym, ◌∙◌, ap, subst, append_assoc, append-nil, arith}
 use Rattle.std.specs.Prelude.{slice_get, Some}
 use Rattle.std.specs.List.{AllByRecursion}
 use Rattle.std.specs.List.Sorted.{IsStrictlySortedBy}
@@ -15,7 +15,7 @@ use Rattle.cfb_tree.proofs.OneContent.{name_unique, siblings_unique, Some_same}
 use Rattle.cfb_siblings.specs.declared.links.Link.{Link}
 use Rattle.cfb_siblings.specs.Places.{IsNamed, Hangs, first, to_left, to_right}
 use Rattle.cfb_siblings.proofs.Records.{Gap, Chosen, Found}
-use Rattle.cfb_siblings.proofs.Lists.{all_map, sorted_around}
+use Rattle.cfb_siblings.proofs.Lists.{all_map, first_same, sorted_around}
 use Rattle.cfb_siblings.proofs.Joining.{names_joined, names_before, halves, headed}
 use Rattle.cfb_siblings.proofs.Naming.{less_turned, child_past, child_here}
 use Rattle.cfb_siblings.proofs.Searching.{object_named, no_siblings}
@@ -87,6 +87,9 @@ module _ (directory : List Entry) (Reads : Entry → List ℕ → Type 0) (lette
       let names : name ≡ it.name = name_unique e name it.name named (subst (λ y. HasName y it.name) is it.named) in
       ap (name_cmp letters wanted) names ∙ it.compared
 
+  other_name : (name : List ℕ) → name_cmp letters wanted name ≡ Equal → is_same_name letters wanted name ≡ false → ⊥
+  other_name name same other = let never : true ≡ false = sym (ap is_eq same) ∙ other in absurd (cc)
+
   -- the names of entries are those of what they hold
   pub names_in_order : (order : Ordering) (c : Content) (ids all : List ℕ) → Holds directory Reads ids c all
       → AllByRecursion (IsNamed letters directory wanted order) ids → AllByRecursion (λ name. name_cmp letters wanted name ≡ order) (child_names c)
@@ -111,6 +114,17 @@ module _ (directory : List Entry) (Reads : Entry → List ℕ → Type 0) (lette
         record { entry = e; found = at.found; name = n; named = at.named; compared = k.0 },
         entries_in_order order l others rest later k.1,
       )
+
+  -- among entries that hold other names none has the wanted one
+  pub unnamed : (c : Content) (ids all : List ℕ) → Holds directory Reads ids c all
+      → AllByRecursion (λ name. is_same_name letters wanted name ≡ false) (child_names c) → AllByRecursion (λ id. IsNamed letters directory wanted Equal id → ⊥) ids
+  unnamed nothing ids all (is, empty) k = subst (AllByRecursion (λ id. IsNamed letters directory wanted Equal id → ⊥)) (sym is) tt
+  unnamed (stream n b x l) ids all (e, id, others, rest, is, all_is, at, reads, later) k =
+      subst (AllByRecursion (λ id. IsNamed letters directory wanted Equal id → ⊥)) (sym is)
+      (λ it. other_name n (order_is Equal id e n it at.found at.named) k.0, unnamed l others rest later k.1)
+  unnamed (storage n f i l) ids all (e, id, others, children, within, rest, is, all_is, at, siblings, inside, later) k =
+      subst (AllByRecursion (λ id. IsNamed letters directory wanted Equal id → ⊥)) (sym is)
+      (λ it. other_name n (order_is Equal id e n it at.found at.named) k.0, unnamed l others rest later k.1)
 
   -- the siblings around a free link
   pub gap_of : (owner root : ℕ) (ids : List ℕ) (c : Content) (all : List ℕ) (link : Link) (front back : List ℕ)
@@ -172,6 +186,13 @@ module _ (directory : List Entry) (Reads : Entry → List ℕ → Type 0) (lette
             (λ n under. ap is_eq ((name_cmp_total letters).congr wanted (name_of own.object) n level ∙ less_turned letters (name_of own.object) n under)) around.0;
         level = ap is_eq level;
       }
+
+  -- no other has the name
+  pub chosen_once : (ids : List ℕ) (c : Content) (all : List ℕ) (at other : ℕ) → Chosen directory Reads letters wanted ids c all at
+      → Chosen directory Reads letters wanted ids c all other → IsNamed letters directory wanted Equal at → IsNamed letters directory wanted Equal other → at ≡ other
+  chosen_once ids c all at other it that named named' =
+      first_same (IsNamed letters directory wanted Equal) it.front at it.back that.front other that.back (sym it.ids_are ∙ that.ids_are) named named'
+      (unnamed it.earlier it.front it.earlier_all it.holds_earlier it.others) (unnamed that.earlier that.front that.earlier_all that.holds_earlier that.others)
 
   -- it is the child of that name
   pub chosen_child : (ids : List ℕ) (c : Content) (all : List ℕ) (at : ℕ) (it : Chosen directory Reads letters wanted ids c all at)

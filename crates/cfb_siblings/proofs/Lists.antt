@@ -16,6 +16,15 @@ pub all_map : {A : Type 0} (P Q : A → Type 0) (xs : List A) → ((x : A) → P
 all_map P Q [] f h = tt
 all_map P Q (x ∷ xs) f h = (f x h.0, all_map P Q xs f h.1)
 
+-- what comes first in a list of those of which P holds is unique
+pub first_same : (P : ℕ → Type 0) (xs : List ℕ) (x : ℕ) (xs' ys : List ℕ) (y : ℕ) (ys' : List ℕ) → xs ++ x ∷ xs' ≡ ys ++ y ∷ ys' → P x → P y
+    → AllByRecursion (λ k. P k → ⊥) xs → AllByRecursion (λ k. P k → ⊥) ys → x ≡ y
+first_same P [] x xs' [] y ys' same is_x is_y before_x before_y = cc
+first_same P [] x xs' (z ∷ ys) y ys' same is_x is_y before_x before_y = let here : x ≡ z = cc in absurd (before_y.0 (subst P here is_x))
+first_same P (z ∷ xs) x xs' [] y ys' same is_x is_y before_x before_y = let here : y ≡ z = cc in absurd (before_x.0 (subst P here is_y))
+first_same P (z ∷ xs) x xs' (w ∷ ys) y ys' same is_x is_y before_x before_y =
+    let later : xs ++ x ∷ xs' ≡ ys ++ y ∷ ys' = cc in first_same P xs x xs' ys y ys' later is_x is_y before_x.1 before_y.1
+
 pub apart_turned : (m n : ℕ) → nat_eq m n ≡ false → nat_eq n m ≡ false
 apart_turned m n h = grind arith
 

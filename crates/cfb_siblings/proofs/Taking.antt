@@ -12,7 +12,7 @@ use Rattle.cfb_tree.specs.Entries.{IsBlackAt}
 use Rattle.cfb_tree.proofs.OneContent.{Some_same}
 use Rattle.cfb_siblings.specs.Changes.{IsApart, IsColored, HoldsOneLess, TakesOut}
 use Rattle.cfb_siblings.specs.Links.{holder, relinked}
-use Rattle.cfb_siblings.specs.Places.{HasEntry, Hangs, IsStorageAt, IsTaken, path_to}
+use Rattle.cfb_siblings.specs.Places.{HasEntry, Hangs, IsStorageAt, IsTaken, LeadsBy, path_to}
 use Rattle.cfb_siblings.specs.declared.links.Link.{Link}
 use Rattle.cfb_siblings.specs.declared.links.Link.TheVariants.{Child, Left, Right}
 use Rattle.cfb_siblings.proofs.Parts.{AllStay, ReadsByPlace, Relinks, root_after, IsOutside, IsPlaced}
@@ -143,11 +143,21 @@ module _ (letters : Letters) (Reads : Entry → List ℕ → Type 0) (by_place :
         (stay_then old mid new Reads Reads Reads ids before (stay_apart mid new Reads Reads (holder link) ids linked.only (λ e bytes r. r) a))
         (stay_apart new last Reads Reads at ids (set_changes_only new at g) (λ e bytes r. r) b)
 
+    links_apart : IsApart (holder link) st.sooner × IsApart (holder link) st.further
+    links_apart = all_parts (λ k. nat_eq (holder link) k ≡ false) st.sooner st.further link_apart
+
+    sooner_last : AllStay old last Reads Reads st.sooner
+    sooner_last = stay st.sooner it.sooner_stay links_apart.0 at_around.0
+
+    further_last : AllStay old last Reads Reads st.further
+    further_last = stay st.further it.further_stay links_apart.1 at_around.2
+
+    owner_last : slice_get last p ≡ Some owner.now
+    owner_last = set_changes_only new at g p owner.now at_around.1 owner.found
+
     shrunk : HoldsJust letters Reads last (changed letters (holding (without_child letters wanted)) path tree) (st.sooner ++ p ∷ (rest_all ++ st.further))
     shrunk =
-        let links = all_parts (λ k. nat_eq (holder link) k ≡ false) st.sooner st.further link_apart in
-        st.changed_so last (without_child letters wanted) rest_all rest_ids owner.now (set_changes_only new at g p owner.now at_around.1 owner.found)
-        owner.same owner.left owner.right (stay st.sooner it.sooner_stay links.0 at_around.0) (stay st.further it.further_stay links.1 at_around.2)
+        st.changed_so last (without_child letters wanted) rest_all rest_ids owner.now owner_last owner.same owner.left owner.right sooner_last further_last
         (subst (λ k. Siblings last k rest_ids) (sym owner.child_is)
         (removed_siblings old Reads by_place letters wanted p st.entry.child st.children st.inside st.within link at taken.named.entry found within_once outside
         mid new last target it.step linked (set_changes_only new at g)))
@@ -170,11 +180,13 @@ module _ (letters : Letters) (Reads : Entry → List ℕ → Type 0) (by_place :
     gone = subst (IsApart at) (sym without_it.all_is) at_gone
 
     -- LAW: the entries hold the tree without the object
-    pub shrinks : HoldsOneLess letters Reads old last (removed letters (path_to path wanted) tree) h.ids at found.chosen.own
+    pub shrinks : HoldsOneLess letters Reads old last (removed letters (path_to path wanted) tree) h.ids (path_to path wanted) at found.chosen.own
     shrinks = record {
       holds = without_it.holds;
       all_are = without_all;
       gone = gone;
+      ways = subst (λ q. (way : List ℕ) → LeadsBy letters old 0 q way → LeadsBy letters last 0 q way) (sym (parent_of_path path wanted))
+          ((st.leads_so last owner.now owner_last owner.same owner.left owner.right sooner_last further_last).1);
       colors = λ right. (
         black_cleared new at 0 g gone.0 (black_relinked mid link target 0 (it.black_stays right.0)),
         colored_less letters Reads new (removed letters (path_to path wanted) tree) h.ids at g without_it.holds taken.fits gone

@@ -10,7 +10,7 @@ use Rattle.cfb_tree.specs.Directory.{Entry, Siblings, Holds, HasName, kind_root,
 use Rattle.cfb_tree.specs.Objects.{a_storage, name_of, object_at, IsObject, HoldsTree}
 use Rattle.cfb_tree.specs.Changes.{holding, changed}
 use Rattle.cfb_tree.proofs.OneContent.{Some_same}
-use Rattle.cfb_siblings.specs.Places.{IsNamed, IsOwner, LeadsTo, IsStorageAt}
+use Rattle.cfb_siblings.specs.Places.{IsNamed, IsOwner, LeadsTo, LeadsBy, IsStorageAt}
 use Rattle.cfb_siblings.proofs.Parts.{HasSameFacts, LinksStay, AllStay}
 use Rattle.cfb_siblings.proofs.Lists.{distinct_parts}
 use Rattle.cfb_siblings.proofs.Frames.{name_stays, siblings_links}
@@ -46,9 +46,13 @@ module _ (old : List Entry) (Reads Reads' : Entry → List ℕ → Type 0) (lett
         → IsOrdered letters (change inside)
         → HoldsJust letters Reads' new (changed letters (holding change) path tree) (sooner ++ p ∷ (within' ++ further))
     pub leads_so : (new : List Entry) (f : Entry) → slice_get new p ≡ Some f → HasSameFacts entry f → f.left ≡ entry.left → f.right ≡ entry.right
-        → AllStay old new Reads Reads' sooner → AllStay old new Reads Reads' further → LeadsTo letters new 0 path p
+        → AllStay old new Reads Reads' sooner → AllStay old new Reads Reads' further
+        → LeadsTo letters new 0 path p × ((way : List ℕ) → LeadsBy letters old 0 path way → LeadsBy letters new 0 path way)
 
   module _ (h : HoldsTree letters Reads old tree) where
+    root_owns : h.root.kind ≡ kind_stream → ⊥
+    root_owns kind = let never : kind_root ≡ kind_stream = sym h.root_kind ∙ kind in omega (arith, never)
+
     -- the root
     storing_root : Storing [] 0 h.ids
     storing_root = record {
@@ -81,7 +85,7 @@ module _ (old : List Entry) (Reads Reads' : Entry → List ℕ → Type 0) (lett
         };
         all_is = ap (λ ids. 0 ∷ ids) (sym (append-nil within'));
       };
-      leads_so = λ new f found same left right sooner further. refl;
+      leads_so = λ new f found same left right sooner further. (refl, λ way by. by);
     }
 
     -- a storage that stays but for what hangs below it keeps its links and its name
@@ -149,13 +153,11 @@ module _ (old : List Entry) (Reads Reads' : Entry → List ℕ → Type 0) (lett
           leads_so = λ new f found same left right sooner further.
               let root = sooner.0 h.root h.root_found in
               let p_links = links_still p owner new f found left right in
-              s.leads new p_links (name_still p owner new f found same) sooner.1 further 0
-              (record {
-                entry = root.now;
-                found = root.found;
-                holds = λ kind. let never : kind_root ≡ kind_stream = sym h.root_kind ∙ sym root.same.kind ∙ kind in omega (arith, never);
-              })
-              (subst (λ k. Siblings new k h.children) (sym root.child) (siblings_links old new h.root.child h.children (s.links new p_links sooner.1 further) h.siblings));
+              let led = s.leads new p_links (name_still p owner new f found same) sooner.1 further 0
+              (record { entry = root.now; found = root.found; holds = λ kind. root_owns (sym root.same.kind ∙ kind) })
+              (subst (λ k. Siblings new k h.children) (sym root.child) (siblings_links old new h.root.child h.children (s.links new p_links sooner.1 further) h.siblings)) in
+              let before : IsOwner old 0 = record { entry = h.root; found = h.root_found; holds = root_owns } in
+              (led.0, λ way by. subst (LeadsBy letters new 0 (wanted ∷ names)) (sym (s.one_way 0 before h.siblings way by)) led.1);
         }
 
     -- LAW: the storage to which a path leads

@@ -7,10 +7,10 @@ use Rattle.cfb_tree.specs.Tree.{Tree, nothing}
 use Rattle.cfb_tree.specs.Directory.{Entry, HasName, no_entry, greatest_entry, kind_unallocated, kind_storage, kind_stream, red, black}
 use Rattle.cfb_tree.specs.Entries.{IsBlackAt}
 use Rattle.cfb_tree.specs.Objects.{Object, a_stream, a_storage, IsObject, HoldsTree}
-use Rattle.cfb_tree.specs.Changes.{removed}
+use Rattle.cfb_tree.specs.Changes.{parent_of, removed}
 use Rattle.cfb_siblings.specs.declared.removal.Removal.{Removal}
 use Rattle.cfb_siblings.specs.Links.{holder, taken_out}
-use Rattle.cfb_siblings.specs.Places.{HasEntry, LeadsTo}
+use Rattle.cfb_siblings.specs.Places.{HasEntry, LeadsTo, LeadsBy}
 
 -- the number is none of these
 abbrev pub IsApart : ℕ → List ℕ → Type 0
@@ -54,12 +54,14 @@ pub record HoldsOneMore (letters : Letters) (Reads : Entry → List ℕ → Type
   pub at_path : LeadsTo letters new 0 path id
   pub colors : AreColored old ids → AreColored new holds.ids
 
--- the entries hold the tree, which is made of the root and of `ids` without `id` and those inside of it, `own`; colours stay right
-pub record HoldsOneLess (letters : Letters) (Reads : Entry → List ℕ → Type 0) (old new : List Entry) (tree : Tree) (ids : List ℕ) (id : ℕ)
-    (own : List ℕ) : Type 0 where
+-- the entries hold the tree, which is made of the root and of `ids` without `id`, to which the path led, and those inside of it,
+-- `own`; the way to the storage above goes over the same entries; colours stay right
+pub record HoldsOneLess (letters : Letters) (Reads : Entry → List ℕ → Type 0) (old new : List Entry) (tree : Tree) (ids : List ℕ)
+    (path : Path) (id : ℕ) (own : List ℕ) : Type 0 where
   pub holds : HoldsTree letters Reads new tree
   pub all_are : (k : ℕ) → IsApart k (0 ∷ ids) ↔ (nat_eq k id ≡ false) × IsApart k own × IsApart k (0 ∷ holds.ids)
   pub gone : IsApart id (0 ∷ holds.ids)
+  pub ways : (way : List ℕ) → LeadsBy letters old 0 (parent_of path) way → LeadsBy letters new 0 (parent_of path) way
   pub colors : AreColored old ids → AreColored new holds.ids
 
 -- the removal takes entry `id` out, of which the object is at the path: whatever stands in its place then, the entries hold the
@@ -72,7 +74,7 @@ pub record TakesOut (letters : Letters) (Reads : Entry → List ℕ → Type 0) 
   pub replaced : HasEntry directory (holder removal.replaced.link)
   pub joined : IfSome removal.joined (λ it. HasEntry directory (holder it.link))
   pub leaves : (e : Entry)
-      → HoldsOneLess letters Reads directory (slice_set (taken_out removal directory) id e) (removed letters path tree) ids id own
+      → HoldsOneLess letters Reads directory (slice_set (taken_out removal directory) id e) (removed letters path tree) ids path id own
 
 -- entry f has the name, the kind and the links of entry e ([MS-CFB] 2.6.1)
 pub record HasSameLinks (e f : Entry) : Type 0 where

@@ -47,6 +47,12 @@ LeadsTo letters directory start [] id = id ≡ start
 LeadsTo letters directory start (name ∷ names) id =
     (next : ℕ) × IsChild letters directory start name next × LeadsTo letters directory next names id
 
+-- the path leads from entry `start` along these entries ([MS-CFB] 2.6.4)
+abbrev pub LeadsBy : Letters → List Entry → ℕ → Path → List ℕ → Type 0
+LeadsBy letters directory start [] ids = ids ≡ []
+LeadsBy letters directory start (name ∷ names) ids =
+    (next : ℕ) × (later : List ℕ) × (ids ≡ next ∷ later) × IsChild letters directory start name next × LeadsBy letters directory next names later
+
 -- the path leads from the root to entry `id`, which is a storage ([MS-CFB] 2.6.2)
 pub record IsStorageAt (letters : Letters) (directory : List Entry) (path : Path) (id : ℕ) : Type 0 where
   pub leads : LeadsTo letters directory 0 path id

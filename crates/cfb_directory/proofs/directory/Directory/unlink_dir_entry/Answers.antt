@@ -32,7 +32,7 @@ returns-clause-removed g c =
       object = out.object;
       own = out.own;
       is_object = out.is_object;
-      holds = subst (λ es. HoldsOneLess l (ReadBy reads) old es (removed l (path_to path name) tree) h.ids id out.own)
+      holds = subst (λ es. HoldsOneLess l (ReadBy reads) old es (removed l (path_to path name) tree) h.ids (path_to path name) id out.own)
           (ap (λ es. slice_set (taken_out c.in-Some.removal es) id empty_entry) (sym c.note.ensures.same) ∙ sym taken)
           (out.leaves empty_entry);
     })
