@@ -10,12 +10,14 @@ use Rattle.cfb_medium.specs.declared.error.Error.TheVariants.{AlreadyExists, Inv
 use Rattle.cfb_medium.specs.declared.medium.ReadMedium.{Ghosts}
 use Rattle.cfb_medium.specs.declared.timestamp.Timestamp.{Timestamp}
 use Rattle.cfb_mini.specs.declared.mini_allocator.MiniAllocator.{MiniAllocator}
-use Rattle.cfb_siblings.specs.Places.{path_of, path_to}
+use Rattle.cfb_directory.specs.Views.{entries_held}
+use Rattle.cfb_mini.specs.Views.{directory_of}
+use Rattle.cfb_siblings.specs.Places.{path_of, path_to, LeadsTo}
 use Rattle.cfb_siblings.proofs.Following.{next_name}
 use Rattle.cfb_siblings.proofs.Lists.{all_parts}
 use Rattle.cfb_siblings.proofs.Leading.{last_of_path, object_from_last, parent_of_path}
 use Rattle.cfb_siblings.proofs.Naming.{child_here}
-use Rattle.cfb_tree.specs.Changes.{added, changed, holding, made_at, parent_of, with_child}
+use Rattle.cfb_tree.specs.Changes.{added, changed, holding, last_of, made_at, parent_of, with_child}
 use Rattle.cfb_tree.specs.Names.{is_name, name_cmp, Letters}
 use Rattle.cfb_tree.specs.Objects.{a_storage, a_stream, child, is_same_name, name_of, object_at, object_from, root_object, Object}
 use Rattle.cfb_tree.specs.Paths.{Path}
@@ -23,12 +25,12 @@ use Rattle.cfb_tree.specs.Tree.{nothing, storage, stream, Content, Tree}
 use Rattle.cfb_tree.proofs.NameOrder.{name_cmp_total}
 use Rattle.cfb_tree.proofs.NamesRead.{all_append}
 use Rattle.cfb_live.specs.Emptying.{HasStorage}
-use Rattle.cfb_live.specs.Making.{making}
-use Rattle.cfb_live.specs.Parents.{AreNames, IsMadeAsFar, MakesAt, MeansAsFar}
+use Rattle.cfb_live.specs.Making.{IsFreePlace}
+use Rattle.cfb_live.specs.Parents.{AreNames, IsMadeAsFar, MakesChild, MeansAsFar}
 use Rattle.cfb_live.specs.declared.making.NewObject.TheVariants.{Storage}
 use Rattle.cfb_live.proofs.Below.{changed_found}
 use Rattle.cfb_live.proofs.Descent.{equal_self}
-use Rattle.cfb_live.proofs.NewPlaces.{length-path}
+use Rattle.cfb_live.proofs.NewPlaces.{length-path, step_made}
 
 -- a path at one of its names
 pub part : (path : Path) (i : ℕ) → i < length path → (x : List ℕ) × (drop i path ≡ x ∷ drop (i + 1) path) × (take (i + 1) path ≡ path_to (take i path) x)
@@ -81,12 +83,18 @@ module _ (names : List (Bor (List ℕ))) (i : ℕ) (d : Bor (List ℕ)) (below :
   pub within_path : i < length (path_of names)
   within_path = subst (λ n. i < n) (sym (length-path names)) below
 
+  same_name : (part (path_of names) i within_path).0 ≡ chars (get_or names i d).now
+  same_name =
+      let at = part (path_of names) i within_path in
+      let both : at.0 ∷ drop (i + 1) (path_of names) ≡ chars (get_or names i d).now ∷ drop (i + 1) (path_of names) = sym at.1 ∙ here_is in cc
+
+  pub name_more : take (i + 1) (path_of names) ≡ path_to (take i (path_of names)) (chars (get_or names i d).now)
+  name_more = (part (path_of names) i within_path).2 ∙ ap (path_to (take i (path_of names))) same_name
+
   pub names_more : AreNames (take i (path_of names)) → IsTrue (is_name (chars (get_or names i d).now)) → AreNames (take (i + 1) (path_of names))
   names_more front valid =
       let at = part (path_of names) i within_path in
-      let both : at.0 ∷ drop (i + 1) (path_of names) ≡ chars (get_or names i d).now ∷ drop (i + 1) (path_of names) = sym at.1 ∙ here_is in
-      let same : at.0 ≡ chars (get_or names i d).now = cc in
-      subst AreNames (sym at.2) (all_append (λ name. IsTrue (is_name name)) (take i (path_of names)) (at.0 ∷ []) front (subst (λ x. IsTrue (is_name x)) (sym same) valid, tt))
+      subst AreNames (sym at.2) (all_append (λ name. IsTrue (is_name name)) (take i (path_of names)) (at.0 ∷ []) front (subst (λ x. IsTrue (is_name x)) (sym same_name) valid, tt))
 
   pub names_here : AreNames (path_of names) → IsTrue (is_name (chars (get_or names i d).now))
   names_here all = (subst AreNames here_is (all_parts (λ name. IsTrue (is_name name)) (take i (path_of names)) (drop i (path_of names)) (subst AreNames (whole (path_of names) i) all)).1).0
@@ -283,17 +291,33 @@ module _ (letters : Letters) where
   pub there_more : (tree : Tree) (path : Path) (i : ℕ) → i < length path → IsThereAsFar tree path i → HasStorage letters tree (take (i + 1) path) → IsThereAsFar tree path (i + 1)
   there_more tree path i below far has = record { passed = λ moment. passed_more moment tree path i below (far.passed moment) has; storage = has }
 
-module _ {F : Type 0} {g : Ghosts F} (letters : Letters) (moment : Timestamp) (tree : Tree) (path : Path) (count : ℕ) (old : MiniAllocator F g) (so : MeansAsFar letters (units_of moment) tree path count old) (below : count < length path)
-    (p : Path) (next : p ≡ take (count + 1) path) where
-  -- the file means the tree in which one more is made
-  pub as_far_more : (new : MiniAllocator F g) → MakesAt letters p (Storage moment) so.now new → MeansAsFar letters (units_of moment) tree path (count + 1) new
-  as_far_more new makes = record {
-    now = (tree_step letters so.now (create_storage p (units_of moment))).0;
-    far = more_made letters (units_of moment) tree so.now path count so.far below (tree_step letters so.now (create_storage p (units_of moment))).0 (ap (λ q. (tree_step letters so.now (create_storage q (units_of moment))).0) next);
-    means = makes.means;
-  }
+module _ {F : Type 0} {g : Ghosts F} (letters : Letters) (moment : Timestamp) (tree : Tree) (path : Path) (count top : ℕ) (old : MiniAllocator F g) (so : MeansAsFar letters (units_of moment) tree path count top old) (below : count < length path)
+    (x : List ℕ) (next : take (count + 1) path ≡ path_to (take count path) x) where
+  -- one more can be made
+  pub next_place : IsFreePlace letters (entries_held (directory_of old)) so.now (path_to (take count path) x) top
+  next_place =
+      let front = take count path in
+      let at = part path count below in
+      let same : at.0 ≡ last_of (path_to front x) = sym (last_of_path front at.0) ∙ ap last_of (sym at.2 ∙ next) in
+      let free = ap (object_at letters so.now) (sym next) ∙ here_free letters (units_of moment) tree so.now path count so.far below in
+      let valid = ap is_name (sym same) ∙ here_named letters (units_of moment) tree so.now path count so.far below in
+      let has = so.far.storage in
+      record {
+        free = free;
+        storage = record { leads = subst (λ p. LeadsTo letters (entries_held (directory_of old)) 0 p top) (sym (parent_of_path front x)) so.storage.leads; owner = so.storage.owner };
+        valid = valid;
+        rule = step_made letters so.now (path_to front x) free has.name has.facts has.inside (ap (object_at letters so.now) (parent_of_path front x) ∙ has.at_path) valid;
+      }
 
-  -- the rules don't refuse it
-  pub never_refused : (e : Error) → (tree_step letters so.now (making (Storage moment) p)).1 ≡ refused e → ⊥
-  never_refused e is =
-      let accepted : done ≡ refused e = sym (ap (λ o. o.1) (more_rule letters (units_of moment) tree so.now path count so.far below)) ∙ sym (ap (λ q. (tree_step letters so.now (create_storage q (units_of moment))).1) next) ∙ is in absurd (cc)
+  -- the file means the tree in which it is made
+  pub as_far_more : (new : MiniAllocator F g) (id : ℕ) → MakesChild letters (path_to (take count path) x) (Storage moment) so.now new id → MeansAsFar letters (units_of moment) tree path (count + 1) id new
+  as_far_more new id made = record {
+    now = (tree_step letters so.now (create_storage (path_to (take count path) x) (units_of moment))).0;
+    far = more_made letters (units_of moment) tree so.now path count so.far below (tree_step letters so.now (create_storage (path_to (take count path) x) (units_of moment))).0
+        (ap (λ q. (tree_step letters so.now (create_storage q (units_of moment))).0) (sym next));
+    means = made.makes.means;
+    storage = record {
+      leads = subst (λ q. LeadsTo letters (entries_held (directory_of new)) 0 q id) (sym next) made.leads;
+      owner = record { entry = made.entry; found = made.found; holds = λ kind. let is = made.of_kind in absurd (omega (arith, is, kind)) };
+    };
+  }

@@ -4,6 +4,7 @@ pub mod Carried
 pub mod Changed
 pub mod ChildAdded
 pub mod Descent
+pub mod GoingDown
 pub mod Directories
 pub mod Emptied
 pub mod EmptyStorages

@@ -1,17 +1,20 @@
 -- Storages that are made at a path and at those above it ([MS-CFB] 2.6.2).
-use Rattle.std.specs.Prelude.{◌≡◌, ℕ, List, [], ◌∷◌, drop, take, IsTrue, None}
+use Rattle.std.specs.Prelude.{◌≡◌, ℕ, List, [], ◌∷◌, drop, slice_get, take, IsTrue, None, Some}
 use Rattle.std.specs.List.{AllByRecursion}
 use Rattle.cfb_medium.specs.declared.medium.ReadMedium.{Ghosts}
 use Rattle.cfb_meaning.specs.TreeRules.{done, tree_step, with_storages}
 use Rattle.cfb_mini.specs.declared.mini_allocator.MiniAllocator.{MiniAllocator}
-use Rattle.cfb_siblings.specs.Places.{path_to}
+use Rattle.cfb_directory.specs.Views.{entries_held}
+use Rattle.cfb_mini.specs.Views.{directory_of}
+use Rattle.cfb_siblings.specs.Places.{path_to, IsStorageAt, LeadsTo}
+use Rattle.cfb_tree.specs.Directory.{Entry}
 use Rattle.cfb_tree.specs.Names.{is_name, Letters}
 use Rattle.cfb_tree.specs.Objects.{object_at}
 use Rattle.cfb_tree.specs.Paths.{Path}
 use Rattle.cfb_tree.specs.Tree.{Tree}
 use Rattle.cfb_live.specs.Emptying.{HasStorage}
 use Rattle.cfb_live.specs.Live.{Means}
-use Rattle.cfb_live.specs.Making.{making}
+use Rattle.cfb_live.specs.Making.{kind_made, making}
 use Rattle.cfb_live.specs.declared.making.NewObject.{NewObject}
 
 -- these may all be names
@@ -32,8 +35,17 @@ module _ {F : Type 0} {g : Ghosts F} where
     pub accepted : (tree_step letters tree (making object path)).1 ≡ done
     pub means : Means letters new (tree_step letters tree (making object path)).0
 
-  -- the file means a tree in which the storages are made as far
-  pub record MeansAsFar (letters : Letters) (moment : ℕ) (tree : Tree) (path : Path) (count : ℕ) (new : MiniAllocator F g) : Type 0 where
+  -- so it does, and the path leads to entry `id`, which is of the object's kind
+  pub record MakesChild (letters : Letters) (path : Path) (object : NewObject) (tree : Tree) (new : MiniAllocator F g) (id : ℕ) : Type 0 where
+    pub makes : MakesAt letters path object tree new
+    pub leads : LeadsTo letters (entries_held (directory_of new)) 0 path id
+    pub entry : Entry
+    pub found : slice_get (entries_held (directory_of new)) id ≡ Some entry
+    pub of_kind : entry.kind ≡ kind_made object
+
+  -- the file means a tree in which the storages are made as far, and the last of them is entry `id`
+  pub record MeansAsFar (letters : Letters) (moment : ℕ) (tree : Tree) (path : Path) (count : ℕ) (id : ℕ) (new : MiniAllocator F g) : Type 0 where
     pub now : Tree
     pub far : IsMadeAsFar letters moment tree path count now
     pub means : Means letters new now
+    pub storage : IsStorageAt letters (entries_held (directory_of new)) (take count path) id

@@ -3,21 +3,23 @@ ghost use Rattle.cfb_entries.specs.Rules.{names_in};
 ghost use Rattle.cfb_fat.specs.Calls.{Answers};
 ghost use Rattle.cfb_live.specs.Doing.{Does, IsFault};
 ghost use Rattle.cfb_live.specs.Live.{Means};
-ghost use Rattle.cfb_live.specs.Making.{making, IsRefusedMade};
-ghost use Rattle.cfb_live.specs.Parents.{MakesAt};
+ghost use Rattle.cfb_live.specs.Making.{making, IsFreePlace, IsRefusedMade};
+ghost use Rattle.cfb_live.specs.Parents.{MakesAt, MakesChild};
 ghost use Rattle.cfb_fat.specs.Tables.{has_failed_here};
 ghost use Rattle.cfb_meaning.specs.TreeRules.{refused, tree_step};
 ghost use Rattle.cfb_mini.specs.Changing.{KeepsOwners};
-ghost use Rattle.cfb_siblings.specs.Places.{path_of};
+ghost use Rattle.cfb_siblings.specs.Places.{path_of, path_to};
+ghost use Rattle.cfb_tree.specs.Paths.{Path};
+ghost use Rattle.cfb_directory.specs.Views.{entries_held};
 ghost use Rattle.cfb_tree.specs.Tree.{Tree};
-ghost use Rattle.cfb_mini.specs.Views.{allocator_of};
+ghost use Rattle.cfb_mini.specs.Views.{allocator_of, directory_of};
 ghost use Rattle.cfb_owned.specs.Chains.{GoesOn};
 ghost use Rattle.cfb_medium.specs.Times.{units_of};
 ghost use Rattle.cfb_tree.specs.EntryViews.{kind_of};
 ghost use Rattle.cfb_tree.specs.LetterViews.{letters_of};
 ghost use Rattle.std.specs.Char.{IsScalar};
 ghost use Rattle.std.specs.List.{AllByRecursion};
-ghost use Rattle.std.specs.Prelude.{chars, true, IfErr, OnErr, OnOk, ◌≡◌, ◌⊎◌};
+ghost use Rattle.std.specs.Prelude.{chars, true, IfErr, IfOk, OnErr, OnOk, ◌≡◌, ◌⊎◌};
 
 use crate::finding::find_parent;
 use cfb_medium::{Error, Medium, Timestamp};
@@ -64,9 +66,51 @@ fn spells_scalars(text: &str)
     ensures { AllByRecursion IsScalar (chars text.now) }
 {}
 
-/// Makes an object at a path of names where none is, as `make_object` does. After an error nothing is changed, or the file has
-/// failed.
-pub(crate) fn make_named<F: Medium>(
+/// Makes an object of this name in storage `parent`, where none is of it; answers the number of its entry. After an error nothing is
+/// changed, or the file has failed.
+pub(crate) fn make_child<F: Medium>(
+    mini: &mut MiniAllocator<F>,
+    letters: &CaseMapper,
+    parent: u32,
+    name: &str,
+    object: NewObject,
+) -> Result<u32, Error>
+    ensures made { IfOk result (λ id. (tree : Tree) (path : Path)
+        → Means (letters_of letters.now) mini.old tree
+        → IsFreePlace (letters_of letters.now) (entries_held (directory_of mini.old)) tree
+        (path_to path (chars name.now)) parent
+        → MakesChild (letters_of letters.now) (path_to path (chars name.now)) object tree mini.new
+        id) }
+    ensures refused { IfErr result (λ e. (tree : Tree) (path : Path)
+        → Means (letters_of letters.now) mini.old tree
+        → IsFreePlace (letters_of letters.now) (entries_held (directory_of mini.old)) tree
+        (path_to path (chars name.now)) parent → IsFault e) }
+    ensures rests { OnErr result ((has_failed_here (allocator_of mini.new) ≡ true)
+        ⊎ KeepsOwners mini.old mini.new) }
+    ensures goes_on { GoesOn (allocator_of mini.old) (allocator_of mini.new) }
+    ensures answers { Answers IsRefusedMade result (allocator_of mini.old)
+        (allocator_of mini.new) }
+{
+    if mini.directory().allocator().is_failed() {
+        return Err(Error::Failed);
+    }
+    spells_scalars(name);
+    let id = match mini.insert_dir_entry(
+        letters,
+        parent,
+        name,
+        object.obj_type(),
+        object.moment(),
+    ) {
+        Ok(id) => id,
+        Err(error) => return Err(error),
+    };
+    Ok(id)
+}
+
+// Makes an object at a path of names where none is, as `make_object` does. After an error nothing is changed, or the file has
+// failed.
+fn make_named<F: Medium>(
     mini: &mut MiniAllocator<F>,
     letters: &CaseMapper,
     names: &[&str],
@@ -92,14 +136,7 @@ pub(crate) fn make_named<F: Medium>(
         Err(error) => return Err(error),
     };
     let name = names[names.len() - 1];
-    spells_scalars(name);
-    if let Err(error) = mini.insert_dir_entry(
-        letters,
-        parent,
-        name,
-        object.obj_type(),
-        object.moment(),
-    ) {
+    if let Err(error) = make_child(mini, letters, parent, name, object) {
         return Err(error);
     }
     Ok(())

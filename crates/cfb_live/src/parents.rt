@@ -10,20 +10,20 @@ ghost use Rattle.cfb_medium.specs.Times.{units_of};
 ghost use Rattle.cfb_medium.specs.declared.error.Error.TheVariants.{AlreadyExists, InvalidInput};
 ghost use Rattle.cfb_mini.specs.Views.{allocator_of};
 ghost use Rattle.cfb_owned.specs.Chains.{GoesOn};
-ghost use Rattle.cfb_siblings.specs.Places.{path_of};
+ghost use Rattle.cfb_siblings.specs.Places.{path_of, IsStorageAt};
 ghost use Rattle.cfb_siblings.specs.Reading.{ReadBy};
 ghost use Rattle.cfb_tree.specs.EntryViews.{entry_in};
 ghost use Rattle.cfb_tree.specs.LetterViews.{letters_of};
 ghost use Rattle.cfb_tree.specs.Objects.{HoldsTree};
 ghost use Rattle.cfb_tree.specs.Tree.{Tree};
-ghost use Rattle.std.specs.Prelude.{length, map, true, Bool, IfErr, IfOk, IsTrue, List, OnErr, OnOk, ℕ, ◌≡◌, ◌≤◌, ◌↔◌, ◌⊎◌};
+ghost use Rattle.std.specs.Prelude.{length, map, take, true, Bool, IfErr, IfOk, IsTrue, List, OnErr, OnOk, ℕ, ◌≡◌, ◌≤◌, ◌↔◌, ◌⊎◌};
 
 use crate::facts::is_stream;
-use crate::making::{NewObject, make_named};
+use crate::making::{NewObject, make_child};
 use cfb_medium::{Error, Medium, Timestamp};
 use cfb_mini::MiniAllocator;
 use cfb_sectors::HasSectors;
-use cfb_siblings::find_entry;
+use cfb_siblings::{Place, find_place};
 use cfb_tree::{CaseMapper, DirEntry, name_chain_from_path, validate_name};
 use std::alloc::Global;
 
@@ -39,26 +39,40 @@ fn are_names(names: &[&str]) -> bool
     true
 }
 
-// How many of the names lead to storages that are there, where storages can be made at the others: none is there, and these names
-// are valid. `AlreadyExists` where a stream is in the way, `InvalidInput` where a name is invalid.
-fn first_missing(letters: &CaseMapper, entries: &[DirEntry], names: &[&str]) -> Result<usize, Error>
-    ensures within { IfOk result (λ count. count ≤ length names.now) }
+// How many of the names lead to storages that are there, and the number of the last of these, where storages can be made at the
+// other names: none is there, and these names are valid. `AlreadyExists` where a stream is in the way, `InvalidInput` where a name
+// is invalid.
+fn first_missing(
+    letters: &CaseMapper,
+    entries: &[DirEntry],
+    names: &[&str],
+) -> Result<(usize, u32), Error>
+    ensures within { IfOk result (λ it. it.0 ≤ length names.now) }
     ensures found { (reads : ℕ → ℕ → List ℕ → Bool) (tree : Tree)
         → HoldsTree (letters_of letters.now) (ReadBy reads) (map entry_in entries.now) tree
-        → IfOk result (λ count. (moment : ℕ)
-        → IsMadeAsFar (letters_of letters.now) moment tree (path_of names.now) count tree) }
+        → IfOk result (λ it. (moment : ℕ)
+        → IsMadeAsFar (letters_of letters.now) moment tree (path_of names.now) it.0 tree) }
+    ensures storage { (reads : ℕ → ℕ → List ℕ → Bool) (tree : Tree)
+        → HoldsTree (letters_of letters.now) (ReadBy reads) (map entry_in entries.now) tree
+        → IfOk result (λ it. IsStorageAt (letters_of letters.now) (map entry_in entries.now)
+        (take it.0 (path_of names.now)) it.1) }
     ensures refused { (reads : ℕ → ℕ → List ℕ → Bool) (tree : Tree)
         → HoldsTree (letters_of letters.now) (ReadBy reads) (map entry_in entries.now) tree
         → IfErr result (λ e. (moment : ℕ) → (tree_step (letters_of letters.now) tree
         (create_storage_all (path_of names.now) moment)).1 ≡ refused e) }
     ensures error { IfErr result (λ e. (e ≡ AlreadyExists) ⊎ (e ≡ InvalidInput)) }
 {
+    let mut parent = 0;
     'parts: for count in 0..names.len() {
-        let Some(id) = find_entry(letters, entries, &names[..count + 1]) else {
-            if are_names(&names[count..]) {
-                return Ok(count);
+        let id = match find_place(letters, entries, parent, names[count]) {
+            Some(Place::Taken { link: _, id }) => id,
+            Some(Place::Free { link: _ }) => {
+                if are_names(&names[count..]) {
+                    return Ok((count, parent));
+                }
+                return Err(Error::InvalidInput);
             }
-            return Err(Error::InvalidInput);
+            None => return Err(Error::AlreadyExists),
         };
         let Some(entry) = entries.get(id as usize) else {
             return Err(Error::AlreadyExists);
@@ -66,25 +80,28 @@ fn first_missing(letters: &CaseMapper, entries: &[DirEntry], names: &[&str]) -> 
         if is_stream(entry) {
             return Err(Error::AlreadyExists);
         }
+        parent = id;
     }
-    Ok(names.len())
+    Ok((names.len(), parent))
 }
 
-// Makes storages at the names from this one on, where they are made before it. After an error the file has failed.
+// Makes storages at the names from this one on, where they are made before it, and the last of these is entry `top`. After an
+// error the file has failed.
 fn make_missing<F: Medium>(
     mini: &mut MiniAllocator<F>,
     letters: &CaseMapper,
     names: &[&str],
     first: usize,
+    top: u32,
     moment: Timestamp,
 ) -> Result<(), Error>
     requires { first ≤ length names.now }
     ensures made { OnOk result ((tree : Tree) → MeansAsFar (letters_of letters.now)
-        (units_of moment) tree (path_of names.now) first mini.old
-        → MeansAsFar (letters_of letters.now) (units_of moment) tree (path_of names.now)
-        (length names.now) mini.new) }
+        (units_of moment) tree (path_of names.now) first top mini.old
+        → (last : ℕ) × MeansAsFar (letters_of letters.now) (units_of moment) tree
+        (path_of names.now) (length names.now) last mini.new) }
     ensures refused { IfErr result (λ e. (tree : Tree) → MeansAsFar (letters_of letters.now)
-        (units_of moment) tree (path_of names.now) first mini.old → IsFault e) }
+        (units_of moment) tree (path_of names.now) first top mini.old → IsFault e) }
     ensures failed { OnErr result (has_failed_here (allocator_of mini.new) ≡ true) }
     ensures goes_on { GoesOn (allocator_of mini.old) (allocator_of mini.new) }
     ensures answers { Answers IsRefusedMade result (allocator_of mini.old)
@@ -93,11 +110,15 @@ fn make_missing<F: Medium>(
     if mini.directory().allocator().is_failed() {
         return Err(Error::Failed);
     }
+    let mut parent = top;
     'making: for count in first..names.len() {
         let object = NewObject::Storage(moment);
-        if let Err(error) = make_named(mini, letters, &names[..count + 1], object) {
-            mini.fail();
-            return Err(error);
+        match make_child(mini, letters, parent, names[count], object) {
+            Ok(id) => parent = id,
+            Err(error) => {
+                mini.fail();
+                return Err(error);
+            }
         }
     }
     Ok(())
@@ -128,18 +149,19 @@ pub fn create_storage_all<F: Medium>(
         Ok(names) => names,
         Err(error) => return Err(error),
     };
-    let count = match first_missing(letters, mini.directory().dir_entries(), &names) {
-        Ok(count) => count,
+    let (count, parent) = match first_missing(letters, mini.directory().dir_entries(), &names) {
+        Ok(found) => found,
         Err(error) => return Err(error),
     };
     if count >= names.len() {
         return Ok(());
     }
     let object = NewObject::Storage(moment);
-    if let Err(error) = make_named(mini, letters, &names[..count + 1], object) {
-        return Err(error);
-    }
-    if let Err(error) = make_missing(mini, letters, &names, count + 1, moment) {
+    let top = match make_child(mini, letters, parent, names[count], object) {
+        Ok(top) => top,
+        Err(error) => return Err(error),
+    };
+    if let Err(error) = make_missing(mini, letters, &names, count + 1, top, moment) {
         return Err(error);
     }
     Ok(())

@@ -1,10 +1,11 @@
-use Rattle.std.proofs.Common.{◌≡◌, ◌+◌, ◌<◌, arith, inl, inr, length, take, ap, sym, subst, ◌∙◌, ⊎_elim, rules}
+use Rattle.std.proofs.Common.{◌≡◌, ◌+◌, ◌<◌, arith, inl, inr, chars, get_or, length, take, ap, sym, subst, ◌∙◌, rules, ℕ, List}
+use Rattle.std.specs.Borrow.{Bor}
 use Rattle.std.specs.Prelude.{Some}
 use Rattle.cfb_entries.specs.Rules.{answer_at}
 use Rattle.cfb_entries.proofs.Found.{names_are}
 use Rattle.cfb_meaning.specs.TreeRules.{create_storage_all}
 use Rattle.cfb_medium.specs.Times.{units_of}
-use Rattle.cfb_siblings.specs.Places.{path_of}
+use Rattle.cfb_siblings.specs.Places.{path_of, path_to, IsStorageAt}
 use Rattle.cfb_siblings.specs.Reading.{ReadBy}
 use Rattle.cfb_tree.specs.LetterViews.{letters_of}
 use Rattle.cfb_tree.specs.Objects.{HoldsTree}
@@ -14,8 +15,8 @@ use Rattle.cfb_mini.specs.Views.{allocator_of, directory_of}
 use Rattle.cfb_owned.proofs.GoingOn.{goes_cause, goes_then}
 use Rattle.cfb_live.specs.Live.{live_of, Means}
 use Rattle.cfb_live.specs.Parents.{MeansAsFar}
-use Rattle.cfb_live.proofs.AllMade.{all_made, as_far_more, never_refused, take_end}
-use Rattle.cfb_live.proofs.NewPlaces.{front_is, length-path}
+use Rattle.cfb_live.proofs.AllMade.{all_made, as_far_more, name_more, next_place, take_end}
+use Rattle.cfb_live.proofs.NewPlaces.{length-path}
 use Rattle.cfb_live.proofs.Resting.{keeps_refl}
 use Rattle.cfb_live.proofs.SetFacts.{means_held}
 use Rattle.cfb_live.proofs.Streams.{reads}
@@ -50,7 +51,8 @@ returns-then-count-len-clause-does g c = record {
       let same : entries_in c.dir_entries.result.now ≡ entries_held (directory_of it) = c.dir_entries.ensures ∙ ap entries_held c.directory-2.ensures in
       let held = subst (λ es. HoldsTree l (ReadBy Reads) es tree) (sym same) (means_held l it tree m) in
       let at_path = names_are c.args.path.now c.in-Ok.names.items c.in-Ok.ensures.names ∙ ap (λ ns. Some (path_of ns)) (sym c.deref.ensures.value) in
-      let count = c.in-Ok-first_missing.count in
+      let count = c.in-Ok-first_missing.found.0 in
+      let parent = c.in-Ok-first_missing.found.1 in
       let far = c.in-Ok-first_missing.ensures.found Reads tree held moment in
       let size : length names ≡ c.len.result = let whole = c.deref.ensures.len in let vec = c.len.ensures in omega (arith, whole, vec) in
       let all : count ≡ length path = let within = c.in-Ok-first_missing.ensures.within in let past = c.if-count-len.true in let names_size = length-path names in omega (arith, within, past, size, names_size) in
@@ -65,8 +67,8 @@ returns-then-count-len-clause-does g c = record {
   rests = tt;
 }
 
-pub returns-in-Err-make_named-clause-does : goal.returns-in-Err-make_named-clause-does
-returns-in-Err-make_named-clause-does g c = record {
+pub returns-in-Err-make_child-clause-does : goal.returns-in-Err-make_child-clause-does
+returns-in-Err-make_child-clause-does g c = record {
   done = tt;
   refused = λ tree m.
       let it = c.args.mini.now in
@@ -78,15 +80,20 @@ returns-in-Err-make_named-clause-does g c = record {
       let same : entries_in c.dir_entries.result.now ≡ entries_held (directory_of it) = c.dir_entries.ensures ∙ ap entries_held c.directory-2.ensures in
       let held = subst (λ es. HoldsTree l (ReadBy Reads) es tree) (sym same) (means_held l it tree m) in
       let at_path = names_are c.args.path.now c.in-Ok.names.items c.in-Ok.ensures.names ∙ ap (λ ns. Some (path_of ns)) (sym c.deref.ensures.value) in
-      let count = c.in-Ok-first_missing.count in
+      let count = c.in-Ok-first_missing.found.0 in
+      let parent = c.in-Ok-first_missing.found.1 in
       let far = c.in-Ok-first_missing.ensures.found Reads tree held moment in
       let size : length names ≡ c.len.result = let whole = c.deref.ensures.len in let vec = c.len.ensures in omega (arith, whole, vec) in
-      let below : count < length path = subst (λ n. count < n) (sym (length-path names)) (let short = c.if-count-len.false in omega (arith, short, size)) in
-      let so : MeansAsFar l moment tree path count it = record { now = tree; far = far; means = m } in
-      let second = c.deref-2.ensures.value ∙ sym c.deref.ensures.value in
-      let next = ap (λ ns. path_of (take (count + 1) ns)) second ∙ front_is (count + 1) names in
-      ⊎_elim (λ fault. inl fault) (λ rule. absurd (never_refused l c.args.moment tree path count it so below _ next c.in-Err-make_named.error rule)) (c.in-Err-make_named.ensures.refused tree m);
-  rests = c.in-Err-make_named.ensures.rests;
+      let short : count < length names = let less = c.if-count-len.false in omega (arith, less, size) in
+      let below : count < length path = subst (λ n. count < n) (sym (length-path names)) short in
+      let storage = subst (λ es. IsStorageAt l es (take count path) parent) same (c.in-Ok-first_missing.ensures.storage Reads tree held) in
+      let so : MeansAsFar l moment tree path count parent it = record { now = tree; far = far; means = m; storage = storage } in
+      let name = c.index.result.now in
+      let name_is : name ≡ get_or names count name = c.index.ensures ∙ ap (λ ns. get_or ns count name) (sym c.deref.ensures.value) in
+      let next = name_more names count name short ∙ ap (λ (x : Bor (List ℕ)). path_to (take count path) (chars x.now)) (sym name_is) in
+      let place = next_place l c.args.moment tree path count parent it so below _ next in
+      inl (c.in-Err-make_child.ensures.refused tree (take count path) m place);
+  rests = c.in-Err-make_child.ensures.rests;
 }
 
 pub returns-in-Err-make_missing-clause-does : goal.returns-in-Err-make_missing-clause-does
@@ -102,17 +109,23 @@ returns-in-Err-make_missing-clause-does g c = record {
       let same : entries_in c.dir_entries.result.now ≡ entries_held (directory_of it) = c.dir_entries.ensures ∙ ap entries_held c.directory-2.ensures in
       let held = subst (λ es. HoldsTree l (ReadBy Reads) es tree) (sym same) (means_held l it tree m) in
       let at_path = names_are c.args.path.now c.in-Ok.names.items c.in-Ok.ensures.names ∙ ap (λ ns. Some (path_of ns)) (sym c.deref.ensures.value) in
-      let count = c.in-Ok-first_missing.count in
+      let count = c.in-Ok-first_missing.found.0 in
+      let parent = c.in-Ok-first_missing.found.1 in
       let far = c.in-Ok-first_missing.ensures.found Reads tree held moment in
       let size : length names ≡ c.len.result = let whole = c.deref.ensures.len in let vec = c.len.ensures in omega (arith, whole, vec) in
-      let below : count < length path = subst (λ n. count < n) (sym (length-path names)) (let short = c.if-count-len.false in omega (arith, short, size)) in
-      let so : MeansAsFar l moment tree path count it = record { now = tree; far = far; means = m } in
-      let second = c.deref-2.ensures.value ∙ sym c.deref.ensures.value in
-      let next = ap (λ ns. path_of (take (count + 1) ns)) second ∙ front_is (count + 1) names in
-      let mid = c.make_named.new.mini in
-      let one = as_far_more l c.args.moment tree path count it so below _ next mid (c.in_default.ensures.made tree m) in
-      let third = c.deref-3.ensures.value ∙ sym c.deref.ensures.value in
-      let start = subst (λ ns. MeansAsFar l moment tree (path_of ns) (count + 1) mid) (sym third) one in
+      let short : count < length names = let less = c.if-count-len.false in omega (arith, less, size) in
+      let below : count < length path = subst (λ n. count < n) (sym (length-path names)) short in
+      let storage = subst (λ es. IsStorageAt l es (take count path) parent) same (c.in-Ok-first_missing.ensures.storage Reads tree held) in
+      let so : MeansAsFar l moment tree path count parent it = record { now = tree; far = far; means = m; storage = storage } in
+      let name = c.index.result.now in
+      let name_is : name ≡ get_or names count name = c.index.ensures ∙ ap (λ ns. get_or ns count name) (sym c.deref.ensures.value) in
+      let next = name_more names count name short ∙ ap (λ (x : Bor (List ℕ)). path_to (take count path) (chars x.now)) (sym name_is) in
+      let place = next_place l c.args.moment tree path count parent it so below _ next in
+      let mid = c.make_child.new.mini in
+      let top = c.in-Ok-make_child.top in
+      let one = as_far_more l c.args.moment tree path count parent it so below _ next mid top (c.in-Ok-make_child.ensures.made tree (take count path) m place) in
+      let again = c.deref-2.ensures.value ∙ sym c.deref.ensures.value in
+      let start = subst (λ ns. MeansAsFar l moment tree (path_of ns) (count + 1) top mid) (sym again) one in
       inl (c.in-Err-make_missing.ensures.refused tree start);
   rests = inl c.in-Err-make_missing.ensures.failed;
 }
@@ -120,19 +133,19 @@ returns-in-Err-make_missing-clause-does g c = record {
 pub returns-in-Err-make_missing-clause-answers : goal.returns-in-Err-make_missing-clause-answers
 returns-in-Err-make_missing-clause-answers g c =
     let a = allocator_of c.args.mini.now in
-    let m = allocator_of c.make_named.new.mini in
+    let m = allocator_of c.make_child.new.mini in
     let b = allocator_of c.make_missing.new.mini in
     let told = c.in-Err-make_missing.ensures.answers in
     record {
       live = tt;
       failed = search rules;
       after = inl c.in-Err-make_missing.ensures.failed;
-      cause = goes_cause a m b c.in-Err-make_missing.error c.make_named.ensures.goes_on c.in_default.ensures.answers.live.1 told.cause;
+      cause = goes_cause a m b c.in-Err-make_missing.error c.make_child.ensures.goes_on c.in-Ok-make_child.ensures.answers.live.1 told.cause;
       fault = told.fault;
     }
 
 pub returns-clause-goes_on : goal.returns-clause-goes_on
-returns-clause-goes_on g c = goes_then _ _ _ c.make_named.ensures.goes_on c.make_missing.ensures.goes_on
+returns-clause-goes_on g c = goes_then _ _ _ c.make_child.ensures.goes_on c.make_missing.ensures.goes_on
 
 pub returns-clause-does : goal.returns-clause-does
 returns-clause-does g c = record {
@@ -146,19 +159,26 @@ returns-clause-does g c = record {
       let same : entries_in c.dir_entries.result.now ≡ entries_held (directory_of it) = c.dir_entries.ensures ∙ ap entries_held c.directory-2.ensures in
       let held = subst (λ es. HoldsTree l (ReadBy Reads) es tree) (sym same) (means_held l it tree m) in
       let at_path = names_are c.args.path.now c.in-Ok.names.items c.in-Ok.ensures.names ∙ ap (λ ns. Some (path_of ns)) (sym c.deref.ensures.value) in
-      let count = c.in-Ok-first_missing.count in
+      let count = c.in-Ok-first_missing.found.0 in
+      let parent = c.in-Ok-first_missing.found.1 in
       let far = c.in-Ok-first_missing.ensures.found Reads tree held moment in
       let size : length names ≡ c.len.result = let whole = c.deref.ensures.len in let vec = c.len.ensures in omega (arith, whole, vec) in
-      let below : count < length path = subst (λ n. count < n) (sym (length-path names)) (let short = c.if-count-len.false in omega (arith, short, size)) in
-      let so : MeansAsFar l moment tree path count it = record { now = tree; far = far; means = m } in
-      let second = c.deref-2.ensures.value ∙ sym c.deref.ensures.value in
-      let next = ap (λ ns. path_of (take (count + 1) ns)) second ∙ front_is (count + 1) names in
-      let mid = c.make_named.new.mini in
-      let one = as_far_more l c.args.moment tree path count it so below _ next mid (c.in_default.ensures.made tree m) in
-      let third = c.deref-3.ensures.value ∙ sym c.deref.ensures.value in
-      let start = subst (λ ns. MeansAsFar l moment tree (path_of ns) (count + 1) mid) (sym third) one in
+      let short : count < length names = let less = c.if-count-len.false in omega (arith, less, size) in
+      let below : count < length path = subst (λ n. count < n) (sym (length-path names)) short in
+      let storage = subst (λ es. IsStorageAt l es (take count path) parent) same (c.in-Ok-first_missing.ensures.storage Reads tree held) in
+      let so : MeansAsFar l moment tree path count parent it = record { now = tree; far = far; means = m; storage = storage } in
+      let name = c.index.result.now in
+      let name_is : name ≡ get_or names count name = c.index.ensures ∙ ap (λ ns. get_or ns count name) (sym c.deref.ensures.value) in
+      let next = name_more names count name short ∙ ap (λ (x : Bor (List ℕ)). path_to (take count path) (chars x.now)) (sym name_is) in
+      let place = next_place l c.args.moment tree path count parent it so below _ next in
+      let mid = c.make_child.new.mini in
+      let top = c.in-Ok-make_child.top in
+      let one = as_far_more l c.args.moment tree path count parent it so below _ next mid top (c.in-Ok-make_child.ensures.made tree (take count path) m place) in
+      let again = c.deref-2.ensures.value ∙ sym c.deref.ensures.value in
+      let start = subst (λ ns. MeansAsFar l moment tree (path_of ns) (count + 1) top mid) (sym again) one in
       let new = c.make_missing.new.mini in
-      let all = subst (λ ns. MeansAsFar l moment tree (path_of ns) (length ns) new) third (c.in_default-make_missing.ensures.made tree start) in
+      let made = c.in_default.ensures.made tree start in
+      let all = subst (λ ns. MeansAsFar l moment tree (path_of ns) (length ns) made.0 new) again made.1 in
       let rule = all_made l moment tree all.now path (length names) all.far (ap (λ n. take n path) (sym (length-path names)) ∙ take_end path) in
       record {
         names = path;

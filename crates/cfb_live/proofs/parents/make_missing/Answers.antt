@@ -1,4 +1,5 @@
-use Rattle.std.proofs.Common.{◌≡◌, ◌+◌, ◌<◌, arith, inl, length, sym, subst, ⊎_elim, rules}
+use Rattle.std.proofs.Common.{◌≡◌, ℕ, List, [], arith, inl, length, subst, rules}
+use Rattle.std.specs.Borrow.{Bor}
 use Rattle.cfb_fat.specs.Keeping.{fails_cause}
 use Rattle.cfb_medium.specs.Times.{units_of}
 use Rattle.cfb_mini.specs.Views.{allocator_of}
@@ -6,24 +7,26 @@ use Rattle.cfb_owned.proofs.GoingOn.{goes_cause, goes_then}
 use Rattle.cfb_siblings.specs.Places.{path_of}
 use Rattle.cfb_tree.specs.LetterViews.{letters_of}
 use Rattle.cfb_live.specs.Parents.{MeansAsFar}
-use Rattle.cfb_live.proofs.AllMade.{as_far_more, never_refused}
-use Rattle.cfb_live.proofs.NewPlaces.{front_is, length-path}
+use Rattle.cfb_live.proofs.AllMade.{as_far_more, name_more, next_place, within_path}
 use Rattle.cfb_live.proofs.parents.make_missing.Goals as goal
+
+abbrev no_name : Bor (List ℕ)
+no_name = record { ref_ptr = (0, 0); now = [] }
 
 pub returns-in-Err-clause-refused : goal.returns-in-Err-clause-refused
 returns-in-Err-clause-refused g c = λ tree start.
     let names = c.args.names.now in
+    let i = c.making.count in
     let so = c.making.invariant.made tree start in
-    let below : c.making.count < length (path_of names) = subst (λ n. c.making.count < n) (sym (length-path names)) c.making-test.true in
-    ⊎_elim (λ fault. fault)
-    (λ rule. absurd (never_refused (letters_of c.args.letters.now) c.args.moment tree (path_of names) c.making.count c.making.mini so below _ (front_is (c.making.count + 1) names) c.in-Err.error rule))
-    (c.in-Err.ensures.refused so.now so.means)
+    let below = within_path names i no_name c.making-test.true in
+    c.in-Err.ensures.refused so.now _ so.means
+    (next_place (letters_of c.args.letters.now) c.args.moment tree (path_of names) i c.making.parent c.making.mini so below _ (name_more names i no_name c.making-test.true))
 
 pub returns-in-Err-clause-answers : goal.returns-in-Err-clause-answers
 returns-in-Err-clause-answers g c =
     let a = allocator_of c.args.mini.now in
     let m = allocator_of c.making.mini in
-    let b = allocator_of c.make_named.new.mini in
+    let b = allocator_of c.make_child.new.mini in
     let told = c.in-Err.ensures.answers in
     record {
       live = tt;
@@ -35,17 +38,22 @@ returns-in-Err-clause-answers g c =
 
 pub making-preserved : goal.making-preserved
 making-preserved g c = record {
-  goes = goes_then _ _ _ c.making.invariant.goes c.make_named.ensures.goes_on;
-  live = c.in_default.ensures.answers.live.1;
+  goes = goes_then _ _ _ c.making.invariant.goes c.make_child.ensures.goes_on;
+  live = c.in-Ok.ensures.answers.live.1;
   made = λ tree start.
+      let l = letters_of c.args.letters.now in
       let names = c.args.names.now in
+      let path = path_of names in
+      let i = c.making.count in
       let so = c.making.invariant.made tree start in
-      let below : c.making.count < length (path_of names) = subst (λ n. c.making.count < n) (sym (length-path names)) c.making-test.true in
-      as_far_more (letters_of c.args.letters.now) c.args.moment tree (path_of names) c.making.count c.making.mini so below _ (front_is (c.making.count + 1) names) c.make_named.new.mini (c.in_default.ensures.made so.now so.means);
+      let below = within_path names i no_name c.making-test.true in
+      let next = name_more names i no_name c.making-test.true in
+      let place = next_place l c.args.moment tree path i c.making.parent c.making.mini so below _ next in
+      as_far_more l c.args.moment tree path i c.making.parent c.making.mini so below _ next c.make_child.new.mini c.in-Ok.id (c.in-Ok.ensures.made so.now _ so.means place);
 }
 
 pub returns-clause-made : goal.returns-clause-made
 returns-clause-made g c = λ tree start.
     let names = c.args.names.now in
     let last : c.making.count ≡ length names = let past = c.making-test.false in let within = c.making.auto.count-end in let room = c.requires in omega (arith, past, within, room) in
-    subst (λ n. MeansAsFar (letters_of c.args.letters.now) (units_of c.args.moment) tree (path_of names) n c.making.mini) last (c.making.invariant.made tree start)
+    (c.making.parent, subst (λ n. MeansAsFar (letters_of c.args.letters.now) (units_of c.args.moment) tree (path_of names) n c.making.parent c.making.mini) last (c.making.invariant.made tree start))

@@ -13,6 +13,6 @@ abbrev pub invariant-making : goal.invariant-making
 invariant-making g l = record {
   goes : GoesOn (allocator_of l.initial.mini) (allocator_of l.mini);
   live : has_failed_here (allocator_of l.mini) ≡ false;
-  made : (tree : Tree) → MeansAsFar (letters_of l.letters) (units_of l.moment) tree (path_of l.names) l.fn.first l.initial.mini
-      → MeansAsFar (letters_of l.letters) (units_of l.moment) tree (path_of l.names) l.count l.mini;
+  made : (tree : Tree) → MeansAsFar (letters_of l.letters) (units_of l.moment) tree (path_of l.names) l.fn.first l.fn.top l.initial.mini
+      → MeansAsFar (letters_of l.letters) (units_of l.moment) tree (path_of l.names) l.count l.parent l.mini;
 }
