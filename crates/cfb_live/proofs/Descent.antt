@@ -1,5 +1,5 @@
 -- The way down by links to children, to an object that holds nothing.
-use Rattle.std.proofs.Common.{◌≡◌, ◌≢◌, ℕ, ◌+◌, ◌<◌, ◌≤◌, ◌||◌, Bool, true, false, List, [], ◌∷◌, ◌++◌, append_assoc, append-nil, length, length-append, refl, ap, sym, subst, ◌∙◌, arith}
+use Rattle.std.proofs.Common.{◌≡◌, ◌≢◌, ℕ, ◌+◌, ◌<◌, ◌≤◌, ◌||◌, Bool, true, false, List, [], ◌∷◌, ◌++◌, length, length-append, refl, ap, sym, subst, ◌∙◌, arith}
 use Rattle.std.specs.Prelude.{nat_eq, slice_get, None, Some}
 use Rattle.std.specs.List.{list_any, AllByRecursion}
 use Rattle.std.specs.Ordering.{ordering_reverse}
@@ -7,7 +7,7 @@ use Rattle.std.specs.declared.cmp.Ordering.{Ordering}
 use Rattle.std.specs.declared.cmp.Ordering.TheVariants.{Equal, Greater, Less}
 use Rattle.std.proofs.lemmas.Map.Steps.{length-le_from_distinct_below}
 use Rattle.std.proofs.lemmas.Option.{slice_get_within}
-use Rattle.cfb_siblings.specs.Places.{first, path_to, IsChild, IsEntryAt, IsNamed, IsStorageAt, LeadsTo}
+use Rattle.cfb_siblings.specs.Places.{first, path_to, IsChild, IsNamed, IsStorageAt, LeadsTo}
 use Rattle.cfb_siblings.specs.Reading.{ReadBy}
 use Rattle.cfb_siblings.specs.declared.links.Link.TheVariants.{Child}
 use Rattle.cfb_siblings.proofs.Leading.{leads_on}
@@ -22,8 +22,7 @@ use Rattle.cfb_tree.specs.Tree.{nothing, storage, stream, Content, Tree}
 use Rattle.cfb_tree.proofs.NameOrder.{name_cmp_total}
 use Rattle.cfb_tree.proofs.NamesRead.{all_append}
 use Rattle.cfb_tree.proofs.OneContent.{Some_same}
-use Rattle.cfb_live.specs.Emptying.{HasEmptyStorage, HasStorage, IsLeafBelow}
-use Rattle.cfb_live.proofs.FactRules.{object_kind, MatchObject}
+use Rattle.cfb_live.specs.Emptying.{HasEmptyStorage, IsLeafAt}
 
 pub equal_self : (o : Ordering) → o ≡ ordering_reverse o → o ≡ Equal
 equal_self Less is = absurd (cc)
@@ -55,23 +54,22 @@ module _ (directory : List Entry) (Reads : Entry → List ℕ → Type 0) where
       (λ q m. member_below q (length directory) (0 ∷ h.ids) (slice_get_within directory 0 h.root h.root_found, all_within tree.content h.children h.ids h.holds) m) in
       omega (arith, fits)
 
-module _ (directory : List Entry) (Reads : Entry → List ℕ → Type 0) (letters : Letters) (path : Path) where
-  -- the way down from the storage at the path came by so many steps over the link of storage `parent` to entry `at`; below it are no
-  -- more objects than there are steps left
-  pub record Down (parent at steps : ℕ) : Type 0 where
-    pub more : Path
-    pub storage : IsStorageAt letters directory (path ++ more) parent
-    pub child_is : storage.owner.entry.child ≡ at
-    pub here : at ≡ no_entry → ⊥
-    pub children : List ℕ
-    pub inside : Content
-    pub within : List ℕ
-    pub siblings : Siblings directory at children
-    pub holds : Holds directory Reads children inside within
-    pub bound : steps + length within ≤ length directory
+-- the way down came over so many links to children, of which that of storage `parent`, to which the path leads, is the last, to
+-- entry `at`; below it are no more objects than there are steps left
+pub record Down (directory : List Entry) (Reads : Entry → List ℕ → Type 0) (letters : Letters) (path : Path) (parent at steps : ℕ) : Type 0 where
+  pub storage : IsStorageAt letters directory path parent
+  pub child_is : storage.owner.entry.child ≡ at
+  pub here : at ≡ no_entry → ⊥
+  pub children : List ℕ
+  pub inside : Content
+  pub within : List ℕ
+  pub siblings : Siblings directory at children
+  pub holds : Holds directory Reads children inside within
+  pub bound : steps + length within ≤ length directory
 
+module _ (directory : List Entry) (Reads : Entry → List ℕ → Type 0) (letters : Letters) (path : Path) where
   pub begun : (tree : Tree) (h : HoldsTree letters Reads directory tree) (top : ℕ) (s : IsStorageAt letters directory path top) (e : Entry) (child : ℕ)
-      → slice_get directory top ≡ Some e → e.child ≡ child → child ≢ no_entry → Down top child 0
+      → slice_get directory top ≡ Some e → e.child ≡ child → child ≢ no_entry → Down directory Reads letters path top child 0
   begun tree h top s e child found child_is here =
       let st = storing directory Reads Reads letters tree h path top s in
       let same : st.entry ≡ e = Some_same (sym st.found ∙ found) in
@@ -79,8 +77,7 @@ module _ (directory : List Entry) (Reads : Entry → List ℕ → Type 0) (lette
       let fits = tree_fits directory Reads letters tree h in
       let parts = ap length st.all_is in
       record {
-        more = [];
-        storage = record { leads = subst (λ p. LeadsTo letters directory 0 p top) (sym (append-nil path)) s.leads; owner = s.owner };
+        storage = s;
         child_is = ap (λ (x : Entry). x.child) own ∙ child_is;
         here = here;
         children = st.children;
@@ -91,7 +88,7 @@ module _ (directory : List Entry) (Reads : Entry → List ℕ → Type 0) (lette
         bound = omega (arith, fits, parts, length-append st.sooner (top ∷ (st.within ++ st.further)), length-append st.within st.further);
       }
 
-  module _ (parent at steps : ℕ) (d : Down parent at steps) where
+  module _ (parent at steps : ℕ) (d : Down directory Reads letters path parent at steps) where
     pub there : slice_get directory at ≡ None → ⊥
     there lost = by_siblings d.siblings
       where
@@ -112,7 +109,7 @@ module _ (directory : List Entry) (Reads : Entry → List ℕ → Type 0) (lette
         compared = equal_self (name_cmp letters (name_of mid.object) (name_of mid.object)) ((name_cmp_total letters).antisymm (name_of mid.object) (name_of mid.object));
       }
 
-      child : IsChild letters directory parent (name_of mid.object) at
+      pub child : IsChild letters directory parent (name_of mid.object) at
       child = record {
         owner = d.storage.owner;
         front = mid.front;
@@ -121,34 +118,35 @@ module _ (directory : List Entry) (Reads : Entry → List ℕ → Type 0) (lette
         named = named;
       }
 
-      leads : LeadsTo letters directory 0 (path_to (path ++ d.more) (name_of mid.object)) at
-      leads = leads_on letters directory (path ++ d.more) 0 parent (name_of mid.object) at d.storage.leads child
+      leads : LeadsTo letters directory 0 (path_to path (name_of mid.object)) at
+      leads = leads_on letters directory path 0 parent (name_of mid.object) at d.storage.leads child
 
       -- what holds nothing
-      pub leaf : ((e.kind ≡ kind_stream → ⊥) → e.child ≡ no_entry) → IsLeafBelow letters directory path (Child parent) at
+      pub leaf : ((e.kind ≡ kind_stream → ⊥) → e.child ≡ no_entry) → IsLeafAt letters directory path (name_of mid.object) (Child parent) at
       leaf empty = record {
-        more = d.more;
-        name = name_of mid.object;
-        leaf = record {
-          parent = parent;
-          storage = d.storage;
-          taken = record { owner = d.storage.owner; front = []; back = []; hangs = first refl (sym d.child_is) refl refl; fits = mid.fits; named = named };
-          leads = leads;
-          empty = λ f f_found never.
-              let same : e ≡ f = Some_same (sym found ∙ f_found) in
-              ap (λ (x : Entry). x.child) (sym same) ∙ empty (λ kind. never (ap (λ (x : Entry). x.kind) (sym same) ∙ kind));
-        };
+        parent = parent;
+        storage = d.storage;
+        taken = record { owner = d.storage.owner; front = []; back = []; hangs = first refl (sym d.child_is) refl refl; fits = mid.fits; named = named };
+        leads = leads;
+        empty = λ f f_found never.
+            let same : e ≡ f = Some_same (sym found ∙ f_found) in
+            ap (λ (x : Entry). x.child) (sym same) ∙ empty (λ kind. never (ap (λ (x : Entry). x.kind) (sym same) ∙ kind));
       }
 
+      -- it isn't the storage to whose link it hangs
+      pub apart : ((e.kind ≡ kind_stream → ⊥) → e.child ≡ no_entry) → parent ≡ at → ⊥
+      apart empty is =
+          let same : d.storage.owner.entry ≡ e = Some_same (sym d.storage.owner.found ∙ ap (slice_get directory) is ∙ found) in
+          d.here (sym d.child_is ∙ ap (λ (x : Entry). x.child) same ∙ empty (λ kind. d.storage.owner.holds (ap (λ (x : Entry). x.kind) same ∙ kind)))
+
       -- one step down
-      pub deeper : (e.kind ≡ kind_stream → ⊥) → (e.child ≡ no_entry → ⊥) → Down at e.child (steps + 1)
+      pub deeper : (e.kind ≡ kind_stream → ⊥) → (e.child ≡ no_entry → ⊥) → Down directory Reads letters (path_to path (name_of mid.object)) at e.child (steps + 1)
       deeper never further =
           let so = as_storage directory Reads at e mid.object mid.own mid.is_object found never in
           let size = ap length mid.all_is in
           let bound = d.bound in
           record {
-            more = d.more ++ name_of mid.object ∷ [];
-            storage = record { leads = subst (λ p. LeadsTo letters directory 0 p at) (append_assoc path d.more (name_of mid.object ∷ [])) leads; owner = record { entry = e; found = found; holds = never } };
+            storage = record { leads = leads; owner = record { entry = e; found = found; holds = never } };
             child_is = refl;
             here = further;
             children = so.children;
@@ -171,22 +169,12 @@ module _ (directory : List Entry) (Reads : Entry → List ℕ → Type 0) (lette
             let bound = d.bound in
             omega (arith, past, bound, size, length-append m.earlier_all (at ∷ (m.own ++ m.later_all)))
 
-module _ (directory : List Entry) (reads : ℕ → ℕ → List ℕ → Bool) (letters : Letters) (tree : Tree) (h : HoldsTree letters (ReadBy reads) directory tree) (path : Path) (has : HasStorage letters tree path) (id : ℕ)
-    (at : IsEntryAt (ReadBy reads) letters directory tree path id) (e : Entry) (found : slice_get directory id ≡ Some e) where
-  -- the entry to which the path of a storage leads
-  pub storage_at : IsStorageAt letters directory path id
-  storage_at =
-      let is : at.object ≡ a_storage has.name has.facts has.inside = Some_same (sym at.at_path ∙ has.at_path) in
-      record {
-        leads = at.leads;
-        owner = record { entry = e; found = found; holds = subst (λ o. MatchObject o (e.kind ≡ kind_stream) (e.kind ≡ kind_stream → ⊥)) is (object_kind reads letters directory tree h id e found path at) };
-      }
-
-  -- without a child it holds nothing
-  pub storage_empty : e.child ≡ no_entry → HasEmptyStorage letters tree path
-  storage_empty child =
-      let st = storing directory (ReadBy reads) (ReadBy reads) letters tree h path id storage_at in
-      let same : st.entry ≡ e = Some_same (sym st.found ∙ found) in
-      let none : st.children ≡ [] = no_siblings directory (ReadBy reads) st.entry.child st.children (ap (λ (x : Entry). x.child) same ∙ child) st.siblings in
-      let held = nothing_held directory (ReadBy reads) st.inside st.within (subst (λ ids. Holds directory (ReadBy reads) ids st.inside st.within) none st.holds) in
-      record { name = st.name; facts = st.facts; at_path = st.at_path ∙ ap (λ c. Some (a_storage st.name st.facts c)) held.0 }
+-- a storage without a child holds nothing
+pub storage_empty : (directory : List Entry) (reads : ℕ → ℕ → List ℕ → Bool) (letters : Letters) (tree : Tree) → HoldsTree letters (ReadBy reads) directory tree → (path : Path) (id : ℕ) → IsStorageAt letters directory path id → (e : Entry)
+    → slice_get directory id ≡ Some e → e.child ≡ no_entry → HasEmptyStorage letters tree path
+storage_empty directory reads letters tree h path id s e found child =
+    let st = storing directory (ReadBy reads) (ReadBy reads) letters tree h path id s in
+    let same : st.entry ≡ e = Some_same (sym st.found ∙ found) in
+    let none : st.children ≡ [] = no_siblings directory (ReadBy reads) st.entry.child st.children (ap (λ (x : Entry). x.child) same ∙ child) st.siblings in
+    let held = nothing_held directory (ReadBy reads) st.inside st.within (subst (λ ids. Holds directory (ReadBy reads) ids st.inside st.within) none st.holds) in
+    record { name = st.name; facts = st.facts; at_path = st.at_path ∙ ap (λ c. Some (a_storage st.name st.facts c)) held.0 }

@@ -1,6 +1,6 @@
 -- A storage that loses what it holds, one object after the other.
-use Rattle.std.proofs.Common.{◌≡◌, ℕ, ◌+◌, ◌<◌, Bool, true, false, List, [], ◌∷◌, ◌++◌, inl, inr, length, map, length-append, refl, ap, sym, subst, ◌∙◌, arith}
-use Rattle.std.specs.Prelude.{codes, MatchBool, None, Some}
+use Rattle.std.proofs.Common.{◌≡◌, ℕ, ◌+◌, ◌<◌, Bool, List, [], ◌∷◌, ◌++◌, inl, inr, length, map, length-append, refl, ap, sym, subst, ◌∙◌, arith}
+use Rattle.std.specs.Prelude.{codes, None, Some}
 use Rattle.std.proofs.lemmas.List.{length-map}
 use Rattle.cfb_meaning.specs.TreeRules.{done, refused, remove_storage_all, tree_step}
 use Rattle.cfb_medium.specs.declared.error.Error.{Error}
@@ -22,7 +22,7 @@ use Rattle.cfb_tree.specs.Paths.{Path}
 use Rattle.cfb_tree.specs.Tree.{nothing, storage, stream, Content, Facts, Tree}
 use Rattle.cfb_tree.specs.declared.entry.DirEntry.{DirEntry}
 use Rattle.cfb_tree.proofs.OneContent.{Some_same}
-use Rattle.cfb_live.specs.Emptying.{Empties, HasEmptyStorage, HasStorage, IsLeafAt, IsLeafBelow, TakesBelow}
+use Rattle.cfb_live.specs.Emptying.{Empties, HasEmptyStorage, HasStorage, IsLeafAt, IsLeafOnWay, TakesBelow}
 use Rattle.cfb_live.specs.Live.{live_of, Means}
 use Rattle.cfb_live.specs.Removing.{IsChildAt, LacksChild}
 use Rattle.cfb_live.proofs.Below.{removed_below, removed_smaller, size, storage_stays}
@@ -57,13 +57,6 @@ module _ (letters : Letters) (tree : Tree) (path : Path) where
   pub step_all : (name : List ℕ) (facts : Facts) (inside : Content) → object_at letters tree path ≡ Some (a_storage name facts inside) → tree_step letters tree (remove_storage_all path) ≡ (removed letters path tree, done)
   step_all name facts inside at = rw at refl
 
--- one of two facts, by a test
-pub match_true : {P : Type 0} (Q : Type 0) (b : Bool) → b ≡ true → MatchBool b P Q → P
-match_true {P} Q b is h = subst (λ t. MatchBool t P Q) is h
-
-pub match_false : {Q : Type 0} (P : Type 0) (b : Bool) → b ≡ false → MatchBool b P Q → Q
-match_false {Q} P b is h = subst (λ t. MatchBool t P Q) is h
-
 -- what has no siblings is no entry
 no_child : (directory : List Entry) (id : ℕ) → Siblings directory id [] → id ≡ no_entry
 no_child directory id (none is empty) = is
@@ -95,15 +88,15 @@ emptied_there letters tree path long empty e (inr root) = let nil = ap length ro
 
 module _ {F : Type 0} {g : Ghosts F} (letters : Letters) (path : Path) (tree : Tree) where
   -- an object below the storage was taken out
-  pub takes_below : (it new : MiniAllocator F g) (link : Link) (id : ℕ) → Means letters it tree → IsLeafBelow letters (entries_held (directory_of it)) path link id
-      → ((above : Path) (name : List ℕ) → IsLeafAt letters (entries_held (directory_of it)) above name link id → Means letters new (removed letters (path_to above name) tree)) → TakesBelow letters path tree new
-  takes_below it new link id m below taken =
-      let at = path ++ below.more in
+  pub takes_below : (it new : MiniAllocator F g) (above : List ℕ) (top id : ℕ) → Means letters it tree → (below : IsLeafOnWay letters (entries_held (directory_of it)) path above top id)
+      → Means letters new (removed letters (path_to (path ++ below.way.more) below.name) tree) → TakesBelow letters path tree new
+  takes_below it new above top id m below taken =
+      let at = path ++ below.way.more in
       let o = object_there letters (ReadBy (reads (live_of it) m.who)) (entries_held (directory_of it)) tree (means_held letters it tree m) (path_to at below.name) id (some_there at below.name) below.leaf.leads in
       record {
         later = removed letters (path_to at below.name) tree;
-        loses = record { more = below.more; name = below.name; object = o.0; there = o.1; is = refl };
-        means = taken at below.name below.leaf;
+        loses = record { more = below.way.more; name = below.name; object = o.0; there = o.1; is = refl };
+        means = taken;
       }
 
   -- where the storage is still

@@ -21,3 +21,4 @@ pub mod SetFacts
 pub mod Standing
 pub mod Streams
 pub mod Taken
+pub mod Ways

@@ -12,9 +12,10 @@ use Rattle.cfb_mini.specs.Views.{allocator_of, directory_of}
 use Rattle.cfb_mini.specs.declared.mini_allocator.MiniAllocator.{MiniAllocator}
 use Rattle.cfb_owners.proofs.KeysOfParts.{IsOneOf}
 use Rattle.cfb_siblings.specs.Changes.{HoldsOneLess}
-use Rattle.cfb_siblings.specs.Places.{path_to, LeadsTo}
+use Rattle.cfb_siblings.specs.Places.{path_to, LeadsBy, LeadsTo}
 use Rattle.cfb_siblings.specs.Reading.{ReadBy}
 use Rattle.cfb_siblings.specs.declared.links.Link.{Link}
+use Rattle.cfb_siblings.proofs.Leading.{parent_of_path}
 use Rattle.cfb_siblings.proofs.Searching.{no_siblings, nothing_held}
 use Rattle.cfb_tree.specs.Changes.{last_of, parent_of, removed}
 use Rattle.cfb_tree.specs.Directory.{kind_stream, no_entry, Entry, Holds}
@@ -23,7 +24,7 @@ use Rattle.cfb_tree.specs.Objects.{a_storage, a_stream, HoldsTree, IsObject, Obj
 use Rattle.cfb_tree.specs.Paths.{Path}
 use Rattle.cfb_tree.specs.Tree.{Tree}
 use Rattle.cfb_tree.proofs.OneContent.{Some_same}
-use Rattle.cfb_live.specs.Emptying.{IsLeafAt}
+use Rattle.cfb_live.specs.Emptying.{IsLeafAt, KeepsWay}
 use Rattle.cfb_live.specs.Freeing.{FreesStream}
 use Rattle.cfb_live.specs.Live.{live_of, Means}
 use Rattle.cfb_live.specs.Removing.{IsChildAt}
@@ -91,3 +92,15 @@ module _ {F : Type 0} {g : Ghosts F} (letters : Letters) (it : MiniAllocator F g
       subst (λ own. HoldsOneLess letters (ReadBy Reads) directory later (removed letters (path_to path name) tree) m.held.ids (path_to path name) id own) none
       (subst (λ ids. HoldsOneLess letters (ReadBy Reads) directory later (removed letters (path_to path name) tree) ids (path_to path name) id removes.own) (means_ids letters it tree m) removes.holds) in
       removed_means letters it mid new tree (removed letters (path_to path name) tree) m (path_to path name) id frees (subst (λ es. RemovesAt es later id) frees.entries at) less leaf_below goes live changes
+
+  -- the way to its storage goes over the same entries still
+  pub keeps_way : (mid new : List Entry) → mid ≡ entries_held (directory_of it) → RemovesChild mid new link id → RemovesAt mid new id → KeepsWay letters (entries_held (directory_of it)) new path id
+  unfolding leaf_child
+  keeps_way mid new same removed_child at =
+      let directory = entries_held (directory_of it) in
+      let removes = subst (λ es. RemovesChild es new link id) same removed_child letters (reads (live_of it) m.who) tree path leaf.parent name leaf_child in
+      let others = (subst (λ es. RemovesAt es new id) same at).others in
+      record {
+        by = λ ids way. subst (λ p. LeadsBy letters new 0 p ids) (parent_of_path path name) (removes.holds.ways ids (subst (λ p. LeadsBy letters directory 0 p ids) (sym (parent_of_path path name)) way));
+        owner = λ k other owner. let stays = others k owner.entry other owner.found in record { entry = stays.0; found = stays.1; holds = λ kind. owner.holds (sym stays.2.kind ∙ kind) };
+      }

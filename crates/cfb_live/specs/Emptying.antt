@@ -1,9 +1,10 @@
 -- Storages that lose what they hold, one object after the other ([MS-CFB] 2.6.4).
-use Rattle.std.specs.Prelude.{◌≡◌, ℕ, List, ◌++◌, slice_get, Some}
+use Rattle.std.specs.Prelude.{◌≡◌, ℕ, List, [], ◌∷◌, ◌++◌, length, slice_get, Some}
 use Rattle.cfb_medium.specs.declared.medium.ReadMedium.{Ghosts}
 use Rattle.cfb_mini.specs.declared.mini_allocator.MiniAllocator.{MiniAllocator}
-use Rattle.cfb_siblings.specs.Places.{path_to, IsStorageAt, IsTaken, LeadsTo}
+use Rattle.cfb_siblings.specs.Places.{path_to, IsOwner, IsStorageAt, IsTaken, LeadsBy, LeadsTo}
 use Rattle.cfb_siblings.specs.declared.links.Link.{Link}
+use Rattle.cfb_siblings.specs.declared.links.Link.TheVariants.{Child}
 use Rattle.cfb_tree.specs.Changes.{removed}
 use Rattle.cfb_tree.specs.Directory.{kind_stream, no_entry, Entry}
 use Rattle.cfb_tree.specs.Names.{Letters}
@@ -20,11 +21,28 @@ pub record IsLeafAt (letters : Letters) (entries : List Entry) (path : Path) (na
   pub leads : LeadsTo letters entries 0 (path_to path name) id
   pub empty : (e : Entry) → slice_get entries id ≡ Some e → (e.kind ≡ kind_stream → ⊥) → e.child ≡ no_entry
 
--- such a child of the storage at the path, or of one below it
-pub record IsLeafBelow (letters : Letters) (entries : List Entry) (path : Path) (link : Link) (id : ℕ) : Type 0 where
+-- the way from the root goes over entries that the path leads by, and on to storage `top`: `above` are the storages from the one at
+-- the path to the one that has `top`
+pub record IsWayTo (letters : Letters) (entries : List Entry) (path : Path) (above : List ℕ) (top : ℕ) : Type 0 where
   pub more : Path
+  pub front : List ℕ
+  pub ids : List ℕ
+  pub leads : LeadsBy letters entries 0 (path ++ more) ids
+  pub whole : 0 ∷ ids ≡ front ++ (above ++ top ∷ [])
+  pub size : length front ≡ length path
+  pub owner : IsOwner entries top
+
+-- so it does, and an object that holds nothing hangs at the link of that storage to its children
+pub record IsLeafOnWay (letters : Letters) (entries : List Entry) (path : Path) (above : List ℕ) (top id : ℕ) : Type 0 where
+  pub way : IsWayTo letters entries path above top
   pub name : List ℕ
-  pub leaf : IsLeafAt letters entries (path ++ more) name link id
+  pub leaf : IsLeafAt letters entries (path ++ way.more) name (Child top) id
+  pub apart : top ≡ id → ⊥
+
+-- the way to the storage at the path goes over the same entries still, and what was a storage is one, but for `id`
+pub record KeepsWay (letters : Letters) (old new : List Entry) (path : Path) (id : ℕ) : Type 0 where
+  pub by : (ids : List ℕ) → LeadsBy letters old 0 path ids → LeadsBy letters new 0 path ids
+  pub owner : (k : ℕ) → (k ≡ id → ⊥) → IsOwner old k → IsOwner new k
 
 -- a storage is at the path
 pub record HasStorage (letters : Letters) (tree : Tree) (path : Path) : Type 0 where

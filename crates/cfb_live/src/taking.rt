@@ -3,7 +3,7 @@ ghost use Rattle.cfb_chains.specs.ChainCalls.{IsInvalid};
 ghost use Rattle.cfb_directory.specs.Views.{entries_held};
 ghost use Rattle.cfb_fat.specs.Calls.{Answers};
 ghost use Rattle.cfb_fat.specs.Tables.{has_failed_here};
-ghost use Rattle.cfb_live.specs.Emptying.{IsLeafAt};
+ghost use Rattle.cfb_live.specs.Emptying.{IsLeafAt, KeepsWay};
 ghost use Rattle.cfb_live.specs.Live.{Means};
 ghost use Rattle.cfb_medium.specs.declared.error.Error.TheVariants.{InvalidData};
 ghost use Rattle.cfb_mini.specs.Changing.{KeepsOwners};
@@ -36,6 +36,11 @@ pub(crate) fn take_out<F: Medium>(
         → Means letters mini.old tree
         → IsLeafAt letters (entries_held (directory_of mini.old)) path name link id
         → Means letters mini.new (removed letters (path_to path name) tree)) }
+    ensures ways { OnOk result ((letters : Letters) (tree : Tree) (path : Path) (name : List ℕ)
+        → Means letters mini.old tree
+        → IsLeafAt letters (entries_held (directory_of mini.old)) path name link id
+        → KeepsWay letters (entries_held (directory_of mini.old))
+        (entries_held (directory_of mini.new)) path id) }
     ensures refused { IsErrOf result InvalidData
         → (letters : Letters) (tree : Tree) (path : Path) (name : List ℕ)
         → Means letters mini.old tree

@@ -4,7 +4,7 @@ use Rattle.std.proofs.lemmas.Option.{slice_get_past}
 use Rattle.cfb_entries.specs.Rules.{answer_at}
 use Rattle.cfb_entries.proofs.Found.{names_are}
 use Rattle.cfb_meaning.specs.TreeRules.{remove_storage_all}
-use Rattle.cfb_siblings.specs.Places.{path_of, IsEntryAt}
+use Rattle.cfb_siblings.specs.Places.{path_of, IsEntryAt, IsStorageAt}
 use Rattle.cfb_siblings.specs.Reading.{ReadBy}
 use Rattle.cfb_tree.specs.Changes.{removed}
 use Rattle.cfb_tree.specs.Directory.{kind_stream}
@@ -109,9 +109,10 @@ returns-in-Err-take_all-clause-does g c = record {
       let there = at.at_path ∙ ap Some is.3 in
       let here = ap path_of (c.deref.ensures.value ∙ sym c.deref-2.ensures.value) in
       let has = subst (HasStorage l tree) here (record { name = is.0; facts = is.1; inside = is.2; at_path = there }) in
+      let storage = subst (λ p. IsStorageAt l directory p id) here (record { leads = at.leads; owner = record { entry = e; found = found; holds = never } }) in
       ⊎_elim
       (λ fault. inl (inl fault))
-      (λ missing. absurd (c.in-Err-take_all.ensures.refused (ap Err missing) tree m has))
+      (λ missing. absurd (c.in-Err-take_all.ensures.refused (ap Err missing) tree m has storage))
       c.in-Err-take_all.ensures.answers.fault;
   rests = c.in-Err-take_all.ensures.rests;
 }
@@ -138,12 +139,13 @@ returns-clause-does g c = record {
       let there = at.at_path ∙ ap Some is.3 in
       let here = ap path_of (c.deref.ensures.value ∙ sym c.deref-2.ensures.value) in
       let has = subst (HasStorage l tree) here (record { name = is.0; facts = is.1; inside = is.2; at_path = there }) in
+      let storage = subst (λ p. IsStorageAt l directory p id) here (record { leads = at.leads; owner = record { entry = e; found = found; holds = never } }) in
       let rule = step_all l tree path is.0 is.1 is.2 there in
       record {
         names = path;
         at_path = at_path;
         accepted = ap (λ o. o.1) rule;
-        means = subst (Means l c.take_all.new.mini) (ap (λ p. removed l p tree) (sym here) ∙ sym (ap (λ o. o.0) rule)) (c.in_default-take_all.ensures.taken tree m has);
+        means = subst (Means l c.take_all.new.mini) (ap (λ p. removed l p tree) (sym here) ∙ sym (ap (λ o. o.0) rule)) (c.in_default-take_all.ensures.taken tree m has storage);
       };
   refused = tt;
   rests = tt;

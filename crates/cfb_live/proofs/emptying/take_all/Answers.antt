@@ -4,21 +4,23 @@ use Rattle.cfb_directory.specs.Entries.{entries_in}
 use Rattle.cfb_directory.specs.Views.{entries_held}
 use Rattle.cfb_fat.specs.Keeping.{fails_cause}
 use Rattle.cfb_fat.specs.Resting.{all_rest_refl}
+use Rattle.cfb_medium.specs.declared.error.Error.TheVariants.{Memory}
 use Rattle.cfb_mini.specs.Views.{allocator_of, directory_of}
 use Rattle.cfb_owned.proofs.GoingOn.{fails_go_on, goes_cause, goes_then}
 use Rattle.cfb_siblings.specs.Places.{path_of}
 use Rattle.cfb_siblings.specs.Reading.{ReadBy}
 use Rattle.cfb_tree.specs.LetterViews.{letters_of}
 use Rattle.cfb_tree.specs.Objects.{HoldsTree}
-use Rattle.cfb_live.specs.Emptying.{HasEmptyStorage, IsLeafBelow}
+use Rattle.cfb_live.specs.Emptying.{HasEmptyStorage, IsLeafOnWay, IsWayTo}
 use Rattle.cfb_live.specs.Live.{live_of, Means}
 use Rattle.cfb_live.proofs.Emptied.{takes_below, takes_others, takes_storage}
 use Rattle.cfb_live.proofs.SetFacts.{means_held}
 use Rattle.cfb_live.proofs.Streams.{reads}
+use Rattle.cfb_live.proofs.Ways.{way_begun, way_kept}
 use Rattle.cfb_live.proofs.emptying.take_all.Goals as goal
 
 pub returns-in-Err-clause-refused : goal.returns-in-Err-clause-refused
-returns-in-Err-clause-refused g c = λ wrong tree m has.
+returns-in-Err-clause-refused g c = λ wrong tree m has storage_at.
     let it = c.args.mini.now in
     let l = letters_of c.args.letters.now in
     let Reads = reads (live_of it) m.who in
@@ -26,10 +28,14 @@ returns-in-Err-clause-refused g c = λ wrong tree m has.
     let directory = entries_held (directory_of it) in
     let same : entries_in c.dir_entries.result.now ≡ directory = c.dir_entries.ensures ∙ ap entries_held c.directory-2.ensures in
     let held = subst (λ es. HoldsTree l (ReadBy Reads) es tree) (sym same) (means_held l it tree m) in
-    c.in-Err.ensures.found Reads tree held has
+    let begun = subst (λ xs. IsWayTo l directory path xs c.args.top) (sym c.new-above.ensures.items) (way_begun l directory path c.args.top storage_at) in
+    let way = subst (λ es. IsWayTo l es path c.new-above.result.items c.args.top) (sym same) begun in
+    let left = c.next_leaf.new.above.items in
+    let memory : c.in-Err.error ≡ Memory = c.in-Err.ensures.found l Reads tree path held way in
+    absurd (cc)
 
 pub returns-in-Err-take_emptied-clause-refused : goal.returns-in-Err-take_emptied-clause-refused
-returns-in-Err-take_emptied-clause-refused g c = λ wrong tree m has.
+returns-in-Err-take_emptied-clause-refused g c = λ wrong tree m has storage_at.
     let it = c.args.mini.now in
     let l = letters_of c.args.letters.now in
     let Reads = reads (live_of it) m.who in
@@ -37,11 +43,14 @@ returns-in-Err-take_emptied-clause-refused g c = λ wrong tree m has.
     let directory = entries_held (directory_of it) in
     let same : entries_in c.dir_entries.result.now ≡ directory = c.dir_entries.ensures ∙ ap entries_held c.directory-2.ensures in
     let held = subst (λ es. HoldsTree l (ReadBy Reads) es tree) (sym same) (means_held l it tree m) in
-    let empty = subst (λ leaf. MatchOption leaf (HasEmptyStorage l tree path) (λ x. IsLeafBelow l (entries_in c.dir_entries.result.now) path x.0 x.1)) c.in_default.is (c.in-Ok.ensures.found Reads tree held has) in
+    let begun = subst (λ xs. IsWayTo l directory path xs c.args.top) (sym c.new-above.ensures.items) (way_begun l directory path c.args.top storage_at) in
+    let way = subst (λ es. IsWayTo l es path c.new-above.result.items c.args.top) (sym same) begun in
+    let left = c.next_leaf.new.above.items in
+    let empty = subst (λ leaf. MatchOption leaf (HasEmptyStorage l tree path) (λ x. IsLeafOnWay l (entries_in c.dir_entries.result.now) path left x.0 x.1)) c.in_default.is (c.in-Ok.ensures.found l Reads tree path held way) in
     c.in-Err-take_emptied.ensures.refused wrong tree m empty
 
 pub returns-in_default-clause-taken : goal.returns-in_default-clause-taken
-returns-in_default-clause-taken g c = λ tree m has.
+returns-in_default-clause-taken g c = λ tree m has storage_at.
     let it = c.args.mini.now in
     let l = letters_of c.args.letters.now in
     let Reads = reads (live_of it) m.who in
@@ -49,11 +58,14 @@ returns-in_default-clause-taken g c = λ tree m has.
     let directory = entries_held (directory_of it) in
     let same : entries_in c.dir_entries.result.now ≡ directory = c.dir_entries.ensures ∙ ap entries_held c.directory-2.ensures in
     let held = subst (λ es. HoldsTree l (ReadBy Reads) es tree) (sym same) (means_held l it tree m) in
-    let empty = subst (λ leaf. MatchOption leaf (HasEmptyStorage l tree path) (λ x. IsLeafBelow l (entries_in c.dir_entries.result.now) path x.0 x.1)) c.in_default.is (c.in-Ok.ensures.found Reads tree held has) in
+    let begun = subst (λ xs. IsWayTo l directory path xs c.args.top) (sym c.new-above.ensures.items) (way_begun l directory path c.args.top storage_at) in
+    let way = subst (λ es. IsWayTo l es path c.new-above.result.items c.args.top) (sym same) begun in
+    let left = c.next_leaf.new.above.items in
+    let empty = subst (λ leaf. MatchOption leaf (HasEmptyStorage l tree path) (λ x. IsLeafOnWay l (entries_in c.dir_entries.result.now) path left x.0 x.1)) c.in_default.is (c.in-Ok.ensures.found l Reads tree path held way) in
     c.in_default-take_emptied.ensures.taken tree m empty
 
 pub returns-in-Err-take_out-clause-refused : goal.returns-in-Err-take_out-clause-refused
-returns-in-Err-take_out-clause-refused g c = λ wrong tree m has.
+returns-in-Err-take_out-clause-refused g c = λ wrong tree m has storage_at.
     let it = c.args.mini.now in
     let l = letters_of c.args.letters.now in
     let Reads = reads (live_of it) m.who in
@@ -61,12 +73,15 @@ returns-in-Err-take_out-clause-refused g c = λ wrong tree m has.
     let directory = entries_held (directory_of it) in
     let same : entries_in c.dir_entries.result.now ≡ directory = c.dir_entries.ensures ∙ ap entries_held c.directory-2.ensures in
     let held = subst (λ es. HoldsTree l (ReadBy Reads) es tree) (sym same) (means_held l it tree m) in
-    let told = subst (λ leaf. MatchOption leaf (HasEmptyStorage l tree path) (λ x. IsLeafBelow l (entries_in c.dir_entries.result.now) path x.0 x.1)) c.in-Some.is (c.in-Ok.ensures.found Reads tree held has) in
-    let below = subst (λ es. IsLeafBelow l es path c.in-Some.link c.in-Some.id) same told in
-    c.in-Err-take_out.ensures.refused wrong l tree (path ++ below.more) below.name m below.leaf
+    let begun = subst (λ xs. IsWayTo l directory path xs c.args.top) (sym c.new-above.ensures.items) (way_begun l directory path c.args.top storage_at) in
+    let way = subst (λ es. IsWayTo l es path c.new-above.result.items c.args.top) (sym same) begun in
+    let left = c.next_leaf.new.above.items in
+    let told = subst (λ leaf. MatchOption leaf (HasEmptyStorage l tree path) (λ x. IsLeafOnWay l (entries_in c.dir_entries.result.now) path left x.0 x.1)) c.in-Some.is (c.in-Ok.ensures.found l Reads tree path held way) in
+    let below = subst (λ es. IsLeafOnWay l es path left c.in-Some.parent c.in-Some.id) same told in
+    c.in-Err-take_out.ensures.refused wrong l tree (path ++ below.way.more) below.name m below.leaf
 
 pub returns-in-Err-take_leaves-clause-refused : goal.returns-in-Err-take_leaves-clause-refused
-returns-in-Err-take_leaves-clause-refused g c = λ wrong tree m has.
+returns-in-Err-take_leaves-clause-refused g c = λ wrong tree m has storage_at.
     let it = c.args.mini.now in
     let l = letters_of c.args.letters.now in
     let Reads = reads (live_of it) m.who in
@@ -74,12 +89,16 @@ returns-in-Err-take_leaves-clause-refused g c = λ wrong tree m has.
     let directory = entries_held (directory_of it) in
     let same : entries_in c.dir_entries.result.now ≡ directory = c.dir_entries.ensures ∙ ap entries_held c.directory-2.ensures in
     let held = subst (λ es. HoldsTree l (ReadBy Reads) es tree) (sym same) (means_held l it tree m) in
-    let told = subst (λ leaf. MatchOption leaf (HasEmptyStorage l tree path) (λ x. IsLeafBelow l (entries_in c.dir_entries.result.now) path x.0 x.1)) c.in-Some.is (c.in-Ok.ensures.found Reads tree held has) in
-    let below = subst (λ es. IsLeafBelow l es path c.in-Some.link c.in-Some.id) same told in
+    let begun = subst (λ xs. IsWayTo l directory path xs c.args.top) (sym c.new-above.ensures.items) (way_begun l directory path c.args.top storage_at) in
+    let way = subst (λ es. IsWayTo l es path c.new-above.result.items c.args.top) (sym same) begun in
+    let left = c.next_leaf.new.above.items in
+    let told = subst (λ leaf. MatchOption leaf (HasEmptyStorage l tree path) (λ x. IsLeafOnWay l (entries_in c.dir_entries.result.now) path left x.0 x.1)) c.in-Some.is (c.in-Ok.ensures.found l Reads tree path held way) in
+    let below = subst (λ es. IsLeafOnWay l es path left c.in-Some.parent c.in-Some.id) same told in
     let first = c.take_out.new.mini in
-    let takes = takes_below l path tree it first c.in-Some.link c.in-Some.id m below (λ above name leaf. c.in_default-take_out.ensures.taken l tree above name m leaf) in
+    let takes = takes_below l path tree it first left c.in-Some.parent c.in-Some.id m below (c.in_default-take_out.ensures.taken l tree (path ++ below.way.more) below.name m below.leaf) in
+    let kept = way_kept l directory path left c.in-Some.parent below.way (entries_held (directory_of first)) c.in-Some.id (c.in_default-take_out.ensures.ways l tree (path ++ below.way.more) below.name m below.leaf) below.apart in
     let storage = takes_storage l path tree first has takes in
-    c.in-Err-take_leaves.ensures.refused wrong takes.later takes.means storage
+    c.in-Err-take_leaves.ensures.refused wrong l takes.later path takes.means storage kept
 
 pub returns-in-Err-take_leaves-clause-answers : goal.returns-in-Err-take_leaves-clause-answers
 returns-in-Err-take_leaves-clause-answers g c =
@@ -96,7 +115,7 @@ returns-in-Err-take_leaves-clause-answers g c =
     }
 
 pub returns-in-Err-take_emptied-2-clause-refused : goal.returns-in-Err-take_emptied-2-clause-refused
-returns-in-Err-take_emptied-2-clause-refused g c = λ wrong tree m has.
+returns-in-Err-take_emptied-2-clause-refused g c = λ wrong tree m has storage_at.
     let it = c.args.mini.now in
     let l = letters_of c.args.letters.now in
     let Reads = reads (live_of it) m.who in
@@ -104,12 +123,16 @@ returns-in-Err-take_emptied-2-clause-refused g c = λ wrong tree m has.
     let directory = entries_held (directory_of it) in
     let same : entries_in c.dir_entries.result.now ≡ directory = c.dir_entries.ensures ∙ ap entries_held c.directory-2.ensures in
     let held = subst (λ es. HoldsTree l (ReadBy Reads) es tree) (sym same) (means_held l it tree m) in
-    let told = subst (λ leaf. MatchOption leaf (HasEmptyStorage l tree path) (λ x. IsLeafBelow l (entries_in c.dir_entries.result.now) path x.0 x.1)) c.in-Some.is (c.in-Ok.ensures.found Reads tree held has) in
-    let below = subst (λ es. IsLeafBelow l es path c.in-Some.link c.in-Some.id) same told in
+    let begun = subst (λ xs. IsWayTo l directory path xs c.args.top) (sym c.new-above.ensures.items) (way_begun l directory path c.args.top storage_at) in
+    let way = subst (λ es. IsWayTo l es path c.new-above.result.items c.args.top) (sym same) begun in
+    let left = c.next_leaf.new.above.items in
+    let told = subst (λ leaf. MatchOption leaf (HasEmptyStorage l tree path) (λ x. IsLeafOnWay l (entries_in c.dir_entries.result.now) path left x.0 x.1)) c.in-Some.is (c.in-Ok.ensures.found l Reads tree path held way) in
+    let below = subst (λ es. IsLeafOnWay l es path left c.in-Some.parent c.in-Some.id) same told in
     let first = c.take_out.new.mini in
-    let takes = takes_below l path tree it first c.in-Some.link c.in-Some.id m below (λ above name leaf. c.in_default-take_out.ensures.taken l tree above name m leaf) in
+    let takes = takes_below l path tree it first left c.in-Some.parent c.in-Some.id m below (c.in_default-take_out.ensures.taken l tree (path ++ below.way.more) below.name m below.leaf) in
+    let kept = way_kept l directory path left c.in-Some.parent below.way (entries_held (directory_of first)) c.in-Some.id (c.in_default-take_out.ensures.ways l tree (path ++ below.way.more) below.name m below.leaf) below.apart in
     let storage = takes_storage l path tree first has takes in
-    let emptied = c.in_default-take_leaves.ensures.emptied takes.later takes.means storage in
+    let emptied = c.in_default-take_leaves.ensures.emptied l takes.later path takes.means storage kept in
     c.in-Err-take_emptied-2.ensures.refused wrong emptied.later emptied.means emptied.empty
 
 pub returns-in-Err-take_emptied-2-clause-goes_on : goal.returns-in-Err-take_emptied-2-clause-goes_on
@@ -133,7 +156,7 @@ returns-in-Err-take_emptied-2-clause-answers g c =
     }
 
 pub returns-clause-taken : goal.returns-clause-taken
-returns-clause-taken g c = λ tree m has.
+returns-clause-taken g c = λ tree m has storage_at.
     let it = c.args.mini.now in
     let l = letters_of c.args.letters.now in
     let Reads = reads (live_of it) m.who in
@@ -141,12 +164,16 @@ returns-clause-taken g c = λ tree m has.
     let directory = entries_held (directory_of it) in
     let same : entries_in c.dir_entries.result.now ≡ directory = c.dir_entries.ensures ∙ ap entries_held c.directory-2.ensures in
     let held = subst (λ es. HoldsTree l (ReadBy Reads) es tree) (sym same) (means_held l it tree m) in
-    let told = subst (λ leaf. MatchOption leaf (HasEmptyStorage l tree path) (λ x. IsLeafBelow l (entries_in c.dir_entries.result.now) path x.0 x.1)) c.in-Some.is (c.in-Ok.ensures.found Reads tree held has) in
-    let below = subst (λ es. IsLeafBelow l es path c.in-Some.link c.in-Some.id) same told in
+    let begun = subst (λ xs. IsWayTo l directory path xs c.args.top) (sym c.new-above.ensures.items) (way_begun l directory path c.args.top storage_at) in
+    let way = subst (λ es. IsWayTo l es path c.new-above.result.items c.args.top) (sym same) begun in
+    let left = c.next_leaf.new.above.items in
+    let told = subst (λ leaf. MatchOption leaf (HasEmptyStorage l tree path) (λ x. IsLeafOnWay l (entries_in c.dir_entries.result.now) path left x.0 x.1)) c.in-Some.is (c.in-Ok.ensures.found l Reads tree path held way) in
+    let below = subst (λ es. IsLeafOnWay l es path left c.in-Some.parent c.in-Some.id) same told in
     let first = c.take_out.new.mini in
-    let takes = takes_below l path tree it first c.in-Some.link c.in-Some.id m below (λ above name leaf. c.in_default-take_out.ensures.taken l tree above name m leaf) in
+    let takes = takes_below l path tree it first left c.in-Some.parent c.in-Some.id m below (c.in_default-take_out.ensures.taken l tree (path ++ below.way.more) below.name m below.leaf) in
+    let kept = way_kept l directory path left c.in-Some.parent below.way (entries_held (directory_of first)) c.in-Some.id (c.in_default-take_out.ensures.ways l tree (path ++ below.way.more) below.name m below.leaf) below.apart in
     let storage = takes_storage l path tree first has takes in
-    let emptied = c.in_default-take_leaves.ensures.emptied takes.later takes.means storage in
+    let emptied = c.in_default-take_leaves.ensures.emptied l takes.later path takes.means storage kept in
     subst (Means l c.take_emptied-2.new.mini) (emptied.others ∙ takes_others l path tree first takes) (c.in_default-take_emptied-2.ensures.taken emptied.later emptied.means emptied.empty)
 
 pub returns-clause-goes_on : goal.returns-clause-goes_on

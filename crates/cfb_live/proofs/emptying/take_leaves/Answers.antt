@@ -1,17 +1,15 @@
-use Rattle.std.proofs.Common.{◌≡◌, arith, inl, length, map, ap, sym, ◌∙◌, rules}
-use Rattle.std.specs.Prelude.{Err}
+use Rattle.std.proofs.Common.{◌≡◌, arith, length, map, ap, sym, subst, ◌∙◌, inl, rules}
+use Rattle.std.specs.Prelude.{Err, MatchOption}
 use Rattle.cfb_directory.specs.Views.{entries_held}
 use Rattle.cfb_fat.specs.Keeping.{fails_cause}
 use Rattle.cfb_fat.specs.Resting.{all_rest_refl}
 use Rattle.cfb_medium.specs.declared.error.Error.TheVariants.{InvalidData}
 use Rattle.cfb_mini.specs.Views.{allocator_of, directory_of}
 use Rattle.cfb_owned.proofs.GoingOn.{goes_cause, goes_then, rests_go_on}
-use Rattle.cfb_siblings.specs.Places.{path_of}
 use Rattle.cfb_tree.specs.EntryViews.{entry_in}
-use Rattle.cfb_tree.specs.LetterViews.{letters_of}
-use Rattle.cfb_live.specs.Emptying.{HasEmptyStorage, TakesBelow}
+use Rattle.cfb_live.specs.Emptying.{HasEmptyStorage, IsWayTo, TakesBelow}
 use Rattle.cfb_live.specs.Live.{Means}
-use Rattle.cfb_live.proofs.Emptied.{emptying_begun, emptying_ended, emptying_more, entries_length, match_false, match_true}
+use Rattle.cfb_live.proofs.Emptied.{emptying_begun, emptying_ended, emptying_more, entries_length}
 use Rattle.cfb_live.proofs.emptying.take_leaves.Goals as goal
 
 pub taking-init : goal.taking-init
@@ -21,27 +19,29 @@ taking-init g c =
     record {
       goes = rests_go_on a a (all_rest_refl a);
       live = search rules;
-      emptying = λ tree m has.
+      emptying = λ l tree path m has way.
           let whole : map entry_in c.dir_entries-count.result.now ≡ entries_held (directory_of it) = c.dir_entries-count.ensures ∙ ap entries_held c.directory-2.ensures in
           let size = ap length whole in
           let count : length c.dir_entries-count.result.now ≡ length (entries_held (directory_of it)) = sym (entries_length c.dir_entries-count.result.now) ∙ size in
-          emptying_begun (letters_of c.args.letters.now) (path_of c.args.names.now) tree it (length c.dir_entries-count.result.now) m has count;
+          (emptying_begun l path tree it (length c.dir_entries-count.result.now) m has count, way);
     }
 
-pub returns-in-Ok-false-clause-emptied : goal.returns-in-Ok-false-clause-emptied
-returns-in-Ok-false-clause-emptied g c = λ tree m has.
-    let so = c.taking.invariant.emptying tree m has in
-    let told = match_false (TakesBelow (letters_of c.args.letters.now) (path_of c.args.names.now) so.later c.take_leaf.new.mini) c.in-Ok-false.field-0 c.in-Ok-false.field-0-test (c.in-Ok-false.ensures.taken so.later so.means so.storage) in
-    emptying_ended (letters_of c.args.letters.now) (path_of c.args.names.now) tree c.taking.mini c.take_leaf.new.mini c.taking._step (length c.dir_entries-count.result.now) so told.0 told.1
+pub returns-in-Ok-None-clause-emptied : goal.returns-in-Ok-None-clause-emptied
+returns-in-Ok-None-clause-emptied g c = λ l tree path m has way.
+    let so = c.taking.invariant.emptying l tree path m has way in
+    let new = c.take_leaf.new.mini in
+    let told = subst (λ next. MatchOption next (Means l new so.0.later × HasEmptyStorage l so.0.later path) (λ id. TakesBelow l path so.0.later new × IsWayTo l (entries_held (directory_of new)) path c.take_leaf.new.above.items id))
+    c.in-Ok-None.field-0-is (c.in-Ok-None.ensures.taken l so.0.later path so.0.means so.1) in
+    emptying_ended l path tree c.taking.mini new c.taking._step (length c.dir_entries-count.result.now) so.0 told.0 told.1
 
-pub returns-in-Ok-false-clause-goes_on : goal.returns-in-Ok-false-clause-goes_on
-returns-in-Ok-false-clause-goes_on g c = goes_then _ _ _ c.taking.invariant.goes c.take_leaf.ensures.goes_on
+pub returns-in-Ok-None-clause-goes_on : goal.returns-in-Ok-None-clause-goes_on
+returns-in-Ok-None-clause-goes_on g c = goes_then _ _ _ c.taking.invariant.goes c.take_leaf.ensures.goes_on
 
 pub returns-in-Err-clause-refused : goal.returns-in-Err-clause-refused
-returns-in-Err-clause-refused g c = λ wrong tree m has.
-    let so = c.taking.invariant.emptying tree m has in
+returns-in-Err-clause-refused g c = λ wrong l tree path m has way.
+    let so = c.taking.invariant.emptying l tree path m has way in
     let is : c.in-Err.error ≡ InvalidData = cc in
-    c.in-Err.ensures.refused (ap Err is) so.later so.means so.storage
+    c.in-Err.ensures.refused (ap Err is) l so.0.later path so.0.means so.1
 
 pub returns-in-Err-clause-answers : goal.returns-in-Err-clause-answers
 returns-in-Err-clause-answers g c =
@@ -60,16 +60,18 @@ returns-in-Err-clause-answers g c =
 pub taking-preserved : goal.taking-preserved
 taking-preserved g c = record {
   goes = goes_then _ _ _ c.taking.invariant.goes c.take_leaf.ensures.goes_on;
-  live = c.in-Ok-true.ensures.answers.live.1;
-  emptying = λ tree m has.
-      let so = c.taking.invariant.emptying tree m has in
-      let told = match_true (Means (letters_of c.args.letters.now) c.take_leaf.new.mini so.later × HasEmptyStorage (letters_of c.args.letters.now) so.later (path_of c.args.names.now)) c.in-Ok-true.field-0 c.in-Ok-true.field-0-test (c.in-Ok-true.ensures.taken so.later so.means so.storage) in
-      emptying_more (letters_of c.args.letters.now) (path_of c.args.names.now) tree c.taking.mini c.take_leaf.new.mini c.taking._step (length c.dir_entries-count.result.now) so told;
+  live = c.in-Ok-Some.ensures.answers.live.1;
+  emptying = λ l tree path m has way.
+      let so = c.taking.invariant.emptying l tree path m has way in
+      let new = c.take_leaf.new.mini in
+      let told = subst (λ next. MatchOption next (Means l new so.0.later × HasEmptyStorage l so.0.later path) (λ id. TakesBelow l path so.0.later new × IsWayTo l (entries_held (directory_of new)) path c.take_leaf.new.above.items id))
+      c.in-Ok-Some.field-0-is (c.in-Ok-Some.ensures.taken l so.0.later path so.0.means so.1) in
+      (emptying_more l path tree c.taking.mini new c.taking._step (length c.dir_entries-count.result.now) so.0 told.0, told.1);
 }
 
 pub returns-clause-refused : goal.returns-clause-refused
-returns-clause-refused g c = λ wrong tree m has.
-    let so = c.taking.invariant.emptying tree m has in
-    let left = so.left in
+returns-clause-refused g c = λ wrong l tree path m has way.
+    let so = c.taking.invariant.emptying l tree path m has way in
+    let left = so.0.left in
     let past = c.taking-test.false in
     omega (arith, left, past)

@@ -1,4 +1,4 @@
-use Rattle.std.proofs.Common.{◌≡◌, inl, ap, sym, ◌∙◌, subst, rules}
+use Rattle.std.proofs.Common.{◌≡◌, inl, refl, ap, sym, ◌∙◌, subst, rules}
 use Rattle.std.specs.Prelude.{slice_get, Some}
 use Rattle.cfb_fat.specs.Keeping.{fails_cause}
 use Rattle.cfb_owned.proofs.GoingOn.{goes_cause, goes_then}
@@ -12,7 +12,7 @@ use Rattle.cfb_live.proofs.EmptyStorages.{owns_nothing}
 use Rattle.cfb_live.proofs.Removed.{root_there, stream_held}
 use Rattle.cfb_live.proofs.Standing.{stands_of}
 use Rattle.cfb_live.proofs.Streams.{reads}
-use Rattle.cfb_live.proofs.Taken.{leaf_below, leaf_child, leaf_one, taken_means}
+use Rattle.cfb_live.proofs.Taken.{keeps_way, leaf_below, leaf_child, leaf_one, taken_means}
 use Rattle.cfb_live.proofs.taking.take_out.Goals as goal
 
 pub returns-in-Err-clause-refused : goal.returns-in-Err-clause-refused
@@ -87,3 +87,22 @@ returns-clause-taken g c = λ l tree path name m leaf.
 
 pub returns-clause-goes_on : goal.returns-clause-goes_on
 returns-clause-goes_on g c = goes_then _ _ _ c.free_stream.ensures.goes_on c.unlink_dir_entry-2.ensures.goes_on
+
+pub returns-then-not-is_stream-clause-ways : goal.returns-then-not-is_stream-clause-ways
+returns-then-not-is_stream-clause-ways g c = λ l tree path name m leaf.
+    let it = c.args.mini.now in
+    let did = c.in_default.ensures in
+    keeps_way l it tree m path name c.args.link c.args.id leaf (entries_held (directory_of it)) (entries_held (directory_of c.unlink_dir_entry.new.self)) refl did.removed did.entry
+
+pub returns-clause-ways : goal.returns-clause-ways
+returns-clause-ways g c = λ l tree path name m leaf.
+    let it = c.args.mini.now in
+    let mid = c.free_stream.new.mini in
+    let id = c.args.id in
+    let did = c.in_default-unlink_dir_entry.ensures in
+    let e = entry_in c.dir_entry.result.now in
+    let found : slice_get (entries_held (directory_of it)) id ≡ Some e = ap (λ d. slice_get (entries_held d) id) (sym c.directory-2.ensures) ∙ c.dir_entry.ensures in
+    let kind : e.kind ≡ kind_stream = c.is_stream.ensures.0 c.if-not-is_stream.false in
+    let has = stream_held l it tree m id e (leaf_one l it tree m path name c.args.link id leaf) found kind in
+    let frees = c.in_default-free_stream.ensures.freed m.who e has.0 (stands_of l it tree m) found has.1 in
+    keeps_way l it tree m path name c.args.link id leaf (entries_held (directory_of mid)) (entries_held (directory_of c.unlink_dir_entry-2.new.self)) frees.entries did.removed did.entry
