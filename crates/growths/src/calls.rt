@@ -2,7 +2,7 @@
 use crate::files::{bytes_now, image, opened, stays};
 use cfb::CompoundFile;
 use cfb_chains::Links;
-use cfb_live::{NewObject, make_object};
+use cfb_live::{NewObject, create_storage_all, make_object, remove_storage_all};
 use cfb_medium::{Error, MemoryMedium, Timestamp};
 use cfb_mini::MiniLinks;
 use cfb_owned::set_chain_len;
@@ -20,6 +20,9 @@ const MANY_MINIS: usize = 1100;
 
 // More storages than the directory's first sector has entries for.
 const MANY_STORAGES: usize = 40;
+
+// More storages in one another than a list begins with room for.
+const DEEP: &str = "/a/b/c/d/e/f/g/h/i/j";
 
 // Lengths of a stream that lies in mini sectors, in sectors, in mini sectors again, and in none.
 const LENGTHS: [u64; 4] = [100, 5000, 4095, 0];
@@ -78,6 +81,22 @@ pub fn make_storages(alloc: Global) -> Result<bool, Error> {
         }
     }
     Ok(true)
+}
+
+/// Makes storages, one within the other, by one call, and takes all of them out by another.
+pub fn empty_root(alloc: Global) -> Result<bool, Error> {
+    let mut file = opened(alloc)?;
+    let letters = CaseMapper::ascii(alloc)?;
+    let empty = bytes_now(alloc, &file)?;
+    let moment = Timestamp::zero();
+    if let Err(error) = create_storage_all(alloc, &mut file, &letters, DEEP, moment) {
+        return stays(&file, &empty, error);
+    }
+    let before = bytes_now(alloc, &file)?;
+    match remove_storage_all(alloc, &mut file, &letters, "/") {
+        Ok(()) => Ok(true),
+        Err(error) => stays(&file, &before, error),
+    }
 }
 
 /// Makes a stream longer and shorter, so that it moves from mini sectors to sectors and back.

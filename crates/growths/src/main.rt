@@ -34,5 +34,8 @@ fn all_are_done(alloc: Global) -> Result<bool, Error> {
     if !calls::move_stream(alloc)? {
         return Ok(false);
     }
+    if !calls::empty_root(alloc)? {
+        return Ok(false);
+    }
     calls::make_storages(alloc)
 }
