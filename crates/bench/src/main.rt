@@ -2,6 +2,7 @@
 #![tactic(auto)]
 
 mod chains;
+mod contents;
 mod files;
 mod inserts;
 mod joins;
@@ -22,6 +23,8 @@ pool TEXTS        counts a use of each of so many texts, and then another one of
 pool-insert ROWS  inserts so many rows, an insert each, over a pool of 65535 texts
 streams COUNT     makes so many streams in one storage, in shuffled order, and removes them
 streams-up COUNT  the same in rising order
+write COUNT       writes so many streams of 100 bytes and as many of 10,000, and reads them from the file that is opened again
+large MEGABYTES   so with one stream of so many megabytes
 read FILE         opens the compound file of that path, lists it, and reads each stream whole
 ";
 
@@ -48,6 +51,8 @@ fn run(rt: &HostRuntime, name: &str, size: usize) -> Result<()> {
         "join" => joins::join(rt, size),
         "pool" => pools::count_twice(rt, size),
         "pool-insert" => pools::insert_one_each(rt, size),
+        "write" => contents::write_and_read(rt, size),
+        "large" => contents::write_large(rt, size),
         "streams" => streams::make_and_remove(rt, size, false),
         "streams-up" => streams::make_and_remove(rt, size, true),
         _ => bail!("there is no benchmark of this name"),
