@@ -66,7 +66,7 @@ impl<F: Medium> CompoundFile<F> {
     /// first is made: `InvalidInput` where the path leads above the root, `AlreadyExists` where a stream is in the way,
     /// `InvalidInput` where the name of a missing one is invalid. `Full` where numbers of entries or sectors are missing. The
     /// other errors are `Memory` and `Device`. After the first change each error leaves the file failed, and before it nothing is
-    /// changed, or the file has failed. Each part is looked for from the root ([MS-CFB] 2.6.2).
+    /// changed, or the file has failed. It goes down the path once ([MS-CFB] 2.6.2).
     pub fn create_storage_all(&mut self, path: &str, moment: Timestamp) -> Result<(), Error>
         ensures does { Does (names_in path.now)
             (λ names. create_storage_all names (units_of moment)) result self.old self.new }

@@ -56,8 +56,8 @@ impl<F: Medium> CompoundFile<F> {
 
     /// Removes the storage at a path with all that it holds; the root is only emptied. Its streams' sectors and all its entries are
     /// free then. `InvalidInput` where a stream is at the path. After the first change each error leaves the file failed. All else
-    /// is as for `remove_stream`. For each object that is removed it goes down to it from the root, and so takes as many steps as
-    /// the objects lie deep ([MS-CFB] 2.6.2 to 2.6.4).
+    /// is as for `remove_stream`. It keeps the way to the object that was removed last, and goes on from there ([MS-CFB] 2.6.2 to
+    /// 2.6.4).
     pub fn remove_storage_all(&mut self, path: &str) -> Result<(), Error>
         ensures does { Does (names_in path.now) (λ names. remove_storage_all names) result self.old
             self.new }
