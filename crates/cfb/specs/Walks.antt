@@ -1,14 +1,21 @@
--- In which order a walk shows the objects of a tree.
-use Rattle.std.specs.Prelude.{◌≡◌, ◌≢◌, ℕ, ◌<◌, true, List, [], ◌∷◌, ◌++◌, length, slice_index_or}
+-- Which objects of a tree a walk shows, and in which order.
+use Rattle.std.specs.Prelude.{◌≡◌, ◌≢◌, ℕ, ◌<◌, true, List, [], ◌∷◌, ◌++◌, length, slice_index_or, Some, ◌⊎◌}
 use Rattle.std.specs.Cmp.Lexicographic.{slice_cmp}
-use Rattle.std.specs.List.{AllPairs}
+use Rattle.std.specs.List.{All, AllPairs, Contains}
 use Rattle.std.specs.List.Sorted.{IsStrictlySortedBy}
 use Rattle.std.specs.Ordering.{on}
 use Rattle.std.specs.declared.cmp.Ordering.{Ordering}
-use Rattle.std.specs.declared.cmp.Ordering.TheVariants.{Less}
-use Rattle.cfb_meaning.specs.TreeRules.{Shown}
+use Rattle.std.specs.declared.cmp.Ordering.TheVariants.{Less, Equal}
+use Rattle.cfb_meaning.specs.TreeRules.{entries, Shown, shown, tree_step, walk, walk_storage}
 use Rattle.cfb_tree.specs.Names.{Letters, name_cmp}
+use Rattle.cfb_tree.specs.Objects.{Object, object_at}
 use Rattle.cfb_tree.specs.Paths.{Path}
+use Rattle.cfb_tree.specs.Tree.{Tree}
+
+-- what a walk answers: over the whole tree, or over the storage at a path
+abbrev pub IsWalk : Letters → Tree → List Shown → Type 0
+IsWalk letters tree all =
+    ((tree_step letters tree walk).1 ≡ entries all) ⊎ ((path : Path) × ((tree_step letters tree (walk_storage path)).1 ≡ entries all))
 
 -- paths are compared name by name, and one that ends comes before one that leads on
 abbrev pub path_cmp : Letters → Path → Path → Ordering
@@ -36,3 +43,12 @@ AreSiblingsInOrder letters all =
 -- the paths rise: so all that a storage holds comes right behind it, before its next sibling
 abbrev pub AreRising : Letters → List Shown → Type 0
 AreRising letters all = IsStrictlySortedBy (on (λ s. s.path) (path_cmp letters)) all
+
+-- each is the object that its path leads to
+abbrev pub AreFound : Letters → Tree → List Shown → Type 0
+AreFound letters tree all = All (λ s. (object : Object) × (object_at letters tree s.path ≡ Some object) × (s ≡ shown s.path object)) all
+
+-- each object that a path leads to is among them, under a path whose names count as the same ([MS-CFB] 2.6.4)
+abbrev pub HaveEach : Letters → Tree → List Shown → Type 0
+HaveEach letters tree all = (path : Path) (object : Object) → object_at letters tree path ≡ Some object
+    → (stored : Path) × (path_cmp letters path stored ≡ Equal) × Contains all (shown stored object)
