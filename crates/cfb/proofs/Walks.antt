@@ -72,7 +72,7 @@ module _ (letters : Letters) where
   sibling_first front a more b rest less =
       same_front front (a ∷ more) (b ∷ rest) ∙ ap (λ o. ordering_then o (path_cmp letters more rest)) less
 
-  -- what an object below a name is smaller than: all below the later names
+  -- a path by a name comes before all that is shown by the later names
   later_all : (later : Content) (path : Path) (n : List ℕ) (more : Path) → AllByRecursion (λ m. name_cmp letters n m ≡ Less) (child_names later)
       → AllByRecursion (λ s. path_cmp letters (path ++ n ∷ more) s.path ≡ Less) (all_shown path later)
   later_all later path n more h = below later path (λ m. name_cmp letters n m ≡ Less) (λ p. path_cmp letters (path ++ n ∷ more) p ≡ Less)
