@@ -37,7 +37,7 @@ module _ {F : Type 0} {g : Ghosts F} {T : Type 0} (path : Option Path) (old new 
     failed = λ failed. let never : true ≡ false = sym failed ∙ live in absurd (cc);
     unsound = λ _ unsound. let never : true ≡ false = sym is ∙ unsound in absurd (cc);
     done = tt;
-    refused = λ tree m. did.refused tree m.live;
+    refused = λ tree m. ⊎_elim (λ fault. inl fault) (λ rule. inr (rule.0, record { mini = rule.1; letters = letters; sound = sound })) (did.refused tree m.live);
     rests = ⊎_elim (λ failed. inl failed) (λ keeps. inr (record { mini = keeps; letters = letters; sound = sound })) did.rests;
     seen = (letters, sound);
   }
@@ -56,7 +56,7 @@ module _ {F : Type 0} {g : Ghosts F} {T : Type 0} (path : Option Path) (old new 
     failed = did.failed;
     unsound = did.unsound;
     done = tt;
-    refused = λ tree m. ⊎_elim (λ fault. inl fault) (λ rule. inr (same_answer (letters_in old) tree moment path ∙ rule)) (did.refused tree m);
+    refused = λ tree m. ⊎_elim (λ fault. inl fault) (λ rule. inr (same_answer (letters_in old) tree moment path ∙ rule.0, rule.1)) (did.refused tree m);
     rests = did.rests;
     seen = did.seen;
   }

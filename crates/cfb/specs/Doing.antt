@@ -34,13 +34,13 @@ module _ {F : Type 0} {g : Ghosts F} where
     pub accepted : (tree_step (letters_in old) tree (call names)).1 ≡ done
     pub means : Means new (tree_step (letters_in old) tree (call names)).0
 
-  -- One that has failed answers `Failed`, and one that isn't sound `InvalidData`. Of a file that means a tree the call at the path
-  -- is done by the rules, or refused just as these refuse it; else a fault came between. After an error nothing is changed, or
-  -- the file has failed.
+  -- One that has failed answers `Failed`. One that isn't sound answers `InvalidData`, and nothing is changed. Of a file that means a
+  -- tree the call at the path is done by the rules, or refused just as these refuse it, and then nothing is changed; else a fault
+  -- came between. After another error nothing is changed, or the file has failed.
   pub record Does {T : Type 0} (path : Option Path) (call : Path → Call) (result : Result T Error) (old new : CompoundFile F g) : Type 0 where
     pub failed : has_failed_here (allocator_of (mini_of old)) ≡ true → IsErrOf result Failed
-    pub unsound : has_failed_here (allocator_of (mini_of old)) ≡ false → sound_of old ≡ false → IsErrOf result InvalidData
+    pub unsound : has_failed_here (allocator_of (mini_of old)) ≡ false → sound_of old ≡ false → IsErrOf result InvalidData × Keeps old new
     pub done : OnOk result ((tree : Tree) → Means old tree → IsDone path call tree old new)
-    pub refused : IfErr result (λ e. (tree : Tree) → Means old tree → IsFault e ⊎ (answer_at (letters_in old) tree call path ≡ refused e))
+    pub refused : IfErr result (λ e. (tree : Tree) → Means old tree → IsFault e ⊎ ((answer_at (letters_in old) tree call path ≡ refused e) × Keeps old new))
     pub rests : OnErr result ((has_failed_here (allocator_of (mini_of new)) ≡ true) ⊎ Keeps old new)
     pub seen : (letters_in new ≡ letters_in old) × (sound_of new ≡ sound_of old)

@@ -27,9 +27,9 @@ module _ {F : Type 0} {g : Ghosts F} where
     pub accepted : (tree_step letters tree (call names)).1 ≡ done
     pub means : Means letters new (tree_step letters tree (call names)).0
 
-  -- Of a file that means a tree: the call at the path is done by the rules, or refused just as these refuse it; else a fault came
-  -- between. After an error nothing is changed, or the file has failed.
+  -- Of a file that means a tree: the call at the path is done by the rules, or refused just as these refuse it, and then nothing is
+  -- changed; else a fault came between. After another error nothing is changed, or the file has failed.
   pub record Does {T : Type 0} (letters : Letters) (path : Option Path) (call : Path → Call) (result : Result T Error) (old new : MiniAllocator F g) : Type 0 where
     pub done : OnOk result ((tree : Tree) → Means letters old tree → IsDone letters path call tree new)
-    pub refused : IfErr result (λ e. (tree : Tree) → Means letters old tree → IsFault e ⊎ (answer_at letters tree call path ≡ refused e))
+    pub refused : IfErr result (λ e. (tree : Tree) → Means letters old tree → IsFault e ⊎ ((answer_at letters tree call path ≡ refused e) × KeepsOwners old new))
     pub rests : OnErr result ((has_failed_here (allocator_of new) ≡ true) ⊎ KeepsOwners old new)

@@ -120,8 +120,8 @@ fn make_named<F: Medium>(
         → MakesAt (letters_of letters.now) (path_of names.now) object tree mini.new) }
     ensures refused { IfErr result (λ e. (tree : Tree)
         → Means (letters_of letters.now) mini.old tree → IsFault e
-        ⊎ ((tree_step (letters_of letters.now) tree (making object (path_of names.now))).1
-        ≡ refused e)) }
+        ⊎ (((tree_step (letters_of letters.now) tree (making object (path_of names.now))).1
+        ≡ refused e) × KeepsOwners mini.old mini.new)) }
     ensures rests { OnErr result ((has_failed_here (allocator_of mini.new) ≡ true)
         ⊎ KeepsOwners mini.old mini.new) }
     ensures goes_on { GoesOn (allocator_of mini.old) (allocator_of mini.new) }

@@ -50,7 +50,7 @@ module _ {F : Type 0} {g : Ghosts F} (letters : Letters) (old new : MiniAllocato
     refused = λ tree m.
         ⊎_elim
         (λ fault. inl fault)
-        (λ told. inr (ap (answer_at letters tree (λ p. create_stream p)) is ∙ ap (λ o. o.1) (sym (step_new letters tree path (free tree m))) ∙ sym (ap (answer_at letters tree (making Stream)) is) ∙ told))
+        (λ told. inr (ap (answer_at letters tree (λ p. create_stream p)) is ∙ ap (λ o. o.1) (sym (step_new letters tree path (free tree m))) ∙ sym (ap (answer_at letters tree (making Stream)) is) ∙ told.0, told.1))
         (d.refused tree m);
     rests = d.rests;
   }

@@ -38,7 +38,7 @@ returns-in_default-clause-does g c = record {
       let held = means_held l it tree m in
       let told = subst (λ es. HoldsTree l (ReadBy Reads) es tree) (sym same) held in
       let at_path = names_are c.args.path.now c.in-Ok.names.items c.in-Ok.ensures.names ∙ ap (λ ns. Some (path_of ns)) (sym c.deref.ensures.value) in
-      inr (ap (answer_at l tree (λ names. remove_storage_all names)) at_path ∙ step_all_missing l tree path (c.in_default.ensures Reads tree told));
+      inr (ap (answer_at l tree (λ names. remove_storage_all names)) at_path ∙ step_all_missing l tree path (c.in_default.ensures Reads tree told), keeps_refl it);
   rests = inr (keeps_refl c.args.mini.now);
 }
 
@@ -82,7 +82,7 @@ returns-then-is_stream-clause-does g c = record {
       let found : slice_get directory id ≡ Some e = ap (λ d. slice_get (entries_held d) id) (sym c.directory-4.ensures) ∙ c.dir_entry.ensures in
       let kind = object_kind Reads l directory tree held id e found path at in
       let is = stream_of at.object kind (c.is_stream.ensures.0 c.if-is_stream.true) in
-      inr (ap (answer_at l tree (λ names. remove_storage_all names)) at_path ∙ step_all_stream l tree path is.0 is.1 is.2 (at.at_path ∙ ap Some is.3));
+      inr (ap (answer_at l tree (λ names. remove_storage_all names)) at_path ∙ step_all_stream l tree path is.0 is.1 is.2 (at.at_path ∙ ap Some is.3), keeps_refl it);
   rests = inr (keeps_refl c.args.mini.now);
 }
 

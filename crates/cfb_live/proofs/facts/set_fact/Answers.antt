@@ -31,10 +31,13 @@ returns-in-Err-clause-does g c = record {
       let same : entries_in c.dir_entries.result.now ≡ entries_held (directory_of it) = c.dir_entries.ensures ∙ ap entries_held c.directory-2.ensures in
       ⊎_elim
       (λ memory. inl (inl (subst (IsFaultUnless ⊥) (sym memory) tt)))
-      (λ rest. inr (⊎_elim
-      (λ above. ap (answer_at l tree (setting c.args.fact)) above.1 ∙ ap refused (sym above.0))
-      (λ missing. ap (answer_at l tree (setting c.args.fact)) missing.2 ∙ step_missing l tree missing.1 c.args.fact missing.3 ∙ ap refused (sym missing.0))
-      rest))
+      (λ rest. inr (
+        ⊎_elim
+            (λ above. ap (answer_at l tree (setting c.args.fact)) above.1 ∙ ap refused (sym above.0))
+            (λ missing. ap (answer_at l tree (setting c.args.fact)) missing.2 ∙ step_missing l tree missing.1 c.args.fact missing.3 ∙ ap refused (sym missing.0))
+            rest,
+        keeps_refl it,
+      ))
       (c.in-Err.ensures.refused Reads tree (subst (λ es. HoldsTree l (ReadBy Reads) es tree) (sym same) (means_held l it tree m)));
   rests = inr (keeps_refl c.args.mini.now);
 }
@@ -79,9 +82,12 @@ returns-in-Err-change_of-clause-does g c = record {
       let at = c.in-Ok.ensures.found Reads tree (subst (λ es. HoldsTree l (ReadBy Reads) es tree) (sym same) held) in
       let here = subst (λ es. IsEntryAt (ReadBy Reads) l es tree at.0 id) same at.2 in
       let told = c.in-Err-change_of.ensures.refused in
-      inr (ap (answer_at l tree (setting c.args.fact)) at.1
-      ∙ step_refused l tree at.0 id e c.args.fact here.object here.at_path (object_kind Reads l (entries_held (directory_of it)) tree held id e found at.0 here) told.1
-      ∙ ap refused (sym told.0));
+      inr (
+        ap (answer_at l tree (setting c.args.fact)) at.1
+            ∙ step_refused l tree at.0 id e c.args.fact here.object here.at_path (object_kind Reads l (entries_held (directory_of it)) tree held id e found at.0 here) told.1
+            ∙ ap refused (sym told.0),
+        keeps_refl it,
+      );
   rests = inr (keeps_refl c.args.mini.now);
 }
 

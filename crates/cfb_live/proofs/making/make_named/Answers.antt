@@ -12,6 +12,7 @@ use Rattle.cfb_live.specs.Live.{live_of}
 use Rattle.cfb_live.specs.Making.{IsFreePlace}
 use Rattle.cfb_live.specs.Parents.{MakesAt}
 use Rattle.cfb_live.proofs.NewPlaces.{last_is, length-path, path_is}
+use Rattle.cfb_live.proofs.Resting.{keeps_refl}
 use Rattle.cfb_live.proofs.SetFacts.{means_held}
 use Rattle.cfb_live.proofs.Streams.{reads}
 use Rattle.cfb_live.proofs.making.make_named.Goals as goal
@@ -29,7 +30,7 @@ returns-in-Err-clause-refused g c = λ tree m.
     let l = letters_of c.args.letters.now in
     let Reads = reads (live_of it) m.who in
     let same : entries_in c.dir_entries.result.now ≡ entries_held (directory_of it) = c.dir_entries.ensures ∙ ap entries_held c.directory-2.ensures in
-    inr (c.in-Err.ensures.refused Reads tree (subst (λ es. HoldsTree l (ReadBy Reads) es tree) (sym same) (means_held l it tree m)) c.args.object)
+    inr (c.in-Err.ensures.refused Reads tree (subst (λ es. HoldsTree l (ReadBy Reads) es tree) (sym same) (means_held l it tree m)) c.args.object, keeps_refl it)
 
 pub returns-in-Err-make_child-clause-refused : goal.returns-in-Err-make_child-clause-refused
 returns-in-Err-make_child-clause-refused g c = λ tree m.

@@ -12,7 +12,7 @@ returns-in-Err-make_named-clause-does g c = record {
   done = tt;
   refused = λ tree m.
       let at_path = names_are c.args.path.now c.in-Ok.names.items c.in-Ok.ensures.names ∙ ap (λ ns. Some (path_of ns)) (sym c.deref.ensures.value) in
-      ⊎_elim (λ fault. inl fault) (λ rule. inr (ap (answer_at (letters_of c.args.letters.now) tree (making c.args.object)) at_path ∙ rule)) (c.in-Err-make_named.ensures.refused tree m);
+      ⊎_elim (λ fault. inl fault) (λ rule. inr (ap (answer_at (letters_of c.args.letters.now) tree (making c.args.object)) at_path ∙ rule.0, rule.1)) (c.in-Err-make_named.ensures.refused tree m);
   rests = c.in-Err-make_named.ensures.rests;
 }
 

@@ -35,7 +35,7 @@ returns-in-Err-first_missing-clause-does g c = record {
       let same : entries_in c.dir_entries.result.now ≡ entries_held (directory_of it) = c.dir_entries.ensures ∙ ap entries_held c.directory-2.ensures in
       let held = subst (λ es. HoldsTree l (ReadBy Reads) es tree) (sym same) (means_held l it tree m) in
       let at_path = names_are c.args.path.now c.in-Ok.names.items c.in-Ok.ensures.names ∙ ap (λ ns. Some (path_of ns)) (sym c.deref.ensures.value) in
-      inr (ap (answer_at l tree (λ ns. create_storage_all ns moment)) at_path ∙ c.in-Err-first_missing.ensures.refused Reads tree held moment);
+      inr (ap (answer_at l tree (λ ns. create_storage_all ns moment)) at_path ∙ c.in-Err-first_missing.ensures.refused Reads tree held moment, keeps_refl it);
   rests = inr (keeps_refl c.args.mini.now);
 }
 

@@ -34,10 +34,13 @@ returns-in-Err-find_child-clause-does g c = record {
       let same : entries_in c.dir_entries.result.now ≡ entries_held (directory_of it) = c.dir_entries.ensures ∙ ap entries_held c.directory-2.ensures in
       let held = means_held l it tree m in
       let at_path = names_are c.args.path.now c.in-Ok.names.items c.in-Ok.ensures.names ∙ ap (λ ns. Some (path_of ns)) (sym c.deref.ensures.value) in
-      inr (ap (answer_at l tree (λ names. remove_stream names)) at_path ∙ ⊎_elim
-      (λ missing. step_missing l tree path missing.1 ∙ ap refused (sym missing.0))
-      (λ root. step_root l tree path root.1 ∙ ap refused (sym root.0))
-      (c.in-Err-find_child.ensures.refused Reads tree (subst (λ es. HoldsTree l (ReadBy Reads) es tree) (sym same) held)));
+      inr (
+        ap (answer_at l tree (λ names. remove_stream names)) at_path ∙ ⊎_elim
+            (λ missing. step_missing l tree path missing.1 ∙ ap refused (sym missing.0))
+            (λ root. step_root l tree path root.1 ∙ ap refused (sym root.0))
+            (c.in-Err-find_child.ensures.refused Reads tree (subst (λ es. HoldsTree l (ReadBy Reads) es tree) (sym same) held)),
+        keeps_refl it,
+      );
   rests = inr (keeps_refl c.args.mini.now);
 }
 
@@ -58,7 +61,7 @@ returns-then-not-is_stream-clause-does g c = record {
       let e = entry_in c.dir_entry.result.now in
       let found : slice_get (entries_held (directory_of it)) id ≡ Some e = ap (λ d. slice_get (entries_held d) id) (sym c.directory-3.ensures) ∙ c.dir_entry.ensures in
       let is = storage_of at.object (kind_of_object (entries_held (directory_of it)) (ReadBy Reads) id at.object at.own e at.is_object found) (λ kind. let wrong = c.is_stream.ensures.1 kind in let not = c.if-not-is_stream.true in absurd (cc)) in
-      inr (ap (answer_at l tree (λ names. remove_stream names)) at_path ∙ step_storage l tree path is.0 is.1 is.2 (at.at_path ∙ ap Some is.3));
+      inr (ap (answer_at l tree (λ names. remove_stream names)) at_path ∙ step_storage l tree path is.0 is.1 is.2 (at.at_path ∙ ap Some is.3), keeps_refl it);
   rests = inr (keeps_refl c.args.mini.now);
 }
 

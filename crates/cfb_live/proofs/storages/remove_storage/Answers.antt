@@ -36,10 +36,13 @@ returns-in-Err-find_child-clause-does g c = record {
       let same : entries_in c.dir_entries.result.now ≡ directory = c.dir_entries.ensures ∙ ap entries_held c.directory-2.ensures in
       let held = means_held l it tree m in
       let at_path = names_are c.args.path.now c.in-Ok.names.items c.in-Ok.ensures.names ∙ ap (λ ns. Some (path_of ns)) (sym c.deref.ensures.value) in
-      inr (ap (answer_at l tree (λ names. remove_storage names)) at_path ∙ ⊎_elim
-      (λ missing. step_no_storage l tree path missing.1 ∙ ap refused (sym missing.0))
-      (λ root. step_root_stays l tree path root.1 ∙ ap refused (sym root.0))
-      (c.in-Err-find_child.ensures.refused Reads tree (subst (λ es. HoldsTree l (ReadBy Reads) es tree) (sym same) held)));
+      inr (
+        ap (answer_at l tree (λ names. remove_storage names)) at_path ∙ ⊎_elim
+            (λ missing. step_no_storage l tree path missing.1 ∙ ap refused (sym missing.0))
+            (λ root. step_root_stays l tree path root.1 ∙ ap refused (sym root.0))
+            (c.in-Err-find_child.ensures.refused Reads tree (subst (λ es. HoldsTree l (ReadBy Reads) es tree) (sym same) held)),
+        keeps_refl it,
+      );
   rests = inr (keeps_refl c.args.mini.now);
 }
 
@@ -62,7 +65,7 @@ returns-then-is_stream-clause-does g c = record {
       let e = entry_in c.dir_entry-storage.result.now in
       let found : slice_get directory id ≡ Some e = ap (λ d. slice_get (entries_held d) id) (sym c.directory-3.ensures) ∙ c.dir_entry-storage.ensures in
       let is = stream_of at.object (kind_of_object directory (ReadBy Reads) id at.object at.own e at.is_object found) (c.is_stream.ensures.0 c.if-is_stream.true) in
-      inr (ap (answer_at l tree (λ names. remove_storage names)) at_path ∙ step_is_stream l tree path is.0 is.1 is.2 (at.at_path ∙ ap Some is.3));
+      inr (ap (answer_at l tree (λ names. remove_storage names)) at_path ∙ step_is_stream l tree path is.0 is.1 is.2 (at.at_path ∙ ap Some is.3), keeps_refl it);
   rests = inr (keeps_refl c.args.mini.now);
 }
 
@@ -86,7 +89,7 @@ returns-then-storage-clause-does g c = record {
       let found : slice_get directory id ≡ Some e = ap (λ d. slice_get (entries_held d) id) (sym c.directory-3.ensures) ∙ c.dir_entry-storage.ensures in
       let never : e.kind ≡ kind_stream → ⊥ = λ kind. let wrong = c.is_stream.ensures.1 kind in absurd (cc) in
       let is = full_inside directory (ReadBy Reads) id at.object at.own e at.is_object found never (λ none. let wrong = c.if-storage.true in grind (arith, none, wrong)) in
-      inr (ap (answer_at l tree (λ names. remove_storage names)) at_path ∙ step_full l tree path is.0 is.1 is.2 some (at.at_path ∙ ap Some is.3) is.4);
+      inr (ap (answer_at l tree (λ names. remove_storage names)) at_path ∙ step_full l tree path is.0 is.1 is.2 some (at.at_path ∙ ap Some is.3) is.4, keeps_refl it);
   rests = inr (keeps_refl c.args.mini.now);
 }
 

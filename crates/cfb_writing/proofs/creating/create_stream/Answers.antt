@@ -70,7 +70,7 @@ returns-then-not-is_stream-clause-does g c = record {
       let e = entry_in c.dir_entry.result.now in
       let found : slice_get (entries_held (directory_of it)) id ≡ Some e = ap (λ d. slice_get (entries_held d) id) (sym c.directory-4.ensures) ∙ c.dir_entry.ensures in
       let is = storage_of at.object (object_kind Reads l (entries_held (directory_of it)) tree held id e found path at) (λ kind. let wrong = c.is_stream.ensures.1 kind in let not = c.if-not-is_stream.true in absurd (cc)) in
-      inr (ap (answer_at l tree (λ names. create_stream names)) at_path ∙ step_storage l tree path is.0 is.1 is.2 (at.at_path ∙ ap Some is.3));
+      inr (ap (answer_at l tree (λ names. create_stream names)) at_path ∙ step_storage l tree path is.0 is.1 is.2 (at.at_path ∙ ap Some is.3), keeps_refl it);
   rests = inr (keeps_refl c.args.mini.now);
 }
 
