@@ -227,7 +227,7 @@ impl<'a, F: Medium> Stream<'a, F> {
     // Where so many bytes end that are written from the position on.
     fn end_behind(&self, count: usize) -> Result<u64, Error>
         ensures end { IfOk result (λ n. (n ≡ place_of self.now + count)
-            × (n < 2 ^ 63)) }
+            × (n < 2 ^ 63) × (n ≤ stream_len_mask (version_of (allocator_under self.now)))) }
         ensures large { IsErrOf result InvalidInput
             → stream_len_mask (version_of (allocator_under self.now))
             < place_of self.now + count }
@@ -294,7 +294,8 @@ impl<'a, F: Medium> Stream<'a, F> {
     /// Writes all the bytes over those from the position on, and behind the end where the stream becomes longer; the position is
     /// behind them then. They lie in the file at once. `InvalidInput` where the size doesn't fit into an entry (in version 3 past
     /// 2^32 - 1), `Full` where fewer numbers of sectors are left. The other errors of a stream that stands are `Memory`, `Device`,
-    /// and `Failed` after an earlier fault. After an error nothing is changed, or the file has failed ([MS-CFB] 2.6.3).
+    /// and `Failed` after an earlier fault. `InvalidInput` changes nothing; after another error nothing is changed, or the file has
+    /// failed ([MS-CFB] 2.6.3).
     pub fn write(&mut self, bytes: &[u8]) -> Result<usize, Error>
         ensures written { OnOk result (Rewrites
             (λ content. overwritten content (place_of self.old) bytes.now) self.old self.new) }
@@ -304,6 +305,7 @@ impl<'a, F: Medium> Stream<'a, F> {
         ensures large { IsErrOf result InvalidInput → IfStands self.old
             (stream_len_mask (version_of (allocator_under self.old))
             < place_of self.old + length bytes.now) }
+        ensures unchanged { IsErrOf result InvalidInput → Keeps self.old self.new }
         ensures refused { IsErrOf result InvalidData → IsLost self.old }
         ensures kept { OnErr result ((has_failed_here (allocator_under self.new) ≡ true)
             ⊎ Keeps self.old self.new) }
@@ -330,6 +332,7 @@ impl<'a, F: Medium> Stream<'a, F> {
         ensures unmoved { OnErr result (place_of self.new ≡ place_of self.old) }
         ensures large { IsErrOf result InvalidInput
             → stream_len_mask (version_of (allocator_under self.old)) < len }
+        ensures unchanged { IsErrOf result InvalidInput → Keeps self.old self.new }
         ensures refused { IsErrOf result InvalidData → IsLost self.old }
         ensures kept { OnErr result ((has_failed_here (allocator_under self.new) ≡ true)
             ⊎ Keeps self.old self.new) }

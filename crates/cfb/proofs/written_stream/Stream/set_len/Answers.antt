@@ -1,4 +1,7 @@
-use Rattle.std.proofs.Common.{refl, inl, inr, ⊎_elim}
+use Rattle.std.proofs.Common.{◌<◌, ◌≡◌, ◌∙◌, ap, arith, refl, inl, inr, ⊎_elim}
+use Rattle.cfb_fat.specs.Tables.{version_of}
+use Rattle.cfb_medium.specs.Versions.{stream_len_mask}
+use Rattle.cfb.specs.Writing.{allocator_under}
 use Rattle.cfb.proofs.Standing.{on_err, on_ok, stands_as}
 use Rattle.cfb.proofs.written_stream.Stream.set_len.Goals as goal
 
@@ -16,3 +19,11 @@ returns-clause-refused g c = λ wrong path tree content s. c.resize.ensures.refu
 
 pub returns-clause-kept : goal.returns-clause-kept
 returns-clause-kept g c = on_err c.resize.result (⊎_elim (λ failed. inl failed) (λ k. inr (λ path tree content s. k path tree content (stands_as c.args.self.now _ refl refl refl path tree content s)))) c.resize.ensures.kept
+
+pub returns-then-len-stream_len_mask-clause-unchanged : goal.returns-then-len-stream_len_mask-clause-unchanged
+returns-then-len-stream_len_mask-clause-unchanged g c = λ wrong path tree content s. stands_as c.args.self.now _ refl refl refl path tree content s
+
+pub returns-clause-unchanged : goal.returns-clause-unchanged
+returns-clause-unchanged g c = λ wrong path tree content s. let past : stream_len_mask (version_of (allocator_under c.args.self.now)) < c.args.len = c.resize.ensures.large wrong in
+    let most : c.stream_len_mask.result ≡ stream_len_mask (version_of (allocator_under c.args.self.now)) = c.stream_len_mask.ensures ∙ ap stream_len_mask c.version.ensures in
+    absurd (omega (arith, past, most))

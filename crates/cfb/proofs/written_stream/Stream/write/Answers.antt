@@ -1,4 +1,4 @@
-use Rattle.std.proofs.Common.{◌<◌, inl, inr, refl, subst, ⊎_elim}
+use Rattle.std.proofs.Common.{◌<◌, arith, inl, inr, refl, subst, ⊎_elim}
 use Rattle.cfb_fat.specs.Tables.{version_of}
 use Rattle.cfb_medium.specs.Versions.{stream_len_mask}
 use Rattle.cfb.specs.Writing.{allocator_under}
@@ -29,3 +29,14 @@ returns-clause-refused g c = λ wrong path tree content s. c.overwrite.ensures.r
 
 pub returns-clause-kept : goal.returns-clause-kept
 returns-clause-kept g c = on_err c.overwrite.result (⊎_elim (λ failed. inl failed) (λ k. inr (λ path tree content s. k path tree content (stands_as c.args.self.now _ refl refl refl path tree content s)))) c.overwrite.ensures.kept
+
+pub returns-in-Err-clause-unchanged : goal.returns-in-Err-clause-unchanged
+returns-in-Err-clause-unchanged g c = λ wrong path tree content s. stands_as c.args.self.now _ refl refl refl path tree content s
+
+pub returns-then-end-self-clause-unchanged : goal.returns-then-end-self-clause-unchanged
+returns-then-end-self-clause-unchanged g c = λ wrong path tree content s.
+    let past = c.extend.ensures.large wrong path tree content (stands_as c.args.self.now _ refl refl refl path tree content s) in
+    let within = c.in-Ok.ensures.end.2 in absurd (omega (arith, past, within))
+
+pub returns-clause-unchanged : goal.returns-clause-unchanged
+returns-clause-unchanged g c = λ wrong path tree content s. absurd (c.overwrite.ensures.large wrong path tree content (stands_as c.args.self.now _ refl refl refl path tree content s))
