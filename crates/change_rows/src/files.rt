@@ -1,12 +1,12 @@
 //! Calls on a compound file in memory.
 use crate::faults::{call_fails, open_fails};
 use crate::names::names_sum;
-use crate::streams::{append, limited, pieces_of, set_len, sums_of, write_at};
+use crate::streams::{append, limited, pieces_of, set_len, sum_of, sums_of, write_at};
 use crate::told::{bytes_of, count_of, tree_of};
 use cfb::CompoundFile;
 use cfb_medium::{Error, Medium, MemoryMedium, Timestamp};
 use cfb_tree::CaseMapper;
-use row_data::{Row, Subject, bytes_at, copied, told};
+use row_data::{Row, Subject, bytes_at, copied, part_of, told};
 use std::alloc::Global;
 use uuid::Uuid;
 
@@ -40,6 +40,17 @@ impl Files {
         Ok(format!(in alloc; "{len} bytes")?)
     }
 
+    // Some of the file's own bytes, or how many it has with their sum.
+    fn own_bytes(&mut self, alloc: Global, row: &Row) -> Result<String, Error> {
+        let bytes = self.taken()?.into_bytes();
+        let said = match row.call() {
+            "part" => part_of(alloc, &bytes, row)?,
+            _ => format!(in alloc; "{} bytes, {}", bytes.len(), sum_of(&bytes))?,
+        };
+        self.file = Some(lenient(alloc, MemoryMedium::from_bytes(alloc, bytes))?);
+        Ok(said)
+    }
+
     // Opens the file, or makes a call on it, over media that fail.
     fn failing(&mut self, alloc: Global, row: &Row) -> Result<String, Error> {
         let bytes = self.taken()?.into_bytes();
@@ -69,6 +80,7 @@ impl Subject for Files {
             }
             "open fails" | "fails" => return self.failing(alloc, row),
             "copy" => return self.copy(alloc),
+            "part" | "whole" => return self.own_bytes(alloc, row),
             _ => {}
         }
         match &mut self.file {

@@ -106,7 +106,7 @@ pub fn limited(
         .map_err(|refused| refused.1)
 }
 
-/// Each stream with its length and the sum of its bytes, to each of which 257 times the sum so far is added.
+/// Each stream with its length and the sum of its bytes.
 pub fn sums_of(alloc: Global, file: &mut CompoundFile<MemoryMedium>) -> Result<String, Error> {
     let mut text = String::new(alloc);
     for entry in file.walk()? {
@@ -122,7 +122,8 @@ pub fn sums_of(alloc: Global, file: &mut CompoundFile<MemoryMedium>) -> Result<S
     Ok(text)
 }
 
-fn sum_of(bytes: &[u8]) -> u32 {
+/// The sum of bytes, to each of which 257 times the sum so far is added.
+pub fn sum_of(bytes: &[u8]) -> u32 {
     let mut sum = 0u32;
     for byte in bytes {
         sum = sum.wrapping_mul(257).wrapping_add(u32::from(*byte));

@@ -3,9 +3,9 @@ use crate::chains::header_told;
 use crate::directory::validation_of;
 use cfb_medium::{Error, MemoryMedium, Version};
 use cfb_opening::open_file;
-use cfb_sectors::Validation;
+use cfb_sectors::{Header, Validation};
 use cfb_tree::CaseMapper;
-use row_data::{Row, Subject, bytes_at};
+use row_data::{Row, Subject, bytes_at, runs};
 use std::alloc::Global;
 
 /// Opens bytes, with some of them changed.
@@ -36,6 +36,7 @@ impl Subject for Openings {
             "lenient header" => {
                 header_told(alloc, &self.changed(alloc, row)?, Validation::Permissive)
             }
+            "header again" => header_written(alloc, &self.changed(alloc, row)?),
             "version" => version_told(alloc),
             _ => {
                 let medium = MemoryMedium::from_bytes(alloc, self.changed(alloc, row)?);
@@ -77,6 +78,15 @@ fn opened(
     );
     let stream = file.mini_stream_sectors().len();
     Ok(format!(in alloc; "directory {directory}, mini FAT {fat}, mini stream {stream}")?)
+}
+
+// The bytes of a header that was read from bytes, and is written again.
+fn header_written(alloc: Global, bytes: &[u8]) -> Result<String, Error> {
+    let mut reader = bytes;
+    let header = Header::read_from(&mut reader, Validation::Permissive)?;
+    let mut written = Vec::new(alloc);
+    header.write_to(&mut written)?;
+    runs(alloc, &written)
 }
 
 // Lengths of sectors, and how many directory entries they have.
