@@ -80,17 +80,13 @@ among_last ids m n at size is x none (suc zero) below same =
 among_last ids m n at size is x none (suc (suc k)) below same = absurd (omega arith)
 
 -- the last sector of a chain is one alone
-last_alone : (table ids : List ℕ) (m last start : ℕ) → suc m ≡ length ids → last ≡ get_or ids m 0 → IsChain table start ids → (drop m ids ≡ last ∷ []) × IsChain table last (last ∷ [])
+pub last_alone : (table ids : List ℕ) (m last start : ℕ) → suc m ≡ length ids → last ≡ get_or ids m 0 → IsChain table start ids → (drop m ids ≡ last ∷ []) × IsChain table last (last ∷ [])
 last_alone table ids m last start size is_last chain =
     let here = chain_from table start ids m 0 (omega (arith, size)) chain in
     let rest : drop m ids ≡ get_or ids m 0 ∷ drop (suc m) ids = drop-cons ids m 0 (omega (arith, size)) in
     let none : drop (suc m) ids ≡ [] = drop_all (suc m) ids (omega (arith, size)) in
     let whole : drop m ids ≡ last ∷ [] = rest ∙ ap (λ l. get_or ids m 0 ∷ l) none ∙ ap (λ x. x ∷ []) (sym is_last) in
     (whole, subst (IsChain table last) whole (subst (λ s. IsChain table s (drop m ids)) (sym is_last) here))
-
--- so a chain whose last sector the table doesn't extend is none
-pub none_to_extend : (table ids : List ℕ) (m last : ℕ) → suc m ≡ length ids → last ≡ get_or ids m 0 → ((found : List ℕ) (at : ℕ) → IsChain table last (found ++ at ∷ []) → ⊥) → IsLinked table ids → ⊥
-none_to_extend table ids m last size is_last never linked = never [] last (last_alone table ids m last (slice_index_or ids 0 end_of_chain) size is_last linked).1
 
 -- the chain of a list is that of the list with its last sector apart
 module _ (old new ids found : List ℕ) (m n last at : ℕ) (size : suc m ≡ length ids) (is_last : last ≡ get_or ids m 0)

@@ -4,6 +4,7 @@ pub mod ChainCutting
 pub mod ChainGrowing
 pub mod ChainParts
 pub mod ChainWriting
+pub mod Ending
 pub mod Extending
 pub mod Lending
 pub mod LongerTables

@@ -1,12 +1,12 @@
 -- What calls that change a chain say of it ([MS-CFB] 2.3).
-use Rattle.std.specs.Prelude.{◌≡◌, ℕ, ◌+◌, ◌-◌, ◌*◌, ◌<◌, ◌⊎◌, ◌↔◌, false, min, true, List, ◌++◌, drop, length, replicate, slice_index_or, take, IfErr, IfOk, IsErrOf, IsTrue, OnErr, OnOk, Result}
+use Rattle.std.specs.Prelude.{◌≡◌, ℕ, ◌+◌, ◌-◌, ◌*◌, ◌<◌, ◌⊎◌, ◌↔◌, false, min, true, List, [], ◌∷◌, ◌++◌, drop, length, replicate, slice_index, slice_index_or, take, IfErr, IfOk, IsErrOf, IsTrue, OnErr, OnOk, Result}
 use Rattle.cfb_medium.specs.Bytes.{overwritten}
 use Rattle.cfb_medium.specs.Calls.{IsFaultUnless}
 use Rattle.cfb_medium.specs.Versions.{sector_len}
 use Rattle.cfb_medium.specs.declared.error.Error.{Error}
 use Rattle.cfb_medium.specs.declared.error.Error.TheVariants.{Failed, Full, InvalidData, InvalidInput}
 use Rattle.cfb_sectors.specs.Initial.{initial}
-use Rattle.cfb_sectors.specs.Sectors.{end_of_chain, free, greatest_regular, joined, sector_start}
+use Rattle.cfb_sectors.specs.Sectors.{end_of_chain, free, greatest_regular, joined, sector_start, Chain as IsChain}
 use Rattle.cfb_sectors.specs.declared.sector.HasSectors.{Ghosts}
 use Rattle.cfb_chains.specs.ChainViews.{holder_of, init_of, position_of, sectors_of, version_of}
 use Rattle.cfb_chains.specs.Changes.{AreAmong, AreOnce, HaveEntry}
@@ -101,6 +101,15 @@ module _ {H : Type 0} {s : Ghosts H} where
   -- the layer's tables can't be changed, or haven't the chain
   abbrev pub IsUnlinked : Freeing H → Chain H s → Type 0
   IsUnlinked g it = IsTrue (g.orderly (holder_of it)) → IsLinked (g.fat (holder_of it)) (sectors_of it) → ⊥
+
+  -- where it has sectors, the table has a chain from its last one on
+  abbrev pub HasEnd : (H → List ℕ) → Chain H s → Type 0
+  HasEnd fat it = 0 < length (sectors_of it) → (ids : List ℕ) × (last : ℕ)
+      × IsChain (fat (holder_of it)) (slice_index (sectors_of it) (length (sectors_of it) - 1)) (ids ++ last ∷ [])
+
+  -- the layer's tables can't be changed, or have no chain from its last sector on
+  abbrev pub HasNoEnd : Freeing H → Chain H s → Type 0
+  HasNoEnd g it = IsTrue (g.orderly (holder_of it)) → HasEnd g.fat it → ⊥
 
   -- it has so many sectors of those that it had, at the front; a position behind the new end went there
   abbrev pub IsCutTo : ℕ → Chain H s → Chain H s → Type 0

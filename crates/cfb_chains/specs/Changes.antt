@@ -30,6 +30,10 @@ HaveEntry entry table sectors = (k : ℕ) → k < length sectors → slice_index
 abbrev pub IsFreeIn : List ℕ → ℕ → Type 0
 IsFreeIn fat n = (slice_get fat n ≡ Some free) ⊎ (length fat ≤ n)
 
+-- no sector is spare: none is free but these, which hold the tables
+abbrev pub HasNoneSpare : List ℕ → List ℕ → Type 0
+HasNoneSpare fat tables = (n : ℕ) → slice_get fat n ≡ Some free → IsNoneOf tables n → ⊥
+
 -- each old entry but those named stays; the table may have become longer
 pub record StayBut (entries old new : List ℕ) : Type 0 where
   pub size : length old ≤ length new

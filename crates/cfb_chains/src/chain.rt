@@ -2,12 +2,11 @@
 ghost use Rattle.cfb_medium.specs.Calls.{IsFaultUnless};
 ghost use Rattle.cfb_medium.specs.Versions.{sector_len};
 ghost use Rattle.cfb_medium.specs.declared.error.Error.TheVariants.{Failed};
-ghost use Rattle.cfb_chains.specs.Grown.{IsLinked};
 ghost use Rattle.cfb_chains.specs.Positions.{left_in, place_in};
 ghost use Rattle.cfb_chains.specs.LinkViews.{ids_of, links_version};
-ghost use Rattle.cfb_sectors.specs.Sectors.{end_of_chain, Chain as IsChain};
+ghost use Rattle.cfb_sectors.specs.Sectors.{end_of_chain};
 ghost use Rattle.cfb_sectors.specs.Seeking.{Finds, IsNotFound};
-ghost use Rattle.std.specs.Prelude.{drop, false, length, slice_index_or, take, true, IfErr, IfOk, IsErrOf, IsTrue, List, OnErr, OnOk, ℕ, ◌*◌, ◌+◌, ◌-◌, ◌<◌, ◌≡◌, ◌≤◌};
+ghost use Rattle.std.specs.Prelude.{drop, false, length, slice_index, slice_index_or, take, true, IfErr, IfOk, IsErrOf, IsTrue, OnErr, OnOk, ℕ, ◌*◌, ◌+◌, ◌-◌, ◌<◌, ◌≡◌, ◌≤◌};
 
 use crate::Links;
 use cfb_medium::{Error, Version};
@@ -56,10 +55,11 @@ impl<'a, H: HasSectors> Chain<'a, H> {
         }
     }
 
-    // Its last sector, or "end of chain" where it has none: a table with the chain has one from there.
+    // Its last sector, or "end of chain" where it has none.
     pub(crate) fn last_sector_id(&self) -> u32
-        ensures { (table : List ℕ) → IsLinked table (sectors_of self.now)
-            → (ids : List ℕ) × IsChain table result ids }
+        ensures none { length (sectors_of self.now) ≡ 0 → result ≡ end_of_chain }
+        ensures some { 0 < length (sectors_of self.now)
+            → result ≡ slice_index (sectors_of self.now) (length (sectors_of self.now) - 1) }
     {
         let count = self.links.sector_ids().len();
         if count == 0 {

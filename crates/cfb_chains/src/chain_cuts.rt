@@ -76,8 +76,9 @@ impl<'a, H: GrowsChains> Chain<'a, H> {
 
     /// Gives the chain as many sectors as so many bytes need, in the FAT too. Those at its front stay, with their bytes; it
     /// takes in others behind them, which hold what its `init` says, or frees those that are too many. A position behind the
-    /// new end goes there. `InvalidData` where the tables can't be changed or haven't the chain, and then `Full` where fewer
-    /// numbers of sectors are left. After an error nothing is changed, or the layer has failed ([MS-CFB] 2.3).
+    /// new end goes there. `InvalidData` where the tables can't be changed or haven't the chain, with nothing changed, and then
+    /// `Full` where fewer numbers of sectors are left. After an error nothing is changed, or the layer has failed ([MS-CFB]
+    /// 2.3).
     #[tactic(auto, using(crate::proofs::ChainCutting::stays_inside))]
     pub fn set_len(&mut self, len: u64) -> Result<(), Error>
         ensures count { OnOk result (length (sectors_of self.new)
@@ -96,10 +97,11 @@ impl<'a, H: GrowsChains> Chain<'a, H> {
             ≡ min (position_of self.old) (len_of self.new)) }
         ensures stays { OnErr result (position_of self.new ≡ position_of self.old) }
         ensures same { IsSameBut self.old self.new }
-        ensures refused { IsErrOf result InvalidData → IsUnlinked H.FreesChains self.old }
-        ensures full { IsErrOf result Full → H.failed (holder_of self.new) ≡ false
-            → IsTrue (H.orderly (holder_of self.old))
-            × LacksNumber H.lacks (sectors_for (version_of self.old) len) self.old }
+        ensures refused { IsErrOf result InvalidData
+            → IsUnlinked H.FreesChains self.old × ChainRests H.rests self.old self.new }
+        ensures full { IsErrOf result Full → IsTrue (H.orderly (holder_of self.old))
+            × (H.failed (holder_of self.new) ≡ false
+            → LacksNumber H.lacks (sectors_for (version_of self.old) len) self.old) }
         ensures answers { Answers H.ChangesSectors IsInvalidOrFull result self.old self.new }
     {
         let count = needed_sectors(self.links.version(), len) as usize;

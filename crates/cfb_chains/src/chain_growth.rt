@@ -1,15 +1,16 @@
 //! Chains that become longer.
-ghost use Rattle.cfb_chains.specs.ChainCalls.{chain_bytes, new_sector, Answers, ChainRests, HasNoNumber, Holds, IsInvalidOrFull, IsUnlinked, Keeps, LacksNumber, Lengthens, MayWriteSector};
+ghost use Rattle.cfb_chains.specs.ChainCalls.{chain_bytes, new_sector, Answers, ChainRests, HasEnd, HasNoEnd, HasNoNumber, Holds, IsInvalidOrFull, IsUnlinked, Keeps, LacksNumber, Lengthens, MayWriteSector};
 ghost use Rattle.cfb_chains.specs.Changes.{AreAmong};
 ghost use Rattle.cfb_chains.specs.Grown.{IsLinked};
 ghost use Rattle.cfb_medium.specs.Calls.{IsFaultUnless};
 ghost use Rattle.cfb_medium.specs.declared.error.Error.TheVariants.{Failed, Full, InvalidData};
 ghost use Rattle.cfb_sectors.specs.Copies.{copies};
-ghost use Rattle.cfb_sectors.specs.Sectors.{greatest_regular};
+ghost use Rattle.cfb_sectors.specs.Sectors.{greatest_regular, Chain as IsChain};
 ghost use Rattle.std.specs.Prelude.{false, length, slice_index, IfErr, IfOk, IsErrOf, IsTrue, List, OnErr, OnOk, ℕ, [], ◌+◌, ◌++◌, ◌-◌, ◌<◌, ◌∷◌, ◌≡◌, ◌≤◌, ◌⊎◌};
 
 use crate::{Chain, GrowsChains};
 use cfb_medium::Error;
+use cfb_sectors::END_OF_CHAIN;
 
 impl<'a, H: GrowsChains> Chain<'a, H> {
     ghost use Rattle.cfb_chains.specs.ChainViews.{holder_of, links_of, sectors_of, IsSameButSectors};
@@ -23,6 +24,7 @@ impl<'a, H: GrowsChains> Chain<'a, H> {
         ensures none { OnErr result (H.grows [] [] (holder_of self.old) (holder_of self.new)) }
         ensures keeps { IfOk result (λ n. Keeps H.GrowsChains self.old
             (sectors_of self.old ++ n ∷ []) (holder_of self.new)) }
+        ensures ends { IfOk result (λ n. IsChain (H.fat (holder_of self.new)) n (n ∷ [])) }
         ensures room { IfOk result (λ n. MayWriteSector H.GrowsChains self.old n
             (holder_of self.new)) }
         ensures filled { IfOk result (λ n. Holds H.GrowsChains self.old
@@ -32,9 +34,9 @@ impl<'a, H: GrowsChains> Chain<'a, H> {
         ensures links { links_of self.new ≡ links_of self.old }
         ensures orderly { OnOk result (IsTrue (H.orderly (holder_of self.old))) }
         ensures refused { IsErrOf result InvalidData
-            → IsUnlinked H.FreesChains self.old × ChainRests H.rests self.old self.new }
-        ensures full { IsErrOf result Full → H.is_full (holder_of self.old)
-            × ChainRests H.rests self.old self.new }
+            → HasNoEnd H.FreesChains self.old × ChainRests H.rests self.old self.new }
+        ensures full { IsErrOf result Full → IsTrue (H.orderly (holder_of self.old))
+            × H.is_full (holder_of self.old) × ChainRests H.rests self.old self.new }
         ensures answers { Answers H.ChangesSectors IsInvalidOrFull result self.old self.new }
     {
         let count = self.links.sector_ids().len();
@@ -47,6 +49,32 @@ impl<'a, H: GrowsChains> Chain<'a, H> {
         Ok(sector_id)
     }
 
+    // Readies the table's chain from the last sector on to take in so many more, and asks for the memory that this may take.
+    // `InvalidData` where the table has no such chain or can't be changed, and then `Full` where fewer numbers are left. Nothing
+    // is changed.
+    fn prepare(&mut self, count: usize) -> Result<(), Error>
+        requires live { H.failed (holder_of self.old) ≡ false }
+        ensures ready { OnOk result (IsTrue (H.orderly (holder_of self.old))) }
+        ensures ends { OnOk result (HasEnd H.fat self.old) }
+        ensures rests { H.rests (holder_of self.old) (holder_of self.new) }
+        ensures same { IsSameButSectors self.old self.new }
+        ensures links { links_of self.new ≡ links_of self.old }
+        ensures refused { IsErrOf result InvalidData → HasNoEnd H.FreesChains self.old }
+        ensures full { IsErrOf result Full → IsTrue (H.orderly (holder_of self.old))
+            × H.lacks (holder_of self.old) count }
+        ensures error { IfErr result (λ e. H.has_cause (holder_of self.old) (holder_of self.new) e
+            × (IsFaultUnless ⊥ e ⊎ IsInvalidOrFull e)) }
+    {
+        let last = self.last_sector_id();
+        if last == END_OF_CHAIN && self.num_sectors() > 0 {
+            return Err(Error::InvalidData);
+        }
+        if let Err(error) = self.holder.prepare_growth(last, count) {
+            return Err(error);
+        }
+        Ok(())
+    }
+
     // Takes in a sector behind the last one, at the same position. What is refused leaves the chain as it was.
     pub(crate) fn append_sector(&mut self) -> Result<(), Error>
         ensures grows { Lengthens H.GrowsChains self.old (sectors_of self.new)
@@ -56,6 +84,7 @@ impl<'a, H: GrowsChains> Chain<'a, H> {
         ensures none { OnErr result (sectors_of self.new ≡ sectors_of self.old) }
         ensures keeps { OnOk result (Keeps H.GrowsChains self.old (sectors_of self.new)
             (holder_of self.new)) }
+        ensures ends { OnOk result (HasEnd H.fat self.new) }
         ensures room { OnOk result (MayWriteSector H.GrowsChains self.old
             (slice_index (sectors_of self.new) (length (sectors_of self.old)))
             (holder_of self.new)) }
@@ -65,13 +94,19 @@ impl<'a, H: GrowsChains> Chain<'a, H> {
         ensures same { IsSameButSectors self.old self.new }
         ensures orderly { OnOk result (IsTrue (H.orderly (holder_of self.old))) }
         ensures refused { IsErrOf result InvalidData
-            → IsUnlinked H.FreesChains self.old × ChainRests H.rests self.old self.new }
-        ensures full { IsErrOf result Full → HasNoNumber H.is_full self.old
-            × ChainRests H.rests self.old self.new }
+            → HasNoEnd H.FreesChains self.old × ChainRests H.rests self.old self.new }
+        ensures full { IsErrOf result Full → IsTrue (H.orderly (holder_of self.old))
+            × HasNoNumber H.is_full self.old × ChainRests H.rests self.old self.new }
         ensures answers { Answers H.ChangesSectors IsInvalidOrFull result self.old self.new }
     {
         if self.holder.is_failed() {
             return Err(Error::Failed);
+        }
+        if self.links.is_full() {
+            if let Err(error) = self.prepare(1) {
+                return Err(error);
+            }
+            return Err(Error::Full);
         }
         if let Err(error) = self.links.reserve_one() {
             return Err(error);
@@ -85,9 +120,11 @@ impl<'a, H: GrowsChains> Chain<'a, H> {
         }
     }
 
-    // Takes in sectors until there are so many. Those taken in before an error stay.
+    // Takes in sectors until there are so many, where the table can be changed and has a chain from the last sector on. Those
+    // taken in before an error stay.
     pub(crate) fn grow_to(&mut self, count: usize) -> Result<(), Error>
         requires live { H.failed (holder_of self.old) ≡ false }
+        requires ready { IsTrue (H.orderly (holder_of self.old)) × HasEnd H.fat self.old }
         requires more { length (sectors_of self.old) ≤ count }
         ensures grows { Lengthens H.GrowsChains self.old (sectors_of self.new)
             (holder_of self.new) }
@@ -101,12 +138,11 @@ impl<'a, H: GrowsChains> Chain<'a, H> {
             - length (sectors_of self.old)) (new_sector self.old)) }
         ensures same { IsSameButSectors self.old self.new }
         ensures live { OnOk result (H.failed (holder_of self.new) ≡ false) }
-        ensures refused { IsErrOf result InvalidData → IsUnlinked H.FreesChains self.old }
         ensures full { IsErrOf result Full → (mid : H)
             × (H.is_full mid ⊎ (greatest_regular < length (sectors_of self.new)))
             × H.rests mid (holder_of self.new) }
         ensures error { IfErr result (λ e. H.has_cause (holder_of self.old) (holder_of self.new) e
-            × (IsFaultUnless ⊥ e ⊎ IsInvalidOrFull e)) }
+            × (IsFaultUnless ⊥ e ⊎ (e ≡ Full))) }
     {
         'grow: while self.num_sectors() < count {
             if let Err(error) = self.append_sector() {
@@ -132,18 +168,17 @@ impl<'a, H: GrowsChains> Chain<'a, H> {
             (chain_bytes H.bytes self.old ++ copies (length (sectors_of self.new)
             - length (sectors_of self.old)) (new_sector self.old))) }
         ensures same { IsSameButSectors self.old self.new }
-        ensures refused { IsErrOf result InvalidData → IsUnlinked H.FreesChains self.old }
-        ensures full { IsErrOf result Full → H.failed (holder_of self.new) ≡ false
-            → IsTrue (H.orderly (holder_of self.old))
-            × LacksNumber H.lacks count self.old }
+        ensures refused { IsErrOf result InvalidData
+            → IsUnlinked H.FreesChains self.old × ChainRests H.rests self.old self.new }
+        ensures full { IsErrOf result Full → IsTrue (H.orderly (holder_of self.old))
+            × (H.failed (holder_of self.new) ≡ false → LacksNumber H.lacks count self.old) }
         ensures answers { Answers H.ChangesSectors IsInvalidOrFull result self.old self.new }
     {
         let wanted = count - self.num_sectors();
         if wanted == 0 {
             return Ok(());
         }
-        let last = self.last_sector_id();
-        if let Err(error) = self.holder.prepare_growth(last, wanted) {
+        if let Err(error) = self.prepare(wanted) {
             return Err(error);
         }
         if let Err(error) = self.links.reserve(wanted) {

@@ -3,7 +3,7 @@ ghost use Rattle.cfb_chains.specs.ChainCalls.{chain_bytes, len_of, new_sector, A
 ghost use Rattle.cfb_chains.specs.Positions.{tail_in};
 ghost use Rattle.cfb_medium.specs.Bytes.{overwritten};
 ghost use Rattle.cfb_medium.specs.declared.error.Error.TheVariants.{Failed, Full, InvalidData, InvalidInput};
-ghost use Rattle.std.specs.Prelude.{false, length, replicate, take, true, IfErr, IfOk, IsErrOf, OnOk, ℕ, ◌+◌, ◌++◌, ◌<◌, ◌≡◌, ◌≤◌, ◌↔◌, ◌⊎◌};
+ghost use Rattle.std.specs.Prelude.{false, length, replicate, take, true, IfErr, IfOk, IsErrOf, IsTrue, OnOk, ℕ, ◌+◌, ◌++◌, ◌<◌, ◌≡◌, ◌≤◌, ◌↔◌, ◌⊎◌};
 
 use crate::{Chain, GrowsChains};
 use cfb_medium::Error;
@@ -111,8 +111,8 @@ impl<'a, H: GrowsChains> Chain<'a, H> {
         ensures refused { IsErrOf result InvalidData
             → H.version (holder_of self.old) ≡ version_of self.old
             → IsUnlinked H.FreesChains self.old × ChainRests H.rests self.old self.new }
-        ensures full { IsErrOf result Full → HasNoNumber H.is_full self.old
-            × ChainRests H.rests self.old self.new }
+        ensures full { IsErrOf result Full → IsTrue (H.orderly (holder_of self.old))
+            × HasNoNumber H.is_full self.old × ChainRests H.rests self.old self.new }
         ensures answers { Answers H.ChangesSectors IsInvalidOrFull result self.old self.new }
     {
         if let Err(error) = self.append_sector() {
@@ -130,8 +130,8 @@ impl<'a, H: GrowsChains> Chain<'a, H> {
     /// Writes from the position on what its sector takes, and moves the position behind that. At the chain's end a sector is
     /// taken in first, in the FAT too, and holds what the chain's `init` says but for what is written; where there is nothing
     /// to write nothing is done. `InvalidData` where the layer may not write there, which isn't so of a new sector, or its
-    /// tables can't be changed or haven't the chain, `Full` where no sector's number is left. After an error nothing is
-    /// changed, or the layer has failed ([MS-CFB] 2.3).
+    /// tables can't be changed or haven't the chain, and then `Full` where no sector's number is left. After these two nothing
+    /// is changed, and after another error neither, or the layer has failed ([MS-CFB] 2.3).
     pub fn write(&mut self, bytes: &[u8]) -> Result<usize, Error>
         ensures advances { Advances bytes.now result self.old self.new }
         ensures inside { position_of self.old < len_of self.old
@@ -152,8 +152,8 @@ impl<'a, H: GrowsChains> Chain<'a, H> {
         ensures refused { IsErrOf result InvalidData → position_of self.old ≡ len_of self.old
             → H.version (holder_of self.old) ≡ version_of self.old
             → IsUnlinked H.FreesChains self.old × ChainRests H.rests self.old self.new }
-        ensures full { IsErrOf result Full → HasNoNumber H.is_full self.old
-            × ChainRests H.rests self.old self.new }
+        ensures full { IsErrOf result Full → IsTrue (H.orderly (holder_of self.old))
+            × HasNoNumber H.is_full self.old × ChainRests H.rests self.old self.new }
         ensures answers { Answers H.ChangesSectors IsInvalidOrFull result self.old self.new }
     {
         if self.position < self.len() {

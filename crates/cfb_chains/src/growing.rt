@@ -1,15 +1,15 @@
 //! Chains that take sectors into use, at whatever height.
-ghost use Rattle.cfb_chains.specs.Changes.{IsFreeIn, StayBut};
-ghost use Rattle.cfb_chains.specs.Changes.{IsBeside, IsNoneOf};
+ghost use Rattle.cfb_chains.specs.ChainCalls.{IsInvalidOrFull};
+ghost use Rattle.cfb_chains.specs.Changes.{HasNoneSpare, IsBeside, IsFreeIn, StayBut};
 ghost use Rattle.cfb_medium.specs.Calls.{IsFaultUnless};
 ghost use Rattle.cfb_medium.specs.Versions.{sector_len};
 ghost use Rattle.cfb_medium.specs.declared.error.Error.{Error};
 ghost use Rattle.cfb_medium.specs.declared.error.Error.TheVariants.{Failed, Full, InvalidData};
 ghost use Rattle.cfb_medium.specs.declared.version.Version.{Version};
 ghost use Rattle.cfb_sectors.specs.Initial.{initial};
-ghost use Rattle.cfb_sectors.specs.Sectors.{filled_part, free, sector, sector_start, Chain as IsChain};
+ghost use Rattle.cfb_sectors.specs.Sectors.{filled_part, sector, sector_start, Chain as IsChain};
 ghost use Rattle.std.specs.List.{AllByRecursion};
-ghost use Rattle.std.specs.Prelude.{false, length, slice_get, true, IfErr, IfOk, IsErrOf, IsTrue, List, OnErr, OnOk, Some, ℕ, [], ◌++◌, ◌∷◌, ◌≡◌, ◌⊎◌, ◌≤◌};
+ghost use Rattle.std.specs.Prelude.{false, length, true, IfErr, IfOk, IsErrOf, IsTrue, List, OnErr, OnOk, ℕ, [], ◌++◌, ◌∷◌, ◌≡◌, ◌⊎◌, ◌≤◌};
 
 use crate::FreesChains;
 use cfb_medium::Error;
@@ -34,8 +34,8 @@ pub trait GrowsChains: FreesChains {
     ghost grows: { List ℕ → List ℕ → Self → Self → Type 0 };
 
     /// Takes a sector into use, as a chain of its own: a free one, and only where there is none one behind all others.
-    /// `InvalidData` where the tables can't be changed, `Full` where no sector's number is left, and then nothing is changed.
-    /// After a fault in a write it has failed.
+    /// `InvalidData` where the tables can't be changed, and then `Full` where no sector's number is left; nothing is changed
+    /// then. After a fault in a write it has failed.
     fn begin_chain(&mut self, init: SectorInit) -> Result<u32, Error>
         ensures begins { IfOk result (λ n. IsChain (Self.fat self.new) n (n ∷ [])
             × grows (n ∷ []) (n ∷ []) self.old self.new) }
@@ -43,25 +43,26 @@ pub trait GrowsChains: FreesChains {
         ensures filled { IfOk result (λ n. IsTrue (Self.honest self.old)
             → sector (version self.old) (Self.bytes self.new) n
             ≡ initial init (sector_len (version self.old))) }
-        ensures appended { IfOk result (λ n. length (Self.fat self.old) ≤ n → (k : ℕ)
-            → slice_get (Self.fat self.old) k ≡ Some free → IsNoneOf (tables self.old) k → ⊥) }
+        ensures appended { IfOk result (λ n. length (Self.fat self.old) ≤ n
+            → HasNoneSpare (Self.fat self.old) (tables self.old)) }
         ensures writable { IfOk result (λ n. Self.may_write self.new
             (sector_start (version self.old) n) (sector_len (version self.old))) }
         ensures live { OnOk result ((Self.failed self.old ≡ false) × IsTrue (Self.orderly self.old)
             × (Self.failed self.new ≡ false)) }
         ensures refused { IsErrOf result InvalidData
             → (IsTrue (Self.orderly self.old) → ⊥) × Self.rests self.old self.new }
-        ensures full { IsErrOf result Full → is_full self.old × Self.rests self.old self.new }
+        ensures full { IsErrOf result Full → IsTrue (Self.orderly self.old) × is_full self.old
+            × Self.rests self.old self.new }
         ensures failed { Self.failed self.old ≡ true
             → IsErrOf result Failed × Self.rests self.old self.new }
         ensures cause { IfErr result (Self.has_cause self.old self.new) }
         ensures fault { IfErr result (λ e. (IsFaultUnless ⊥ e
-            × ((Self.failed self.new ≡ true) ⊎ Self.rests self.old self.new)) ⊎ (e ≡ InvalidData)
-            ⊎ (e ≡ Full)) };
+            × ((Self.failed self.new ≡ true) ⊎ Self.rests self.old self.new))
+            ⊎ IsInvalidOrFull e) };
 
     /// Extends the chain from a start by one sector behind its last. `InvalidData` where the FAT has no such chain, it has no
-    /// sector, or the tables can't be changed, `Full` where no sector's number is left, and then nothing is changed. After a
-    /// fault in a write it has failed.
+    /// sector, or the tables can't be changed, and then `Full` where no sector's number is left; nothing is changed then. After
+    /// a fault in a write it has failed.
     fn extend_chain(&mut self, start: u32, init: SectorInit) -> Result<u32, Error>
         ensures extends { IfOk result (λ n. (ids : List ℕ) × (last : ℕ)
             × IsChain (Self.fat self.old) start (ids ++ last ∷ [])
@@ -71,8 +72,8 @@ pub trait GrowsChains: FreesChains {
         ensures filled { IfOk result (λ n. IsTrue (Self.honest self.old)
             → sector (version self.old) (Self.bytes self.new) n
             ≡ initial init (sector_len (version self.old))) }
-        ensures appended { IfOk result (λ n. length (Self.fat self.old) ≤ n → (k : ℕ)
-            → slice_get (Self.fat self.old) k ≡ Some free → IsNoneOf (tables self.old) k → ⊥) }
+        ensures appended { IfOk result (λ n. length (Self.fat self.old) ≤ n
+            → HasNoneSpare (Self.fat self.old) (tables self.old)) }
         ensures writable { IfOk result (λ n. Self.may_write self.new
             (sector_start (version self.old) n) (sector_len (version self.old))) }
         ensures live { OnOk result ((Self.failed self.old ≡ false) × IsTrue (Self.orderly self.old)
@@ -81,26 +82,28 @@ pub trait GrowsChains: FreesChains {
             → (IsTrue (Self.orderly self.old) → (ids : List ℕ) (last : ℕ)
             → IsChain (Self.fat self.old) start (ids ++ last ∷ []) → ⊥)
             × Self.rests self.old self.new }
-        ensures full { IsErrOf result Full → is_full self.old × Self.rests self.old self.new }
+        ensures full { IsErrOf result Full → IsTrue (Self.orderly self.old) × is_full self.old
+            × Self.rests self.old self.new }
         ensures failed { Self.failed self.old ≡ true
             → IsErrOf result Failed × Self.rests self.old self.new }
         ensures cause { IfErr result (Self.has_cause self.old self.new) }
         ensures fault { IfErr result (λ e. (IsFaultUnless ⊥ e
-            × ((Self.failed self.new ≡ true) ⊎ Self.rests self.old self.new)) ⊎ (e ≡ InvalidData)
-            ⊎ (e ≡ Full)) };
+            × ((Self.failed self.new ≡ true) ⊎ Self.rests self.old self.new))
+            ⊎ IsInvalidOrFull e) };
 
     /// Readies the chain from a start to take in so many sectors, and asks for the memory that this may take. `InvalidData`
     /// where the FAT has no such chain or the tables can't be changed, and then `Full` where fewer numbers are left. Nothing is
     /// changed.
     fn prepare_growth(&mut self, start: u32, count: usize) -> Result<(), Error>
         ensures ready { OnOk result (IsTrue (Self.orderly self.old)) }
+        ensures chain { OnOk result ((ids : List ℕ) × IsChain (Self.fat self.old) start ids) }
         ensures rests { Self.rests self.old self.new }
         ensures refused { IsErrOf result InvalidData → IsTrue (Self.orderly self.old)
             → (ids : List ℕ) → IsChain (Self.fat self.old) start ids → ⊥ }
         ensures full { IsErrOf result Full → IsTrue (Self.orderly self.old) × lacks self.old count }
         ensures failed { Self.failed self.old ≡ true → IsErrOf result Failed }
         ensures cause { IfErr result (Self.has_cause self.old self.new) }
-        ensures fault { IfErr result (λ e. IsFaultUnless ⊥ e ⊎ (e ≡ InvalidData) ⊎ (e ≡ Full)) };
+        ensures fault { IfErr result (λ e. IsFaultUnless ⊥ e ⊎ IsInvalidOrFull e) };
 
     // what stands in the FAT and may be written stays
     ghost grows_keep: { (taken entries : List ℕ) (a b : Self) → grows taken entries a b → (Self.honest b ≡ Self.honest a) × (version b ≡ version a)

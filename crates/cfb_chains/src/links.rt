@@ -1,7 +1,7 @@
 //! The sectors of a chain, in order.
 ghost use Rattle.cfb_medium.specs.declared.error.Error.TheVariants.{Full, InvalidData, Memory};
 ghost use Rattle.cfb_sectors.specs.Sectors.{greatest_regular, Chain as IsChain};
-ghost use Rattle.std.specs.Prelude.{length, take, vec_len, IfErr, IfOk, IsErrOf, List, OnOk, ℕ, [], ◌+◌, ◌++◌, ◌<◌, ◌∷◌, ◌≡◌, ◌≤◌, ◌⊎◌};
+ghost use Rattle.std.specs.Prelude.{length, take, vec_len, IfErr, IfOk, IsErrOf, IsTrue, List, OnOk, ℕ, [], ◌+◌, ◌++◌, ◌<◌, ◌∷◌, ◌≡◌, ◌≤◌, ◌↔◌, ◌⊎◌};
 
 use cfb_medium::{Error, Version};
 use cfb_sectors::{END_OF_CHAIN, MAX_REGULAR_SECTOR};
@@ -49,17 +49,21 @@ impl Links {
         self.sector_ids.clear();
     }
 
-    // Makes room for one sector more. `Full` where there is no number for it.
+    // Whether no number is left for one sector more.
+    pub(crate) fn is_full(&self) -> bool
+        ensures { IsTrue result ↔ (greatest_regular < length (ids_of self.now)) }
+    {
+        self.sector_ids.len() > MAX_REGULAR_SECTOR as usize
+    }
+
+    // Makes room for one sector more, for which there is a number.
     pub(crate) fn reserve_one(&mut self) -> Result<(), Error>
+        requires { length (ids_of self.old) ≤ greatest_regular }
         ensures room { OnOk result (HasRoom self.new) }
         ensures same { (ids_of self.new ≡ ids_of self.old)
             × (links_version self.new ≡ links_version self.old) }
-        ensures error { IfErr result (λ e. (e ≡ Memory)
-            ⊎ ((e ≡ Full) × (greatest_regular < length (ids_of self.old)))) }
+        ensures error { IfErr result (λ e. e ≡ Memory) }
     {
-        if self.sector_ids.len() > MAX_REGULAR_SECTOR as usize {
-            return Err(Error::Full);
-        }
         self.sector_ids.reserve(1)?;
         Ok(())
     }

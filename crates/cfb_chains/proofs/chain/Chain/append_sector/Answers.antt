@@ -1,10 +1,12 @@
-use Rattle.std.proofs.Common.{◌≡◌, ℕ, List, ◌+◌, ◌*◌, ◌≤◌, slice_index, length, length-append, ◌++◌, ◌∷◌, [], ◌∙◌, sym, ap, arith, subst}
+use Rattle.std.proofs.Common.{◌≡◌, ℕ, List, ◌+◌, ◌-◌, ◌*◌, ◌<◌, ◌≤◌, Err, slice_index, length, length-append, ◌++◌, ◌∷◌, [], ◌∙◌, sym, ap, arith, subst}
 use Rattle.std.proofs.lemmas.List.{append-nil}
 use Rattle.cfb_medium.specs.Versions.{sector_len}
+use Rattle.cfb_medium.specs.declared.error.Error.TheVariants.{InvalidData}
 use Rattle.cfb_medium.specs.declared.version.Version.{Version}
 use Rattle.cfb_medium.specs.declared.version.Version.TheVariants.{V3, V4}
-use Rattle.cfb_sectors.specs.Sectors.{sector_start}
+use Rattle.cfb_sectors.specs.Sectors.{sector_start, Chain as IsChain}
 use Rattle.cfb_chains.proofs.ChainGrowing.{sector_behind}
+use Rattle.cfb_chains.proofs.Ending.{last_behind}
 use Rattle.cfb_chains.specs.ChainViews.{holder_of, position_of, sectors_of, version_of}
 use Rattle.cfb_chains.specs.Changes.{AreAmong}
 use Rattle.cfb_chains.specs.Grown.{IsLinked}
@@ -18,6 +20,16 @@ returns-then-is_failed-clause-grows g c =
 
 pub returns-in-Err-clause-grows : goal.returns-in-Err-clause-grows
 returns-in-Err-clause-grows g c =
+    let it = c.args.self.now in
+    ([], [], ap (λ l. l.sector_ids.items) c.prepare.ensures.links ∙ sym (append-nil (sectors_of it)), g.met.H.GrowsChains.grows_rest [] (holder_of it) _ c.prepare.ensures.rests, λ linked n none k below same. absurd (omega (arith, below)))
+
+pub returns-then-is_full-clause-grows : goal.returns-then-is_full-clause-grows
+returns-then-is_full-clause-grows g c =
+    let it = c.args.self.now in
+    ([], [], ap (λ l. l.sector_ids.items) c.prepare.ensures.links ∙ sym (append-nil (sectors_of it)), g.met.H.GrowsChains.grows_rest [] (holder_of it) _ c.prepare.ensures.rests, λ linked n none k below same. absurd (omega (arith, below)))
+
+pub returns-in-Err-reserve_one-clause-grows : goal.returns-in-Err-reserve_one-clause-grows
+returns-in-Err-reserve_one-clause-grows g c =
     let it = holder_of c.args.self.now in
     ([], [], c.reserve_one.ensures.same.0 ∙ sym (append-nil (sectors_of c.args.self.now)), g.met.H.GrowsChains.grows_rest [] it it (g.met.H.HasSectors.rests_refl it), λ linked n none k below same. absurd (omega (arith, below)))
 
@@ -60,3 +72,21 @@ returns-in-Ok-clause-room g c = λ version.
     let here : may (sector_start v n) (sector_len v) =
     subst (λ u. g.H.GrowsChains.version (holder_of c.args.self.now) ≡ u → may (sector_start u n) (sector_len u)) c.reserve_one.ensures.same.1 c.in-Ok.ensures.room version in
     subst (λ k. may (sector_start v k) (sector_len v)) (sym last) here
+
+pub returns-in-Ok-clause-ends : goal.returns-in-Ok-clause-ends
+returns-in-Ok-clause-ends g c = λ some. (
+  [],
+  c.in-Ok.sector_id,
+  subst (λ k. IsChain (g.H.FreesChains.fat (holder_of c.take_sector.new.self)) k (c.in-Ok.sector_id ∷ [])) (sym (last_behind _ _ c.in-Ok.sector_id c.push_reserved.ensures.0)) c.in-Ok.ensures.ends,
+)
+
+pub returns-in-Err-take_sector-clause-refused : goal.returns-in-Err-take_sector-clause-refused
+returns-in-Err-take_sector-clause-refused g c = λ is.
+    let table = g.H.FreesChains.fat (holder_of c.args.self.now) in
+    let error : c.in-Err-take_sector.error ≡ InvalidData = cc in
+    let refused = c.in-Err-take_sector.ensures.refused (ap Err error) in
+    let same = c.reserve_one.ensures.same.0 in (
+      λ orderly ends.
+          refused.0 orderly (subst (λ s. 0 < length s → (front : List ℕ) × (last : ℕ) × IsChain table (slice_index s (length s - 1)) (front ++ last ∷ [])) (sym same) ends),
+      (refused.1.0, refused.1.1 ∙ same),
+    )

@@ -3,6 +3,7 @@ use Rattle.cfb_medium.specs.Versions.{sector_len}
 use Rattle.cfb_sectors.specs.Copies.{copies}
 use Rattle.cfb_sectors.specs.Initial.{initial}
 use Rattle.cfb_sectors.specs.Sectors.{joined}
+use Rattle.cfb_chains.specs.ChainCalls.{HasEnd}
 use Rattle.cfb_chains.specs.ChainViews.{holder_of, init_of, position_of, sectors_of, version_of, IsSameBut}
 use Rattle.cfb_chains.specs.Changes.{AreAmong}
 use Rattle.cfb_chains.specs.Grown.{AreWritable, IsLinked}
@@ -15,6 +16,8 @@ invariant-grow g l = record {
   most : length (sectors_of l.self) ≤ l.count;
   least : length (sectors_of l.fn.self) ≤ length (sectors_of l.self);
   live : g.H.HasSectors.failed (holder_of l.self) ≡ false;
+  orderly : IsTrue (g.H.FreesChains.orderly (holder_of l.self));
+  ends : HasEnd g.H.FreesChains.fat l.self;
   linked : IsLinked (g.H.FreesChains.fat (holder_of l.fn.self)) (sectors_of l.fn.self) → IsLinked (g.H.FreesChains.fat (holder_of l.self)) (sectors_of l.self);
   writable : g.H.GrowsChains.version (holder_of l.fn.self) ≡ version_of l.fn.self → AreWritable (g.H.ChangesSectors.may_write (holder_of l.fn.self)) (version_of l.fn.self) (sectors_of l.fn.self)
       → AreWritable (g.H.ChangesSectors.may_write (holder_of l.self)) (version_of l.fn.self) (sectors_of l.self);

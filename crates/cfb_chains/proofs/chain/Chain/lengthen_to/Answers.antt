@@ -2,7 +2,7 @@ use Rattle.std.proofs.Common.{◌≡◌, ◌-◌, ℕ, List, inr, [], ◌++◌, 
 use Rattle.std.specs.Prelude.{Err, IsErrOf}
 use Rattle.cfb_medium.specs.Versions.{sector_len}
 use Rattle.cfb_medium.specs.declared.error.Error.{Error}
-use Rattle.cfb_medium.specs.declared.error.Error.TheVariants.{Full, Memory}
+use Rattle.cfb_medium.specs.declared.error.Error.TheVariants.{Full, InvalidData, Memory}
 use Rattle.cfb_medium.specs.declared.version.Version.{Version}
 use Rattle.cfb_sectors.specs.Copies.{copies}
 use Rattle.cfb_sectors.specs.Initial.{initial}
@@ -13,6 +13,7 @@ use Rattle.cfb_chains.specs.ChainViews.{holder_of, init_of, sectors_of, version_
 use Rattle.cfb_chains.specs.Grown.{AreWritable, IsLinked}
 use Rattle.cfb_chains.specs.LinkViews.{ids_of, links_version}
 use Rattle.cfb_chains.proofs.ChainGrowing.{writable_still}
+use Rattle.cfb_chains.proofs.Ending.{has_end}
 use Rattle.cfb_chains.proofs.chain.Chain.lengthen_to.Goals as goal
 
 same_error : (e : Error) → IsErrOf {T = Unit {0}} (Err e) Full → e ≡ Full
@@ -25,12 +26,13 @@ moved_table old new s t table ids linked = subst (λ l. IsLinked l t) (sym table
 moved_writable : (may then : ℕ → ℕ → Type 0) (v w : Version) (s t : List ℕ) → ((at n : ℕ) → may at n → then at n) → w ≡ v → t ≡ s → AreWritable may v s → AreWritable then w t
 moved_writable may then v w s t still version ids all = subst (λ u. AreWritable then u t) (sym version) (subst (AreWritable then v) (sym ids) (writable_still may then v s still all))
 
-moved_bytes : (v w : Version) (old mid now s t ids : List ℕ) (i : SectorInit) → w ≡ v → t ≡ s → mid ≡ old → joined w now ids ≡ joined w mid t ++ copies (length ids - length t) (initial i (sector_len w))
+moved_bytes : (v w : Version) (old mid now s t ids : List ℕ) (i j : SectorInit) → w ≡ v → t ≡ s → mid ≡ old → j ≡ i → joined w now ids ≡ joined w mid t ++ copies (length ids - length t) (initial j (sector_len w))
     → joined v now ids ≡ joined v old s ++ copies (length ids - length s) (initial i (sector_len v))
-moved_bytes v w old mid now s t ids i version same bytes h =
-    subst (λ b. joined v now ids ≡ joined v b s ++ copies (length ids - length s) (initial i (sector_len v))) bytes
-    (subst (λ l. joined v now ids ≡ joined v mid l ++ copies (length ids - length l) (initial i (sector_len v))) same
-    (subst (λ u. joined u now ids ≡ joined u mid t ++ copies (length ids - length t) (initial i (sector_len u))) version h))
+moved_bytes v w old mid now s t ids i j version same bytes init h =
+    subst (λ k. joined v now ids ≡ joined v old s ++ copies (length ids - length s) (initial k (sector_len v))) init
+    (subst (λ b. joined v now ids ≡ joined v b s ++ copies (length ids - length s) (initial j (sector_len v))) bytes
+    (subst (λ l. joined v now ids ≡ joined v mid l ++ copies (length ids - length l) (initial j (sector_len v))) same
+    (subst (λ u. joined u now ids ≡ joined u mid t ++ copies (length ids - length t) (initial j (sector_len u))) version h)))
 
 pub returns-then-wanted-eq0-clause-grows : goal.returns-then-wanted-eq0-clause-grows
 returns-then-wanted-eq0-clause-grows g c =
@@ -39,25 +41,33 @@ returns-then-wanted-eq0-clause-grows g c =
 
 pub returns-in-Err-clause-grows : goal.returns-in-Err-clause-grows
 returns-in-Err-clause-grows g c =
-    ([], [], sym (append-nil (sectors_of c.args.self.now)), g.met.H.GrowsChains.grows_rest [] (holder_of c.args.self.now) c.prepare_growth.new.self c.in-Err.ensures.rests, λ linked n none k below same. absurd (omega (arith, below)))
+    let it = c.args.self.now in
+    ([], [], ap ids_of c.prepare.ensures.links ∙ sym (append-nil (sectors_of it)), g.met.H.GrowsChains.grows_rest [] (holder_of it) (holder_of c.prepare.new.self) c.prepare.ensures.rests, λ linked n none k below same. absurd (omega (arith, below)))
+
+pub returns-in-Err-clause-refused : goal.returns-in-Err-clause-refused
+returns-in-Err-clause-refused g c = λ is.
+    let error : c.in-Err.error ≡ InvalidData = cc in
+    (λ orderly linked. c.in-Err.ensures.refused (ap Err error) orderly (has_end _ _ linked), (c.prepare.ensures.rests, ap ids_of c.prepare.ensures.links))
 
 pub returns-in-Err-reserve-clause-grows : goal.returns-in-Err-reserve-clause-grows
 returns-in-Err-reserve-clause-grows g c =
-    ([], [], c.reserve.ensures.same.0 ∙ sym (append-nil (sectors_of c.args.self.now)), g.met.H.GrowsChains.grows_rest [] (holder_of c.args.self.now) c.prepare_growth.new.self c.prepare_growth.ensures.rests, λ linked n none k below same. absurd (omega (arith, below)))
+    let it = c.args.self.now in
+    ([], [], c.reserve.ensures.same.0 ∙ ap ids_of c.prepare.ensures.links ∙ sym (append-nil (sectors_of it)), g.met.H.GrowsChains.grows_rest [] (holder_of it) (holder_of c.prepare.new.self) c.prepare.ensures.rests, λ linked n none k below same. absurd (omega (arith, below)))
 
 pub returns-in-Err-reserve-clause-full : goal.returns-in-Err-reserve-clause-full
-returns-in-Err-reserve-clause-full g c = λ is live. (
+returns-in-Err-reserve-clause-full g c = λ is. (
   c.in_default.ensures.ready,
-  ⊎_elim (λ memory. absurd (let both = same_error c.in-Err-reserve.error is in let wrong : Memory ≡ Full = sym memory ∙ both in cc)) (λ full. inr (omega (arith, full.1, c.num_sectors.ensures, c.requires.more))) c.in-Err-reserve.ensures.error,
+  λ live. ⊎_elim (λ memory. absurd (let both = same_error c.in-Err-reserve.error is in let wrong : Memory ≡ Full = sym memory ∙ both in cc))
+      (λ full. inr (let size : length (ids_of c.prepare.new.self.links.now) ≡ length (sectors_of c.args.self.now) = ap (λ l. length (ids_of l)) c.prepare.ensures.links in omega (arith, full.1, size, c.num_sectors.ensures, c.requires.more))) c.in-Err-reserve.ensures.error,
 )
 
 pub returns-in-Ok-clause-grows : goal.returns-in-Ok-clause-grows
 returns-in-Ok-clause-grows g c =
     let a = holder_of c.args.self.now in
-    let m = c.prepare_growth.new.self in
-    let rests = c.prepare_growth.ensures.rests in
+    let m = holder_of c.prepare.new.self in
+    let rests = c.prepare.ensures.rests in
     let grown = c.grow_to.ensures.grows in
-    let same = c.reserve.ensures.same.0 in (
+    let same = c.reserve.ensures.same.0 ∙ ap ids_of c.prepare.ensures.links in (
       grown.0,
       grown.1,
       grown.2 ∙ ap (λ l. l ++ grown.0) same,
@@ -68,38 +78,40 @@ returns-in-Ok-clause-grows g c =
 pub returns-in-Ok-clause-keeps : goal.returns-in-Ok-clause-keeps
 returns-in-Ok-clause-keeps g c =
     let a = holder_of c.args.self.now in
-    let m = c.prepare_growth.new.self in
-    let rests = c.prepare_growth.ensures.rests in
-    let same = c.reserve.ensures.same in
+    let m = holder_of c.prepare.new.self in
+    let rests = c.prepare.ensures.rests in
+    let same = c.reserve.ensures.same.0 ∙ ap ids_of c.prepare.ensures.links in
+    let same_version = c.reserve.ensures.same.1 ∙ ap links_version c.prepare.ensures.links in
     let kept = g.met.H.FreesChains.rests_keep_tables a m rests in
     let version_m = (g.met.H.GrowsChains.grows_keep [] [] a m (g.met.H.GrowsChains.grows_rest [] a m rests)).1 in
     let keeps = c.in-Ok.ensures.keeps c.in-Ok.ensures.live in
     record {
-      linked = λ linked. keeps.linked (moved_table _ _ _ _ kept.0 same.0 linked);
-      writable = λ version all. subst (λ u. AreWritable (g.H.ChangesSectors.may_write (holder_of c.grow_to.new.self)) u (sectors_of c.grow_to.new.self)) same.1
-          (keeps.writable (version_m ∙ version ∙ sym same.1) (moved_writable _ _ _ _ _ _ kept.2 same.1 same.0 all));
+      linked = λ linked. keeps.linked (moved_table _ _ _ _ kept.0 same linked);
+      writable = λ version all. subst (λ u. AreWritable (g.H.ChangesSectors.may_write (holder_of c.grow_to.new.self)) u (sectors_of c.grow_to.new.self)) same_version
+          (keeps.writable (version_m ∙ version ∙ sym same_version) (moved_writable _ _ _ _ _ _ kept.2 same_version same all));
     }
 
 pub returns-in-Ok-clause-filled : goal.returns-in-Ok-clause-filled
 returns-in-Ok-clause-filled g c = λ honest version linked all.
     let a = holder_of c.args.self.now in
-    let m = c.prepare_growth.new.self in
-    let rests = c.prepare_growth.ensures.rests in
-    let same = c.reserve.ensures.same in
+    let m = holder_of c.prepare.new.self in
+    let rests = c.prepare.ensures.rests in
+    let same = c.reserve.ensures.same.0 ∙ ap ids_of c.prepare.ensures.links in
+    let same_version = c.reserve.ensures.same.1 ∙ ap links_version c.prepare.ensures.links in
     let kept = g.met.H.FreesChains.rests_keep_tables a m rests in
     let held = g.met.H.HasSectors.rests_keep a m rests in
     let version_m = (g.met.H.GrowsChains.grows_keep [] [] a m (g.met.H.GrowsChains.grows_rest [] a m rests)).1 in
-    let filled = c.in-Ok.ensures.filled c.in-Ok.ensures.live (subst IsTrue (sym held.0) honest) (version_m ∙ version ∙ sym same.1) (moved_table _ _ _ _ kept.0 same.0 linked) (moved_writable _ _ _ _ _ _ kept.2 same.1 same.0 all) in
-    moved_bytes (version_of c.args.self.now) (links_version c.reserve.new.self) (g.H.HasSectors.bytes a) (g.H.HasSectors.bytes m) (g.H.HasSectors.bytes (holder_of c.grow_to.new.self)) (sectors_of c.args.self.now) (ids_of c.reserve.new.self) (sectors_of c.grow_to.new.self) (init_of c.args.self.now)
-    same.1 same.0 (held.2 honest) filled
+    let filled = c.in-Ok.ensures.filled c.in-Ok.ensures.live (subst IsTrue (sym held.0) honest) (version_m ∙ version ∙ sym same_version) (moved_table _ _ _ _ kept.0 same linked) (moved_writable _ _ _ _ _ _ kept.2 same_version same all) in
+    moved_bytes (version_of c.args.self.now) (links_version c.reserve.new.self) (g.H.HasSectors.bytes a) (g.H.HasSectors.bytes m) (g.H.HasSectors.bytes (holder_of c.grow_to.new.self)) (sectors_of c.args.self.now) (ids_of c.reserve.new.self) (sectors_of c.grow_to.new.self)
+    (init_of c.args.self.now) (init_of c.prepare.new.self) same_version same (held.2 honest) c.prepare.ensures.same.same.init filled
 
 pub returns-in-Err-grow_to-clause-grows : goal.returns-in-Err-grow_to-clause-grows
 returns-in-Err-grow_to-clause-grows g c =
     let a = holder_of c.args.self.now in
-    let m = c.prepare_growth.new.self in
-    let rests = c.prepare_growth.ensures.rests in
+    let m = holder_of c.prepare.new.self in
+    let rests = c.prepare.ensures.rests in
     let grown = c.grow_to.ensures.grows in
-    let same = c.reserve.ensures.same.0 in (
+    let same = c.reserve.ensures.same.0 ∙ ap ids_of c.prepare.ensures.links in (
       grown.0,
       grown.1,
       grown.2 ∙ ap (λ l. l ++ grown.0) same,

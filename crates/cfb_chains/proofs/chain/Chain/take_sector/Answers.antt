@@ -1,11 +1,12 @@
 use Rattle.std.proofs.Common.{◌≡◌, ◌-◌, ◌∷◌, [], ◌∙◌, sym, ap, arith, refl, subst, length, suc, get_or, ℕ, List, ◌++◌, Err}
 use Rattle.cfb_medium.specs.Versions.{sector_len}
 use Rattle.cfb_sectors.specs.Initial.{initial}
-use Rattle.cfb_sectors.specs.Sectors.{filled_part, sector, sector_start}
+use Rattle.cfb_sectors.specs.Sectors.{filled_part, sector, sector_start, Chain as IsChain}
 use Rattle.cfb_sectors.proofs.Causes.{err_same}
 use Rattle.cfb_chains.specs.Changes.{IsBeside, IsNoneOf}
 use Rattle.cfb_chains.specs.ChainViews.{holder_of, init_of, sectors_of, version_of}
-use Rattle.cfb_chains.proofs.ChainGrowing.{bytes_more, extended, in_use, none_to_extend, writable_more}
+use Rattle.cfb_chains.proofs.ChainGrowing.{bytes_more, extended, in_use, writable_more}
+use Rattle.cfb_chains.proofs.Ending.{ends_alone}
 use Rattle.cfb_chains.proofs.chain.Chain.take_sector.Goals as goal
 
 pub returns-then-count-eq0-clause-grows : goal.returns-then-count-eq0-clause-grows
@@ -29,7 +30,17 @@ returns-in_err-sector_id-2-clause-refused g c = λ is.
     let size : suc (length ids - 1) ≡ length ids = let same = ap length all in omega (arith, same, some) in
     let at = ap (λ l. get_or l (length c.sector_ids-count.result.now - 1) 0) c.sector_ids.ensures ∙ ap (λ l. get_or ids (length l - 1) 0) all in
     let refused = c.in_err-sector_id-2.ensures.refused (ap Err (err_same _ _ _ c.from_residual-in_err-sector_id-2.ensures.1 is)) in
-    (λ orderly linked. none_to_extend _ ids (length ids - 1) _ size at (λ found last. refused.0 orderly found last) linked, (refused.1, refl))
+    let table = g.H.FreesChains.fat (holder_of c.args.self.now) in (
+      λ orderly ends.
+          let end = ends (omega (arith, size)) in
+          refused.0 orderly end.0 end.1 (subst (λ s. IsChain table s (end.0 ++ end.1 ∷ [])) (sym at) end.2),
+      (refused.1, refl),
+    )
+
+pub returns-clause-ends : goal.returns-clause-ends
+returns-clause-ends g c =
+    let ext = c.in_ok-sector_id-2.ensures.extends in
+    ends_alone _ _ ext.0 ext.1 _ ext.3
 
 pub returns-clause-grows : goal.returns-clause-grows
 returns-clause-grows g c =

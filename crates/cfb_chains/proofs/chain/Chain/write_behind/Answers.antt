@@ -1,8 +1,10 @@
-use Rattle.std.proofs.Common.{◌≡◌, false, inl, inr, length, true, ◌∙◌, sym, subst, ⊎_elim, IsTrue}
+use Rattle.std.proofs.Common.{◌≡◌, false, inl, inr, length, true, ap, Err, ◌∙◌, sym, subst, ⊎_elim, IsTrue}
+use Rattle.cfb_medium.specs.declared.error.Error.TheVariants.{InvalidData}
 use Rattle.cfb_chains.specs.ChainViews.{holder_of, position_of, sectors_of, version_of}
 use Rattle.cfb_chains.specs.Changes.{AreAmong}
 use Rattle.cfb_chains.specs.Grown.{AreWritable, IsLinked}
 use Rattle.cfb_chains.proofs.ChainGrowing.{chain_once, either_there, ends_here, room_behind, writable_still, written_there}
+use Rattle.cfb_chains.proofs.Ending.{has_end}
 use Rattle.cfb_chains.proofs.chain.Chain.write_behind.Goals as goal
 
 pub returns-in-Ok-clause-grows : goal.returns-in-Ok-clause-grows
@@ -88,3 +90,14 @@ returns-in-Err-write_inside-clause-answers g c =
       cause = g.met.H.GrowsChains.grows_cause grown.0 grown.1 _ _ _ _ grown.3 live.1 (g.met.H.ChangesSectors.fails_cause _ _ _ _ c.in-Err-write_inside.ensures.answers.cause c.fail.ensures);
       fault = ⊎_elim inl (λ is. inr (inl is)) c.in-Err-write_inside.ensures.answers.fault;
     }
+
+pub returns-in-Err-clause-refused_live : goal.returns-in-Err-clause-refused_live
+returns-in-Err-clause-refused_live g c = λ is live orderly linked.
+    let error : c.in-Err.error ≡ InvalidData = cc in
+    (c.in-Err.ensures.refused (ap Err error)).0 orderly (has_end _ _ linked)
+
+pub returns-in-Err-clause-refused : goal.returns-in-Err-clause-refused
+returns-in-Err-clause-refused g c = λ is version.
+    let error : c.in-Err.error ≡ InvalidData = cc in
+    let refused = c.in-Err.ensures.refused (ap Err error) in
+    (λ orderly linked. refused.0 orderly (has_end _ _ linked), refused.1)
