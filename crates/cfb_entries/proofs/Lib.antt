@@ -2,6 +2,7 @@ pub mod Cutting
 pub mod Following
 pub mod Found
 pub mod Items
+pub mod Others
 pub mod Preorder
 pub mod Sides
 pub mod Telling
