@@ -1,5 +1,5 @@
 -- A directory's chain that took in a sector, and a header that counts it.
-use Rattle.std.proofs.Common.{◌≡◌, ℕ, ◌+◌, ◌-◌, ◌*◌, ◌/◌, ◌<◌, ◌≤◌, List, [], ◌∷◌, ◌++◌, length, take, drop, replicate, append_assoc, length-append, refl, ap, sym, subst, ◌∙◌, arith, length-take, append-nil, IsTrue, zero, suc}
+use Rattle.std.proofs.Common.{◌≡◌, ℕ, ◌+◌, ◌-◌, ◌*◌, ◌/◌, ◌<◌, ◌≤◌, inl, inr, ⊎_elim, List, [], ◌∷◌, ◌++◌, length, take, drop, replicate, append_assoc, length-append, refl, ap, sym, subst, ◌∙◌, arith, length-take, append-nil, IsTrue, zero, suc}
 use Rattle.std.specs.Prelude.{slice_get, slice_index_or, Some}
 use Rattle.std.specs.Int.{w32, to_le_bytes}
 use Rattle.std.proofs.lemmas.List.{length-replicate, take_all}
@@ -11,22 +11,23 @@ use Rattle.cfb_medium.specs.declared.version.Version.{Version}
 use Rattle.cfb_medium.specs.declared.version.Version.TheVariants.{V3, V4}
 use Rattle.cfb_sectors.specs.Copies.{copies}
 use Rattle.cfb_sectors.specs.Initial.{initial}
-use Rattle.cfb_sectors.specs.Sectors.{end_of_chain, filled_part, joined, sector}
+use Rattle.cfb_sectors.specs.Sectors.{end_of_chain, filled_part, greatest_regular, joined, sector}
 use Rattle.cfb_sectors.specs.declared.initial.SectorInit.TheVariants.{Dir}
 use Rattle.cfb_chains.specs.Changes.{AreNoneOf}
 use Rattle.cfb_chains.specs.LinkViews.{ids_of}
 use Rattle.cfb_chains.specs.Positions.{sectors_for}
 use Rattle.cfb_chains.specs.Owned.{Becomes, Leaves, Seen}
+use Rattle.cfb_fat.specs.Growing.{LacksNumbers}
 use Rattle.cfb_fat.specs.Seeing.{seen_of}
 use Rattle.cfb_fat.specs.Tables.{bytes_of, tables_of, version_of}
 use Rattle.cfb_fat.specs.declared.allocator.Allocator.{Allocator}
-use Rattle.cfb_owned.specs.Chains.{content_of, GoesOn, HasChain}
+use Rattle.cfb_owned.specs.Chains.{content_of, GoesOn, HasChain, LacksSectors}
 use Rattle.cfb_owned.proofs.WrittenParts.{becomes_same}
 use Rattle.cfb_siblings.specs.Changes.{IsUnused}
 use Rattle.cfb_tree.specs.Directory.{Entry, entries_of, greatest_entry}
 use Rattle.cfb_tree.specs.Entries.{empty_entry}
 use Rattle.cfb_directory.specs.Changes.{HasDirectory, LiesBeside}
-use Rattle.cfb_directory.specs.Growth.{count_words, longer, GrowsDirectory, IsCounted}
+use Rattle.cfb_directory.specs.Growth.{count_words, longer, GrowsDirectory, IsCounted, LacksEntries}
 use Rattle.cfb_directory.specs.Views.{allocator_of, directory_ids, entries_held, links_of, IsDirectory}
 use Rattle.cfb_directory.specs.declared.directory.Directory.{Directory}
 use Rattle.cfb_directory.proofs.EntryBytes.{entries_behind, unused_entries}
@@ -91,9 +92,6 @@ entries_grown v bytes ids more content es one is held =
     ∙ entries_behind v (length ids * (sector_len v / 128)) (dir_entries_per_sector v) (joined v bytes ids) (initial Dir (sector_len v)) (length-content v bytes ids) (sector_size v)
     ∙ ap (λ l. entries_of v (joined v bytes ids) ++ l) (sector_read v)
     ∙ ap (λ l. l ++ replicate (dir_entries_per_sector v) empty_entry) (sym held)
-
-none_among_tables : (a b xs : List ℕ) → AreNoneOf a xs → a ≡ b → AreNoneOf b xs
-none_among_tables a b xs none same = subst (λ l. AreNoneOf l xs) same none
 
 module _ {F : Type 0} {g : Ghosts F} where
   -- a directory whose chain took in a sector, after which the header counts it
@@ -212,3 +210,24 @@ module _ {F : Type 0} {g : Ghosts F} where
   pub grown_kept : (old new : Directory F g) → GoesOn (allocator_of old) (allocator_of new) → (HasDirectory old → GrowsDirectory old new) → IsDirectory old → LiesBeside old → IsDirectory new
   grown_kept old new goes grown held beside =
       is_directory new (λ live honest. (grown (has_directory old (goes.live live) (subst IsTrue goes.honest honest) held beside)).has)
+
+  -- no number for the sector of entries that was asked for
+  pub lacks_sector : (it : Directory F g) (count : ℕ) → count ≡ length (directory_ids it) + 1 → LacksSectors (allocator_of it) (links_of it) count → LacksEntries it
+  unfolding LacksEntries
+  lacks_sector it count is lacks =
+      let one : count - length (directory_ids it) ≡ 1 = omega (arith, is) in
+      ⊎_elim (λ few. inr (inl (subst (LacksNumbers (allocator_of it)) one few))) (λ long. inr (inr (omega (arith, long, is)))) lacks
+
+  -- no numbers for the entries of one
+  pub lacks_places : (it : Directory F g) → greatest_entry + 1 < length (entries_held it) + dir_entries_per_sector (version_of (allocator_of it)) → LacksEntries it
+  unfolding LacksEntries
+  lacks_places it few = inl few
+
+  -- what is missing of a directory is missing of one with the same entries and sectors
+  pub lacks_same : (old new : Directory F g) → allocator_of new ≡ allocator_of old → directory_ids new ≡ directory_ids old → entries_held new ≡ entries_held old → LacksEntries new → LacksEntries old
+  unfolding LacksEntries
+  lacks_same old new allocator ids entries =
+      ⊎_elim
+      (λ few. inl (subst (λ a. greatest_entry + 1 < length (entries_held old) + dir_entries_per_sector (version_of a)) allocator
+      (subst (λ es. greatest_entry + 1 < length es + dir_entries_per_sector (version_of (allocator_of new))) entries few)))
+      (⊎_elim (λ few. inr (inl (subst (λ a. LacksNumbers a 1) allocator few))) (λ long. inr (inr (subst (λ l. greatest_regular < length l) ids long))))

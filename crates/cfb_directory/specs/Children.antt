@@ -42,6 +42,11 @@ abbrev pub IsNameTaken : Letters → List Entry → ℕ → List ℕ → Type 0
 IsNameTaken letters entries parent name = (reads : ℕ → ℕ → List ℕ → Bool) (tree : Tree) (path : Path)
     → HoldsStorage letters reads entries tree path parent → object_at letters tree (path_to path name) ≢ None
 
+-- of each tree that the entries hold with such a storage: it has no object of this name in it
+abbrev pub IsNameFree : Letters → List Entry → ℕ → List ℕ → Type 0
+IsNameFree letters entries parent name = (reads : ℕ → ℕ → List ℕ → Bool) (tree : Tree) (path : Path)
+    → HoldsStorage letters reads entries tree path parent → object_at letters tree (path_to path name) ≡ None
+
 -- what it leaves of a tree with such a storage, where the new entry is an object of this name on its own: the tree with it, of one
 -- entry more, to which its path leads; colours stay right
 abbrev pub AddsChild : Letters → List Entry → List Entry → ℕ → List ℕ → Entry → ℕ → Type 0

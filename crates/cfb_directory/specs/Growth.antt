@@ -1,12 +1,13 @@
 -- What a directory is that took in entries in no use ([MS-CFB] 2.6.3).
-use Rattle.std.specs.Prelude.{◌≡◌, ◌⊎◌, ℕ, ◌+◌, ◌≤◌, List, [], ◌∷◌, ◌++◌, ⊤, length, replicate, IsTrue}
+use Rattle.std.specs.Prelude.{◌≡◌, ◌⊎◌, ℕ, ◌+◌, ◌<◌, ◌≤◌, List, [], ◌∷◌, ◌++◌, ⊤, length, replicate, IsTrue}
 use Rattle.std.specs.Int.{to_le_bytes, w32}
 use Rattle.cfb_medium.specs.Versions.{dir_entries_per_sector}
 use Rattle.cfb_medium.specs.declared.medium.ReadMedium.{Ghosts}
 use Rattle.cfb_medium.specs.declared.version.Version.{Version}
 use Rattle.cfb_medium.specs.declared.version.Version.TheVariants.{V3, V4}
-use Rattle.cfb_sectors.specs.Sectors.{filled_part, sector}
+use Rattle.cfb_sectors.specs.Sectors.{filled_part, greatest_regular, sector}
 use Rattle.cfb_chains.specs.Owned.{Becomes}
+use Rattle.cfb_fat.specs.Growing.{LacksNumbers}
 use Rattle.cfb_fat.specs.Seeing.{seen_of}
 use Rattle.cfb_fat.specs.Tables.{bytes_of, orderly_of, version_of}
 use Rattle.cfb_tree.specs.Directory.{greatest_entry, Entry}
@@ -50,3 +51,9 @@ module _ {F : Type 0} {g : Ghosts F} where
     pub has : HasDirectory it
     pub orderly : IsTrue (orderly_of (allocator_of it))
     pub sizes : SizesFit (version_of (allocator_of it)) (entries_held it)
+
+  -- numbers are missing for a sector of entries more: of the entries, or of the sector, in the FAT or in the directory's chain
+  -- ([MS-CFB] 2.2, 2.6.1)
+  unfoldable pub LacksEntries : Directory F g → Type 0
+  LacksEntries it = (greatest_entry + 1 < length (entries_held it) + dir_entries_per_sector (version_of (allocator_of it)))
+      ⊎ LacksNumbers (allocator_of it) 1 ⊎ (greatest_regular < length (directory_ids it))

@@ -1,9 +1,9 @@
 //! Entries that come and go: children of storages by name ([MS-CFB] 2.6.4).
 ghost use Rattle.cfb_chains.specs.ChainCalls.{IsInvalid, IsInvalidOrFull};
 ghost use Rattle.cfb_directory.specs.Changes.{HasDirectory, KeepsEntries, LiesBeside, SetsEntry};
-ghost use Rattle.cfb_directory.specs.Children.{AddsAt, AddsChild, HasHolders, HoldsChild, HoldsStorage, IsNameTaken, IsRefusedInsert, IsRefusedRemove, LinksNew, Removes, RemovesAt, RemovesChild};
+ghost use Rattle.cfb_directory.specs.Children.{AddsAt, AddsChild, HasHolders, HoldsChild, HoldsStorage, IsNameFree, IsNameTaken, IsRefusedInsert, IsRefusedRemove, LinksNew, Removes, RemovesAt, RemovesChild};
 ghost use Rattle.cfb_directory.specs.Entries.{SizesFit};
-ghost use Rattle.cfb_directory.specs.Growth.{GrowsDirectory, IsReady};
+ghost use Rattle.cfb_directory.specs.Growth.{GrowsDirectory, IsReady, LacksEntries};
 ghost use Rattle.cfb_directory.specs.Views.{allocator_of, entries_held, IsDirectory};
 ghost use Rattle.cfb_fat.specs.Calls.{Answers};
 ghost use Rattle.cfb_fat.specs.Tables.{has_failed_here, version_of};
@@ -17,10 +17,9 @@ ghost use Rattle.cfb_tree.specs.EntryViews.{entry_in, kind_of};
 ghost use Rattle.cfb_tree.specs.Entries.{empty_entry, new_entry};
 ghost use Rattle.cfb_tree.specs.LetterViews.{letters_of};
 ghost use Rattle.cfb_tree.specs.Names.{is_name, Letters};
-ghost use Rattle.cfb_tree.specs.Objects.{object_at};
 ghost use Rattle.cfb_tree.specs.Paths.{Path};
 ghost use Rattle.cfb_tree.specs.Tree.{Tree};
-ghost use Rattle.std.specs.Prelude.{chars, false, length, slice_get, slice_set, true, Bool, IfOk, IfSome, IsErrOf, IsTrue, List, None, OnErr, OnOk, Some, ℕ, ◌<◌, ◌≡◌, ◌⊎◌};
+ghost use Rattle.std.specs.Prelude.{chars, false, length, slice_get, slice_set, true, Bool, IfOk, IfSome, IsErrOf, IsTrue, List, OnErr, OnOk, Some, ℕ, ◌<◌, ◌≡◌, ◌⊎◌};
 
 use crate::Directory;
 use cfb_medium::{Error, Medium, Timestamp};
@@ -71,6 +70,8 @@ impl<F: Medium> Directory<F> {
         ensures memory { IsDirectory self.old → LiesBeside self.old → IsDirectory self.new }
         ensures refused { IsErrOf result InvalidData → IsReady self.old
             → HasEntry (entries_held self.old) (holder link) → ⊥ }
+        ensures full { IsErrOf result Full → has_failed_here (allocator_of self.new) ≡ false
+            → LacksEntries self.old }
         ensures goes_on { GoesOn (allocator_of self.old) (allocator_of self.new) }
         ensures answers { Answers IsInvalidOrFull result (allocator_of self.old)
             (allocator_of self.new) }
@@ -110,11 +111,14 @@ impl<F: Medium> Directory<F> {
             (new_entry (chars name.now) (kind_of obj_type) (units_of moment))) }
         ensures taken { IsErrOf result AlreadyExists
             → IsNameTaken (letters_of letters.now) (entries_held self.old) parent (chars name.now) }
-        ensures named { IsErrOf result InvalidInput → IsTrue (is_name (chars name.now)) → ⊥ }
+        ensures named { IsErrOf result InvalidInput → (IsTrue (is_name (chars name.now)) → ⊥)
+            × IsNameFree (letters_of letters.now) (entries_held self.old) parent (chars name.now) }
         ensures refused { IsErrOf result InvalidData
             → (reads : ℕ → ℕ → List ℕ → Bool) (tree : Tree) (path : Path)
             → HoldsStorage (letters_of letters.now) reads (entries_held self.old) tree path parent
             → IsReady self.old → ⊥ }
+        ensures full { IsErrOf result Full → has_failed_here (allocator_of self.new) ≡ false
+            → LacksEntries self.old }
         ensures grown { OnOk result (HasDirectory self.old → GrowsDirectory self.old self.new) }
         ensures kept { OnErr result (has_failed_here (allocator_of self.new) ≡ false
             → KeepsEntries self.old self.new) }
@@ -237,9 +241,7 @@ impl<F: Medium> Directory<F> {
             (path_to path (chars name.now)) id
             × RemovesAt (entries_held self.old) (entries_held self.new) id) }
         ensures missing { IsErrOf result NotFound
-            → (reads : ℕ → ℕ → List ℕ → Bool) (tree : Tree) (path : Path)
-            → HoldsStorage (letters_of letters.now) reads (entries_held self.old) tree path parent
-            → object_at (letters_of letters.now) tree (path_to path (chars name.now)) ≡ None }
+            → IsNameFree (letters_of letters.now) (entries_held self.old) parent (chars name.now) }
         ensures refused { IsErrOf result InvalidData
             → (reads : ℕ → ℕ → List ℕ → Bool) (tree : Tree) (path : Path)
             → HoldsStorage (letters_of letters.now) reads (entries_held self.old) tree path parent

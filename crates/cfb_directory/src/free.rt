@@ -3,7 +3,7 @@ ghost use Rattle.cfb_chains.specs.ChainCalls.{IsInvalidOrFull};
 ghost use Rattle.cfb_chains.specs.Owned.{Leaves};
 ghost use Rattle.cfb_directory.specs.Changes.{HasDirectory, KeepsEntries, LiesBeside};
 ghost use Rattle.cfb_directory.specs.Entries.{entries_in};
-ghost use Rattle.cfb_directory.specs.Growth.{count_words, longer, GrowsDirectory, IsCounted, MayGrow};
+ghost use Rattle.cfb_directory.specs.Growth.{count_words, longer, GrowsDirectory, IsCounted, LacksEntries, MayGrow};
 ghost use Rattle.cfb_fat.specs.Calls.{Answers};
 ghost use Rattle.cfb_fat.specs.Seeing.{seen_of};
 ghost use Rattle.cfb_fat.specs.Tables.{bytes_of, has_failed_here, is_honest, orderly_of, version_of};
@@ -157,6 +157,8 @@ impl<F: Medium> Directory<F> {
         ensures memory { IsDirectory self.old → LiesBeside self.old → IsDirectory self.new }
         ensures refused { IsErrOf result InvalidData → HasDirectory self.old
             → IsTrue (orderly_of (allocator_of self.old)) → ⊥ }
+        ensures full { IsErrOf result Full → has_failed_here (allocator_of self.new) ≡ false
+            → LacksEntries self.old }
         ensures goes_on { GoesOn (allocator_of self.old) (allocator_of self.new) }
         ensures answers { Answers IsInvalidOrFull result (allocator_of self.old)
             (allocator_of self.new) }
@@ -201,6 +203,8 @@ impl<F: Medium> Directory<F> {
         ensures memory { IsDirectory self.old → LiesBeside self.old → IsDirectory self.new }
         ensures refused { IsErrOf result InvalidData → HasDirectory self.old
             → IsTrue (orderly_of (allocator_of self.old)) → ⊥ }
+        ensures full { IsErrOf result Full → has_failed_here (allocator_of self.new) ≡ false
+            → LacksEntries self.old }
         ensures goes_on { GoesOn (allocator_of self.old) (allocator_of self.new) }
         ensures answers { Answers IsInvalidOrFull result (allocator_of self.old)
             (allocator_of self.new) }

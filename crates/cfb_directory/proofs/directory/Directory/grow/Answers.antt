@@ -1,4 +1,5 @@
-use Rattle.std.proofs.Common.{◌≡◌, ◌+◌, ◌*◌, inl, ⊎_elim, length, take, ◌++◌, ap, subst, ◌∙◌, arith, rules}
+use Rattle.cfb_medium.specs.declared.error.Error.TheVariants.{Full}
+use Rattle.std.proofs.Common.{◌≡◌, ◌+◌, ◌*◌, inl, ⊎_elim, Err, length, take, ◌++◌, ap, subst, ◌∙◌, arith, rules}
 use Rattle.std.proofs.lemmas.List.{length-map, take_all}
 use Rattle.cfb_medium.specs.Versions.{dir_entries_per_sector, sector_len}
 use Rattle.cfb_sectors.specs.Copies.{copies}
@@ -14,7 +15,7 @@ use Rattle.cfb_tree.specs.EntryViews.{entry_in}
 use Rattle.cfb_directory.specs.Growth.{longer, IsCounted}
 use Rattle.cfb_directory.specs.Views.{allocator_of, entries_held, links_of}
 use Rattle.cfb_directory.specs.Entries.{entries_in}
-use Rattle.cfb_directory.proofs.Growing.{directory_grown, first_unused, grown_kept, length_longer, more_is_one, one_more}
+use Rattle.cfb_directory.proofs.Growing.{directory_grown, first_unused, grown_kept, lacks_places, lacks_sector, length_longer, more_is_one, one_more}
 use Rattle.cfb_directory.proofs.directory.Directory.grow.Goals as goal
 
 pub returns-in-Err-write_count-clause-answers : goal.returns-in-Err-write_count-clause-answers
@@ -81,3 +82,21 @@ returns-clause-memory g c = grown_kept c.args.self.now _ (goes_then _ _ _ c.set_
 
 pub returns-clause-goes_on : goal.returns-clause-goes_on
 returns-clause-goes_on g c = goes_then _ _ _ c.set_chain_len.ensures.goes_on c.write_count.ensures.goes_on
+
+pub returns-then-first-count-clause-full : goal.returns-then-first-count-clause-full
+returns-then-first-count-clause-full g c = λ wrong live.
+    let it = c.args.self.now in
+    let v = version_of (allocator_of it) in
+    let size = length-map it.entries.items.items entry_in in
+    let at = c.len-first.ensures in
+    let count : c.dir_entries_per_sector-count.result ≡ dir_entries_per_sector v = c.dir_entries_per_sector-count.ensures ∙ ap dir_entries_per_sector c.version.ensures in
+    let many = c.if-first-count.true in
+    lacks_places it (omega (arith, size, at, count, many))
+
+pub returns-in-Err-set_chain_len-clause-full : goal.returns-in-Err-set_chain_len-clause-full
+returns-in-Err-set_chain_len-clause-full g c = λ wrong live.
+    let it = c.args.self.now in
+    let links = links_of it in
+    let count = one_more (links_version links) (ids_of links) c.sector_ids.result.now c.version-2.result c.sector_len.result c.sector_ids.ensures c.sector_len.ensures c.version-2.ensures in
+    let is : c.in-Err-set_chain_len.error ≡ Full = cc in
+    lacks_sector it _ count (c.in-Err-set_chain_len.ensures.full (ap Err is) live)

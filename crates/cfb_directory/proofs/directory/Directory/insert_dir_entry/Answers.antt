@@ -66,3 +66,14 @@ returns-clause-refused g c = λ wrong reads tree path has ready.
     let place = c.in-Some-Free.ensures reads tree path (subst (λ es. HoldsTree l (ReadBy reads) es tree) (sym same) has.holds) (subst (λ es. IsStorageAt l es path c.args.parent) (sym same) has.storage) in
     let at = subst (IsPlace (ReadBy reads) l (entries_in c.deref.result.now) tree path c.args.parent (chars c.args.name.now)) c.in-Some-Free.field-0-is place in
     c.add_child.ensures.refused wrong ready (subst (λ es. HasEntry es (holder c.in-Some-Free.link)) same at.1)
+
+pub returns-in-Err-clause-named : goal.returns-in-Err-clause-named
+returns-in-Err-clause-named g c = λ wrong. (
+  λ valid. let wrong = c.in-Err.ensures.valid.1 valid in absurd (cc),
+  λ reads tree path has.
+      let l = letters_of c.args.letters.now in
+      let same : entries_in c.deref.result.now ≡ entries_held c.args.self.now = ap entries_in c.deref.ensures.value in
+      let place = c.in-Some-Free.ensures reads tree path (subst (λ es. HoldsTree l (ReadBy reads) es tree) (sym same) has.holds) (subst (λ es. IsStorageAt l es path c.args.parent) (sym same) has.storage) in
+      let at = subst (IsPlace (ReadBy reads) l (entries_in c.deref.result.now) tree path c.args.parent (chars c.args.name.now)) c.in-Some-Free.field-0-is place in
+      at.2,
+)
