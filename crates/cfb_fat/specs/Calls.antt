@@ -68,6 +68,11 @@ module _ {F : Type 0} {g : Ghosts F} where
   abbrev pub HasNoneBelow : Allocator F g → ℕ → Type 0
   HasNoneBelow it n = (k : ℕ) → k < n → slice_index (fat_of it) k ≡ free → IsNoneOf (difat_sectors_of it) k → IsNoneOf (fat_sectors_of it) k → ⊥
 
+  -- no number of a sector is left: none behind the FAT's, and none of these is spare
+  pub record IsFull (it : Allocator F g) : Type 0 where
+    pub behind : greatest_regular < length (fat_of it)
+    pub spare : HasNoneBelow it (length (fat_of it))
+
   -- so many entries the FAT's sectors have
   abbrev pub places_of : Allocator F g → ℕ
   places_of it = length (fat_sectors_of it) * (sector_len (version_of it) / 4)

@@ -86,7 +86,3 @@ module _ {F : Type 0} {g : Ghosts F} where
   -- fewer numbers of sectors are left than this: those of "free" entries, and those behind the FAT
   abbrev pub LacksNumbers : Allocator F g → ℕ → Type 0
   LacksNumbers it count = greatest_regular + 1 + count_by (λ entry. nat_eq entry free) (fat_of it) < length (fat_of it) + count
-
-  -- no number of a sector is left
-  abbrev pub IsFull : Allocator F g → Type 0
-  IsFull it = greatest_regular < length (fat_of it)

@@ -1,6 +1,6 @@
 //! Tables that become longer, and the file with them.
 ghost use Rattle.cfb_fat.specs.Calls.{places_of, Attempts, EndsBehind, HasNoneBelow, HasPlace, IsTheLast, Occupies, Tries};
-ghost use Rattle.cfb_fat.specs.Growing.{GrowsFat, HasMemory, IsFull, KeepsMemory, MarksBehind, Spends, SpendsOne};
+ghost use Rattle.cfb_fat.specs.Growing.{GrowsFat, HasMemory, KeepsMemory, MarksBehind, Spends, SpendsOne};
 ghost use Rattle.cfb_fat.specs.Orderly.{named_at_most};
 ghost use Rattle.cfb_medium.specs.Calls.{IsFaultUnless};
 ghost use Rattle.cfb_medium.specs.Versions.{sector_len};
@@ -138,7 +138,8 @@ impl<F: Medium> Allocator<F> {
         ensures place { OnOk result (HasPlace self.new) }
         ensures added { OnOk result (MarksBehind [] [] self.old self.new) }
         ensures spends { Spends 1 IsTheLast result self.old self.new }
-        ensures full { IsErrOf result Full → IsFull self.old × AllRests self.old self.new }
+        ensures full { IsErrOf result Full → (greatest_regular < length (fat_of self.old))
+            × AllRests self.old self.new }
         ensures tries { Tries IsTheLast result self.old self.new }
     {
         if self.num_sectors() > MAX_REGULAR_SECTOR {

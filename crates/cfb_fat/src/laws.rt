@@ -2,12 +2,13 @@
 ghost use Rattle.cfb_chains.specs.Owned.{Owned, Stays};
 ghost use Rattle.cfb_fat.specs.Listed.{stop_behind, Lists};
 ghost use Rattle.cfb_fat.specs.Seeing.{seen_of};
-ghost use Rattle.cfb_fat.specs.Tables.{fat_of, is_honest, tables_of, version_of};
+ghost use Rattle.cfb_fat.specs.Tables.{fat_of, has_failed_here, is_honest, tables_of, version_of};
 ghost use Rattle.cfb_medium.specs.Versions.{sector_len};
+ghost use Rattle.cfb_medium.specs.declared.error.Error.TheVariants.{Failed};
 ghost use Rattle.cfb_medium.specs.declared.version.Version.{Version};
 ghost use Rattle.cfb_sectors.specs.Header.{first_difat_sector};
 ghost use Rattle.cfb_sectors.specs.Sectors.{sector};
-ghost use Rattle.std.specs.Prelude.{length, IsTrue, List, OnOk, ℕ, ◌≡◌, ◌≤◌};
+ghost use Rattle.std.specs.Prelude.{length, true, IsErrOf, IsTrue, List, OnOk, ℕ, ◌≡◌, ◌≤◌};
 
 use crate::Allocator;
 use cfb_medium::{Error, Medium};
@@ -24,13 +25,15 @@ pub fn lists_are_facts()
 {}
 
 /// Begins a chain, writes over its sector, makes it longer by a sector that it writes over too, cuts that off and frees the
-/// chain, as a layer above does over time. Whatever others own stays theirs, with its bytes.
+/// chain, as a layer above does over time. Whatever others own stays theirs, with its bytes. An allocator that had failed
+/// answers `Failed`.
 pub fn use_a_chain<F: Medium>(allocator: &mut Allocator<F>, bytes: &[u8]) -> Result<(), Error>
     ensures stays { OnOk result (IsTrue (is_honest allocator.old)
         → length bytes.now ≤ sector_len (version_of allocator.old) → (own : ℕ → List ℕ)
         → Owned (fat_of allocator.old) (tables_of allocator.old) own
         → (k : ℕ) → Stays (sector (version_of allocator.old)) (seen_of allocator.old)
         (seen_of allocator.new) (own k)) }
+    ensures failed { has_failed_here allocator.old ≡ true → IsErrOf result Failed }
 {
     let start = allocator.begin_chain(SectorInit::Zero)?;
     allocator.write_contiguous(start, 0, bytes)?;

@@ -1,5 +1,5 @@
 //! Sectors that are taken into use, for chains that begin or become longer ([MS-CFB] 2.3).
-ghost use Rattle.cfb_fat.specs.Calls.{Answers, Attempts, ChangesTables, FillsBehind, HasNoneBelow, IsFresh, IsLastResort, IsTheLast, Occupies, TakesOne, Tries};
+ghost use Rattle.cfb_fat.specs.Calls.{Answers, Attempts, ChangesTables, FillsBehind, HasNoneBelow, IsFresh, IsFull, IsLastResort, IsTheLast, Occupies, TakesOne, Tries};
 ghost use Rattle.cfb_chains.specs.ChainCalls.{IsInvalidOrFull};
 ghost use Rattle.cfb_chains.specs.Changes.{AreAmong, IsFreeIn, IsNoneOf};
 ghost use Rattle.cfb_chains.specs.Grown.{AreWritable, IsLinked};
@@ -7,7 +7,7 @@ ghost use Rattle.cfb_chains.specs.LinkViews.{ids_of, links_version};
 ghost use Rattle.cfb_chains.specs.Owned.{Leaves};
 ghost use Rattle.cfb_chains.specs.Positions.{sectors_for};
 ghost use Rattle.cfb_fat.specs.Changing.{MayWrite, WritesBeside};
-ghost use Rattle.cfb_fat.specs.Growing.{GrowsFat, HasMemory, HasWhole, IsFull, KeepsMemory, LacksNumbers, MarksBehind, Spends, TakesIn};
+ghost use Rattle.cfb_fat.specs.Growing.{GrowsFat, HasMemory, HasWhole, KeepsMemory, LacksNumbers, MarksBehind, Spends, TakesIn};
 ghost use Rattle.cfb_fat.specs.Keeping.{takes_cause, takes_fails, takes_keep, takes_rest, takes_then};
 ghost use Rattle.cfb_fat.specs.Seeing.{seen_of};
 ghost use Rattle.cfb_medium.specs.Calls.{IsFaultUnless};
@@ -47,6 +47,7 @@ impl<F: Medium> Allocator<F> {
     /// left, or `Memory`. Nothing is changed.
     pub fn prepare_growth(&mut self, start: u32, count: usize) -> Result<(), Error>
         ensures ready { OnOk result (IsTrue (orderly_of self.old)) }
+        ensures chain { OnOk result ((ids : List ℕ) × IsChain (fat_of self.old) start ids) }
         ensures memory { OnOk result (HasMemory self.new 0 count) }
         ensures rests { AllRests self.old self.new }
         ensures refused { IsErrOf result InvalidData → IsTrue (orderly_of self.old)
@@ -66,6 +67,7 @@ impl<F: Medium> Allocator<F> {
     // tables can't be changed, and then `Full` where fewer numbers are left.
     fn check_growth(&self, start: u32, count: usize) -> Result<(), Error>
         ensures ready { OnOk result (IsTrue (orderly_of self.now)) }
+        ensures chain { OnOk result ((ids : List ℕ) × IsChain (fat_of self.now) start ids) }
         ensures refused { IsErrOf result InvalidData → IsTrue (orderly_of self.now)
             → (ids : List ℕ) → IsChain (fat_of self.now) start ids → ⊥ }
         ensures full { IsErrOf result Full → IsTrue (orderly_of self.now)
@@ -179,8 +181,8 @@ impl<F: Medium> Allocator<F> {
     }
 
     /// Takes a sector into use as a chain of its own: a free one, or where there is none but a table's, one behind all others.
-    /// `InvalidData` where the tables can't be changed, `Full` where no number is left, and `Memory`, each with nothing
-    /// changed. After a fault in a write it has failed.
+    /// `InvalidData` where the tables can't be changed, and then `Full` where no number is left and no sector is spare, or
+    /// `Memory`, each with nothing changed. After a fault in a write it has failed.
     pub fn begin_chain(&mut self, init: SectorInit) -> Result<u32, Error>
         ensures chain { IfOk result (λ n. IsChain (fat_of self.new) n (n ∷ [])) }
         ensures takes { IfOk result (λ n. TakesIn (n ∷ []) (n ∷ []) self.old self.new) }
@@ -191,7 +193,8 @@ impl<F: Medium> Allocator<F> {
         ensures appended { IfOk result (IsLastResort self.old) }
         ensures refused { IsErrOf result InvalidData
             → (IsTrue (orderly_of self.old) → ⊥) × AllRests self.old self.new }
-        ensures full { IsErrOf result Full → IsFull self.old × AllRests self.old self.new }
+        ensures full { IsErrOf result Full → IsTrue (orderly_of self.old) × IsFull self.old
+            × AllRests self.old self.new }
         ensures none { OnErr result (TakesIn [] [] self.old self.new) }
         ensures spends { Spends 0 IsInvalidOrFull result self.old self.new }
         ensures changes { ChangesTables IsInvalidOrFull result self.old self.new }
@@ -231,8 +234,8 @@ impl<F: Medium> Allocator<F> {
 
     /// Extends the chain from a start by one sector behind its last, and gives its number: a free one, or where there is none
     /// but a table's, one behind all others. `InvalidData` where the FAT has no such chain, it has no sector, or the tables
-    /// can't be changed, `Full` where no number is left, and `Memory`, each with nothing changed. After a fault in a write it
-    /// has failed ([MS-CFB] 2.3).
+    /// can't be changed, and then `Full` where no number is left and no sector is spare, or `Memory`, each with nothing
+    /// changed. After a fault in a write it has failed ([MS-CFB] 2.3).
     pub fn extend_chain(&mut self, start: u32, init: SectorInit) -> Result<u32, Error>
         ensures extends { IfOk result (λ n. (ids : List ℕ) × (last : ℕ)
             × IsChain (fat_of self.old) start (ids ++ last ∷ [])
@@ -249,7 +252,8 @@ impl<F: Medium> Allocator<F> {
         ensures refused { IsErrOf result InvalidData
             → (IsTrue (orderly_of self.old) → (ids : List ℕ) (last : ℕ)
             → IsChain (fat_of self.old) start (ids ++ last ∷ []) → ⊥) × AllRests self.old self.new }
-        ensures full { IsErrOf result Full → IsFull self.old × AllRests self.old self.new }
+        ensures full { IsErrOf result Full → IsTrue (orderly_of self.old) × IsFull self.old
+            × AllRests self.old self.new }
         ensures spends { slice_get (fat_of self.old) start ≡ Some end_of_chain
             → Spends 0 IsInvalidOrFull result self.old self.new }
         ensures changes { ChangesTables IsInvalidOrFull result self.old self.new }
@@ -264,8 +268,8 @@ impl<F: Medium> Allocator<F> {
     }
 
     /// Extends the chain from a start by so many sectors behind its last, each as `extend_chain` does. `InvalidData` where the
-    /// FAT has no such chain, it has no sector, or the tables can't be changed, and then `Full` where fewer numbers are left.
-    /// After an error nothing is changed, or it has failed.
+    /// FAT has no such chain, it has no sector, or the tables can't be changed, with nothing changed, and then `Full` where
+    /// fewer numbers are left. After an error nothing is changed, or it has failed ([MS-CFB] 2.3).
     pub fn extend_chain_by(
         &mut self,
         start: u32,
@@ -283,18 +287,21 @@ impl<F: Medium> Allocator<F> {
             ++ copies count (initial init (sector_len (version_of self.old))))) }
         ensures some { OnErr result ((more : List ℕ) × (changed : List ℕ)
             × TakesIn more changed self.old self.new) }
-        ensures refused { IsErrOf result InvalidData → IsTrue (orderly_of self.old)
-            → (ids : List ℕ) (last : ℕ)
-            → IsChain (fat_of self.old) start (ids ++ last ∷ []) → ⊥ }
-        ensures full { IsErrOf result Full → has_failed_here self.new ≡ false
-            → LacksNumbers self.old count
+        ensures refused { IsErrOf result InvalidData
+            → (IsTrue (orderly_of self.old) → (ids : List ℕ) (last : ℕ)
+            → IsChain (fat_of self.old) start (ids ++ last ∷ []) → ⊥) × AllRests self.old self.new }
+        ensures full { IsErrOf result Full → IsTrue (orderly_of self.old)
+            × (has_failed_here self.new ≡ false → LacksNumbers self.old count
             ⊎ ((ids : List ℕ) × IsChain (fat_of self.old) start ids
-            × (greatest_regular < length ids + count)) }
+            × (greatest_regular < length ids + count))) }
         ensures answers { Answers IsInvalidOrFull result self.old self.new }
     {
         let mut links = self.open_chain(start)?;
         let old = links.sector_ids().len();
         if old == 0 {
+            return Err(Error::InvalidData);
+        }
+        if !self.is_orderly() {
             return Err(Error::InvalidData);
         }
         let Some(all) = old.checked_add(count) else {
@@ -319,12 +326,13 @@ impl<F: Medium> Allocator<F> {
         ensures linked { OnOk result (IsLinked (fat_of self.old) (ids_of links.old)
             → IsLinked (fat_of self.new) (ids_of links.new)) }
         ensures filled { OnOk result (FillsBehind init links.old links.new self.old self.new) }
-        ensures refused { IsErrOf result InvalidData → IsTrue (orderly_of self.old)
-            → IsLinked (fat_of self.old) (ids_of links.old) → ⊥ }
-        ensures full { IsErrOf result Full → has_failed_here self.new ≡ false
+        ensures refused { IsErrOf result InvalidData → (IsTrue (orderly_of self.old)
+            → IsLinked (fat_of self.old) (ids_of links.old) → ⊥) × AllRests self.old self.new }
+        ensures full { IsErrOf result Full → IsTrue (orderly_of self.old)
+            × (has_failed_here self.new ≡ false
             → LacksNumbers self.old (sectors_for (links_version links.old) len
             - length (ids_of links.old))
-            ⊎ (greatest_regular + 1 < sectors_for (links_version links.old) len) }
+            ⊎ (greatest_regular + 1 < sectors_for (links_version links.old) len)) }
         ensures answers { Answers IsInvalidOrFull result self.old self.new }
     {
         let mut chain = Chain::new(self, links, init);

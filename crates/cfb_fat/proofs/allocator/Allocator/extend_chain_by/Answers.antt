@@ -19,10 +19,13 @@ pub returns-in_err-links-clause-some : goal.returns-in_err-links-clause-some
 returns-in_err-links-clause-some g c = on_err c.from_residual.result _ ([], [], takes_rest [] c.args.self.now c.args.self.now (all_rest_refl c.args.self.now))
 
 pub returns-then-old-eq0-clause-refused : goal.returns-then-old-eq0-clause-refused
-returns-then-old-eq0-clause-refused g c = λ refused orderly ids last chain.
-    let ours = c.in_ok-links.links.sector_ids.items in
-    let one = chain_unique c.args.self.now.fat.items c.args.start ours (ids ++ last ∷ []) c.in_ok-links.ensures.chain chain in
-    omega (arith, ap length one, length-append ids (last ∷ []), ap length c.sector_ids-old.ensures, c.if-old-eq0.true)
+returns-then-old-eq0-clause-refused g c = λ refused. (
+  λ orderly ids last chain.
+      let ours = c.in_ok-links.links.sector_ids.items in
+      let one = chain_unique c.args.self.now.fat.items c.args.start ours (ids ++ last ∷ []) c.in_ok-links.ensures.chain chain in
+      omega (arith, ap length one, length-append ids (last ∷ []), ap length c.sector_ids-old.ensures, c.if-old-eq0.true),
+  all_rest_refl c.args.self.now,
+)
 
 pub returns-in_default-clause-some : goal.returns-in_default-clause-some
 returns-in_default-clause-some g c = ([], [], takes_rest [] c.args.self.now c.args.self.now (all_rest_refl c.args.self.now))
@@ -31,10 +34,11 @@ pub returns-in_default-checked_mul-clause-some : goal.returns-in_default-checked
 returns-in_default-checked_mul-clause-some g c = ([], [], takes_rest [] c.args.self.now c.args.self.now (all_rest_refl c.args.self.now))
 
 pub returns-clause-refused : goal.returns-clause-refused
-returns-clause-refused g c = λ refused orderly ids last chain.
+returns-clause-refused g c = λ refused.
     let ours = c.in_ok-links.links.sector_ids.items in
     let some : 0 < length ours = omega (arith, ap length c.sector_ids-old.ensures, c.if-old-eq0.false) in
-    c.lengthen_chain.ensures.refused refused orderly (linked_from c.args.self.now.fat.items c.args.start ours some c.in_ok-links.ensures.chain)
+    let did = c.lengthen_chain.ensures.refused refused in
+    (λ orderly ids last chain. did.0 orderly (linked_from c.args.self.now.fat.items c.args.start ours some c.in_ok-links.ensures.chain), did.1)
 
 pub returns-clause-extends : goal.returns-clause-extends
 returns-clause-extends g c =
@@ -71,3 +75,6 @@ returns-clause-extends g c =
           let fresh : length all - length ids ≡ c.args.count = omega (arith, size) in
           ap (joined v (bytes_of now)) (sym longer.2) ∙ told ∙ ap (λ n. joined v (bytes_of it) ids ++ copies n (initial c.args.init (sector_len v))) fresh,
     ))
+
+pub returns-then-not-is_orderly-clause-some : goal.returns-then-not-is_orderly-clause-some
+returns-then-not-is_orderly-clause-some g c = ([], [], takes_rest [] c.args.self.now c.args.self.now (all_rest_refl c.args.self.now))
