@@ -1,5 +1,5 @@
 -- Bytes of a chain are written piece by piece.
-use Rattle.std.proofs.Common.{◌≡◌, ℕ, ◌+◌, ◌-◌, ◌*◌, ◌/◌, ◌%◌, ◌<◌, ◌≤◌, false, max, List, [], ◌∷◌, ◌++◌, length, take, drop, get_or, refl, ap, sym, subst, ◌∙◌, arith, ⊎_elim, length-append, append-nil, IsTrue}
+use Rattle.std.proofs.Common.{◌≡◌, ℕ, ◌+◌, ◌-◌, ◌*◌, ◌/◌, ◌%◌, ◌<◌, ◌≤◌, false, List, [], ◌∷◌, ◌++◌, length, take, drop, get_or, refl, ap, sym, subst, ◌∙◌, arith, ⊎_elim, length-append, append-nil, IsTrue}
 use Rattle.std.specs.Prelude.{slice_index_or}
 use Rattle.std.proofs.Math.Seq.{take-add, get_or-append_right}
 use Rattle.std.proofs.lemmas.Bool.Decides.{leb_tells}
@@ -176,13 +176,6 @@ more_for V4 end n past = omega (arith, past)
 pub room_for : (v : Version) (end n : ℕ) → n ≡ sectors_for v end → end ≤ n * sector_len v
 room_for V3 end n is = omega (arith, is)
 room_for V4 end n is = omega (arith, is)
-
--- the number of sectors that a write leaves
-pub size_within : (v : Version) (end n : ℕ) → end ≤ n * sector_len v → n ≡ max n (sectors_for v end)
-size_within v end n within = let few = fewer v end n within in omega (arith, few)
-
-pub size_past : (v : Version) (end n m : ℕ) → n * sector_len v < end → m ≡ sectors_for v end → m ≡ max n (sectors_for v end)
-size_past v end n m past is = let more = more_for v end n past in omega (arith, more, is)
 
 module _ {F : Type 0} {g : Ghosts F} where
   pub writes_within : (init : SectorInit) (at : ℕ) (bytes : List ℕ) (a b : Allocator F g) (links : Links) → Overwrites at bytes a b links → Writes init at bytes a b links links

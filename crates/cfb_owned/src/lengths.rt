@@ -3,7 +3,7 @@ ghost use Rattle.cfb_chains.specs.ChainCalls.{IsInvalid, IsInvalidOrFull};
 ghost use Rattle.cfb_chains.specs.LinkViews.{ids_of, links_version};
 ghost use Rattle.cfb_chains.specs.Positions.{sectors_for};
 ghost use Rattle.cfb_fat.specs.Calls.{Answers};
-ghost use Rattle.cfb_fat.specs.Tables.{has_failed_here, orderly_of};
+ghost use Rattle.cfb_fat.specs.Tables.{has_failed_here, orderly_of, AllRests};
 ghost use Rattle.cfb_medium.specs.declared.error.Error.TheVariants.{Full, InvalidData};
 ghost use Rattle.cfb_owned.specs.Chains.{GoesOn, HasChain, LacksSectors, Resizes};
 ghost use Rattle.cfb_sectors.specs.declared.initial.SectorInit.TheVariants.{Zero};
@@ -16,8 +16,8 @@ use cfb_sectors::SectorInit;
 
 /// Gives a chain as many sectors as so many bytes need. Those at its front stay, with their bytes; it takes in others behind
 /// them, which hold what `init` says, or frees those that are too many. `InvalidData` where the tables can't be changed or
-/// haven't the chain, and then `Full` where fewer numbers of sectors are left. After an error nothing is changed, or it has
-/// failed ([MS-CFB] 2.3).
+/// haven't the chain, with nothing changed, and then `Full` where fewer numbers of sectors are left. After an error nothing is
+/// changed, or it has failed ([MS-CFB] 2.3).
 pub fn set_chain_len<F: Medium>(
     allocator: &mut Allocator<F>,
     links: &mut Links,
@@ -31,6 +31,9 @@ pub fn set_chain_len<F: Medium>(
         ≡ sectors_for (links_version links.old) len) }
     ensures refused { IsErrOf result InvalidData → HasChain allocator.old links.old
         → IsTrue (orderly_of allocator.old) → ⊥ }
+    ensures unchanged { IsErrOf result InvalidData → AllRests allocator.old allocator.new
+        × (ids_of links.new ≡ ids_of links.old) }
+    ensures orderly { IsErrOf result Full → IsTrue (orderly_of allocator.old) }
     ensures full { IsErrOf result Full → has_failed_here allocator.new ≡ false
         → LacksSectors allocator.old links.old (sectors_for (links_version links.old) len) }
     ensures version { links_version links.new ≡ links_version links.old }

@@ -60,8 +60,8 @@ pub fn overwrite_chain<F: Medium>(
 
 /// Writes over a chain's bytes from a place in it or at its end on; where they end behind it, it takes in sectors first, which
 /// hold at first what `init` says. `InvalidInput` where the place is behind the chain's end; `InvalidData` where the tables
-/// can't be changed or haven't the chain, or one of its sectors holds a table; `Full` where fewer numbers of sectors are left.
-/// After an error nothing is changed, or it has failed ([MS-CFB] 2.3).
+/// can't be changed or haven't the chain, or one of its sectors holds a table, and then `Full` where fewer numbers of sectors
+/// are left. After an error nothing is changed, or it has failed ([MS-CFB] 2.3).
 pub fn write_chain<F: Medium>(
     allocator: &mut Allocator<F>,
     links: &mut Links,
@@ -77,6 +77,7 @@ pub fn write_chain<F: Medium>(
         × (len_of links.old < at)) }
     ensures refused { IsErrOf result InvalidData → HasChain allocator.old links.old
         → IsTrue (orderly_of allocator.old) → ⊥ }
+    ensures orderly { IsErrOf result Full → IsTrue (orderly_of allocator.old) }
     ensures full { IsErrOf result Full → has_failed_here allocator.new ≡ false
         → LacksSectors allocator.old links.old
         (sectors_for (links_version links.old) (at + length bytes.now)) }

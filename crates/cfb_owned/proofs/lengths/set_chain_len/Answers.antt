@@ -1,4 +1,4 @@
-use Rattle.std.proofs.Common.{length, sym, ap, subst, ◌∙◌, ⊎_elim}
+use Rattle.std.proofs.Common.{◌≡◌, length, sym, ap, subst, ◌∙◌, ⊎_elim}
 use Rattle.std.proofs.lemmas.Bool.Decides.{leb_tells}
 use Rattle.cfb_chains.specs.ChainViews.{holder_of, sectors_of}
 use Rattle.std.specs.Prelude.{OnOk}
@@ -7,6 +7,7 @@ use Rattle.cfb_owned.proofs.Resizing.{on_ok_both, resized_links, resized_longer,
 use Rattle.cfb_chains.specs.LinkViews.{ids_of, links_version}
 use Rattle.cfb_chains.specs.Positions.{sectors_for}
 use Rattle.cfb_chains.proofs.Lending.{told_of_lent}
+use Rattle.cfb_fat.specs.Tables.{AllRests}
 use Rattle.cfb_owned.specs.Chains.{GoesOn}
 use Rattle.cfb_owned.proofs.GoingOn.{changes_go_on, takes_go_on}
 use Rattle.cfb_owned.proofs.lengths.set_chain_len.Goals as goal
@@ -53,3 +54,12 @@ returns-clause-resized g c =
     a c.args.allocator.now b _ v c.args.links.now.version s (ids_of c.args.links.now) t _ made.holder made.chain.0 made.chain.1 is (ap ids_of links_is)
     (subst (λ j. OnOk r (Resized {g = g.F.ReadMedium} j n a v s b t)) made.chain.3 did_so) in
     on_ok r _ _ (λ had chain. resized_links c.args.init (sectors_for c.args.links.now.version c.args.len) c.args.allocator.now _ c.args.links.now _ (ap links_version links_is ∙ did.same.version ∙ made.chain.0) had chain) told
+
+pub returns-clause-unchanged : goal.returns-clause-unchanged
+returns-clause-unchanged g c = λ refused.
+    let made = c.new-chain.ensures in
+    let did = c.set_len.ensures in
+    let is = c.allocator-1.given.1 (sym (did.same.holder ∙ made.same_reference)) in
+    let links_is = c.links-1.given.1 (sym (did.same.links ∙ made.same_links)) in
+    let rests = (did.refused refused).1 in
+    told_of_lent (λ a v s b t. AllRests {g = g.F.ReadMedium} a b × (t ≡ s)) _ c.args.allocator.now _ _ _ _ _ _ _ _ made.holder made.chain.0 made.chain.1 is (ap ids_of links_is) (rests.0, rests.1)
