@@ -7,7 +7,7 @@ use Rattle.cfb_medium.specs.Bytes.{overwritten}
 use Rattle.cfb_chains.specs.Changes.{AreOnce}
 use Rattle.cfb_chains.proofs.ChainWriting.{length_within}
 use Rattle.cfb_chains.proofs.Overwriting.{beside, get_before, get_behind, get_filled, get_written, length-filled}
-use Rattle.cfb_mini.specs.Minis.{mini_joined, mini_sector, AreInside}
+use Rattle.cfb_mini.specs.Minis.{mini_joined, mini_sector}
 
 pub length-mini_joined : (s ids : List ℕ) → length (mini_joined s ids) ≡ 64 * length ids
 length-mini_joined s [] = omega arith
