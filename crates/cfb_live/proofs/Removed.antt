@@ -55,14 +55,6 @@ among letters Reads directory tree h (first ∷ names) id some leads =
 pub below_root : (letters : Letters) (Reads : Entry → List ℕ → Type 0) (directory : List Entry) (tree : Tree) (h : HoldsTree letters Reads directory tree) (id : ℕ) → IsOneOf h.ids id → id ≡ 0 → ⊥
 below_root letters Reads directory tree h id one is = one_apart h.ids 0 (subst (IsOneOf h.ids) is one) (zero_apart h.ids h.once)
 
--- a stream has no entries inside
-pub nothing_inside : (directory : List Entry) (Reads : Entry → List ℕ → Type 0) (id : ℕ) (o : Object) (own : List ℕ) (e : Entry) → IsObject directory Reads id o own → slice_get directory id ≡ Some e → e.kind ≡ kind_stream → own ≡ []
-nothing_inside directory Reads id (a_stream name bits bytes) own e (f, is, reads, none) found kind = none
-nothing_inside directory Reads id (a_storage name facts inside) own e (f, children, is, siblings, holds) found kind =
-    let same : f ≡ e = Some_same (sym is.found ∙ found) in
-    let other = is.of_kind in
-    let wrong : kind_storage ≡ kind_stream = sym other ∙ ap (λ (x : Entry). x.kind) same ∙ kind in absurd (omega (arith, wrong))
-
 -- a stream in the tree has its bytes in what its entry owns
 pub stream_there : (s : LiveFile) (who : Owners) (letters : Letters) (tree : Tree) (h : MeansHeld s who letters tree) (id : ℕ) (e : Entry) → IsOneOf h.ids id → slice_get s.entries id ≡ Some e → e.kind ≡ kind_stream → (content : List ℕ) × HasStream s who id e content
 stream_there s who letters tree h id e one found kind =

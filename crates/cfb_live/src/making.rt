@@ -10,16 +10,18 @@ ghost use Rattle.cfb_meaning.specs.TreeRules.{refused, tree_step};
 ghost use Rattle.cfb_mini.specs.Changing.{KeepsOwners};
 ghost use Rattle.cfb_siblings.specs.Places.{path_of, path_to};
 ghost use Rattle.cfb_tree.specs.Paths.{Path};
+ghost use Rattle.cfb_directory.specs.Growth.{LacksEntries};
 ghost use Rattle.cfb_directory.specs.Views.{entries_held};
 ghost use Rattle.cfb_tree.specs.Tree.{Tree};
 ghost use Rattle.cfb_mini.specs.Views.{allocator_of, directory_of};
 ghost use Rattle.cfb_owned.specs.Chains.{GoesOn};
+ghost use Rattle.cfb_medium.specs.declared.error.Error.TheVariants.{Full};
 ghost use Rattle.cfb_medium.specs.Times.{units_of};
 ghost use Rattle.cfb_tree.specs.EntryViews.{kind_of};
 ghost use Rattle.cfb_tree.specs.LetterViews.{letters_of};
 ghost use Rattle.std.specs.Char.{IsScalar};
 ghost use Rattle.std.specs.List.{AllByRecursion};
-ghost use Rattle.std.specs.Prelude.{chars, true, IfErr, IfOk, OnErr, OnOk, ◌≡◌, ◌⊎◌};
+ghost use Rattle.std.specs.Prelude.{chars, false, true, IfErr, IfOk, IsErrOf, OnErr, OnOk, ◌≡◌, ◌⊎◌};
 
 use crate::finding::find_parent;
 use cfb_medium::{Error, Medium, Timestamp};
@@ -87,6 +89,8 @@ pub(crate) fn make_child<F: Medium>(
         (path_to path (chars name.now)) parent → IsFault e) }
     ensures rests { OnErr result ((has_failed_here (allocator_of mini.new) ≡ true)
         ⊎ KeepsOwners mini.old mini.new) }
+    ensures full { IsErrOf result Full → has_failed_here (allocator_of mini.new) ≡ false
+        → LacksEntries (directory_of mini.old) }
     ensures goes_on { GoesOn (allocator_of mini.old) (allocator_of mini.new) }
     ensures answers { Answers IsRefusedMade result (allocator_of mini.old)
         (allocator_of mini.new) }
@@ -124,6 +128,8 @@ fn make_named<F: Medium>(
         ≡ refused e) × KeepsOwners mini.old mini.new)) }
     ensures rests { OnErr result ((has_failed_here (allocator_of mini.new) ≡ true)
         ⊎ KeepsOwners mini.old mini.new) }
+    ensures full { IsErrOf result Full → has_failed_here (allocator_of mini.new) ≡ false
+        → LacksEntries (directory_of mini.old) }
     ensures goes_on { GoesOn (allocator_of mini.old) (allocator_of mini.new) }
     ensures answers { Answers IsRefusedMade result (allocator_of mini.old)
         (allocator_of mini.new) }
@@ -156,6 +162,8 @@ pub fn make_object<F: Medium>(
 ) -> Result<(), Error>
     ensures does { Does (letters_of letters.now) (names_in path.now) (making object) result mini.old
         mini.new }
+    ensures full { IsErrOf result Full → has_failed_here (allocator_of mini.new) ≡ false
+        → LacksEntries (directory_of mini.old) }
     ensures goes_on { GoesOn (allocator_of mini.old) (allocator_of mini.new) }
     ensures answers { Answers IsRefusedMade result (allocator_of mini.old)
         (allocator_of mini.new) }

@@ -1,5 +1,6 @@
 //! Storages that are made at a path and at those above it ([MS-CFB] 2.6.2).
 ghost use Rattle.cfb_entries.specs.Rules.{names_in};
+ghost use Rattle.cfb_directory.specs.Growth.{LacksEntries};
 ghost use Rattle.cfb_fat.specs.Calls.{Answers};
 ghost use Rattle.cfb_fat.specs.Tables.{has_failed_here};
 ghost use Rattle.cfb_live.specs.Doing.{Does, IsFault};
@@ -7,8 +8,8 @@ ghost use Rattle.cfb_live.specs.Making.{IsRefusedMade};
 ghost use Rattle.cfb_live.specs.Parents.{AreNames, IsMadeAsFar, MeansAsFar};
 ghost use Rattle.cfb_meaning.specs.TreeRules.{create_storage_all, refused, tree_step};
 ghost use Rattle.cfb_medium.specs.Times.{units_of};
-ghost use Rattle.cfb_medium.specs.declared.error.Error.TheVariants.{AlreadyExists, InvalidInput};
-ghost use Rattle.cfb_mini.specs.Views.{allocator_of};
+ghost use Rattle.cfb_medium.specs.declared.error.Error.TheVariants.{AlreadyExists, Full, InvalidInput};
+ghost use Rattle.cfb_mini.specs.Views.{allocator_of, directory_of};
 ghost use Rattle.cfb_owned.specs.Chains.{GoesOn};
 ghost use Rattle.cfb_siblings.specs.Places.{path_of, IsStorageAt};
 ghost use Rattle.cfb_siblings.specs.Reading.{ReadBy};
@@ -16,7 +17,7 @@ ghost use Rattle.cfb_tree.specs.EntryViews.{entry_in};
 ghost use Rattle.cfb_tree.specs.LetterViews.{letters_of};
 ghost use Rattle.cfb_tree.specs.Objects.{HoldsTree};
 ghost use Rattle.cfb_tree.specs.Tree.{Tree};
-ghost use Rattle.std.specs.Prelude.{length, map, take, true, Bool, IfErr, IfOk, IsTrue, List, OnErr, OnOk, ℕ, ◌≡◌, ◌≤◌, ◌↔◌, ◌⊎◌};
+ghost use Rattle.std.specs.Prelude.{false, length, map, take, true, Bool, IfErr, IfOk, IsErrOf, IsTrue, List, OnErr, OnOk, ℕ, ◌≡◌, ◌≤◌, ◌↔◌, ◌⊎◌};
 
 use crate::facts::is_stream;
 use crate::making::{NewObject, make_child};
@@ -138,6 +139,8 @@ pub fn create_storage_all<F: Medium>(
 ) -> Result<(), Error>
     ensures does { Does (letters_of letters.now) (names_in path.now)
         (λ names. create_storage_all names (units_of moment)) result mini.old mini.new }
+    ensures full { IsErrOf result Full → has_failed_here (allocator_of mini.new) ≡ false
+        → LacksEntries (directory_of mini.old) }
     ensures goes_on { GoesOn (allocator_of mini.old) (allocator_of mini.new) }
     ensures answers { Answers IsRefusedMade result (allocator_of mini.old)
         (allocator_of mini.new) }

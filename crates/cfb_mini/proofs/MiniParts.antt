@@ -7,7 +7,7 @@ use Rattle.cfb_medium.specs.Bytes.{overwritten}
 use Rattle.cfb_chains.specs.Changes.{AreOnce}
 use Rattle.cfb_chains.proofs.ChainWriting.{length_within}
 use Rattle.cfb_chains.proofs.Overwriting.{beside, get_before, get_behind, get_filled, get_written, length-filled}
-use Rattle.cfb_mini.specs.Minis.{mini_joined, mini_sector, AreInside}
+use Rattle.cfb_mini.specs.Minis.{mini_joined, mini_sector}
 
 pub length-mini_joined : (s ids : List ℕ) → length (mini_joined s ids) ≡ 64 * length ids
 length-mini_joined s [] = omega arith
@@ -48,12 +48,6 @@ mini_part s ids position count place inside few is there =
     ∙ sym (get_mini s ids q (r + k) (omega (arith, inside)) (omega (arith, less, few)))
     ∙ ap (λ n. get_or (mini_joined s ids) n 0) (sym here)
     ∙ sym (get_or-take count (drop position (mini_joined s ids)) k 0 less ∙ get_or-drop position (mini_joined s ids) k 0))
-
--- the mini sector at a position is there
-pub spot_inside : (len : ℕ) (ids : List ℕ) (position place left : ℕ) → AreInside len ids → position < 64 * length ids → place ≡ 64 * get_or ids (position / 64) 0 + position % 64 → left ≡ 64 - position % 64 → place + left ≤ len
-spot_inside len ids position place left all inside is rest =
-    let one = all (position / 64) (omega (arith, inside)) in
-    omega (arith, one, is, rest)
 
 module _ (s ids xs : List ℕ) (position place : ℕ) (once : AreOnce ids) (inside : position < 64 * length ids) (few : length xs ≤ 64 - position % 64)
     (is : place ≡ 64 * get_or ids (position / 64) 0 + position % 64) (there : place + length xs ≤ length s) where

@@ -2,12 +2,12 @@
 ghost use Rattle.cfb_chains.specs.ChainCalls.{IsInvalid};
 ghost use Rattle.cfb_directory.specs.Changes.{changed_entry};
 ghost use Rattle.cfb_directory.specs.Children.{AddsAt, AddsChild, HoldsChild, IsRefusedInsert, RemovesAt, RemovesChild};
-ghost use Rattle.cfb_directory.specs.Growth.{count_words};
+ghost use Rattle.cfb_directory.specs.Growth.{count_words, LacksEntries};
 ghost use Rattle.cfb_directory.specs.Views.{entries_held};
 ghost use Rattle.cfb_fat.specs.Calls.{Answers};
 ghost use Rattle.cfb_fat.specs.Tables.{has_failed_here, version_of};
 ghost use Rattle.cfb_medium.specs.Versions.{stream_len_mask};
-ghost use Rattle.cfb_medium.specs.declared.error.Error.TheVariants.{InvalidData, InvalidInput};
+ghost use Rattle.cfb_medium.specs.declared.error.Error.TheVariants.{Full, InvalidData, InvalidInput};
 ghost use Rattle.cfb_medium.specs.Times.{units_of};
 ghost use Rattle.cfb_mini.specs.Changing.{ChangesDirectory, HasOwners, KeepsOwners};
 ghost use Rattle.cfb_mini.specs.Children.{HasRoot, IsUsable, RefusesChild};
@@ -84,6 +84,8 @@ impl<F: Medium> MiniAllocator<F> {
             self.new own) }
         ensures refused { IfErr result (RefusesChild (letters_of letters.now) self.old parent
             (chars name.now)) }
+        ensures full { IsErrOf result Full → has_failed_here (allocator_of self.new) ≡ false
+            → LacksEntries (directory_of self.old) }
         ensures rests { OnErr result ((has_failed_here (allocator_of self.new) ≡ true)
             ⊎ KeepsOwners self.old self.new) }
         ensures goes_on { GoesOn (allocator_of self.old) (allocator_of self.new) }

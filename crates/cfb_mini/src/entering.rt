@@ -150,11 +150,9 @@ fn end_behind<F: Medium>(
     ensures kept { OnErr result (minis_of links.new ≡ minis_of links.old) }
     ensures lies { LiesSo mini_fat.old mini_fat.new }
     ensures refused { IsErrOf result InvalidData → HasChain allocator.old mini_fat.old.links → ⊥ }
-    ensures live { OnOk result (has_failed_here allocator.new ≡ false) }
     ensures failed { OnErr result (has_failed_here allocator.new ≡ true) }
     ensures goes_on { GoesOn allocator.old allocator.new }
-    ensures cause { IfErr result (HasCauseBelow allocator.old allocator.new) }
-    ensures fault { IfErr result (λ e. IsFaultUnless ⊥ e ⊎ (e ≡ InvalidData)) }
+    ensures answers { Answers IsInvalid result allocator.old allocator.new }
 {
     let last = links.mini_sector_ids()[count - 1];
     if let Err(error) = set_number(allocator, mini_fat, last, END_OF_CHAIN) {

@@ -1,14 +1,15 @@
 -- The bytes and the places of a long stream that became longer or shorter, told by index.
-use Rattle.std.proofs.Common.{◌≡◌, ℕ, ◌+◌, ◌-◌, ◌*◌, ◌/◌, ◌%◌, ◌<◌, ◌≤◌, List, ◌++◌, length, take, get_or, ap, sym, subst, ◌∙◌, ⊎_elim, arith, length-take}
+use Rattle.std.proofs.Common.{◌≡◌, ℕ, ◌+◌, ◌-◌, ◌*◌, ◌/◌, ◌%◌, ◌<◌, ◌≤◌, ◌⊎◌, inl, inr, List, ◌++◌, length, take, get_or, ap, sym, subst, ◌∙◌, ⊎_elim, arith, length-take}
 use Rattle.std.specs.Prelude.{min}
 use Rattle.std.proofs.lemmas.Bool.Decides.{leb_tells}
 use Rattle.std.proofs.lemmas.List.{get_or-take, length-replicate, take-replicate}
 use Rattle.cfb_chains.specs.Behind.{AreWhole}
-use Rattle.cfb_chains.specs.LinkViews.{ids_of}
+use Rattle.cfb_chains.specs.LinkViews.{ids_of, links_version}
 use Rattle.cfb_chains.specs.Positions.{sectors_for, tail_in}
 use Rattle.cfb_chains.specs.declared.links.Links.{Links}
 use Rattle.cfb_chains.proofs.ChainWriting.{split_below}
 use Rattle.cfb_chains.proofs.Overwriting.{get_before, get_behind, get_written}
+use Rattle.cfb_fat.specs.Growing.{LacksNumbers}
 use Rattle.cfb_fat.specs.Tables.{bytes_of, version_of}
 use Rattle.cfb_fat.specs.declared.allocator.Allocator.{Allocator}
 use Rattle.cfb_medium.specs.Bytes.{overwritten}
@@ -16,10 +17,14 @@ use Rattle.cfb_medium.specs.Versions.{sector_len}
 use Rattle.cfb_medium.specs.declared.medium.ReadMedium.{Ghosts}
 use Rattle.cfb_medium.specs.declared.version.Version.{Version}
 use Rattle.cfb_medium.specs.declared.version.Version.TheVariants.{V3, V4}
-use Rattle.cfb_owned.specs.Chains.{content_of, place_of, Resizes}
+use Rattle.cfb_mini.specs.Views.{allocator_of}
+use Rattle.cfb_mini.specs.declared.mini_allocator.MiniAllocator.{MiniAllocator}
+use Rattle.cfb_owned.specs.Chains.{content_of, place_of, LacksSectors, Resizes}
 use Rattle.cfb_sectors.specs.Copies.{copies}
 use Rattle.cfb_sectors.specs.Initial.{initial}
+use Rattle.cfb_sectors.specs.Sectors.{greatest_regular}
 use Rattle.cfb_sectors.specs.declared.initial.SectorInit.TheVariants.{Zero}
+use Rattle.cfb_writing.specs.Streams.{LacksRoom}
 use Rattle.cfb_writing.proofs.LongBytes.{copies_zero, get_grown, get_taken, get_zeros, joined_front, place_kept, place_new, zero_at, zeros}
 
 -- so many sectors hold so many bytes
@@ -111,3 +116,18 @@ never_past v w n size same count past =
     let all = whole_for v size in
     let whole : n * sector_len v ≡ sectors_for v size * sector_len v = ap (λ m. m * sector_len v) count in
     omega (arith, at, all, whole)
+
+-- numbers that are missing for some of so many sectors are missing for all
+few_more : (a b count has : ℕ) → a < b + (count - has) → a < b + count
+few_more a b count has few = omega (arith, few)
+
+module _ {F : Type 0} {g : Ghosts F} where
+  -- what is missing for a chain of so many sectors is missing for a stream of their bytes
+  pub lacks_room : (it : MiniAllocator F g) (links : Links) (size was : ℕ) → size ≡ was → links_version links ≡ version_of (allocator_of it)
+      → LacksSectors (allocator_of it) links (sectors_for (links_version links) was) → LacksRoom it size
+  unfolding LacksRoom
+  lacks_room it links size was same version lacks =
+      let a = allocator_of it in
+      subst (λ n. LacksNumbers a (sectors_for (version_of a) n) ⊎ (greatest_regular + 1 < sectors_for (version_of a) n)) (sym same)
+      (subst (λ v. LacksNumbers a (sectors_for v was) ⊎ (greatest_regular + 1 < sectors_for v was)) version
+      (⊎_elim (λ few. inl (few_more _ _ (sectors_for (links_version links) was) (length (ids_of links)) few)) (λ long. inr long) lacks))

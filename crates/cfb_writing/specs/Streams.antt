@@ -1,12 +1,16 @@
 -- A stream of a live file, and what a call does to its bytes ([MS-CFB] 2.6.3).
-use Rattle.std.specs.Prelude.{◌≡◌, ℕ, ◌+◌, ◌-◌, ◌<◌, ◌++◌, List, length, replicate, slice_get, take, Some}
+use Rattle.std.specs.Prelude.{◌≡◌, ◌⊎◌, ℕ, ◌+◌, ◌-◌, ◌<◌, ◌++◌, List, length, replicate, slice_get, take, Some}
 use Rattle.cfb_chains.specs.LinkViews.{ids_of, links_version}
+use Rattle.cfb_chains.specs.Positions.{sectors_for}
 use Rattle.cfb_directory.specs.Views.{entries_held}
+use Rattle.cfb_fat.specs.Growing.{LacksNumbers}
+use Rattle.cfb_fat.specs.Tables.{version_of}
 use Rattle.cfb_live.specs.Live.{Means}
 use Rattle.cfb_medium.specs.declared.medium.ReadMedium.{Ghosts}
 use Rattle.cfb_mini.specs.LinkViews.{minis_of}
-use Rattle.cfb_mini.specs.Views.{directory_of}
+use Rattle.cfb_mini.specs.Views.{allocator_of, directory_of}
 use Rattle.cfb_mini.specs.declared.mini_allocator.MiniAllocator.{MiniAllocator}
+use Rattle.cfb_sectors.specs.Sectors.{greatest_regular}
 use Rattle.cfb_siblings.specs.Places.{LeadsTo}
 use Rattle.cfb_streams.specs.Streams.{sectors_in, IsOfLevel, LiesIn}
 use Rattle.cfb_streams.specs.declared.opening.StreamLinks.{StreamLinks}
@@ -73,3 +77,12 @@ module _ {F : Type 0} {g : Ghosts F} where
   -- so many bytes from a place on don't lie in the stream of entry `id` and these sectors
   abbrev pub IsPast : ℕ → StreamLinks → ℕ → ℕ → MiniAllocator F g → Type 0
   IsPast id links at count it = (letters : Letters) (tree : Tree) (path : Path) (content : List ℕ) → IsStreamAt letters it tree path id content → AreLinksOf id links it → length content < at + count
+
+  -- numbers of sectors are missing for a stream of so many bytes, in the FAT or in its chain ([MS-CFB] 2.2, 2.3)
+  unfoldable pub LacksRoom : MiniAllocator F g → ℕ → Type 0
+  LacksRoom it size = LacksNumbers (allocator_of it) (sectors_for (version_of (allocator_of it)) size)
+      ⊎ (greatest_regular + 1 < sectors_for (version_of (allocator_of it)) size)
+
+  -- numbers are missing for the bytes that the stream of entry `id` and these sectors has
+  abbrev pub LacksOwnRoom : ℕ → StreamLinks → MiniAllocator F g → Type 0
+  LacksOwnRoom id links it = (letters : Letters) (tree : Tree) (path : Path) (content : List ℕ) → IsStreamAt letters it tree path id content → AreLinksOf id links it → LacksRoom it (length content)

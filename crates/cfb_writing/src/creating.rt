@@ -1,15 +1,18 @@
 //! Streams that are made, or emptied where they are ([MS-CFB] 2.6.3).
 ghost use Rattle.cfb_entries.specs.Rules.{names_in};
+ghost use Rattle.cfb_directory.specs.Growth.{LacksEntries};
 ghost use Rattle.cfb_fat.specs.Calls.{Answers};
+ghost use Rattle.cfb_fat.specs.Tables.{has_failed_here};
 ghost use Rattle.cfb_live.specs.Doing.{Does};
 ghost use Rattle.cfb_live.specs.Making.{IsRefusedMade};
 ghost use Rattle.cfb_meaning.specs.TreeRules.{create_stream};
-ghost use Rattle.cfb_mini.specs.Views.{allocator_of};
+ghost use Rattle.cfb_medium.specs.declared.error.Error.TheVariants.{Full};
+ghost use Rattle.cfb_mini.specs.Views.{allocator_of, directory_of};
 ghost use Rattle.cfb_owned.specs.Chains.{GoesOn};
 ghost use Rattle.cfb_tree.specs.Directory.{kind_stream};
 ghost use Rattle.cfb_tree.specs.EntryViews.{entry_in};
 ghost use Rattle.cfb_tree.specs.LetterViews.{letters_of};
-ghost use Rattle.std.specs.Prelude.{IsTrue, ◌≡◌, ◌↔◌};
+ghost use Rattle.std.specs.Prelude.{false, IsErrOf, IsTrue, ◌≡◌, ◌↔◌};
 
 use crate::emptying::empty_stream;
 use cfb_live::{NewObject, make_object};
@@ -43,6 +46,8 @@ pub fn create_stream<F: Medium>(
 ) -> Result<(), Error>
     ensures does { Does (letters_of letters.now) (names_in path.now) (λ names. create_stream names)
         result mini.old mini.new }
+    ensures full { IsErrOf result Full → has_failed_here (allocator_of mini.new) ≡ false
+        → LacksEntries (directory_of mini.old) }
     ensures goes_on { GoesOn (allocator_of mini.old) (allocator_of mini.new) }
     ensures answers { Answers IsRefusedMade result (allocator_of mini.old)
         (allocator_of mini.new) }

@@ -6,10 +6,10 @@ ghost use Rattle.cfb_fat.specs.Calls.{Answers};
 ghost use Rattle.cfb_fat.specs.Tables.{has_failed_here, version_of};
 ghost use Rattle.cfb_live.specs.Freeing.{Stands};
 ghost use Rattle.cfb_live.specs.Live.{live_of};
-ghost use Rattle.cfb_medium.specs.declared.error.Error.TheVariants.{InvalidData, InvalidInput};
+ghost use Rattle.cfb_medium.specs.declared.error.Error.TheVariants.{Full, InvalidData, InvalidInput};
 ghost use Rattle.cfb_mini.specs.Changing.{KeepsOwners};
 ghost use Rattle.cfb_mini.specs.Views.{allocator_of};
-ghost use Rattle.cfb_owned.specs.Chains.{len_of, GoesOn, Overwrites, Resizes};
+ghost use Rattle.cfb_owned.specs.Chains.{len_of, GoesOn, LacksSectors, Overwrites, Resizes};
 ghost use Rattle.cfb_owners.specs.Held.{HasStream};
 ghost use Rattle.cfb_owners.specs.Owners.{first_of, stream_owner, Owners};
 ghost use Rattle.cfb_sectors.specs.Header.{mini_cutoff};
@@ -52,6 +52,9 @@ pub(crate) fn resize_chain<F: Medium>(
     ensures version { links_version links.new ≡ links_version links.old }
     ensures rests { OnErr result ((has_failed_here (allocator_of mini.new) ≡ true)
         ⊎ KeepsOwners mini.old mini.new) }
+    ensures full { IsErrOf result Full → has_failed_here (allocator_of mini.new) ≡ false
+        → LacksSectors (allocator_of mini.old) links.old
+        (sectors_for (links_version links.old) len) }
     ensures goes_on { GoesOn (allocator_of mini.old) (allocator_of mini.new) }
     ensures answers { Answers IsInvalidOrFull result (allocator_of mini.old)
         (allocator_of mini.new) }
@@ -106,6 +109,9 @@ pub(crate) fn stretch_long<F: Medium>(
     ensures version { links_version links.new ≡ links_version links.old }
     ensures rests { OnErr result ((has_failed_here (allocator_of mini.new) ≡ true)
         ⊎ KeepsOwners mini.old mini.new) }
+    ensures full { IsErrOf result Full → has_failed_here (allocator_of mini.new) ≡ false
+        → LacksSectors (allocator_of mini.old) links.old
+        (sectors_for (links_version links.old) size) }
     ensures goes_on { GoesOn (allocator_of mini.old) (allocator_of mini.new) }
     ensures answers { Answers IsInvalidOrFull result (allocator_of mini.old)
         (allocator_of mini.new) }

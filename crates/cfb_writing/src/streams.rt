@@ -4,12 +4,12 @@ ghost use Rattle.cfb_fat.specs.Calls.{Answers};
 ghost use Rattle.cfb_fat.specs.Tables.{has_failed_here, version_of};
 ghost use Rattle.cfb_medium.specs.Bytes.{overwritten};
 ghost use Rattle.cfb_medium.specs.Versions.{stream_len_mask};
-ghost use Rattle.cfb_medium.specs.declared.error.Error.TheVariants.{InvalidData, InvalidInput};
+ghost use Rattle.cfb_medium.specs.declared.error.Error.TheVariants.{Full, InvalidData, InvalidInput};
 ghost use Rattle.cfb_mini.specs.Changing.{KeepsOwners};
 ghost use Rattle.cfb_mini.specs.Views.{allocator_of};
 ghost use Rattle.cfb_owned.specs.Chains.{GoesOn, IsInvalidPlaceOrFull};
 ghost use Rattle.cfb_streams.specs.declared.opening.StreamLinks.TheVariants.{Short};
-ghost use Rattle.cfb_writing.specs.Streams.{resized, AreAlike, HasNoLinks, IsPast, RewritesIn};
+ghost use Rattle.cfb_writing.specs.Streams.{resized, AreAlike, HasNoLinks, IsPast, LacksOwnRoom, RewritesIn};
 ghost use Rattle.std.specs.Prelude.{false, length, true, IsErrOf, OnErr, OnOk, ◌<◌, ◌≡◌, ◌⊎◌};
 
 use crate::moving::move_stream;
@@ -105,6 +105,8 @@ pub fn resize_stream<F: Medium>(
     ensures refused { IsErrOf result InvalidData → HasNoLinks id links.old mini.old }
     ensures rests { OnErr result ((has_failed_here (allocator_of mini.new) ≡ true)
         ⊎ KeepsOwners mini.old mini.new) }
+    ensures full { IsErrOf result Full → has_failed_here (allocator_of mini.new) ≡ false
+        → LacksOwnRoom id links.old mini.old }
     ensures goes_on { GoesOn (allocator_of mini.old) (allocator_of mini.new) }
     ensures answers { Answers IsInvalidPlaceOrFull result (allocator_of mini.old)
         (allocator_of mini.new) }

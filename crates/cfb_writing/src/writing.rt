@@ -5,14 +5,14 @@ ghost use Rattle.cfb_fat.specs.Calls.{Answers};
 ghost use Rattle.cfb_fat.specs.Tables.{has_failed_here, version_of};
 ghost use Rattle.cfb_medium.specs.Bytes.{overwritten};
 ghost use Rattle.cfb_medium.specs.Versions.{stream_len_mask};
-ghost use Rattle.cfb_medium.specs.declared.error.Error.TheVariants.{InvalidData, InvalidInput};
+ghost use Rattle.cfb_medium.specs.declared.error.Error.TheVariants.{Full, InvalidData, InvalidInput};
 ghost use Rattle.cfb_mini.specs.Changing.{KeepsOwners};
 ghost use Rattle.cfb_mini.specs.Views.{allocator_of};
 ghost use Rattle.cfb_owned.specs.Chains.{GoesOn, IsInvalidPlaceOrFull};
 ghost use Rattle.cfb_owners.specs.Owners.{first_of};
 ghost use Rattle.cfb_sectors.specs.Header.{mini_cutoff};
 ghost use Rattle.cfb_streams.specs.declared.opening.StreamLinks.TheVariants.{Long};
-ghost use Rattle.cfb_writing.specs.Streams.{resized, AreAlike, HasNoLinks, IsPast, RewritesIn};
+ghost use Rattle.cfb_writing.specs.Streams.{resized, AreAlike, HasNoLinks, IsPast, LacksOwnRoom, RewritesIn};
 ghost use Rattle.std.specs.Prelude.{false, length, true, IsErrOf, IsTrue, OnErr, OnOk, ◌+◌, ◌<◌, ◌≡◌, ◌≤◌, ◌↔◌, ◌⊎◌};
 
 use crate::lengths::stretch_long;
@@ -101,6 +101,8 @@ pub fn resize_long_stream<F: Medium>(
     ensures refused { IsErrOf result InvalidData → HasNoLinks id (Long links.old) mini.old }
     ensures rests { OnErr result ((has_failed_here (allocator_of mini.new) ≡ true)
         ⊎ KeepsOwners mini.old mini.new) }
+    ensures full { IsErrOf result Full → has_failed_here (allocator_of mini.new) ≡ false
+        → LacksOwnRoom id (Long links.old) mini.old }
     ensures goes_on { GoesOn (allocator_of mini.old) (allocator_of mini.new) }
     ensures answers { Answers IsInvalidPlaceOrFull result (allocator_of mini.old)
         (allocator_of mini.new) }

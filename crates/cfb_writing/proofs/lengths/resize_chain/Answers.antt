@@ -7,7 +7,7 @@ use Rattle.cfb_fat.specs.Tables.{orderly_of, version_of}
 use Rattle.cfb_mini.specs.Views.{allocator_of}
 use Rattle.cfb_mini.proofs.Keeping.{own_chain}
 use Rattle.cfb_mini.proofs.Results.{both_ok}
-use Rattle.cfb_owned.specs.Chains.{GoesOn, HasChain, Resizes}
+use Rattle.cfb_owned.specs.Chains.{GoesOn, HasChain, LacksSectors, Resizes}
 use Rattle.cfb_owners.specs.Owners.{stream_owner}
 use Rattle.cfb_sectors.specs.Sectors.{sector}
 use Rattle.cfb_sectors.specs.declared.initial.SectorInit.TheVariants.{Zero}
@@ -36,3 +36,8 @@ returns-clause-refused g c = λ wrong who id m is version.
     let links = c.args.links.now in
     let same = c.allocator_mut.ensures.value in
     c.set_chain_len.ensures.refused wrong (subst (λ x. HasChain x links) (sym same) (own_chain it who.sectors (stream_owner id) links m.owners is version)) (subst (λ x. IsTrue (orderly_of x)) (sym same) m.orderly)
+
+pub returns-clause-full : goal.returns-clause-full
+returns-clause-full g c = λ wrong live.
+    let links = c.args.links.now in
+    subst (λ x. LacksSectors x links (sectors_for (links_version links) c.args.len)) c.allocator_mut.ensures.value (c.set_chain_len.ensures.full wrong live)

@@ -12,9 +12,10 @@ use Rattle.cfb_tree.specs.EntryViews.{entry_in}
 use Rattle.cfb_tree.proofs.OneContent.{Some_same}
 use Rattle.cfb_writing.specs.Streams.{resized}
 use Rattle.cfb_writing.proofs.Links.{entries_count}
-use Rattle.cfb_writing.proofs.LongAt.{long_owned, long_up, long_version}
+use Rattle.cfb_writing.proofs.LongAt.{long_owned, long_size, long_up, long_version}
 use Rattle.cfb_writing.proofs.LongBytes.{length-resized}
 use Rattle.cfb_writing.proofs.Placed.{entry_moved, entry_of, found_at, placed_links, stream_placed}
+use Rattle.cfb_writing.proofs.Stretching.{lacks_room}
 use Rattle.cfb_writing.proofs.writing.resize_long_stream.Goals as goal
 
 pub returns-then-id-dir_entries-clause-refused : goal.returns-then-id-dir_entries-clause-refused
@@ -88,3 +89,16 @@ returns-clause-resized g c = λ letters tree path content at are.
 
 pub returns-clause-goes_on : goal.returns-clause-goes_on
 returns-clause-goes_on g c = goes_then _ _ _ c.stretch_long.ensures.goes_on c.set_place.ensures.goes_on
+
+pub returns-in-Err-clause-full : goal.returns-in-Err-clause-full
+returns-in-Err-clause-full g c = λ wrong live letters tree path content at are.
+    let it = c.args.mini.now in
+    let links = c.args.links.now in
+    let id = c.args.id in
+    let was = entry_of letters it tree path id content at in
+    let told : slice_get (entries_held (directory_of it)) id ≡ Some (entry_in c.dir_entry.result.now) = ap (λ d. slice_get (entries_held d) id) (sym c.directory-3.ensures) ∙ c.dir_entry.ensures in
+    let same : was.entry ≡ entry_in c.dir_entry.result.now = Some_same (sym (found_at letters it tree path id content at) ∙ told) in
+    lacks_room it links _ _ (long_size letters it tree path id content at links are ∙ ap (λ (x : Entry). x.size) same) (long_version letters it tree path id content at links are) (c.in-Err.ensures.full wrong live)
+
+pub returns-in-Err-set_place-clause-goes_on : goal.returns-in-Err-set_place-clause-goes_on
+returns-in-Err-set_place-clause-goes_on g c = goes_then _ _ _ c.stretch_long.ensures.goes_on c.set_place.ensures.goes_on

@@ -16,7 +16,7 @@ returns-in-Err-clause-refused g c = λ reads tree path own has h usable.
     (λ rule. inr (⊎_elim
     (λ taken. inr (inl (taken, λ none. did.taken (ap Err taken) reads tree path has none)))
     (⊎_elim
-    (λ invalid. inr (inr (invalid, λ valid. did.named (ap Err invalid) valid)))
+    (λ invalid. inr (inr (invalid, λ valid. (did.named (ap Err invalid)).0 valid)))
     (⊎_elim
     (λ full. inl full)
     (λ missing.
