@@ -1,11 +1,12 @@
 -- What a `CompoundFile` shows.
-use Rattle.std.specs.Prelude.{◌≡◌, false, Bool, Option, Some, None}
+use Rattle.std.specs.Prelude.{◌≡◌, ℕ, false, Bool, Option, Some, None}
 use Rattle.cfb_directory.specs.Views.{entries_held}
 use Rattle.cfb_entries.specs.Rules.{HoldsSizes}
 use Rattle.cfb_meaning.specs.TreeRules.{Answer, yes, Call, tree_step}
 use Rattle.cfb_medium.specs.declared.medium.ReadMedium.{Ghosts}
 use Rattle.cfb_mini.specs.Views as mini
 use Rattle.cfb_mini.specs.declared.mini_allocator.MiniAllocator.{MiniAllocator}
+use Rattle.cfb_streams.specs.Content.{most_of}
 use Rattle.cfb_streams.specs.declared.ahead.ReadAhead.{ReadAhead}
 use Rattle.cfb_streams.specs.declared.opening.StreamLinks.{StreamLinks}
 use Rattle.cfb_tree.specs.LetterViews as letter
@@ -43,8 +44,13 @@ module _ {F : Type 0} {g : Ghosts F} where
   abbrev pub ahead_held : CompoundFile F g → ReadAhead
   ahead_held it = it.ahead
 
-  -- it was only read: of its layers, letter table and soundness all is as it was
+  -- so many bytes of a stream it reads ahead at most
+  abbrev pub most_ahead_of : CompoundFile F g → ℕ
+  most_ahead_of it = most_of (ahead_held it)
+
+  -- it was only read: of its layers, letter table and soundness all is as it was, and how many bytes it reads ahead
   pub record Rests (old new : CompoundFile F g) : Type 0 where
     pub mini : mini.Rests (mini_of old) (mini_of new)
     pub letters : letters_in new ≡ letters_in old
     pub sound : sound_of new ≡ sound_of old
+    pub most : most_ahead_of new ≡ most_ahead_of old

@@ -1,9 +1,10 @@
 //! New files.
 ghost use Rattle.cfb.specs.Creating.{IsCreated, IsCreateFault, LeavesNew};
+ghost use Rattle.cfb.specs.Views.{most_ahead_of};
 ghost use Rattle.cfb_medium.specs.Calls.{HasCauseSince};
 ghost use Rattle.cfb_medium.specs.declared.version.Version.TheVariants.{V4};
 ghost use Rattle.cfb_tree.specs.LetterViews.{letters_of};
-ghost use Rattle.std.specs.Prelude.{IfErr, IfOk};
+ghost use Rattle.std.specs.Prelude.{max, IfErr, IfOk, ◌≡◌};
 
 use crate::CompoundFile;
 use crate::opening::{BUFFER, open_as};
@@ -24,6 +25,7 @@ impl<F: Medium> CompoundFile<F> {
         letters: CaseMapper,
     ) -> Result<CompoundFile<F>, (F, Error)>
         ensures created { IfOk result (IsCreated V4 (letters_of letters) medium) }
+        ensures most { IfOk result (λ it. most_ahead_of it ≡ 65536) }
         ensures left { IfErr result (λ e. LeavesNew F.honest F.bytes F.continues V4 medium e.0) }
         ensures fault { IfErr result (λ e. IsCreateFault F.honest medium e.1) }
         ensures cause { IfErr result (λ e. HasCauseSince F.continues F.failures F.failed medium
@@ -40,6 +42,7 @@ impl<F: Medium> CompoundFile<F> {
         letters: CaseMapper,
     ) -> Result<CompoundFile<F>, (F, Error)>
         ensures created { IfOk result (IsCreated version (letters_of letters) medium) }
+        ensures most { IfOk result (λ it. most_ahead_of it ≡ 65536) }
         ensures left { IfErr result (λ e. LeavesNew F.honest F.bytes F.continues version medium e.0) }
         ensures fault { IfErr result (λ e. IsCreateFault F.honest medium e.1) }
         ensures cause { IfErr result (λ e. HasCauseSince F.continues F.failures F.failed medium
@@ -58,6 +61,7 @@ pub(crate) fn create_as<F: Medium>(
     limit: usize,
 ) -> Result<CompoundFile<F>, (F, Error)>
     ensures created { IfOk result (IsCreated version (letters_of letters) medium) }
+    ensures most { IfOk result (λ it. most_ahead_of it ≡ max limit 1024) }
     ensures left { IfErr result (λ e. LeavesNew F.honest F.bytes F.continues version medium e.0) }
     ensures fault { IfErr result (λ e. IsCreateFault F.honest medium e.1) }
     ensures cause { IfErr result (λ e. HasCauseSince F.continues F.failures F.failed medium

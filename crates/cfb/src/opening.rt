@@ -1,6 +1,6 @@
 //! Opening a compound file.
 ghost use Rattle.cfb.specs.Opened.{IsOpenedAs};
-ghost use Rattle.cfb.specs.Views.{letters_in, mini_of};
+ghost use Rattle.cfb.specs.Views.{letters_in, mini_of, most_ahead_of};
 ghost use Rattle.cfb_meaning.specs.Means.{IsOpenable, IsStrictlyOpenable};
 ghost use Rattle.cfb_medium.specs.Calls.{HasCauseSince, IsFaultUnless};
 ghost use Rattle.cfb_medium.specs.declared.error.Error.TheVariants.{InvalidData};
@@ -8,7 +8,7 @@ ghost use Rattle.cfb_opening.specs.Opened.{CanOpen, OpensAt};
 ghost use Rattle.cfb_opening.specs.Tables.{OnlyReads};
 ghost use Rattle.cfb_sectors.specs.declared.validation.Validation.TheVariants.{Permissive, Strict};
 ghost use Rattle.cfb_tree.specs.LetterViews.{letters_of};
-ghost use Rattle.std.specs.Prelude.{IfErr, IfOk, IsTrue, ◌≡◌, ◌⊎◌};
+ghost use Rattle.std.specs.Prelude.{max, IfErr, IfOk, IsTrue, ◌≡◌, ◌⊎◌};
 
 use crate::CompoundFile;
 use cfb_medium::{Error, ReadMedium};
@@ -26,7 +26,7 @@ pub(crate) const BUFFER: usize = 65536;
 impl<F: ReadMedium> CompoundFile<F> {
     /// Opens a compound file, whose names are compared under the letter table. `InvalidData` exactly where the bytes mean no
     /// tree, whatever bytes its streams have ([MS-CFB] 2). It takes time and memory by the length of tables and directory, and
-    /// judges once whether the file is sound. The other errors are `Memory` and `Device`, and `Failed` of a medium that has
+    /// judges once whether the file is sound. At most 65536 bytes of a stream are read ahead at once. The other errors are `Memory` and `Device`, and `Failed` of a medium that has
     /// failed. A refusal gives the medium back.
     pub fn open(
         alloc: Global,
@@ -35,6 +35,7 @@ impl<F: ReadMedium> CompoundFile<F> {
     ) -> Result<CompoundFile<F>, (F, Error)>
         ensures opens { IfOk result (λ it. OpensAt medium (mini_of it)) }
         ensures letters { IfOk result (λ it. letters_in it ≡ letters_of letters) }
+        ensures most { IfOk result (λ it. most_ahead_of it ≡ 65536) }
         ensures opened { IfOk result (λ it. IsTrue (F.honest medium)
             → IsOpenedAs Permissive (letters_of letters) (F.bytes medium) it) }
         ensures refused { IfErr result (λ e. e.1 ≡ InvalidData → IsTrue (F.honest medium)
@@ -57,6 +58,7 @@ impl<F: ReadMedium> CompoundFile<F> {
     ) -> Result<CompoundFile<F>, (F, Error)>
         ensures opens { IfOk result (λ it. OpensAt medium (mini_of it)) }
         ensures letters { IfOk result (λ it. letters_in it ≡ letters_of letters) }
+        ensures most { IfOk result (λ it. most_ahead_of it ≡ 65536) }
         ensures opened { IfOk result (λ it. IsTrue (F.honest medium)
             → IsOpenedAs Strict (letters_of letters) (F.bytes medium) it) }
         ensures refused { IfErr result (λ e. e.1 ≡ InvalidData → IsTrue (F.honest medium)
@@ -80,6 +82,7 @@ pub(crate) fn open_as<F: ReadMedium>(
 ) -> Result<CompoundFile<F>, (F, Error)>
     ensures opens { IfOk result (λ it. OpensAt medium (mini_of it)) }
     ensures letters { IfOk result (λ it. letters_in it ≡ letters_of letters) }
+    ensures most { IfOk result (λ it. most_ahead_of it ≡ max limit 1024) }
     ensures opened { IfOk result (λ it. IsTrue (F.honest medium)
         → IsOpenedAs validation (letters_of letters) (F.bytes medium) it) }
     ensures refused { IfErr result (λ e. e.1 ≡ InvalidData → IsTrue (F.honest medium)

@@ -1,7 +1,7 @@
 //! How a file is opened.
 ghost use Rattle.cfb.specs.Creating.{IsCreated, IsCreateFault, LeavesNew};
 ghost use Rattle.cfb.specs.Opened.{IsOpenedAs};
-ghost use Rattle.cfb.specs.Views.{letters_in, mini_of};
+ghost use Rattle.cfb.specs.Views.{letters_in, mini_of, most_ahead_of};
 ghost use Rattle.cfb_medium.specs.Calls.{HasCauseSince, IsFaultUnless};
 ghost use Rattle.cfb_medium.specs.declared.error.Error.TheVariants.{InvalidData, Memory};
 ghost use Rattle.cfb_medium.specs.declared.version.Version.TheVariants.{V4};
@@ -10,7 +10,7 @@ ghost use Rattle.cfb_opening.specs.Tables.{OnlyReads};
 ghost use Rattle.cfb_sectors.specs.declared.validation.Validation.TheVariants.{Permissive, Strict};
 ghost use Rattle.cfb_tree.specs.LetterViews.{letters_of, ReplaceAlike};
 ghost use Rattle.cfb_tree.specs.Names.{ascii_letters};
-ghost use Rattle.std.specs.Prelude.{IfErr, IfOk, IsTrue, OnOk, ◌≡◌, ◌⊎◌};
+ghost use Rattle.std.specs.Prelude.{max, IfErr, IfOk, IsTrue, OnOk, ◌≡◌, ◌⊎◌};
 
 use crate::CompoundFile;
 use crate::creating::create_as;
@@ -29,12 +29,13 @@ pub struct OpenOptions {
 }
 
 impl OpenOptions {
-    ghost use Rattle.cfb.specs.OptionViews.{letters_asked, validation_asked};
+    ghost use Rattle.cfb.specs.OptionViews.{letters_asked, most_asked, validation_asked};
 
     /// A lenient reader, under the letter table of ASCII, who reads 65536 bytes of a stream at once. The one error is `Memory`.
     pub fn new(alloc: Global) -> Result<OpenOptions, Error>
         ensures letters { IfOk result (λ it. ReplaceAlike (letters_asked it) ascii_letters) }
         ensures lenient { IfOk result (λ it. validation_asked it ≡ Permissive) }
+        ensures most { IfOk result (λ it. most_asked it ≡ 65536) }
         ensures error { IfErr result (λ e. e ≡ Memory) }
     {
         match CaseMapper::ascii(alloc) {
@@ -51,6 +52,7 @@ impl OpenOptions {
     pub fn max_buffer_size(self, limit: usize) -> OpenOptions
         ensures letters { letters_asked result ≡ letters_asked self }
         ensures validation { validation_asked result ≡ validation_asked self }
+        ensures most { most_asked result ≡ max limit 1024 }
     {
         let OpenOptions {
             validation,
@@ -68,6 +70,7 @@ impl OpenOptions {
     pub fn strict(self) -> OpenOptions
         ensures letters { letters_asked result ≡ letters_asked self }
         ensures validation { validation_asked result ≡ Strict }
+        ensures most { most_asked result ≡ most_asked self }
     {
         let OpenOptions {
             validation: _,
@@ -85,6 +88,7 @@ impl OpenOptions {
     pub fn case_mapper(self, letters: CaseMapper) -> OpenOptions
         ensures letters { letters_asked result ≡ letters_of letters }
         ensures validation { validation_asked result ≡ validation_asked self }
+        ensures most { most_asked result ≡ most_asked self }
     {
         let OpenOptions {
             validation,
@@ -107,6 +111,7 @@ impl OpenOptions {
     ) -> Result<CompoundFile<F>, (F, Error)>
         ensures opens { IfOk result (λ it. OpensAt medium (mini_of it)) }
         ensures letters { IfOk result (λ it. letters_in it ≡ letters_asked self) }
+        ensures most { IfOk result (λ it. most_ahead_of it ≡ most_asked self) }
         ensures opened { IfOk result (λ it. IsTrue (F.honest medium)
             → IsOpenedAs (validation_asked self) (letters_asked self) (F.bytes medium) it) }
         ensures refused { IfErr result (λ e. e.1 ≡ InvalidData → IsTrue (F.honest medium)
@@ -132,6 +137,7 @@ impl OpenOptions {
         medium: F,
     ) -> Result<CompoundFile<F>, (F, Error)>
         ensures created { IfOk result (IsCreated V4 (letters_asked self) medium) }
+        ensures most { IfOk result (λ it. most_ahead_of it ≡ most_asked self) }
         ensures left { IfErr result (λ e. LeavesNew F.honest F.bytes F.continues V4 medium e.0) }
         ensures fault { IfErr result (λ e. IsCreateFault F.honest medium e.1) }
         ensures cause { IfErr result (λ e. HasCauseSince F.continues F.failures F.failed medium

@@ -1,6 +1,6 @@
 //! Streams of a file, opened by their paths and read.
 ghost use Rattle.cfb.specs.Streams.{file_of, len_of, position_of, HasStream, Holds, IsStreamAt, IsWant, KeepsStream, TellsBytes, TellsStream};
-ghost use Rattle.cfb.specs.Views.{ahead_held, letters_in, mini_of, Rests, Shows};
+ghost use Rattle.cfb.specs.Views.{ahead_held, letters_in, mini_of, most_ahead_of, Rests, Shows};
 ghost use Rattle.cfb.specs.contracts.compound_file.CompoundFile.{the_row};
 ghost use Rattle.cfb_entries.specs.Rules.{answer_at, names_in};
 ghost use Rattle.cfb_chains.specs.ChainCalls.{IsInvalidPlace};
@@ -182,6 +182,7 @@ impl<F: ReadMedium> CompoundFile<F> {
         ensures bytes { (content : List ℕ) → HasStream self.now len content → result.now
             ≡ take (length result.now) (drop at content) }
         ensures count { length result.now ≡ min (len - at) (count_from (ahead_held self.now) at) }
+        ensures most { length result.now ≤ most_ahead_of self.now }
     {
         let bytes = self.ahead.from(at);
         let count = (len - at).min(bytes.len() as u64) as usize;

@@ -1,5 +1,5 @@
 //! A stream's bytes from a position on.
-ghost use Rattle.cfb.specs.Views.{mini_of};
+ghost use Rattle.cfb.specs.Views.{mini_of, most_ahead_of};
 ghost use Rattle.cfb_fat.specs.Tables.{HasCauseBelow};
 ghost use Rattle.cfb_medium.specs.declared.error.Error.TheVariants.{InvalidInput};
 ghost use Rattle.cfb_mini.specs.Views.{allocator_of};
@@ -120,11 +120,12 @@ impl<'a, F: ReadMedium> ReadStream<'a, F> {
         self.file.read_more(self.position, self.len)
     }
 
-    /// The bytes that were read ahead from the position on.
+    /// The bytes that were read ahead from the position on: at most so many as the file reads ahead at once.
     pub fn buffer(&self) -> &[u8]
         ensures bytes { (content : List ℕ) → HasContent self.now content → result.now
             ≡ take (length result.now) (drop (position_of self.now) content) }
         ensures count { length result.now ≡ buffered_of self.now }
+        ensures most { length result.now ≤ most_ahead_of (file_of self.now) }
     {
         self.file.ahead_from(self.position, self.len)
     }
@@ -135,6 +136,7 @@ impl<'a, F: ReadMedium> ReadStream<'a, F> {
         ensures bytes { (content : List ℕ) → HasContent self.old content → IfOk result (λ b. b.now
             ≡ take (length b.now) (drop (position_of self.old) content)) }
         ensures inside { IfOk result (λ b. length b.now ≤ len_of self.old - position_of self.old) }
+        ensures most { IfOk result (λ b. length b.now ≤ most_ahead_of (file_of self.old)) }
         ensures some { IfOk result (λ b. length b.now ≡ 0
             → position_of self.old ≡ len_of self.old) }
         ensures fault { IfErr result (IsFaultOrLost self.old) }

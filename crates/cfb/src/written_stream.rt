@@ -1,5 +1,5 @@
 //! A stream's bytes, read and written from a position on.
-ghost use Rattle.cfb.specs.Views.{letters_in, mini_of};
+ghost use Rattle.cfb.specs.Views.{letters_in, mini_of, most_ahead_of};
 ghost use Rattle.cfb_chains.specs.ChainCalls.{IsInvalidPlace};
 ghost use Rattle.cfb_fat.specs.Tables.{has_failed_here, version_of, HasCauseBelow};
 ghost use Rattle.cfb_medium.specs.Bytes.{overwritten};
@@ -164,12 +164,13 @@ impl<'a, F: ReadMedium> Stream<'a, F> {
         self.file.read_more(self.position, self.len)
     }
 
-    /// The bytes that were read ahead from the position on.
+    /// The bytes that were read ahead from the position on: at most so many as the file reads ahead at once.
     pub fn buffer(&self) -> &[u8]
         ensures bytes { (path : Path) (tree : Tree) (content : List ℕ)
             → Stands self.now path tree content → result.now
             ≡ take (length result.now) (drop (place_of self.now) content) }
         ensures count { length result.now ≡ buffered_of self.now }
+        ensures most { length result.now ≤ most_ahead_of (file_under self.now) }
     {
         self.file.ahead_from(self.position, self.len)
     }
@@ -180,6 +181,7 @@ impl<'a, F: ReadMedium> Stream<'a, F> {
         ensures bytes { (path : Path) (tree : Tree) (content : List ℕ)
             → Stands self.old path tree content → IfOk result (λ b. b.now
             ≡ take (length b.now) (drop (place_of self.old) content)) }
+        ensures most { IfOk result (λ b. length b.now ≤ most_ahead_of (file_under self.old)) }
         ensures some { IfOk result (λ b. length b.now ≡ 0
             → place_of self.old ≡ stream_len self.old) }
         ensures fault { IfErr result (IsFaultOrGone self.old) }

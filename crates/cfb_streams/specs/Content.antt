@@ -1,5 +1,5 @@
 -- A stream's bytes: in the file, and in memory where they were read ahead ([MS-CFB] 2.6.3).
-use Rattle.std.specs.Prelude.{◌≡◌, ℕ, ◌+◌, ◌-◌, ◌≤◌, List, drop, length, take, IfErr, IsTrue, OnOk, Result, if◌then◌else◌, nat_lt}
+use Rattle.std.specs.Prelude.{◌≡◌, ℕ, ◌+◌, ◌-◌, ◌≤◌, List, drop, length, max, take, IfErr, IsTrue, OnOk, Result, if◌then◌else◌, nat_lt}
 use Rattle.cfb_fat.specs.Tables.{is_honest}
 use Rattle.cfb_medium.specs.Calls.{IsFaultUnless}
 use Rattle.cfb_medium.specs.declared.error.Error.{Error}
@@ -13,6 +13,10 @@ use Rattle.cfb_streams.specs.declared.opening.StreamLinks.{StreamLinks}
 -- the bytes that were read ahead
 abbrev pub ahead_of : ReadAhead → List ℕ
 ahead_of it = it.bytes.items
+
+-- so many bytes are read ahead at most
+abbrev pub most_of : ReadAhead → ℕ
+most_of it = max it.limit 1024
 
 -- they are those of the stream, from their place on
 abbrev pub IsAheadOf : List ℕ → ReadAhead → Type 0

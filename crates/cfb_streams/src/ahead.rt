@@ -1,16 +1,8 @@
 //! Bytes of a stream that are read ahead.
-ghost use Rattle.cfb_chains.specs.ChainCalls.{IsInvalidPlace};
-ghost use Rattle.cfb_fat.specs.Tables.{HasCauseBelow};
-ghost use Rattle.cfb_medium.specs.Calls.{IsFaultUnless};
 ghost use Rattle.cfb_medium.specs.declared.error.Error.TheVariants.{Memory};
-ghost use Rattle.cfb_mini.specs.Views.{allocator_of, Rests};
-ghost use Rattle.cfb_streams.specs.Content.{ahead_of, count_from, HasContent, IsAheadOf};
-ghost use Rattle.std.specs.Prelude.{[], drop, length, take, IfErr, List, OnErr, OnOk, ℕ, ◌<◌, ◌≡◌, ◌≤◌, ◌⊎◌, ◌-◌};
+ghost use Rattle.std.specs.Prelude.{[], drop, length, max, take, IfErr, List, OnErr, OnOk, ℕ, ◌≡◌, ◌≤◌};
 
-use crate::StreamLinks;
-use crate::reading::read_stream;
-use cfb_medium::{Error, ReadMedium};
-use cfb_mini::MiniAllocator;
+use cfb_medium::Error;
 use std::alloc::Global;
 
 // At least so many bytes are read at once.
@@ -22,12 +14,16 @@ pub struct ReadAhead {
     pub(crate) bytes: Vec<u8>,
     pub(crate) start: u64,
     limit: usize,
+    ghost few: { length bytes.items ≤ max limit 1024 },
 }
 
 impl ReadAhead {
+    ghost use Rattle.cfb_streams.specs.Content.{ahead_of, count_from, most_of, IsAheadOf};
+
     /// None yet. So many are read at once, or 1024 where that is less.
     pub fn new(alloc: Global, limit: usize) -> ReadAhead
-        ensures { ahead_of result ≡ [] }
+        ensures none { ahead_of result ≡ [] }
+        ensures most { most_of result ≡ max limit 1024 }
     {
         ReadAhead {
             bytes: Vec::new(alloc),
@@ -38,16 +34,18 @@ impl ReadAhead {
 
     /// Forgets them: another stream is read.
     pub fn clear(&mut self)
-        ensures { ahead_of self.new ≡ [] }
+        ensures none { ahead_of self.new ≡ [] }
+        ensures most { most_of self.new ≡ most_of self.old }
     {
         self.bytes.clear();
     }
 
-    /// Those from a place of the stream on.
+    /// Those from a place of the stream on: at most so many as are read at once.
     pub fn from(&self, at: u64) -> &[u8]
         ensures bytes { (content : List ℕ) → IsAheadOf content self.now → result.now
             ≡ take (length result.now) (drop at content) }
         ensures count { length result.now ≡ count_from self.now at }
+        ensures most { length result.now ≤ most_of self.now }
     {
         if at < self.start {
             return &self.bytes[..0];
@@ -59,10 +57,19 @@ impl ReadAhead {
         &self.bytes[skipped as usize..]
     }
 
+    // So many are read at once, at most.
+    pub(crate) fn most(&self) -> usize
+        ensures { result ≡ most_of self.now }
+    {
+        self.limit.max(LEAST)
+    }
+
     // Zeros, where so many bytes will be read from a place on; or none. The one error is `Memory`.
-    fn make_room(&mut self, at: u64, count: usize) -> Result<(), Error>
+    pub(crate) fn make_room(&mut self, at: u64, count: usize) -> Result<(), Error>
+        requires { count ≤ most_of self.old }
         ensures room { OnOk result ((length (ahead_of self.new) ≡ count) × (self.new.start ≡ at)) }
         ensures none { OnErr result (ahead_of self.new ≡ []) }
+        ensures most { most_of self.new ≡ most_of self.old }
         ensures error { IfErr result (λ e. e ≡ Memory) }
     {
         self.bytes.clear();
@@ -70,46 +77,6 @@ impl ReadAhead {
         match self.bytes.resize(count, 0) {
             Ok(()) => Ok(()),
             Err(_) => Err(Error::Memory),
-        }
-    }
-}
-
-/// Reads ahead from a place of a stream of so many bytes on, where no byte from there on was read ahead yet. `InvalidData` where
-/// the file hasn't the bytes; the other errors are faults. After an error nothing is read ahead, and nothing else is changed.
-pub fn read_ahead<F: ReadMedium>(
-    mini: &mut MiniAllocator<F>,
-    links: &StreamLinks,
-    ahead: &mut ReadAhead,
-    at: u64,
-    len: u64,
-) -> Result<(), Error>
-    requires { at ≤ len }
-    ensures some { OnOk result (at < len → 0 < count_from ahead.new at) }
-    ensures content { (content : List ℕ) → HasContent mini.old links.now len content
-        → IsAheadOf content ahead.old → IsAheadOf content ahead.new }
-    ensures kept { (content : List ℕ) → HasContent mini.old links.now len content
-        → HasContent mini.new links.now len content }
-    ensures rests { Rests mini.old mini.new }
-    ensures cause { IfErr result (HasCauseBelow (allocator_of mini.old) (allocator_of mini.new)) }
-    ensures fault { IfErr result (λ e. IsFaultUnless ⊥ e ⊎ (IsInvalidPlace e × ((content : List ℕ)
-        → HasContent mini.old links.now len content → ⊥))) }
-{
-    if at == len {
-        return Ok(());
-    }
-    if !ahead.from(at).is_empty() {
-        return Ok(());
-    }
-    let count = (len - at).min(ahead.limit.max(LEAST) as u64) as usize;
-    match ahead.make_room(at, count) {
-        Ok(()) => {}
-        Err(error) => return Err(error),
-    }
-    match read_stream(mini, links, at, &mut ahead.bytes) {
-        Ok(()) => Ok(()),
-        Err(error) => {
-            ahead.clear();
-            Err(error)
         }
     }
 }

@@ -4,7 +4,9 @@
 mod ahead;
 mod opening;
 mod reading;
+mod reading_ahead;
 
-pub use ahead::{ReadAhead, read_ahead};
+pub use ahead::ReadAhead;
 pub use opening::{StreamLinks, open_stream};
 pub use reading::read_stream;
+pub use reading_ahead::read_ahead;
