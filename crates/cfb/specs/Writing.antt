@@ -1,5 +1,5 @@
 -- Streams of a file that are written, by their paths ([MS-CFB] 2.6.3).
-use Rattle.std.specs.Prelude.{◌≡◌, ◌⊎◌, ℕ, ◌-◌, min, List, length, true, Option, Some, Result}
+use Rattle.std.specs.Prelude.{◌≡◌, ◌⊎◌, ℕ, ◌-◌, ◌^◌, ◌≤◌, min, List, length, true, Option, Some, Result}
 use Rattle.cfb_chains.specs.ChainCalls.{IsInvalidPlace}
 use Rattle.cfb_fat.specs.Calls.{Answers}
 use Rattle.cfb_fat.specs.declared.allocator.Allocator.{Allocator}
@@ -39,6 +39,10 @@ module _ {F : Type 0} {g : Ghosts F} where
   -- it is lost, whatever tree is meant
   abbrev pub IsLostAt : ℕ → CompoundFile F g → Type 0
   IsLostAt id it = (path : Path) (tree : Tree) (content : List ℕ) → IsWritten it path tree id content → ⊥
+
+  -- numbers are missing for the bytes that the stream of entry `id` has
+  abbrev pub LacksRoomAt : ℕ → CompoundFile F g → Type 0
+  LacksRoomAt id it = (path : Path) (tree : Tree) (content : List ℕ) → IsWritten it path tree id content → written.LacksRoom (mini_of it) (length content)
 
   -- the path leads to the stream of entry `id`
   pub record IsFound (it : CompoundFile F g) (path : Option Path) (tree : Tree) (id : ℕ) : Type 0 where
@@ -107,6 +111,10 @@ module _ {F : Type 0} {g : Ghosts F} where
   -- the stream stands for no tree
   abbrev pub IsLost : Stream F g → Type 0
   IsLost it = IfStands it ⊥
+
+  -- no stream has so many bytes; or where it stands, numbers are missing for those that it has
+  abbrev pub IsFullFor : Stream F g → ℕ → Type 0
+  IsFullFor it len = (2 ^ 63 ≤ len) ⊎ IfStands it (written.LacksRoom (mini_of (file_under it)) (stream_len it))
 
   -- a fault; or the stream is lost
   abbrev pub IsFaultOrGone : Stream F g → Error → Type 0

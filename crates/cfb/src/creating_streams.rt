@@ -1,10 +1,14 @@
 //! Streams that are made, or emptied where they are, by their paths.
+ghost use Rattle.cfb_directory.specs.Growth.{LacksEntries};
 ghost use Rattle.cfb_entries.specs.Rules.{names_in};
 ghost use Rattle.cfb_fat.specs.Calls.{Answers};
+ghost use Rattle.cfb_fat.specs.Tables.{has_failed_here};
 ghost use Rattle.cfb_live.specs.Making.{IsRefusedMade};
 ghost use Rattle.cfb_meaning.specs.TreeRules.{create_stream};
-ghost use Rattle.cfb_mini.specs.Views.{allocator_of};
+ghost use Rattle.cfb_medium.specs.declared.error.Error.TheVariants.{Full};
+ghost use Rattle.cfb_mini.specs.Views.{allocator_of, directory_of};
 ghost use Rattle.cfb_owned.specs.Chains.{GoesOn};
+ghost use Rattle.std.specs.Prelude.{false, IsErrOf, ◌≡◌};
 
 use crate::CompoundFile;
 use cfb_medium::{Error, Medium};
@@ -23,6 +27,9 @@ impl<F: Medium> CompoundFile<F> {
     pub fn create_stream(&mut self, path: &str) -> Result<(), Error>
         ensures does { Does (names_in path.now) (λ names. create_stream names) result self.old
             self.new }
+        ensures full { IsErrOf result Full
+            → has_failed_here (allocator_of (mini_of self.new)) ≡ false
+            → LacksEntries (directory_of (mini_of self.old)) }
         ensures goes_on { GoesOn (allocator_of (mini_of self.old))
             (allocator_of (mini_of self.new)) }
         ensures answers { Answers IsRefusedMade result (allocator_of (mini_of self.old))

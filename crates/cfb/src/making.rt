@@ -1,11 +1,15 @@
 //! New objects of a file, by their paths.
+ghost use Rattle.cfb_directory.specs.Growth.{LacksEntries};
 ghost use Rattle.cfb_entries.specs.Rules.{names_in};
 ghost use Rattle.cfb_fat.specs.Calls.{Answers};
+ghost use Rattle.cfb_fat.specs.Tables.{has_failed_here};
 ghost use Rattle.cfb_live.specs.Making.{making, IsRefusedMade};
 ghost use Rattle.cfb_meaning.specs.TreeRules.{create_new_stream, create_storage, create_storage_all};
 ghost use Rattle.cfb_medium.specs.Times.{units_of};
-ghost use Rattle.cfb_mini.specs.Views.{allocator_of};
+ghost use Rattle.cfb_medium.specs.declared.error.Error.TheVariants.{Full};
+ghost use Rattle.cfb_mini.specs.Views.{allocator_of, directory_of};
 ghost use Rattle.cfb_owned.specs.Chains.{GoesOn};
+ghost use Rattle.std.specs.Prelude.{false, IsErrOf, ◌≡◌};
 
 use crate::CompoundFile;
 use cfb_live::{NewObject, make_object};
@@ -19,6 +23,9 @@ impl<F: Medium> CompoundFile<F> {
     // Makes an object at a path where none is.
     fn make(&mut self, path: &str, object: NewObject) -> Result<(), Error>
         ensures does { Does (names_in path.now) (making object) result self.old self.new }
+        ensures full { IsErrOf result Full
+            → has_failed_here (allocator_of (mini_of self.new)) ≡ false
+            → LacksEntries (directory_of (mini_of self.old)) }
         ensures goes_on { GoesOn (allocator_of (mini_of self.old))
             (allocator_of (mini_of self.new)) }
         ensures answers { Answers IsRefusedMade result (allocator_of (mini_of self.old))
@@ -41,6 +48,9 @@ impl<F: Medium> CompoundFile<F> {
     pub fn create_storage(&mut self, path: &str, moment: Timestamp) -> Result<(), Error>
         ensures does { Does (names_in path.now) (λ names. create_storage names (units_of moment))
             result self.old self.new }
+        ensures full { IsErrOf result Full
+            → has_failed_here (allocator_of (mini_of self.new)) ≡ false
+            → LacksEntries (directory_of (mini_of self.old)) }
         ensures goes_on { GoesOn (allocator_of (mini_of self.old))
             (allocator_of (mini_of self.new)) }
         ensures answers { Answers IsRefusedMade result (allocator_of (mini_of self.old))
@@ -53,6 +63,9 @@ impl<F: Medium> CompoundFile<F> {
     pub fn create_new_stream(&mut self, path: &str) -> Result<(), Error>
         ensures does { Does (names_in path.now) (λ names. create_new_stream names) result self.old
             self.new }
+        ensures full { IsErrOf result Full
+            → has_failed_here (allocator_of (mini_of self.new)) ≡ false
+            → LacksEntries (directory_of (mini_of self.old)) }
         ensures goes_on { GoesOn (allocator_of (mini_of self.old))
             (allocator_of (mini_of self.new)) }
         ensures answers { Answers IsRefusedMade result (allocator_of (mini_of self.old))
@@ -70,6 +83,9 @@ impl<F: Medium> CompoundFile<F> {
     pub fn create_storage_all(&mut self, path: &str, moment: Timestamp) -> Result<(), Error>
         ensures does { Does (names_in path.now)
             (λ names. create_storage_all names (units_of moment)) result self.old self.new }
+        ensures full { IsErrOf result Full
+            → has_failed_here (allocator_of (mini_of self.new)) ≡ false
+            → LacksEntries (directory_of (mini_of self.old)) }
         ensures goes_on { GoesOn (allocator_of (mini_of self.old))
             (allocator_of (mini_of self.new)) }
         ensures answers { Answers IsRefusedMade result (allocator_of (mini_of self.old))

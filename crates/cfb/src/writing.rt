@@ -2,7 +2,7 @@
 ghost use Rattle.cfb.specs.Doing.{Means as MeansTree};
 ghost use Rattle.cfb.specs.Streams.{IsWant, KeepsStream};
 ghost use Rattle.cfb.specs.Views.{letters_in, mini_of, sound_of, Rests};
-ghost use Rattle.cfb.specs.Writing.{file_under, place_of, FindsWritten, IsFound, IsLostAt, IsWritten, KeepsAt, Opens, RewritesAt};
+ghost use Rattle.cfb.specs.Writing.{file_under, place_of, FindsWritten, IsFound, IsLostAt, IsWritten, KeepsAt, LacksRoomAt, Opens, RewritesAt};
 ghost use Rattle.cfb_directory.specs.Views.{entries_held};
 ghost use Rattle.cfb.specs.contracts.compound_file.CompoundFile.{the_row};
 ghost use Rattle.cfb_chains.specs.ChainCalls.{IsInvalidPlace};
@@ -13,7 +13,7 @@ ghost use Rattle.cfb_medium.specs.Calls.{IsFaultUnless};
 ghost use Rattle.cfb_meaning.specs.TreeRules.{open_stream, refused};
 ghost use Rattle.cfb_medium.specs.Bytes.{overwritten};
 ghost use Rattle.cfb_medium.specs.Versions.{stream_len_mask};
-ghost use Rattle.cfb_medium.specs.declared.error.Error.TheVariants.{Failed, InvalidData, InvalidInput};
+ghost use Rattle.cfb_medium.specs.declared.error.Error.TheVariants.{Failed, Full, InvalidData, InvalidInput};
 ghost use Rattle.cfb_mini.specs.Views.{allocator_of, directory_of};
 ghost use Rattle.cfb_owned.specs.Chains.{GoesOn, IsInvalidPlaceOrFull};
 ghost use Rattle.cfb_tree.specs.Paths.{Path};
@@ -172,6 +172,9 @@ impl<F: Medium> CompoundFile<F> {
         ensures refused { IsErrOf result InvalidData → IsLostAt id self.old }
         ensures kept { OnErr result ((has_failed_here (allocator_of (mini_of self.new)) ≡ true)
             ⊎ KeepsAt id self.old self.new) }
+        ensures full { IsErrOf result Full
+            → has_failed_here (allocator_of (mini_of self.new)) ≡ false
+            → LacksRoomAt id self.old }
         ensures goes_on { GoesOn (allocator_of (mini_of self.old))
             (allocator_of (mini_of self.new)) }
         ensures answers { Answers IsInvalidPlaceOrFull result (allocator_of (mini_of self.old))
@@ -204,6 +207,9 @@ impl<F: Medium> CompoundFile<F> {
         ensures refused { IsErrOf result InvalidData → IsLostAt id self.old }
         ensures kept { OnErr result ((has_failed_here (allocator_of (mini_of self.new)) ≡ true)
             ⊎ KeepsAt id self.old self.new) }
+        ensures full { IsErrOf result Full
+            → has_failed_here (allocator_of (mini_of self.new)) ≡ false
+            → LacksRoomAt id self.old }
         ensures goes_on { GoesOn (allocator_of (mini_of self.old))
             (allocator_of (mini_of self.new)) }
         ensures answers { Answers IsInvalidPlaceOrFull result (allocator_of (mini_of self.old))

@@ -224,7 +224,7 @@ impl<'a, F: ReadMedium> Stream<'a, F> {
 
 impl<'a, F: Medium> Stream<'a, F> {
     ghost use Rattle.cfb.specs.Doing.{Means};
-    ghost use Rattle.cfb.specs.Writing.{allocator_under, file_under, place_of, stream_len, Changes, IfStands, IsLost, Keeps, Rests, Rewrites, Stands};
+    ghost use Rattle.cfb.specs.Writing.{allocator_under, file_under, place_of, stream_len, Changes, IfStands, IsFullFor, IsLost, Keeps, Rests, Rewrites, Stands};
 
     // Where so many bytes end that are written from the position on.
     fn end_behind(&self, count: usize) -> Result<u64, Error>
@@ -233,6 +233,7 @@ impl<'a, F: Medium> Stream<'a, F> {
         ensures large { IsErrOf result InvalidInput
             → stream_len_mask (version_of (allocator_under self.now))
             < place_of self.now + count }
+        ensures many { IsErrOf result Full → 2 ^ 63 ≤ place_of self.now + count }
         ensures error { IfErr result (λ e. (e ≡ InvalidInput) ⊎ (e ≡ Full)) }
     {
         let end = self.position.saturating_add(count as u64);
@@ -257,6 +258,7 @@ impl<'a, F: Medium> Stream<'a, F> {
         ensures refused { IsErrOf result InvalidData → IsLost self.old }
         ensures kept { OnErr result ((has_failed_here (allocator_under self.new) ≡ true)
             ⊎ Keeps self.old self.new) }
+        ensures room { IsErrOf result Full → ⊥ }
         ensures changes { Changes IsInvalidPlaceOrFull result self.old self.new }
     {
         let (id, place) = (self.id, self.position);
@@ -282,6 +284,8 @@ impl<'a, F: Medium> Stream<'a, F> {
         ensures refused { IsErrOf result InvalidData → IsLost self.old }
         ensures kept { OnErr result ((has_failed_here (allocator_under self.new) ≡ true)
             ⊎ Keeps self.old self.new) }
+        ensures full { IsErrOf result Full → has_failed_here (allocator_under self.new) ≡ false
+            → IsFullFor self.old end }
         ensures changes { Changes IsInvalidPlaceOrFull result self.old self.new }
     {
         let (id, place) = (self.id, self.position);
@@ -311,6 +315,8 @@ impl<'a, F: Medium> Stream<'a, F> {
         ensures refused { IsErrOf result InvalidData → IsLost self.old }
         ensures kept { OnErr result ((has_failed_here (allocator_under self.new) ≡ true)
             ⊎ Keeps self.old self.new) }
+        ensures full { IsErrOf result Full → has_failed_here (allocator_under self.new) ≡ false
+            → IsFullFor self.old (place_of self.old + length bytes.now) }
         ensures changes { Changes IsInvalidPlaceOrFull result self.old self.new }
     {
         if self.file.is_failed() {
@@ -338,6 +344,8 @@ impl<'a, F: Medium> Stream<'a, F> {
         ensures refused { IsErrOf result InvalidData → IsLost self.old }
         ensures kept { OnErr result ((has_failed_here (allocator_under self.new) ≡ true)
             ⊎ Keeps self.old self.new) }
+        ensures full { IsErrOf result Full → has_failed_here (allocator_under self.new) ≡ false
+            → IsFullFor self.old len }
         ensures changes { Changes IsInvalidPlaceOrFull result self.old self.new }
     {
         if self.file.is_failed() {
@@ -363,6 +371,8 @@ impl<'a, F: Medium> Stream<'a, F> {
         ensures refused { IsErrOf result InvalidData → IsLost self.old }
         ensures kept { OnErr result ((has_failed_here (allocator_under self.new) ≡ true)
             ⊎ Keeps self.old self.new) }
+        ensures full { IsErrOf result Full → has_failed_here (allocator_under self.new) ≡ false
+            → IsFullFor self.old len }
         ensures changes { Changes IsInvalidPlaceOrFull result self.old self.new }
     {
         let id = self.id;

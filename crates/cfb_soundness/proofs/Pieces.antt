@@ -1,8 +1,8 @@
 -- Bytes that stand in pieces of a file.
-use Rattle.std.proofs.Common.{◌≡◌, ℕ, ◌+◌, ◌-◌, ◌<◌, ◌≤◌, min, List, [], ◌∷◌, ◌++◌, take, zero, suc, refl, sym, ap, subst, arith}
+use Rattle.std.proofs.Common.{◌≡◌, ℕ, ◌+◌, ◌-◌, ◌<◌, ◌≤◌, min, List, ◌∷◌, ◌++◌, take, zero, suc, refl, sym, ap, subst, arith}
 use Rattle.std.specs.List.{range_with_len, AllByRecursion}
 use Rattle.cfb_tree.proofs.NamesRead.{all_append}
-use Rattle.cfb_soundness.specs.Places.{places_of, HoldBytes}
+use Rattle.cfb_soundness.specs.Places.{places_of, StandInFile}
 use Rattle.cfb_soundness.proofs.Taking.{all_front}
 
 -- so many places from one on are below an end where they don't reach over it
@@ -28,34 +28,25 @@ take_range : (n s piece : ℕ) (rest : List ℕ) → take n (range_with_len s pi
 take_range n s piece rest = take_by n (min n piece) (n - piece) s piece rest refl refl
 
 module _ (piece size end start : ℕ) (starts : List ℕ) where
-  -- what one piece holds, and what those behind it do
-  pub hold_more : min size piece ≤ end - start → HoldBytes piece starts (size - min size piece) end → HoldBytes piece (start ∷ starts) size end
-  hold_more here rest = record {
-    enough = omega (arith, rest.enough);
-    there = subst (AllByRecursion (λ place. place < end)) (sym (take_range size start piece (places_of piece starts)))
-        (all_append (λ place. place < end) (range_with_len start (min size piece)) (take (size - piece) (places_of piece starts))
-        (range_below start (min size piece) end here)
-        (subst (λ n. AllByRecursion (λ place. place < end) (take n (places_of piece starts))) left rest.there));
-  }
+  -- what stands in one piece, and in those behind it
+  pub stand_more : min size piece ≤ end - start → StandInFile piece starts (size - min size piece) end → StandInFile piece (start ∷ starts) size end
+  stand_more here rest = subst (AllByRecursion (λ place. place < end)) (sym (take_range size start piece (places_of piece starts)))
+      (all_append (λ place. place < end) (range_with_len start (min size piece)) (take (size - piece) (places_of piece starts))
+      (range_below start (min size piece) end here)
+      (subst (λ n. AllByRecursion (λ place. place < end) (take n (places_of piece starts))) left rest))
     where
       left : size - min size piece ≡ size - piece
       left = omega arith
 
-  both : HoldBytes piece (start ∷ starts) size end → AllByRecursion (λ place. place < end) (range_with_len start (min size piece)) × AllByRecursion (λ place. place < end) (take (size - piece) (places_of piece starts))
+  both : StandInFile piece (start ∷ starts) size end → AllByRecursion (λ place. place < end) (range_with_len start (min size piece)) × AllByRecursion (λ place. place < end) (take (size - piece) (places_of piece starts))
   both all = all_front (λ place. place < end) (range_with_len start (min size piece)) (take (size - piece) (places_of piece starts))
-      (subst (AllByRecursion (λ place. place < end)) (take_range size start piece (places_of piece starts)) all.there)
+      (subst (AllByRecursion (λ place. place < end)) (take_range size start piece (places_of piece starts)) all)
 
-  pub hold_here : HoldBytes piece (start ∷ starts) size end → min size piece ≤ end - start
-  hold_here all = range_fits start (min size piece) end (both all).0
+  pub stand_here : StandInFile piece (start ∷ starts) size end → min size piece ≤ end - start
+  stand_here all = range_fits start (min size piece) end (both all).0
 
-  pub hold_rest : HoldBytes piece (start ∷ starts) size end → HoldBytes piece starts (size - min size piece) end
-  hold_rest all = record {
-    enough = omega (arith, all.enough);
-    there = subst (λ n. AllByRecursion (λ place. place < end) (take n (places_of piece starts))) left (both all).1;
-  }
+  pub stand_rest : StandInFile piece (start ∷ starts) size end → StandInFile piece starts (size - min size piece) end
+  stand_rest all = subst (λ n. AllByRecursion (λ place. place < end) (take n (places_of piece starts))) left (both all).1
     where
       left : size - piece ≡ size - min size piece
       left = omega arith
-
-pub hold_nothing : (piece end : ℕ) → HoldBytes piece [] 0 end
-hold_nothing piece end = record { enough = omega arith; there = tt }

@@ -1,7 +1,7 @@
 //! Marks of the parts of a file: which of them serve a use.
 ghost use Rattle.cfb_medium.specs.declared.error.Error.TheVariants.{Memory};
-ghost use Rattle.cfb_soundness.specs.Marks.{CanTake, Takes};
-ghost use Rattle.std.specs.Prelude.{[], false, replicate, true, IfErr, IfOk, IsTrue, ◌∷◌, ◌≡◌};
+ghost use Rattle.cfb_soundness.specs.Marks.{mark, CanTake, Takes};
+ghost use Rattle.std.specs.Prelude.{[], false, length, replicate, true, IfErr, IfOk, IsTrue, ◌<◌, ◌∷◌, ◌≡◌, ◌↔◌};
 
 use cfb_medium::Error;
 use std::alloc::Global;
@@ -24,19 +24,33 @@ impl Marks {
         Ok(Marks { items })
     }
 
+    // Whether the table has the part.
+    fn is_there(&self, part: u32) -> bool
+        ensures { IsTrue result ↔ part < length (marks_of self.now) }
+    {
+        (part as usize) < self.items.len()
+    }
+
+    // Whether no use of the part is marked.
+    fn is_unused(&self, part: u32) -> bool
+        requires { part < length (marks_of self.now) }
+        ensures { IsTrue result ↔ mark (marks_of self.now) part ≡ 0 }
+    {
+        !self.items[part as usize]
+    }
+
     // Marks a part; `false` where there is none, or it is marked.
     fn take(&mut self, part: u32) -> bool
         ensures took { IsTrue result → Takes (part ∷ []) (marks_of self.old) (marks_of self.new) }
         ensures refused { result ≡ false → CanTake (part ∷ []) (marks_of self.old) → ⊥ }
     {
-        let index = part as usize;
-        if index >= self.items.len() {
+        if !self.is_there(part) {
             return false;
         }
-        if self.items[index] {
+        if !self.is_unused(part) {
             return false;
         }
-        self.items[index] = true;
+        self.items[part as usize] = true;
         true
     }
 

@@ -2,12 +2,12 @@ use Rattle.std.proofs.Common.{◌≡◌, ◌≤◌, ◌<◌, length, ap, refl, s
 use Rattle.cfb_chains.proofs.ChainWriting.{length_within}
 use Rattle.cfb_medium.specs.Bytes.{overwritten}
 use Rattle.cfb_tree.specs.Changes.{changed, with_bytes}
-use Rattle.cfb_writing.specs.Streams.{resized}
+use Rattle.cfb_writing.specs.Streams.{resized, LacksRoom}
 use Rattle.cfb_writing.proofs.LongBytes.{length-resized}
-use Rattle.cfb.specs.Views.{letters_in}
+use Rattle.cfb.specs.Views.{letters_in, mini_of}
 use Rattle.cfb.specs.Writing.{file_under, IsWritten}
 use Rattle.cfb.proofs.Again.{written_behind}
-use Rattle.cfb_medium.specs.declared.error.Error.TheVariants.{InvalidData, InvalidInput}
+use Rattle.cfb_medium.specs.declared.error.Error.TheVariants.{Full, InvalidData, InvalidInput}
 use Rattle.cfb.proofs.Standing.{err_as, keeps_so, lost_so}
 use Rattle.cfb.proofs.written_stream.Stream.extend.Goals as goal
 
@@ -36,3 +36,8 @@ returns-clause-written g c = λ path tree content s.
       written = subst (λ b. IsWritten c.extend_bytes.new.self path (changed (letters_in (file_under it)) (with_bytes b) path tree) it.id b) same (c.in_default.ensures.written path tree content s.written);
       len = sym size ∙ ap length same;
     }
+
+pub returns-in-Err-clause-full : goal.returns-in-Err-clause-full
+returns-in-Err-clause-full g c = λ wrong live.
+    let it = c.args.self.now in
+    inr (λ path tree content s. subst (LacksRoom (mini_of (file_under it))) (sym s.len) (c.in-Err.ensures.full (err_as c.in-Err.error Full wrong) live path tree content s.written))

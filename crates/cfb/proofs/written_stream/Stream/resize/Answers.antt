@@ -1,6 +1,8 @@
-use Rattle.std.proofs.Common.{refl, sym, inl, inr, ⊎_elim}
-use Rattle.cfb_writing.specs.Streams.{resized}
+use Rattle.std.proofs.Common.{refl, subst, sym, inl, inr, ⊎_elim}
+use Rattle.cfb_writing.specs.Streams.{resized, LacksRoom}
 use Rattle.cfb_writing.proofs.LongBytes.{length-resized}
+use Rattle.cfb.specs.Views.{mini_of}
+use Rattle.cfb.specs.Writing.{file_under}
 use Rattle.cfb.proofs.Standing.{keeps_so, lost_so, rewrites_so}
 use Rattle.cfb.proofs.written_stream.Stream.resize.Goals as goal
 
@@ -12,3 +14,8 @@ returns-in-Err-clause-kept g c = ⊎_elim (λ failed. inl failed) (λ k. inr (ke
 
 pub returns-clause-resized : goal.returns-clause-resized
 returns-clause-resized g c = rewrites_so (resized c.args.len) c.args.self.now _ c.in_default.ensures.resized refl (λ path tree content s. sym (length-resized content c.args.len))
+
+pub returns-in-Err-clause-full : goal.returns-in-Err-clause-full
+returns-in-Err-clause-full g c = λ wrong live.
+    let it = c.args.self.now in
+    inr (λ path tree content s. subst (LacksRoom (mini_of (file_under it))) (sym s.len) (c.in-Err.ensures.full wrong live path tree content s.written))

@@ -27,3 +27,7 @@ pub returns-clause-unchanged : goal.returns-clause-unchanged
 returns-clause-unchanged g c = λ wrong path tree content s. let past : stream_len_mask (version_of (allocator_under c.args.self.now)) < c.args.len = c.resize.ensures.large wrong in
     let most : c.stream_len_mask.result ≡ stream_len_mask (version_of (allocator_under c.args.self.now)) = c.stream_len_mask.ensures ∙ ap stream_len_mask c.version.ensures in
     absurd (omega (arith, past, most))
+
+pub returns-clause-full : goal.returns-clause-full
+returns-clause-full g c = λ wrong live.
+    ⊎_elim (λ many. inl many) (λ lacks. inr (λ path tree content s. lacks path tree content (stands_as c.args.self.now _ refl refl refl path tree content s))) (c.resize.ensures.full wrong live)

@@ -1,8 +1,9 @@
-use Rattle.std.proofs.Common.{◌<◌, arith, inl, inr, refl, subst, ⊎_elim}
+use Rattle.std.proofs.Common.{◌<◌, ◌≤◌, ◌^◌, arith, inl, inr, refl, subst, ⊎_elim}
 use Rattle.cfb_fat.specs.Tables.{version_of}
 use Rattle.cfb_medium.specs.Versions.{stream_len_mask}
+use Rattle.cfb_medium.specs.declared.error.Error.TheVariants.{Full}
 use Rattle.cfb.specs.Writing.{allocator_under}
-use Rattle.cfb.proofs.Standing.{on_err, on_ok, stands_as}
+use Rattle.cfb.proofs.Standing.{err_as, on_err, on_ok, stands_as}
 use Rattle.cfb.proofs.written_stream.Stream.write.Goals as goal
 
 pub returns-then-end-self-clause-written : goal.returns-then-end-self-clause-written
@@ -40,3 +41,16 @@ returns-then-end-self-clause-unchanged g c = λ wrong path tree content s.
 
 pub returns-clause-unchanged : goal.returns-clause-unchanged
 returns-clause-unchanged g c = λ wrong path tree content s. absurd (c.overwrite.ensures.large wrong path tree content (stands_as c.args.self.now _ refl refl refl path tree content s))
+
+pub returns-in-Err-clause-full : goal.returns-in-Err-clause-full
+returns-in-Err-clause-full g c = λ wrong live. inl (c.in-Err.ensures.many (err_as c.in-Err.error Full wrong))
+
+pub returns-then-end-self-clause-full : goal.returns-then-end-self-clause-full
+returns-then-end-self-clause-full g c = λ wrong live.
+    ⊎_elim
+    (λ many. inl (subst (λ n. 2 ^ 63 ≤ n) c.in-Ok.ensures.end.0 many))
+    (λ lacks. inr (λ path tree content s. lacks path tree content (stands_as c.args.self.now _ refl refl refl path tree content s)))
+    (c.extend.ensures.full wrong live)
+
+pub returns-clause-full : goal.returns-clause-full
+returns-clause-full g c = λ wrong live. absurd (c.overwrite.ensures.room wrong)

@@ -1,8 +1,8 @@
 use Rattle.std.proofs.Common.{◌≡◌, ◌+◌, ◌-◌, ◌≤◌, min, drop, get_or, arith, subst, sym, ap}
-use Rattle.cfb_soundness.specs.Places.{HoldBytes}
+use Rattle.cfb_soundness.specs.Places.{StandInFile}
 use Rattle.cfb_soundness.proofs.Taking.{drop_more}
-use Rattle.cfb_soundness.proofs.Pieces.{hold_here, hold_more, hold_rest}
-use Rattle.cfb_soundness.proofs.places.hold_bytes.Goals as goal
+use Rattle.cfb_soundness.proofs.Pieces.{stand_here, stand_more, stand_rest}
+use Rattle.cfb_soundness.proofs.places.stand_in_file.Goals as goal
 
 pub returns-then-used-saturating_sub : goal.returns-then-used-saturating_sub
 returns-then-used-saturating_sub c =
@@ -11,8 +11,8 @@ returns-then-used-saturating_sub c =
     let size = c.loop-start.left in (
       (λ wrong. absurd (cc)),
       λ all.
-          let here = hold_here c.args.piece size c.args.file_len (get_or starts i 0) (drop (i + 1) starts)
-          (subst (λ xs. HoldBytes c.args.piece xs size c.args.file_len) (drop_more starts i c.loop-start-test.true) (c.loop-start.invariant.0 all)) in
+          let here = stand_here c.args.piece size c.args.file_len (get_or starts i 0) (drop (i + 1) starts)
+          (subst (λ xs. StandInFile c.args.piece xs size c.args.file_len) (drop_more starts i c.loop-start-test.true) (c.loop-start.invariant.0 all)) in
           absurd (omega (arith, here, c.if-used-saturating_sub.true, c.min-used.ensures, c.saturating_sub.ensures)),
     )
 
@@ -28,8 +28,8 @@ loop-start-preserved c =
     let parted = drop_more starts i c.loop-start-test.true in
     let left : size - min size piece ≡ size - c.min-used.result = ap (λ k. size - k) (sym c.min-used.ensures) in
     let fits : min size piece ≤ end - start = omega (arith, c.if-used-saturating_sub.false, c.min-used.ensures, c.saturating_sub.ensures) in (
-      (λ all. subst (λ k. HoldBytes piece rest k end) left
-          (hold_rest piece size end start rest (subst (λ xs. HoldBytes piece xs size end) parted (c.loop-start.invariant.0 all)))),
-      (λ all. c.loop-start.invariant.1 (subst (λ xs. HoldBytes piece xs size end) (sym parted)
-          (hold_more piece size end start rest fits (subst (λ k. HoldBytes piece rest k end) (sym left) all)))),
+      (λ all. subst (λ k. StandInFile piece rest k end) left
+          (stand_rest piece size end start rest (subst (λ xs. StandInFile piece xs size end) parted (c.loop-start.invariant.0 all)))),
+      (λ all. c.loop-start.invariant.1 (subst (λ xs. StandInFile piece xs size end) (sym parted)
+          (stand_more piece size end start rest fits (subst (λ k. StandInFile piece rest k end) (sym left) all)))),
     )
