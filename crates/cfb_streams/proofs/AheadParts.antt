@@ -1,6 +1,6 @@
 -- Parts of what was read ahead.
-use Rattle.std.proofs.Common.{◌≡◌, ◌∙◌, ℕ, ◌+◌, ◌-◌, ◌≤◌, List, drop, length, take, ap, arith, sym, length-drop}
-use Rattle.std.proofs.lemmas.List.{drop-drop, drop-take, length-take-le, take-take, take_rest}
+use Rattle.std.proofs.Common.{◌≡◌, ◌∙◌, ◌++◌, ℕ, ◌+◌, ◌-◌, ◌≤◌, List, drop, length, take, ap, arith, sym, length-drop}
+use Rattle.std.proofs.lemmas.List.{drop-drop, drop-take, take_at, take_rest}
 
 -- those from a later place on are of the same stream
 pub later_part : (content bytes : List ℕ) (start at : ℕ) → start ≤ at → at - start ≤ length bytes → bytes ≡ take (length bytes) (drop start content)
@@ -16,11 +16,12 @@ later_part content bytes start at behind within is =
     ∙ ap (take (n - k)) (drop-drop k start content ∙ ap (λ m. drop m content) place)
     ∙ ap (λ m. take m (drop at content)) (sym left)
 
--- a front of them too
-pub front_part : (content bytes : List ℕ) (at count : ℕ) → count ≤ length bytes → bytes ≡ take (length bytes) (drop at content) → take count bytes ≡ take (length (take count bytes)) (drop at content)
-front_part content bytes at count within is =
-    let size = length-take-le count bytes within in
-    ap (take count) is ∙ take-take count (length bytes) (drop at content) within ∙ ap (λ m. take m (drop at content)) (sym size)
+-- bytes that were read over all of a list are of the stream
+pub read_part : (content xs items : List ℕ) (n m start at : ℕ) → length xs ≡ length items → n ≡ length items → m ≡ length items → start ≡ at → xs ≡ take m (drop at content)
+    → take n (xs ++ drop (length xs) items) ≡ take (length (take n (xs ++ drop (length xs) items))) (drop start content)
+read_part content xs items n m start at same size most place is =
+    let all : take n (xs ++ drop (length xs) items) ≡ xs = take_at xs (drop (length xs) items) n (same ∙ sym size) in
+    all ∙ is ∙ ap (λ k. take k (drop at content)) (most ∙ sym same ∙ sym (ap length all)) ∙ ap (λ p. take (length (take n (xs ++ drop (length xs) items))) (drop p content)) (sym place)
 
 -- as a slice of them
 pub slice_part : (content bytes : List ℕ) (start at : ℕ) → start ≤ at → at - start ≤ length bytes → bytes ≡ take (length bytes) (drop start content)

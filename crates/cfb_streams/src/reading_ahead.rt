@@ -12,8 +12,8 @@ use cfb_medium::{Error, ReadMedium};
 use cfb_mini::MiniAllocator;
 
 /// Reads ahead from a place of a stream of so many bytes on, where no byte from there on was read ahead yet: at most so many as
-/// were asked for at once. `InvalidData` where
-/// the file hasn't the bytes; the other errors are faults. After an error nothing is read ahead, and nothing else is changed.
+/// were asked for at once. `InvalidData` where the file hasn't the bytes; the other errors are faults. After an error nothing is
+/// read ahead, and nothing else is changed ([MS-CFB] 2.6.3).
 pub fn read_ahead<F: ReadMedium>(
     mini: &mut MiniAllocator<F>,
     links: &StreamLinks,
