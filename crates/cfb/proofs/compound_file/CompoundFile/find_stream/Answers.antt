@@ -63,4 +63,4 @@ returns-clause-bytes g c = λ tree h.
     let (bytes, answer, has) = bytes_found it c.args.path.now tree e at h links
     (lies_at it c.args.path.now tree _ _ e.start e.size (sectors_in links) start size c.in-Ok-open_stream.ensures.sectors)
     (subst (λ n. IsOfLevel (mini_of it) n links) size c.in-Ok-open_stream.ensures.level) in
-    ((bytes, answer, record { lies = subst (λ n. lower.HasContent (mini_of it) links n bytes) (sym size) has; ahead = none_ahead c.clear.new.self bytes c.clear.ensures }), tt)
+    ((bytes, answer, record { lies = subst (λ n. lower.HasContent (mini_of it) links n bytes) (sym size) has; ahead = none_ahead c.clear.new.self bytes c.clear.ensures.none }), tt)

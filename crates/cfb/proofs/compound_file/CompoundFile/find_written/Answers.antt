@@ -41,7 +41,7 @@ returns-clause-found g c = λ tree m.
         links = λ other there.
             let same : e ≡ other = Some_same (sym found ∙ there) in
             subst (λ (x : Entry). LiesIn (mini_of it) x.start x.size (sectors_in links) × IsOfLevel (mini_of it) x.size links) same (lies, level);
-        ahead = none_ahead c.clear.new.self f.content c.clear.ensures;
+        ahead = none_ahead c.clear.new.self f.content c.clear.ensures.none;
       };
       len_is = size_meant it f.names tree id f.content m f.at e found links lies level;
     }

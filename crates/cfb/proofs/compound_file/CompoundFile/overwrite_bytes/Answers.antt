@@ -19,4 +19,4 @@ returns-in-Err-clause-kept g c =
 
 pub returns-clause-written : goal.returns-clause-written
 returns-clause-written g c = λ path tree content w.
-    written_so c.args.self.now _ path tree c.args.id content w (λ l. overwritten l c.args.at c.args.bytes.now) c.in_default.ensures.written refl refl c.clear.ensures
+    written_so c.args.self.now _ path tree c.args.id content w (λ l. overwritten l c.args.at c.args.bytes.now) c.in_default.ensures.written refl refl c.clear.ensures.none

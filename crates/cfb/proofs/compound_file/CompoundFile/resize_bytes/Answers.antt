@@ -15,7 +15,7 @@ returns-in-Err-clause-kept g c =
     c.in-Err.ensures.rests
 
 pub returns-clause-resized : goal.returns-clause-resized
-returns-clause-resized g c = λ path tree content w. written_so c.args.self.now _ path tree c.args.id content w (resized c.args.len) c.in_default.ensures.resized refl refl c.clear.ensures
+returns-clause-resized g c = λ path tree content w. written_so c.args.self.now _ path tree c.args.id content w (resized c.args.len) c.in_default.ensures.resized refl refl c.clear.ensures.none
 
 pub returns-in-Err-clause-full : goal.returns-in-Err-clause-full
 returns-in-Err-clause-full g c = λ wrong live path tree content w. c.in-Err.ensures.full wrong live (letters_in c.args.self.now) tree path content w.at w.links
