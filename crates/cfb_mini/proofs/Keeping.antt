@@ -205,6 +205,7 @@ module _ {F : Type 0} {g : Ghosts F} where
               (subst (AreAmong minis) (sym did.minis_are) (among_start minis count)) (did.linked linked);
         };
         freed = did.freed;
+        becomes = becomes;
         bytes = same;
         entries = refl;
       }

@@ -87,12 +87,13 @@ module _ {F : Type 0} {g : Ghosts F} where
     pub mini_fat : mini_fat_of new ≡ mini_fat_of old
     pub entries : directory.entries_held (directory_of new) ≡ directory.entries_held (directory_of old)
 
-  -- The mini chain keeps so many mini sectors, those at its front, and the others are free. The mini stream's bytes are those that
-  -- they were.
+  -- The mini chain keeps so many mini sectors, those at its front, and the others are free; no sector but the mini FAT's own is
+  -- touched. The mini stream's bytes are those that they were.
   pub record Shortens (count : ℕ) (old new : MiniAllocator F g) (minis later : List ℕ) (own : ℕ → List ℕ) : Type 0 where
     pub minis_are : later ≡ take count minis
     pub changes : Changes minis [] later old new own own
     pub freed : HaveEntry free (mini_fat_of new) (drop count minis)
+    pub becomes : Becomes (sector (version_of (allocator_of old))) [] (own 1) [] (own 1) (seen_of (allocator_of old)) (seen_of (allocator_of new))
     pub bytes : mini_stream_of new ≡ mini_stream_of old
     pub entries : directory.entries_held (directory_of new) ≡ directory.entries_held (directory_of old)
 

@@ -84,6 +84,7 @@ impl<F: Medium> MiniAllocator<F> {
         ensures past { IsErrOf result InvalidInput
             ↔ ((has_failed_here (allocator_of self.old) ≡ false)
             × (64 * length (minis_of links.now) < at + length bytes.now)) }
+        ensures unchanged { IsErrOf result InvalidInput → Rests self.old self.new }
         ensures refused { IsErrOf result InvalidData → (own : ℕ → List ℕ) → HasOwners self.old own
             → IsMiniChain (mini_fat_of self.old) (mini_stream_len self.old) (minis_of links.now)
             → ⊥ }

@@ -2,7 +2,7 @@
 ghost use Rattle.cfb_chains.specs.ChainCalls.{IsInvalidPlace};
 ghost use Rattle.cfb_chains.specs.Changes.{AreOnce};
 ghost use Rattle.cfb_fat.specs.Calls.{Answers};
-ghost use Rattle.cfb_fat.specs.Tables.{has_failed_here, HasCauseBelow};
+ghost use Rattle.cfb_fat.specs.Tables.{has_failed_here, AllRests, HasCauseBelow};
 ghost use Rattle.cfb_medium.specs.Calls.{IsFaultUnless};
 ghost use Rattle.cfb_medium.specs.declared.error.Error.TheVariants.{InvalidData, InvalidInput};
 ghost use Rattle.cfb_mini.specs.LinkViews.{minis_of};
@@ -69,6 +69,7 @@ pub(crate) fn overwrite_minis<F: Medium>(
     ensures refused { IsErrOf result InvalidData → HasChain allocator.old stream.now
         → AreOnce (minis_of minis.now) → AreInside (len_of stream.now) (minis_of minis.now) → ⊥ }
     ensures goes_on { GoesOn allocator.old allocator.new }
+    ensures unchanged { IsErrOf result InvalidInput → AllRests allocator.old allocator.new }
     ensures faulted { IfErr result (λ e. (e ≡ InvalidInput)
         ⊎ (has_failed_here allocator.new ≡ true)) }
     ensures answers { Answers IsInvalidPlace result allocator.old allocator.new }

@@ -36,3 +36,8 @@ pub returns-clause-rests : goal.returns-clause-rests
 returns-clause-rests g c =
     let b = c.overwrite_minis.new.allocator in
     on_err c.overwrite_minis.result _ _ (⊎_elim (λ failed. inl failed) (λ rests. inr (rests_is c.args.self.now b _ (subst (λ x. AllRests x b) c.allocator_mut.ensures.value rests) (record { links = refl; stream = refl }) refl))) c.overwrite_minis.ensures.answers.after
+
+pub returns-clause-unchanged : goal.returns-clause-unchanged
+returns-clause-unchanged g c = λ wrong.
+    let b = c.overwrite_minis.new.allocator in
+    rests_is c.args.self.now b _ (subst (λ x. AllRests x b) c.allocator_mut.ensures.value (c.overwrite_minis.ensures.unchanged wrong)) (record { links = refl; stream = refl }) refl
