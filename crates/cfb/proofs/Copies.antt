@@ -1,5 +1,5 @@
 -- Bytes that are written to an empty medium.
-use Rattle.std.proofs.Common.{◌≡◌, ℕ, ◌+◌, List, [], ◌∷◌, ◌++◌, drop, length, append-nil, refl, ap, ◌∙◌, Err, Ok}
+use Rattle.std.proofs.Common.{◌≡◌, ℕ, ◌+◌, List, [], ◌∷◌, ◌++◌, length, append-nil, refl, ap, ◌∙◌, Err, Ok}
 use Rattle.std.specs.Prelude.{OnOk, Result}
 use Rattle.std.proofs.Math.Seq.{drop-nil}
 use Rattle.cfb_medium.specs.Bytes.{overwritten}

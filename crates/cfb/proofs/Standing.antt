@@ -1,5 +1,5 @@
 -- A stream that stands is read, and stays where the file was only read.
-use Rattle.std.proofs.Common.{◌≡◌, ℕ, ◌⊎◌, inl, inr, List, [], length, true, false, ap, refl, sym, subst, ◌∙◌, ⊎_elim}
+use Rattle.std.proofs.Common.{◌≡◌, ℕ, ◌⊎◌, inl, inr, List, length, ap, sym, subst, ◌∙◌, ⊎_elim}
 use Rattle.std.specs.Prelude.{Err, IfErr, IsErrOf, Ok, OnErr, OnOk, Result}
 use Rattle.cfb_chains.specs.ChainCalls.{IsInvalidPlace}
 use Rattle.cfb_live.proofs.Resting.{keeps_rests}

@@ -5,7 +5,7 @@ use Rattle.cfb_medium.specs.Versions.{sector_len}
 use Rattle.cfb_medium.specs.declared.error.Error.{Error}
 use Rattle.cfb_medium.specs.declared.error.Error.TheVariants.{Failed, InvalidData, InvalidInput, Memory, NotFound}
 use Rattle.cfb_medium.specs.declared.medium.ReadMedium.{Ghosts}
-use Rattle.cfb_fat.specs.Tables.{bytes_of, fat_of, has_failed_here, version_of}
+use Rattle.cfb_fat.specs.Tables.{bytes_of, has_failed_here}
 use Rattle.cfb_chains.specs.LinkViews.{links_version}
 use Rattle.cfb_directory.specs.Views.{entries_held}
 use Rattle.cfb_entries.proofs.StreamsHeld.{stream_held}
@@ -15,7 +15,7 @@ use Rattle.cfb_meaning.specs.Means.{HasBytes}
 use Rattle.cfb_meaning.specs.TreeRules.{has_bytes, open_read_stream, open_stream, refused, tree_step}
 use Rattle.cfb_mini.specs.Changing.{HasOwners, KeepsOwners}
 use Rattle.cfb_mini.specs.Minis.{AreInside}
-use Rattle.cfb_mini.specs.Views.{allocator_of, directory_of, mini_fat_of, mini_stream_ids, mini_stream_len}
+use Rattle.cfb_mini.specs.Views.{allocator_of, directory_of, mini_stream_ids, mini_stream_len}
 use Rattle.cfb_mini.specs.declared.mini_allocator.MiniAllocator.{MiniAllocator}
 use Rattle.cfb_sectors.specs.Sectors.{Chain}
 use Rattle.cfb_siblings.specs.Places.{LeadsTo}

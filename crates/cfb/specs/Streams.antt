@@ -1,9 +1,10 @@
 -- Streams of a file that are read, by their paths.
 use Rattle.std.specs.Prelude.{◌≡◌, ◌⊎◌, ℕ, ◌-◌, min, false, true, List, length, IfErr, IfOk, IsTrue, Result}
+use Rattle.std.specs.Borrow.{Bor}
 use Rattle.cfb_chains.specs.ChainCalls.{IsInvalidPlace}
 use Rattle.cfb_directory.specs.Views.{entries_held}
 use Rattle.cfb_entries.specs.Rules.{IsFoundAt}
-use Rattle.cfb_fat.specs.Tables.{bytes_of, has_failed_here, is_honest}
+use Rattle.cfb_fat.specs.Tables.{bytes_of, has_failed_here, is_honest, HasCauseBelow}
 use Rattle.cfb_meaning.specs.Means.{HasBytes, Layout, MeansBy}
 use Rattle.cfb_meaning.specs.TreeRules.{Answer, has_bytes, refused}
 use Rattle.cfb_medium.specs.Calls.{IsFaultUnless}
@@ -56,6 +57,13 @@ module _ {F : Type 0} {g : Ghosts F} where
     pub file : new.file.ghost_name ≡ old.file.ghost_name
     pub len : len_of new ≡ len_of old
     pub keeps : KeepsStream (len_of old) (file_of old) (file_of new)
+
+  -- once the bytes that it lent are given back it stays at its position, with these read ahead; an error has its cause
+  pub record Fills (result : Result (Bor (List ℕ)) Error) (old new : ReadStream F g) : Type 0 where
+    pub stays : Stays old new
+    pub position : position_of new ≡ position_of old
+    pub count : IfOk result (λ b. length b.now ≡ buffered_of new)
+    pub cause : IfErr result (HasCauseBelow (allocator_of (mini_of (file_of old))) (allocator_of (mini_of (file_of new))))
 
   -- a fault; or the file hasn't the stream's bytes
   abbrev pub IsFaultOrLost : ReadStream F g → Error → Type 0

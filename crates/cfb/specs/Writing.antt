@@ -1,7 +1,9 @@
 -- Streams of a file that are written, by their paths ([MS-CFB] 2.6.3).
-use Rattle.std.specs.Prelude.{◌≡◌, ◌⊎◌, ℕ, ◌-◌, ◌^◌, ◌≤◌, min, List, length, true, Option, Some, Result}
+use Rattle.std.specs.Prelude.{◌≡◌, ◌⊎◌, ℕ, ◌-◌, ◌^◌, ◌≤◌, min, List, length, true, IfErr, IfOk, Option, Some, Result}
+use Rattle.std.specs.Borrow.{Bor}
 use Rattle.cfb_chains.specs.ChainCalls.{IsInvalidPlace}
 use Rattle.cfb_fat.specs.Calls.{Answers}
+use Rattle.cfb_fat.specs.Tables.{HasCauseBelow}
 use Rattle.cfb_fat.specs.declared.allocator.Allocator.{Allocator}
 use Rattle.cfb_meaning.specs.TreeRules.{has_bytes, open_stream, tree_step}
 use Rattle.cfb_medium.specs.Calls.{IsFaultUnless}
@@ -40,9 +42,9 @@ module _ {F : Type 0} {g : Ghosts F} where
   abbrev pub IsLostAt : ℕ → CompoundFile F g → Type 0
   IsLostAt id it = (path : Path) (tree : Tree) (content : List ℕ) → IsWritten it path tree id content → ⊥
 
-  -- numbers are missing for the bytes that the stream of entry `id` has
-  abbrev pub LacksRoomAt : ℕ → CompoundFile F g → Type 0
-  LacksRoomAt id it = (path : Path) (tree : Tree) (content : List ℕ) → IsWritten it path tree id content → written.LacksRoom (mini_of it) (length content)
+  -- numbers are missing for the stream of entry `id` to have so many bytes
+  abbrev pub LacksRoomAt : ℕ → ℕ → CompoundFile F g → Type 0
+  LacksRoomAt id len it = (path : Path) (tree : Tree) (content : List ℕ) → IsWritten it path tree id content → written.LacksRoom (mini_of it) (length content) len
 
   -- the path leads to the stream of entry `id`
   pub record IsFound (it : CompoundFile F g) (path : Option Path) (tree : Tree) (id : ℕ) : Type 0 where
@@ -104,6 +106,13 @@ module _ {F : Type 0} {g : Ghosts F} where
     pub read : KeepsStream (stream_len old) (file_under old) (file_under new)
     pub keeps : Keeps old new
 
+  -- once the bytes that it lent are given back it was only read, and is at its place with these read ahead; an error has its cause
+  pub record Fills (result : Result (Bor (List ℕ)) Error) (old new : Stream F g) : Type 0 where
+    pub rests : Rests old new
+    pub place : place_of new ≡ place_of old
+    pub count : IfOk result (λ b. length b.now ≡ buffered_of new)
+    pub cause : IfErr result (HasCauseBelow (allocator_under old) (allocator_under new))
+
   -- so it is where the stream stands, whatever tree it leaves
   abbrev pub IfStands : Stream F g → Type 0 → Type 0
   IfStands it P = (path : Path) (tree : Tree) (content : List ℕ) → Stands it path tree content → P
@@ -112,9 +121,9 @@ module _ {F : Type 0} {g : Ghosts F} where
   abbrev pub IsLost : Stream F g → Type 0
   IsLost it = IfStands it ⊥
 
-  -- no stream has so many bytes; or where it stands, numbers are missing for those that it has
+  -- no stream has so many bytes; or where it stands, numbers are missing for it to have them
   abbrev pub IsFullFor : Stream F g → ℕ → Type 0
-  IsFullFor it len = (2 ^ 63 ≤ len) ⊎ IfStands it (written.LacksRoom (mini_of (file_under it)) (stream_len it))
+  IsFullFor it len = (2 ^ 63 ≤ len) ⊎ IfStands it (written.LacksRoom (mini_of (file_under it)) (stream_len it) len)
 
   -- a fault; or the stream is lost
   abbrev pub IsFaultOrGone : Stream F g → Error → Type 0

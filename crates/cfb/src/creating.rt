@@ -43,7 +43,8 @@ impl<F: Medium> CompoundFile<F> {
     ) -> Result<CompoundFile<F>, (F, Error)>
         ensures created { IfOk result (IsCreated version (letters_of letters) medium) }
         ensures most { IfOk result (λ it. most_ahead_of it ≡ 65536) }
-        ensures left { IfErr result (λ e. LeavesNew F.honest F.bytes F.continues version medium e.0) }
+        ensures left { IfErr result (λ e.
+            LeavesNew F.honest F.bytes F.continues version medium e.0) }
         ensures fault { IfErr result (λ e. IsCreateFault F.honest medium e.1) }
         ensures cause { IfErr result (λ e. HasCauseSince F.continues F.failures F.failed medium
             e.0 e.1) }

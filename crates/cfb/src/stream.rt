@@ -4,7 +4,9 @@ ghost use Rattle.cfb_fat.specs.Tables.{HasCauseBelow};
 ghost use Rattle.cfb_medium.specs.declared.error.Error.TheVariants.{InvalidInput};
 ghost use Rattle.cfb_mini.specs.Views.{allocator_of};
 ghost use Rattle.cfb_sectors.specs.Seeking.{Finds};
-ghost use Rattle.std.specs.Prelude.{drop, length, min, take, IfErr, IfOk, List, OnErr, OnOk, ℕ, ◌+◌, ◌++◌, ◌-◌, ◌<◌, ◌==◌, ◌^◌, ◌≡◌, ◌≤◌, ◌⊎◌};
+ghost use Rattle.std.specs.Borrow.{sem};
+ghost use Rattle.std.specs.Prelude.{drop, length, min, take, IfErr, IfOk, List, OnErr, OnOk, ℕ, ◌+◌, ◌++◌, ◌-◌, ◌<◌, ◌==◌, ◌^◌, ◌≡◌, ◌≤◌, ◌⊎◌, []};
+ghost use mir.Syntax.{named};
 
 use crate::CompoundFile;
 use cfb_medium::{Error, ReadMedium};
@@ -22,7 +24,9 @@ pub struct ReadStream<'a, F: ReadMedium> {
 }
 
 impl<'a, F: ReadMedium> ReadStream<'a, F> {
-    ghost use Rattle.cfb.specs.Streams.{buffered_of, file_of, len_of, position_of, HasContent, IsFaultOrLost, Stays};
+    ghost use Rattle.cfb.specs.Streams.{buffered_of, file_of, len_of, position_of, Fills, HasContent, IsFaultOrLost, Stays};
+    ghost use Rattle.cfb.specs.contracts.stream.ReadStream.{the_row};
+    ghost use Rattle.std.specs.Io.BufRead.{Rests as Leaves};
 
     // The stream of so many bytes whose sectors the file has found, at its first byte.
     pub(crate) fn new(file: &'a mut CompoundFile<F>, len: u64) -> ReadStream<'a, F>
@@ -130,9 +134,11 @@ impl<'a, F: ReadMedium> ReadStream<'a, F> {
         self.file.ahead_from(self.position, self.len)
     }
 
-    /// Reads ahead as `fill` does, and gives the bytes from the position on. What it leaves of the stream is that of `fill`, but
-    /// isn't told: a caller who has to know calls `fill` and `buffer`.
+    /// Reads ahead as `fill` does, and gives the bytes from the position on.
     pub fn fill_buf(&mut self) -> Result<&[u8], Error>
+        ensures* leaves { sem 𝓛 (Leaves
+            (the_row (record { mir = named 1; lft = [] }) F.row F.ReadMedium) self.entry
+            (Fills result self.old)) }
         ensures bytes { (content : List ℕ) → HasContent self.old content → IfOk result (λ b. b.now
             ≡ take (length b.now) (drop (position_of self.old) content)) }
         ensures inside { IfOk result (λ b. length b.now ≤ len_of self.old - position_of self.old) }

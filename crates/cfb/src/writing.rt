@@ -38,8 +38,8 @@ impl<F: ReadMedium> CompoundFile<F> {
         ensures found { (tree : Tree) → MeansTree self.now tree
             → IfOk result (λ id. IsFound self.now (names_in path.now) tree id) }
         ensures refused { (tree : Tree) → MeansTree self.now tree
-            → IfErr result (λ e. IsWant self.now e ⊎ (answer_at (letters_in self.now) tree open_stream (names_in path.now)
-            ≡ refused e)) }
+            → IfErr result (λ e. IsWant self.now e
+            ⊎ (answer_at (letters_in self.now) tree open_stream (names_in path.now) ≡ refused e)) }
     {
         let names = match name_chain_from_path(self.alloc, path) {
             Ok(names) => names,
@@ -65,8 +65,8 @@ impl<F: ReadMedium> CompoundFile<F> {
         ensures found { (tree : Tree) → MeansTree self.old tree → IfOk result (λ it.
             FindsWritten self.old self.new (names_in path.now) tree it.0 it.1) }
         ensures refused { (tree : Tree) → MeansTree self.old tree
-            → IfErr result (λ e. IsWant self.old e ⊎ (answer_at (letters_in self.old) tree open_stream (names_in path.now)
-            ≡ refused e)) }
+            → IfErr result (λ e. IsWant self.old e
+            ⊎ (answer_at (letters_in self.old) tree open_stream (names_in path.now) ≡ refused e)) }
         ensures failed { has_failed_here (allocator_of (mini_of self.old)) ≡ true
             → IsErrOf result Failed }
         ensures unsound { has_failed_here (allocator_of (mini_of self.old)) ≡ false
@@ -107,8 +107,8 @@ impl<F: ReadMedium> CompoundFile<F> {
         ensures opened { (tree : Tree) → MeansTree self.old tree
             → IfOk result (Opens (names_in path.now) self.old tree) }
         ensures refused { (tree : Tree) → MeansTree self.old tree
-            → IfErr result (λ e. IsWant self.old e ⊎ (answer_at (letters_in self.old) tree open_stream (names_in path.now)
-            ≡ refused e)) }
+            → IfErr result (λ e. IsWant self.old e
+            ⊎ (answer_at (letters_in self.old) tree open_stream (names_in path.now) ≡ refused e)) }
         ensures failed { has_failed_here (allocator_of (mini_of self.old)) ≡ true
             → IsErrOf result Failed }
         ensures unsound { has_failed_here (allocator_of (mini_of self.old)) ≡ false
@@ -174,7 +174,7 @@ impl<F: Medium> CompoundFile<F> {
             ⊎ KeepsAt id self.old self.new) }
         ensures full { IsErrOf result Full
             → has_failed_here (allocator_of (mini_of self.new)) ≡ false
-            → LacksRoomAt id self.old }
+            → LacksRoomAt id len self.old }
         ensures goes_on { GoesOn (allocator_of (mini_of self.old))
             (allocator_of (mini_of self.new)) }
         ensures answers { Answers IsInvalidPlaceOrFull result (allocator_of (mini_of self.old))
@@ -209,7 +209,7 @@ impl<F: Medium> CompoundFile<F> {
             ⊎ KeepsAt id self.old self.new) }
         ensures full { IsErrOf result Full
             → has_failed_here (allocator_of (mini_of self.new)) ≡ false
-            → LacksRoomAt id self.old }
+            → LacksRoomAt id end self.old }
         ensures goes_on { GoesOn (allocator_of (mini_of self.old))
             (allocator_of (mini_of self.new)) }
         ensures answers { Answers IsInvalidPlaceOrFull result (allocator_of (mini_of self.old))

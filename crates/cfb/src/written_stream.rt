@@ -12,7 +12,9 @@ ghost use Rattle.cfb_sectors.specs.Seeking.{Finds};
 ghost use Rattle.cfb_tree.specs.Paths.{Path};
 ghost use Rattle.cfb_tree.specs.Tree.{Tree};
 ghost use Rattle.cfb_writing.specs.Streams.{resized};
-ghost use Rattle.std.specs.Prelude.{drop, false, length, min, take, true, IfErr, IfOk, IsErrOf, List, OnErr, OnOk, ℕ, ◌+◌, ◌++◌, ◌-◌, ◌<◌, ◌==◌, ◌^◌, ◌≡◌, ◌≤◌, ◌⊎◌};
+ghost use Rattle.std.specs.Borrow.{sem};
+ghost use Rattle.std.specs.Prelude.{drop, false, length, min, take, true, IfErr, IfOk, IsErrOf, List, OnErr, OnOk, ℕ, ◌+◌, ◌++◌, ◌-◌, ◌<◌, ◌==◌, ◌^◌, ◌≡◌, ◌≤◌, ◌⊎◌, []};
+ghost use mir.Syntax.{named};
 
 use crate::CompoundFile;
 use cfb_medium::{Error, Medium, ReadMedium};
@@ -35,7 +37,9 @@ pub struct Stream<'a, F: ReadMedium> {
 
 impl<'a, F: ReadMedium> Stream<'a, F> {
     ghost use Rattle.cfb.specs.Streams.{HasStream, KeepsStream};
-    ghost use Rattle.cfb.specs.Writing.{allocator_under, buffered_of, file_under, id_of, place_of, stream_len, IsFaultOrGone, Rests, Stands};
+    ghost use Rattle.cfb.specs.Writing.{allocator_under, buffered_of, file_under, id_of, place_of, stream_len, Fills, IsFaultOrGone, Rests, Stands};
+    ghost use Rattle.cfb.specs.contracts.written_stream.Stream.{the_row};
+    ghost use Rattle.std.specs.Io.BufRead.{Rests as Leaves};
 
     // The stream of an entry, of so many bytes, whose sectors the file has found, at its first byte.
     pub(crate) fn new(file: &'a mut CompoundFile<F>, id: u32, len: u64) -> Stream<'a, F>
@@ -175,9 +179,11 @@ impl<'a, F: ReadMedium> Stream<'a, F> {
         self.file.ahead_from(self.position, self.len)
     }
 
-    /// Reads ahead as `fill` does, and gives the bytes from the position on. What it leaves of the stream is that of `fill`, but
-    /// isn't told: a caller who has to know calls `fill` and `buffer`.
+    /// Reads ahead as `fill` does, and gives the bytes from the position on.
     pub fn fill_buf(&mut self) -> Result<&[u8], Error>
+        ensures* leaves { sem 𝓛 (Leaves
+            (the_row (record { mir = named 1; lft = [] }) F.row F.ReadMedium) self.entry
+            (Fills result self.old)) }
         ensures bytes { (path : Path) (tree : Tree) (content : List ℕ)
             → Stands self.old path tree content → IfOk result (λ b. b.now
             ≡ take (length b.now) (drop (place_of self.old) content)) }
@@ -299,9 +305,9 @@ impl<'a, F: Medium> Stream<'a, F> {
 
     /// Writes all the bytes over those from the position on, and behind the end where the stream becomes longer; the position is
     /// behind them then. They lie in the file at once. `InvalidInput` where the size doesn't fit into an entry (in version 3 past
-    /// 2^32 - 1), `Full` where fewer numbers of sectors are left. The other errors of a stream that stands are `Memory`, `Device`,
-    /// and `Failed` after an earlier fault. `InvalidInput` changes nothing; after another error nothing is changed, or the file has
-    /// failed ([MS-CFB] 2.6.3).
+    /// 2^32 - 1), `Full` where it would have 2^63 bytes or more, or numbers are missing for the further sectors that it needs. The
+    /// other errors of a stream that stands are `Memory`, `Device`, and `Failed` after an earlier fault. `InvalidInput` changes
+    /// nothing; after another error nothing is changed, or the file has failed ([MS-CFB] 2.6.3).
     pub fn write(&mut self, bytes: &[u8]) -> Result<usize, Error>
         ensures written { OnOk result (Rewrites
             (λ content. overwritten content (place_of self.old) bytes.now) self.old self.new) }

@@ -36,10 +36,6 @@ two_sectors : (v : Version) → sectors_in v (3 * sector_len v) ≡ 2
 two_sectors V3 = refl
 two_sectors V4 = refl
 
-three_long : (v : Version) → 512 ≤ 3 * sector_len v
-three_long V3 = omega arith
-three_long V4 = omega arith
-
 second_whole : (v : Version) → sector_start v 1 + sector_len v ≤ 3 * sector_len v
 second_whole V3 = omega arith
 second_whole V4 = omega arith

@@ -1,5 +1,5 @@
--- A long stream that became longer or shorter, or was written over.
-use Rattle.std.proofs.Common.{◌≡◌, ℕ, ◌*◌, ◌<◌, ◌≤◌, inl, List, length, take, ap, sym, subst, ◌∙◌, arith, length-take}
+-- A long stream that became longer or shorter.
+use Rattle.std.proofs.Common.{◌≡◌, ℕ, ◌+◌, ◌*◌, ◌<◌, ◌≤◌, inl, List, length, take, get_or, ap, sym, subst, ◌∙◌, arith, length-take}
 use Rattle.std.specs.List.{AllByRecursion}
 use Rattle.cfb_chains.specs.Behind.{AreWhole}
 use Rattle.cfb_chains.specs.LinkViews.{ids_of}
@@ -24,7 +24,7 @@ use Rattle.cfb_writing.specs.Moving.{Houses, MovesLong}
 use Rattle.cfb_writing.specs.Streams.{resized}
 use Rattle.cfb_writing.proofs.LongBytes.{length-resized, place_there, places_there, resized_is, zeros}
 use Rattle.cfb_writing.proofs.Others.{others_then}
-use Rattle.cfb_writing.proofs.Stretching.{grown_bytes, room_for, stretched_bytes, stretched_places, whole_for}
+use Rattle.cfb_writing.proofs.Stretching.{cut_bytes, cut_places, grown_bytes, lengthened_bytes, lengthened_places, room_for, stretched_bytes, stretched_places, tight_for, whole_for}
 
 -- a stream has no more bytes than its sectors
 pub fits_in : (n : ℕ) (content all : List ℕ) → content ≡ take n all → length content ≡ n → n ≤ length all
@@ -39,22 +39,25 @@ module _ {F : Type 0} {g : Ghosts F} where
   unfolding live_of
   longer_then id later old new who h = h.moves.carries.longer
 
-  module _ (m0 m1 m2 m3 : MiniAllocator F g) (who : Owners) (id size len : ℕ) (links0 links1 links3 : Links) (e : Entry) (content : List ℕ) (has : HasStream (live_of m0) who id e content) (is_size : e.size ≡ size)
-      (up : mini_cutoff ≤ size) (more_up : mini_cutoff ≤ len) (is : who.sectors (stream_owner id) ≡ ids_of links0)
-      (long1 : MovesLong id (ids_of links1) m0 m1 who) (grown1 : Resizes Zero (sectors_for (version_of (allocator_of m0)) size) (allocator_of m0) (allocator_of m1) links0 links1) (count1 : length (ids_of links1) ≡ sectors_for (version_of (allocator_of m0)) size)
-      (long2 : MovesLong id (ids_of links1) m1 m2 long1.moves.now) (over : Overwrites size (zeros (tail_in (version_of (allocator_of m0)) size)) (allocator_of m1) (allocator_of m2) links1)
-      (long3 : MovesLong id (ids_of links3) m2 m3 long2.moves.now) (grown3 : Resizes Zero (sectors_for (version_of (allocator_of m0)) len) (allocator_of m2) (allocator_of m3) links1 links3) (count3 : length (ids_of links3) ≡ sectors_for (version_of (allocator_of m0)) len) where
+  -- one change of a stream's chain, and then another
+  pub long_then : (id : ℕ) (mid later : List ℕ) (a b c : MiniAllocator F g) (who : Owners) (one : MovesLong id mid a b who) → MovesLong id later b c one.moves.now → MovesLong id later a c who
+  unfolding live_of
+  long_then id mid later a b c who one two = record {
+    moves = record {
+      now = two.moves.now;
+      stands = two.moves.stands;
+      carries = others_then (stream_owner id) (live_of a) (live_of b) (live_of c) who one.moves.now two.moves.now one.moves.carries two.moves.carries;
+      entries = inl (two.entries ∙ one.entries);
+    };
+    mine = two.mine;
+    minis = two.minis ∙ one.minis;
+    entries = two.entries ∙ one.entries;
+  }
+
+  module _ (m0 : MiniAllocator F g) (who : Owners) (id size : ℕ) (links0 : Links) (e : Entry) (content : List ℕ) (has : HasStream (live_of m0) who id e content) (is_size : e.size ≡ size) (up : mini_cutoff ≤ size)
+      (is : who.sectors (stream_owner id) ≡ ids_of links0) where
     abbrev v : Version
     v = version_of (allocator_of m0)
-
-    v1 : version_of (allocator_of m1) ≡ v
-    v1 = version_then id (ids_of links1) m0 m1 who long1
-
-    v2 : version_of (allocator_of m2) ≡ v
-    v2 = version_then id (ids_of links1) m1 m2 long1.moves.now long2 ∙ v1
-
-    v3 : version_of (allocator_of m3) ≡ v
-    v3 = version_then id (ids_of links3) m2 m3 long2.moves.now long3 ∙ v2
 
     long_up : mini_cutoff ≤ e.size
     long_up = subst (λ n. mini_cutoff ≤ n) (sym is_size) up
@@ -69,64 +72,101 @@ module _ {F : Type 0} {g : Ghosts F} where
     room_was : size ≤ length (ids_of links0) * sector_len v
     room_was = subst (λ n. size ≤ n) (length-joined v (bytes_of (allocator_of m0)) (ids_of links0)) (fits_in size content (content_of (allocator_of m0) links0) content_was (lay.whole ∙ is_size))
 
-    -- the bytes then
-    bytes_then : resized len content ≡ take len (content_of (allocator_of m3) links3)
-    bytes_then =
-        let c3 = sectors_for v len in
-        let fits : len ≤ c3 * sector_len (version_of (allocator_of m2)) = subst (λ u. len ≤ c3 * sector_len u) (sym v2) (room_for v len) in
-        let whole : len ≤ length (content_of (allocator_of m3) links3) =
-        subst (λ n. len ≤ n) (sym (length-joined (version_of (allocator_of m3)) (bytes_of (allocator_of m3)) (ids_of links3))) (subst (λ n. len ≤ n * sector_len (version_of (allocator_of m3))) (sym count3) (subst (λ u. len ≤ c3 * sector_len u) (sym v3) (room_for v len))) in
-        resized_is (content_of (allocator_of m3) links3) content len whole
-        (stretched_bytes (content_of (allocator_of m0) links0) (content_of (allocator_of m1) links1) (content_of (allocator_of m2) links1) (content_of (allocator_of m3) links3) content _ _ size (tail_in v size) _ _ len
-        (grown_bytes (sectors_for v size) (allocator_of m0) (allocator_of m1) links0 links1 grown1) over.content (grown_bytes c3 (allocator_of m2) (allocator_of m3) links1 links3 grown3) content_was (whole_for v size) fits)
-
-    -- and their places
-    places_then : AllByRecursion (λ p. p < length (bytes_of (allocator_of m3))) (take len (places (version_of (allocator_of m3)) (ids_of links3)))
-    places_then =
+    place_was : (k : ℕ) → k < size → place_of v (ids_of links0) k < length (bytes_of (allocator_of m0))
+    place_was k below =
         let b0 = bytes_of (allocator_of m0) in
-        let b2 = bytes_of (allocator_of m2) in
-        let b3 = bytes_of (allocator_of m3) in
-        let first = longer_then id (ids_of links1) m0 m1 who long1 in
-        let second = longer_then id (ids_of links1) m1 m2 long1.moves.now long2 in
-        let lay_all : AllByRecursion (λ p. p < length b0) (take size (places v (ids_of links0))) =
-        subst (λ l. AllByRecursion (λ p. p < length b0) (take size (places v l))) is (subst (λ n. AllByRecursion (λ p. p < length b0) (take n (places v (who.sectors (stream_owner id))))) is_size lay.there) in
-        subst (λ u. AllByRecursion (λ p. p < length b3) (take len (places u (ids_of links3)))) (sym v3)
-        (places_there v (ids_of links3) (length b3) len (subst (λ n. len ≤ n * sector_len v) (sym count3) (room_for v len))
-        (stretched_places v (ids_of links0) (ids_of links1) (ids_of links3) grown1.more grown3.more b0 b2 b3 (sectors_for v size) (sectors_for v len) size (tail_in v size) len grown1.sectors grown3.sectors count1 count3 (whole_for v size) room_was (room_for v len)
-        (both (length b0) (length (bytes_of (allocator_of m1))) (length b2) first second) (longer_then id (ids_of links3) m2 m3 long2.moves.now long3)
-        (λ k below. place_there v (ids_of links0) (length b0) size k room_was lay_all below)
-        (λ k past below. subst (λ u. place_of u (ids_of links1) k < length b2) v1 (over.there k past below))
-        (subst (λ u. AreWhole u b3 grown3.more) v2 grown3.whole)))
-      where
-        both : (x y z : ℕ) → x ≤ y → y ≤ z → x ≤ z
-        both x y z p q = omega (arith, p, q)
+        place_there v (ids_of links0) (length b0) size k room_was
+        (subst (λ l. AllByRecursion (λ p. p < length b0) (take size (places v l))) is (subst (λ n. AllByRecursion (λ p. p < length b0) (take n (places v (who.sectors (stream_owner id))))) is_size lay.there)) below
 
-    pub stretched : (it : Houses id (first_of (ids_of links3)) (resized len content) m0 m3 who) × (it.moves.now.sectors (stream_owner id) ≡ ids_of links3)
-    unfolding live_of
-    stretched = (
-      record {
-        moves = record {
-          now = long3.moves.now;
-          stands = long3.moves.stands;
-          carries = others_then (stream_owner id) (live_of m0) (live_of m2) (live_of m3) who long2.moves.now long3.moves.now
-              (others_then (stream_owner id) (live_of m0) (live_of m1) (live_of m2) who long1.moves.now long2.moves.now long1.moves.carries long2.moves.carries) long3.moves.carries;
-          entries = inl (long3.entries ∙ long2.entries ∙ long1.entries);
-        };
-        has = λ f start size_is.
-            let new : f.size ≡ len = size_is ∙ length-resized content len in
+    module _ (len : ℕ) (more_up : mini_cutoff ≤ len) where
+      -- the stream has its bytes in another chain, where that has each at its index, and in the file
+      housed : (m : MiniAllocator F g) (links : Links) (long : MovesLong id (ids_of links) m0 m who) → length (ids_of links) ≡ sectors_for v len
+          → ((k : ℕ) → k < len → get_or (content_of (allocator_of m) links) k 0 ≡ get_or content k 0) → ((k : ℕ) → k < len → place_of v (ids_of links) k < length (bytes_of (allocator_of m)))
+          → (it : Houses id (first_of (ids_of links)) (resized len content) m0 m who) × (it.moves.now.sectors (stream_owner id) ≡ ids_of links)
+      unfolding live_of
+      housed m links long count bytes_at places_at =
+          let b = bytes_of (allocator_of m) in
+          let u = version_of (allocator_of m) in
+          let same : u ≡ v = version_then id (ids_of links) m0 m who long in
+          let room : len ≤ length (ids_of links) * sector_len v = subst (λ n. len ≤ n * sector_len v) (sym count) (room_for v len) in
+          let whole : len ≤ length (content_of (allocator_of m) links) = subst (λ n. len ≤ n) (sym (length-joined u b (ids_of links))) (subst (λ w. len ≤ length (ids_of links) * sector_len w) (sym same) room) in
+          let bytes_then : resized len content ≡ take len (content_of (allocator_of m) links) = resized_is (content_of (allocator_of m) links) content len whole bytes_at in
+          let places_then : AllByRecursion (λ p. p < length b) (take len (places u (ids_of links))) =
+          subst (λ w. AllByRecursion (λ p. p < length b) (take len (places w (ids_of links)))) (sym same) (places_there v (ids_of links) (length b) len room places_at) in (
             record {
-              short = λ below. absurd (let few = below in omega (arith, few, new, more_up));
-              long = λ most. (
-                long3.minis ∙ long2.minis ∙ long1.minis ∙ (has.long long_up).0,
-                record {
-                  start = start ∙ ap first_of (sym long3.mine);
-                  content_is = bytes_then ∙ ap (λ n. take n (content_of (allocator_of m3) links3)) (sym new) ∙ ap (λ l. take f.size (joined (version_of (allocator_of m3)) (bytes_of (allocator_of m3)) l)) (sym long3.mine);
-                  whole = sym size_is;
-                  there = subst (λ l. AllByRecursion (λ p. p < length (bytes_of (allocator_of m3))) (take f.size (places (version_of (allocator_of m3)) l))) (sym long3.mine)
-                      (subst (λ n. AllByRecursion (λ p. p < length (bytes_of (allocator_of m3))) (take n (places (version_of (allocator_of m3)) (ids_of links3)))) (sym new) places_then);
-                },
-              );
-            };
-      },
-      long3.mine,
-    )
+              moves = long.moves;
+              has = λ f start size_is.
+                  let new : f.size ≡ len = size_is ∙ length-resized content len in
+                  record {
+                    short = λ below. absurd (let few = below in omega (arith, few, new, more_up));
+                    long = λ most. (
+                      long.minis ∙ (has.long long_up).0,
+                      record {
+                        start = start ∙ ap first_of (sym long.mine);
+                        content_is = bytes_then ∙ ap (λ n. take n (content_of (allocator_of m) links)) (sym new) ∙ ap (λ l. take f.size (joined u b l)) (sym long.mine);
+                        whole = sym size_is;
+                        there = subst (λ l. AllByRecursion (λ p. p < length b) (take f.size (places u l))) (sym long.mine)
+                            (subst (λ n. AllByRecursion (λ p. p < length b) (take n (places u (ids_of links)))) (sym new) places_then);
+                      },
+                    );
+                  };
+            },
+            long.mine,
+          )
+
+      -- cut, or of the same length
+      pub cut : (m1 : MiniAllocator F g) (links1 : Links) → len ≤ size → MovesLong id (ids_of links1) m0 m1 who → Resizes Zero (sectors_for v len) (allocator_of m0) (allocator_of m1) links0 links1 → length (ids_of links1) ≡ sectors_for v len
+          → (it : Houses id (first_of (ids_of links1)) (resized len content) m0 m1 who) × (it.moves.now.sectors (stream_owner id) ≡ ids_of links1)
+      cut m1 links1 few long1 grown1 count1 =
+          let b0 = bytes_of (allocator_of m0) in
+          let b1 = bytes_of (allocator_of m1) in
+          housed m1 links1 long1 count1
+          (cut_bytes (content_of (allocator_of m0) links0) (content_of (allocator_of m1) links1) content _ _ size len (grown_bytes (sectors_for v len) (allocator_of m0) (allocator_of m1) links0 links1 grown1) content_was (room_for v len) few)
+          (cut_places v (ids_of links0) (ids_of links1) grown1.more b0 b1 (sectors_for v len) size len grown1.sectors room_was (room_for v len) few (longer_then id (ids_of links1) m0 m1 who long1) place_was)
+
+      -- longer, where no sector was to spare
+      pub lengthened : (m1 m2 : MiniAllocator F g) (links1 : Links) → length (ids_of links0) ≤ sectors_for v size
+          → (long1 : MovesLong id (ids_of links1) m0 m1 who) → Resizes Zero (sectors_for v len) (allocator_of m0) (allocator_of m1) links0 links1 → length (ids_of links1) ≡ sectors_for v len
+          → MovesLong id (ids_of links1) m1 m2 long1.moves.now → Overwrites size (zeros (tail_in v size)) (allocator_of m1) (allocator_of m2) links1
+          → (it : Houses id (first_of (ids_of links1)) (resized len content) m0 m2 who) × (it.moves.now.sectors (stream_owner id) ≡ ids_of links1)
+      lengthened m1 m2 links1 tight long1 grown1 count1 long2 over =
+          let b0 = bytes_of (allocator_of m0) in
+          let b1 = bytes_of (allocator_of m1) in
+          let b2 = bytes_of (allocator_of m2) in
+          let v1 : version_of (allocator_of m1) ≡ v = version_then id (ids_of links1) m0 m1 who long1 in
+          let ends = tight_for v (length (ids_of links0)) size tight in
+          housed m2 links1 (long_then id (ids_of links1) (ids_of links1) m0 m1 m2 who long1 long2) count1
+          (lengthened_bytes (content_of (allocator_of m0) links0) (content_of (allocator_of m1) links1) (content_of (allocator_of m2) links1) content _ _ size (tail_in v size) len
+          (grown_bytes (sectors_for v len) (allocator_of m0) (allocator_of m1) links0 links1 grown1) over.content content_was (subst (λ n. n ≤ size + tail_in v size) (sym (length-joined v b0 (ids_of links0))) ends) (room_for v len))
+          (lengthened_places v (ids_of links0) (ids_of links1) grown1.more b0 b1 b2 (sectors_for v len) size (tail_in v size) len grown1.sectors count1 ends room_was (room_for v len)
+          (longer_then id (ids_of links1) m0 m1 who long1) (longer_then id (ids_of links1) m1 m2 long1.moves.now long2) place_was
+          (λ k past below. subst (λ u. place_of u (ids_of links1) k < length b2) v1 (over.there k past below)) grown1.whole)
+
+      -- cut to its bytes, and then of another length
+      pub stretched : (m1 m2 m3 : MiniAllocator F g) (links1 links3 : Links)
+          → (long1 : MovesLong id (ids_of links1) m0 m1 who) → Resizes Zero (sectors_for v size) (allocator_of m0) (allocator_of m1) links0 links1 → length (ids_of links1) ≡ sectors_for v size
+          → (long2 : MovesLong id (ids_of links1) m1 m2 long1.moves.now) → Overwrites size (zeros (tail_in v size)) (allocator_of m1) (allocator_of m2) links1
+          → MovesLong id (ids_of links3) m2 m3 long2.moves.now → Resizes Zero (sectors_for v len) (allocator_of m2) (allocator_of m3) links1 links3 → length (ids_of links3) ≡ sectors_for v len
+          → (it : Houses id (first_of (ids_of links3)) (resized len content) m0 m3 who) × (it.moves.now.sectors (stream_owner id) ≡ ids_of links3)
+      unfolding long_then
+      stretched m1 m2 m3 links1 links3 long1 grown1 count1 long2 over long3 grown3 count3 =
+          let b0 = bytes_of (allocator_of m0) in
+          let b1 = bytes_of (allocator_of m1) in
+          let b2 = bytes_of (allocator_of m2) in
+          let b3 = bytes_of (allocator_of m3) in
+          let v1 : version_of (allocator_of m1) ≡ v = version_then id (ids_of links1) m0 m1 who long1 in
+          let v2 : version_of (allocator_of m2) ≡ v = version_then id (ids_of links1) m1 m2 long1.moves.now long2 ∙ v1 in
+          let first = longer_then id (ids_of links1) m0 m1 who long1 in
+          let second = longer_then id (ids_of links1) m1 m2 long1.moves.now long2 in
+          let both = long_then id (ids_of links1) (ids_of links1) m0 m1 m2 who long1 long2 in
+          housed m3 links3 (long_then id (ids_of links1) (ids_of links3) m0 m2 m3 who both long3) count3
+          (stretched_bytes (content_of (allocator_of m0) links0) (content_of (allocator_of m1) links1) (content_of (allocator_of m2) links1) (content_of (allocator_of m3) links3) content _ _ size (tail_in v size) _ _ len
+          (grown_bytes (sectors_for v size) (allocator_of m0) (allocator_of m1) links0 links1 grown1) over.content (grown_bytes (sectors_for v len) (allocator_of m2) (allocator_of m3) links1 links3 grown3) content_was (whole_for v size)
+          (subst (λ u. len ≤ sectors_for v len * sector_len u) (sym v2) (room_for v len)))
+          (stretched_places v (ids_of links0) (ids_of links1) (ids_of links3) grown1.more grown3.more b0 b2 b3 (sectors_for v size) (sectors_for v len) size (tail_in v size) len grown1.sectors grown3.sectors count1 count3 (whole_for v size) room_was (room_for v len)
+          (least (length b0) (length b1) (length b2) first second) (longer_then id (ids_of links3) m2 m3 long2.moves.now long3) place_was
+          (λ k past below. subst (λ u. place_of u (ids_of links1) k < length b2) v1 (over.there k past below))
+          (subst (λ u. AreWhole u b3 grown3.more) v2 grown3.whole))
+        where
+          least : (x y z : ℕ) → x ≤ y → y ≤ z → x ≤ z
+          least x y z p q = omega (arith, p, q)

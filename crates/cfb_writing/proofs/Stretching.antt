@@ -1,8 +1,8 @@
 -- The bytes and the places of a long stream that became longer or shorter, told by index.
-use Rattle.std.proofs.Common.{◌≡◌, ℕ, ◌+◌, ◌-◌, ◌*◌, ◌/◌, ◌%◌, ◌<◌, ◌≤◌, ◌⊎◌, inl, inr, List, ◌++◌, length, take, get_or, ap, sym, subst, ◌∙◌, ⊎_elim, arith, length-take}
+use Rattle.std.proofs.Common.{◌≡◌, ℕ, ◌+◌, ◌-◌, ◌*◌, ◌/◌, ◌%◌, ◌<◌, ◌≤◌, ◌⊎◌, inl, inr, List, ◌++◌, length, take, get_or, ap, sym, subst, ◌∙◌, ⊎_elim, arith, length-take, mul-le-mul_right}
 use Rattle.std.specs.Prelude.{min}
 use Rattle.std.proofs.lemmas.Bool.Decides.{leb_tells}
-use Rattle.std.proofs.lemmas.List.{get_or-take, length-replicate, take-replicate}
+use Rattle.std.proofs.lemmas.List.{get_or-take, get_or_past, length-replicate, take-replicate}
 use Rattle.cfb_chains.specs.Behind.{AreWhole}
 use Rattle.cfb_chains.specs.LinkViews.{ids_of, links_version}
 use Rattle.cfb_chains.specs.Positions.{sectors_for, tail_in}
@@ -44,6 +44,24 @@ below_split : (v : Version) (k n : ℕ) → k / sector_len v < n → k < n * sec
 below_split V3 k n below = omega (arith, below)
 below_split V4 k n below = omega (arith, below)
 
+split_past : (v : Version) (k n : ℕ) → n * sector_len v ≤ k → n ≤ k / sector_len v
+split_past V3 k n past = omega (arith, past)
+split_past V4 k n past = omega (arith, past)
+
+-- sectors that so many bytes need lie before their end
+pub tight_for : (v : Version) (n len : ℕ) → n ≤ sectors_for v len → n * sector_len v ≤ len + tail_in v len
+tight_for V3 n len few = omega (arith, few)
+tight_for V4 n len few = omega (arith, few)
+
+-- what has room for so many bytes has the sectors that they need
+fewer_for : (v : Version) (n len : ℕ) → len ≤ n * sector_len v → sectors_for v len ≤ n
+fewer_for V3 n len room = omega (arith, room)
+fewer_for V4 n len room = omega (arith, room)
+
+more_for : (v : Version) (few many : ℕ) → few ≤ many → sectors_for v few ≤ sectors_for v many
+more_for V3 few many most = omega (arith, most)
+more_for V4 few many most = omega (arith, most)
+
 module _ {F : Type 0} {g : Ghosts F} where
   -- a chain that became longer by sectors of zeros
   pub grown_bytes : (count : ℕ) (a b : Allocator F g) (before after : Links) (r : Resizes Zero count a b before after)
@@ -53,6 +71,24 @@ module _ {F : Type 0} {g : Ghosts F} where
       let v = version_of a in
       r.content ∙ ap (λ l. l ++ copies (length r.more) (zeros (sector_len v))) (joined_front v (bytes_of a) (ids_of before) count) ∙ ap (λ l. take (count * sector_len v) (content_of a before) ++ l) (copies_zero (length r.more) (sector_len v))
 
+-- zeros that were written over
+get_zeroed : (xs : List ℕ) (size tail k : ℕ) → size ≤ k → k < size + tail → get_or (overwritten xs size (zeros tail)) k 0 ≡ 0
+get_zeroed xs size tail k behind inside =
+    let there : size + (k - size) ≡ k = omega (arith, behind) in
+    let part : k - size < length (zeros tail) = let count = length-replicate {A = ℕ} tail 0 in omega (arith, count, behind, inside) in
+    ap (λ i. get_or (overwritten xs size (zeros tail)) i 0) (sym there) ∙ get_written xs size (zeros tail) (k - size) part ∙ zero_at tail (k - size)
+
+-- what lies behind them
+get_past : (xs : List ℕ) (size tail k : ℕ) → size + tail ≤ k → get_or (overwritten xs size (zeros tail)) k 0 ≡ get_or xs k 0
+get_past xs size tail k past = get_behind xs size (zeros tail) k (let count = length-replicate {A = ℕ} tail 0 in omega (arith, past, count))
+
+-- a stream's byte, among those of its chain
+get_front : (xs content : List ℕ) (size k : ℕ) → content ≡ take size xs → k < size → get_or content k 0 ≡ get_or xs k 0
+get_front xs content size k is below = ap (λ l. get_or l k 0) is ∙ get_or-take size xs k 0 below
+
+get_none : (xs content : List ℕ) (size k : ℕ) → content ≡ take size xs → size ≤ k → get_or content k 0 ≡ 0
+get_none xs content size k is past = ap (λ l. get_or l k 0) is ∙ get_taken xs size k past
+
 -- cut to its bytes, with zeros behind them, and then of another length
 pub stretched_bytes : (x0 x1 x2 x3 content : List ℕ) (n1 m1 size tail n3 m3 len : ℕ) → x1 ≡ take n1 x0 ++ zeros m1 → x2 ≡ overwritten x1 size (zeros tail) → x3 ≡ take n3 x2 ++ zeros m3
     → content ≡ take size x0 → size + tail ≡ n1 → len ≤ n3 → (k : ℕ) → k < len → get_or x3 k 0 ≡ get_or content k 0
@@ -61,15 +97,31 @@ stretched_bytes x0 x1 x2 x3 content n1 m1 size tail n3 m3 len one two three is a
     get_grown x2 x3 n3 m3 k three kept ∙ ap (λ l. get_or l k 0) two ∙ ⊎_elim
     (λ behind.
     ⊎_elim
-    (λ past. get_behind x1 size (zeros tail) k (let p = past.1 in let count = length-replicate {A = ℕ} tail 0 in omega (arith, p, count, all)) ∙ get_zeros x0 x1 n1 m1 k one past.1)
-    (λ inside.
-    let there : size + (k - size) ≡ k = let b = behind.1 in omega (arith, b) in
-    let part : k - size < length (zeros tail) = let count = length-replicate {A = ℕ} tail 0 in let b = behind.1 in let i = inside.1 in omega (arith, count, b, i, all) in
-    ap (λ i. get_or (overwritten x1 size (zeros tail)) i 0) (sym there) ∙ get_written x1 size (zeros tail) (k - size) part ∙ zero_at tail (k - size))
+    (λ past. get_past x1 size tail k (let p = past.1 in omega (arith, p, all)) ∙ get_zeros x0 x1 n1 m1 k one past.1)
+    (λ inside. get_zeroed x1 size tail k behind.1 (let i = inside.1 in omega (arith, i, all)))
     (leb_tells n1 k)
-    ∙ sym (ap (λ l. get_or l k 0) is ∙ get_taken x0 size k behind.1))
-    (λ before.
-    get_before x1 size (zeros tail) k before.1 ∙ get_grown x0 x1 n1 m1 k one (let b = before.1 in omega (arith, b, all)) ∙ sym (get_or-take size x0 k 0 before.1) ∙ ap (λ l. get_or l k 0) (sym is))
+    ∙ sym (get_none x0 content size k is behind.1))
+    (λ before. get_before x1 size (zeros tail) k before.1 ∙ get_grown x0 x1 n1 m1 k one (let b = before.1 in omega (arith, b, all)) ∙ sym (get_front x0 content size k is before.1))
+    (leb_tells size k)
+
+-- cut
+pub cut_bytes : (x0 x1 content : List ℕ) (n m size len : ℕ) → x1 ≡ take n x0 ++ zeros m → content ≡ take size x0 → len ≤ n → len ≤ size → (k : ℕ) → k < len → get_or x1 k 0 ≡ get_or content k 0
+cut_bytes x0 x1 content n m size len one is fits few k below =
+    get_grown x0 x1 n m k one (omega (arith, below, fits)) ∙ sym (get_front x0 content size k is (omega (arith, below, few)))
+
+-- longer by zeros, with zeros behind its bytes, where it had no byte behind these
+pub lengthened_bytes : (x0 x1 x2 content : List ℕ) (n m size tail len : ℕ) → x1 ≡ take n x0 ++ zeros m → x2 ≡ overwritten x1 size (zeros tail) → content ≡ take size x0
+    → length x0 ≤ size + tail → len ≤ n → (k : ℕ) → k < len → get_or x2 k 0 ≡ get_or content k 0
+lengthened_bytes x0 x1 x2 content n m size tail len one two is tight fits k below =
+    let same = get_grown x0 x1 n m k one (omega (arith, below, fits)) in
+    ap (λ l. get_or l k 0) two ∙ ⊎_elim
+    (λ behind.
+    ⊎_elim
+    (λ past. get_past x1 size tail k past.1 ∙ same ∙ get_or_past x0 k 0 (let p = past.1 in omega (arith, p, tight)))
+    (λ inside. get_zeroed x1 size tail k behind.1 inside.1)
+    (leb_tells (size + tail) k)
+    ∙ sym (get_none x0 content size k is behind.1))
+    (λ before. get_before x1 size (zeros tail) k before.1 ∙ same ∙ sym (get_front x0 content size k is before.1))
     (leb_tells size k)
 
 -- its bytes lie in the file
@@ -105,29 +157,77 @@ stretched_places v ids0 ids1 ids3 more1 more3 b0 b2 b3 c1 c3 size tail len one t
     front : (c n m j t : ℕ) → t ≡ min c n → n ≡ m → m ≤ j → t ≤ j
     front c n m j t size same past = omega (arith, size, same, past)
 
+pub cut_places : (v : Version) (ids0 ids1 more b0 b1 : List ℕ) (count size len : ℕ) → ids1 ≡ take count ids0 ++ more → size ≤ length ids0 * sector_len v → len ≤ count * sector_len v → len ≤ size
+    → length b0 ≤ length b1 → ((k : ℕ) → k < size → place_of v ids0 k < length b0) → (k : ℕ) → k < len → place_of v ids1 k < length b1
+cut_places v ids0 ids1 more b0 b1 count size len one fits room few longer old k below =
+    let first : k < size = omega (arith, below, few) in
+    let same = place_kept v ids0 ids1 more count k one (split_below v k count (less k len (count * sector_len v) below room)) (split_below v k (length ids0) (less k size (length ids0 * sector_len v) first fits)) in
+    subst (λ p. p < length b1) same (less (place_of v ids0 k) (length b0) (length b1) (old k first) longer)
+  where
+    less : (x y z : ℕ) → x < y → y ≤ z → x < z
+    less x y z few many = omega (arith, few, many)
+
+pub lengthened_places : (v : Version) (ids0 ids1 more b0 b1 b2 : List ℕ) (count size tail len : ℕ) → ids1 ≡ take count ids0 ++ more → length ids1 ≡ count → length ids0 * sector_len v ≤ size + tail
+    → size ≤ length ids0 * sector_len v → len ≤ count * sector_len v → length b0 ≤ length b1 → length b1 ≤ length b2
+    → ((k : ℕ) → k < size → place_of v ids0 k < length b0) → ((k : ℕ) → size ≤ k → k < size + length (zeros tail) → place_of v ids1 k < length b2) → AreWhole v b1 more
+    → (k : ℕ) → k < len → place_of v ids1 k < length b2
+lengthened_places v ids0 ids1 more b0 b1 b2 count size tail len one is_count tight fits room first second old there new k below =
+    let i = k / sector_len v in
+    let inside : i < count = split_below v k count (less k len (count * sector_len v) below room) in
+    ⊎_elim
+    (λ behind.
+    ⊎_elim
+    (λ past.
+    let end : length ids0 ≤ i = split_past v k (length ids0) (most (length ids0 * sector_len v) (size + tail) k tight past.1) in
+    less (place_of v ids1 k) (length b1) (length b2)
+    (place_new v b1 (take count ids0) ids1 more k one new (front count (length ids0) i (length (take count ids0)) (length-take count ids0) end) (subst (λ n. i < n) (sym is_count) inside)) second)
+    (λ sooner. there k behind.1 (let count = length-replicate {A = ℕ} tail 0 in let s = sooner.1 in omega (arith, s, count)))
+    (leb_tells (size + tail) k))
+    (λ before.
+    let same = place_kept v ids0 ids1 more count k one inside (split_below v k (length ids0) (less k size (length ids0 * sector_len v) before.1 fits)) in
+    subst (λ p. p < length b2) same (less (place_of v ids0 k) (length b0) (length b2) (old k before.1) (most (length b0) (length b1) (length b2) first second)))
+    (leb_tells size k)
+  where
+    less : (x y z : ℕ) → x < y → y ≤ z → x < z
+    less x y z few many = omega (arith, few, many)
+
+    most : (x y z : ℕ) → x ≤ y → y ≤ z → x ≤ z
+    most x y z few many = omega (arith, few, many)
+
+    front : (c n j t : ℕ) → t ≡ min c n → n ≤ j → t ≤ j
+    front c n j t size past = omega (arith, size, past)
+
 -- as many zeros as lie behind so many bytes in a sector
 pub zero_front : (v : Version) (len size : ℕ) → len ≡ sector_len v → take ((len - size % len) % len) (zeros 4096) ≡ zeros (tail_in v size)
 zero_front v len size same = subst (λ l. take ((l - size % l) % l) (zeros 4096) ≡ zeros (tail_in v size)) (sym same) (take-replicate (tail_in v size) 4096 0 (tail_fits v size))
 
--- they lie in the chain
-pub never_past : (v w : Version) (n size : ℕ) → w ≡ v → n ≡ sectors_for v size → n * sector_len w < size + tail_in w size → ⊥
-never_past v w n size same count past =
+-- they lie in a chain of these bytes, or of more
+pub never_past : (v w : Version) (n size len : ℕ) → w ≡ v → n ≡ sectors_for v len → size ≤ len → n * sector_len w < size + tail_in w size → ⊥
+never_past v w n size len same count more past =
     let at : n * sector_len v < size + tail_in v size = subst (λ u. n * sector_len u < size + tail_in u size) same past in
     let all = whole_for v size in
-    let whole : n * sector_len v ≡ sectors_for v size * sector_len v = ap (λ m. m * sector_len v) count in
-    omega (arith, at, all, whole)
+    let few : sectors_for v size * sector_len v ≤ n * sector_len v = times (sectors_for v size) n (sector_len v) (subst (λ m. sectors_for v size ≤ m) (sym count) (more_for v size len more)) in
+    omega (arith, at, all, few)
+  where
+    times : (x y l : ℕ) → x ≤ y → x * l ≤ y * l
+    times x y l few = mul-le-mul_right l few
 
--- numbers that are missing for some of so many sectors are missing for all
-few_more : (a b count has : ℕ) → a < b + (count - has) → a < b + count
-few_more a b count has few = omega (arith, few)
+-- numbers that are missing for some are missing for more
+few_more : (a b few more : ℕ) → a < b + few → few ≤ more → a < b + more
+few_more a b few more lacks most = omega (arith, lacks, most)
 
 module _ {F : Type 0} {g : Ghosts F} where
-  -- what is missing for a chain of so many sectors is missing for a stream of their bytes
-  pub lacks_room : (it : MiniAllocator F g) (links : Links) (size was : ℕ) → size ≡ was → links_version links ≡ version_of (allocator_of it)
-      → LacksSectors (allocator_of it) links (sectors_for (links_version links) was) → LacksRoom it size
+  pub lacks_more : (a : Allocator F g) (links : Links) (size len : ℕ) → size ≤ len → LacksSectors a links (sectors_for (links_version links) size) → LacksSectors a links (sectors_for (links_version links) len)
+  lacks_more a links size len more lacks =
+      let most = more_for (links_version links) size len more in
+      ⊎_elim (λ few. inl (few_more _ _ _ _ few (omega (arith, most)))) (λ long. inr (omega (arith, long, most))) lacks
+
+  -- what is missing for the chain of a stream of `size` bytes is missing for the stream
+  pub lacks_room : (it : MiniAllocator F g) (links : Links) (size len : ℕ) → size ≤ length (ids_of links) * sector_len (links_version links) → links_version links ≡ version_of (allocator_of it)
+      → LacksSectors (allocator_of it) links (sectors_for (links_version links) len) → LacksRoom it size len
   unfolding LacksRoom
-  lacks_room it links size was same version lacks =
+  lacks_room it links size len room version lacks =
       let a = allocator_of it in
-      subst (λ n. LacksNumbers a (sectors_for (version_of a) n) ⊎ (greatest_regular + 1 < sectors_for (version_of a) n)) (sym same)
-      (subst (λ v. LacksNumbers a (sectors_for v was) ⊎ (greatest_regular + 1 < sectors_for v was)) version
-      (⊎_elim (λ few. inl (few_more _ _ (sectors_for (links_version links) was) (length (ids_of links)) few)) (λ long. inr long) lacks))
+      let few = fewer_for (links_version links) (length (ids_of links)) size room in
+      subst (λ v. LacksNumbers a (sectors_for v len - sectors_for v size) ⊎ (greatest_regular + 1 < sectors_for v len)) version
+      (⊎_elim (λ lack. inl (few_more _ _ (sectors_for (links_version links) len - length (ids_of links)) _ lack (omega (arith, few)))) (λ long. inr long) lacks)

@@ -1,6 +1,7 @@
 -- What a live file is while the sectors of one of its streams are in change: all others stay.
 use Rattle.std.specs.Prelude.{◌≡◌, ℕ, ◌<◌, ◌≤◌, ◌⊎◌, List, [], length, slice_get, slice_set, Some}
 use Rattle.cfb_chains.specs.LinkViews.{ids_of, links_version}
+use Rattle.cfb_chains.specs.declared.links.Links.{Links}
 use Rattle.cfb_directory.specs.Views.{entries_held}
 use Rattle.cfb_live.specs.Freeing.{Stands}
 use Rattle.cfb_live.specs.Live.{live_of}
@@ -14,12 +15,13 @@ use Rattle.cfb_mini.specs.Views.{allocator_of, directory_of}
 use Rattle.cfb_mini.specs.declared.mini_allocator.MiniAllocator.{MiniAllocator}
 use Rattle.cfb_owners.specs.Held.{mini_joined, mini_places_of, HasStream}
 use Rattle.cfb_owners.specs.LiveFile.{LiveFile}
-use Rattle.cfb_owners.specs.Owners.{mini_stream_owner, stream_owner, Owners}
+use Rattle.cfb_owners.specs.Owners.{first_of, mini_stream_owner, stream_owner, Owners}
 use Rattle.cfb_sectors.specs.Header.{mini_cutoff}
 use Rattle.cfb_sectors.specs.Sectors.{joined}
 use Rattle.cfb_streams.specs.declared.opening.StreamLinks.{StreamLinks}
 use Rattle.cfb_streams.specs.declared.opening.StreamLinks.TheVariants.{Long, Short}
 use Rattle.cfb_tree.specs.Directory.{Entry}
+use Rattle.cfb_writing.specs.Streams.{resized}
 
 -- the links are of what the stream of entry `id` owns: of mini sectors where it has fewer than 4096 bytes, and else of sectors
 -- ([MS-CFB] 2.4)
@@ -72,3 +74,13 @@ module _ {F : Type 0} {g : Ghosts F} where
   pub record Houses (id start : ℕ) (content : List ℕ) (old new : MiniAllocator F g) (who : Owners) : Type 0 where
     pub moves : Moves id old new who
     pub has : (e : Entry) → e.start ≡ start → e.size ≡ length content → HasStream (live_of new) moves.now id e content
+
+  -- no stream that stands has the sectors of these links
+  abbrev pub IsNoChain : Links → MiniAllocator F g → Type 0
+  IsNoChain links it = (who : Owners) (id : ℕ) → Stands it who → who.sectors (stream_owner id) ≡ ids_of links → links_version links ≡ version_of (allocator_of it) → ⊥
+
+  -- a long stream of `size` bytes in the sectors `before` has then its first bytes, `len` with zeros behind them, in `after`
+  abbrev pub Stretches : ℕ → ℕ → MiniAllocator F g → MiniAllocator F g → Links → Links → Type 0
+  Stretches size len old new before after = (who : Owners) (id : ℕ) (e : Entry) (content : List ℕ) → Stands old who → HasStream (live_of old) who id e content
+      → e.size ≡ size → mini_cutoff ≤ size → mini_cutoff ≤ len → who.sectors (stream_owner id) ≡ ids_of before → links_version before ≡ version_of (allocator_of old)
+      → (it : Houses id (first_of (ids_of after)) (resized len content) old new who) × (it.moves.now.sectors (stream_owner id) ≡ ids_of after)

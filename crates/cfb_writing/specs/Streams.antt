@@ -78,11 +78,12 @@ module _ {F : Type 0} {g : Ghosts F} where
   abbrev pub IsPast : ℕ → StreamLinks → ℕ → ℕ → MiniAllocator F g → Type 0
   IsPast id links at count it = (letters : Letters) (tree : Tree) (path : Path) (content : List ℕ) → IsStreamAt letters it tree path id content → AreLinksOf id links it → length content < at + count
 
-  -- numbers of sectors are missing for a stream of so many bytes, in the FAT or in its chain ([MS-CFB] 2.2, 2.3)
-  unfoldable pub LacksRoom : MiniAllocator F g → ℕ → Type 0
-  LacksRoom it size = LacksNumbers (allocator_of it) (sectors_for (version_of (allocator_of it)) size)
-      ⊎ (greatest_regular + 1 < sectors_for (version_of (allocator_of it)) size)
+  -- numbers of sectors are missing, in the FAT or in a chain, for the further ones that a stream of `size` bytes needs to have `len`
+  -- ([MS-CFB] 2.2, 2.3)
+  unfoldable pub LacksRoom : MiniAllocator F g → ℕ → ℕ → Type 0
+  LacksRoom it size len = LacksNumbers (allocator_of it) (sectors_for (version_of (allocator_of it)) len - sectors_for (version_of (allocator_of it)) size)
+      ⊎ (greatest_regular + 1 < sectors_for (version_of (allocator_of it)) len)
 
-  -- numbers are missing for the bytes that the stream of entry `id` and these sectors has
-  abbrev pub LacksOwnRoom : ℕ → StreamLinks → MiniAllocator F g → Type 0
-  LacksOwnRoom id links it = (letters : Letters) (tree : Tree) (path : Path) (content : List ℕ) → IsStreamAt letters it tree path id content → AreLinksOf id links it → LacksRoom it (length content)
+  -- so they are for the stream of entry `id` and these sectors to have `len` bytes
+  abbrev pub LacksRoomFor : ℕ → StreamLinks → ℕ → MiniAllocator F g → Type 0
+  LacksRoomFor id links len it = (letters : Letters) (tree : Tree) (path : Path) (content : List ℕ) → IsStreamAt letters it tree path id content → AreLinksOf id links it → LacksRoom it (length content) len

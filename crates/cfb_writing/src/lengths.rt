@@ -5,19 +5,14 @@ ghost use Rattle.cfb_chains.specs.Positions.{sectors_for, tail_in};
 ghost use Rattle.cfb_fat.specs.Calls.{Answers};
 ghost use Rattle.cfb_fat.specs.Tables.{has_failed_here, version_of};
 ghost use Rattle.cfb_live.specs.Freeing.{Stands};
-ghost use Rattle.cfb_live.specs.Live.{live_of};
 ghost use Rattle.cfb_medium.specs.declared.error.Error.TheVariants.{Full, InvalidData, InvalidInput};
 ghost use Rattle.cfb_mini.specs.Changing.{KeepsOwners};
 ghost use Rattle.cfb_mini.specs.Views.{allocator_of};
 ghost use Rattle.cfb_owned.specs.Chains.{len_of, GoesOn, LacksSectors, Overwrites, Resizes};
-ghost use Rattle.cfb_owners.specs.Held.{HasStream};
-ghost use Rattle.cfb_owners.specs.Owners.{first_of, stream_owner, Owners};
-ghost use Rattle.cfb_sectors.specs.Header.{mini_cutoff};
+ghost use Rattle.cfb_owners.specs.Owners.{stream_owner, Owners};
 ghost use Rattle.cfb_sectors.specs.declared.initial.SectorInit.TheVariants.{Zero};
-ghost use Rattle.cfb_writing.specs.Moving.{Houses, MovesLong};
-ghost use Rattle.cfb_writing.specs.Streams.{resized};
-ghost use Rattle.cfb_tree.specs.Directory.{Entry};
-ghost use Rattle.std.specs.Prelude.{false, length, replicate, true, IsErrOf, List, OnErr, OnOk, ℕ, ◌+◌, ◌<◌, ◌≡◌, ◌≤◌, ◌⊎◌};
+ghost use Rattle.cfb_writing.specs.Moving.{IsNoChain, MovesLong, Stretches};
+ghost use Rattle.std.specs.Prelude.{false, length, replicate, true, IsErrOf, IsTrue, OnErr, OnOk, ℕ, ◌+◌, ◌<◌, ◌≡◌, ◌≤◌, ◌↔◌, ◌⊎◌};
 
 use crate::overwriting::overwrite_long;
 use cfb_chains::Links;
@@ -42,9 +37,7 @@ pub(crate) fn resize_chain<F: Medium>(
         → MovesLong id (ids_of links.new) mini.old mini.new who
         × Resizes Zero (sectors_for (links_version links.old) len) (allocator_of mini.old)
         (allocator_of mini.new) links.old links.new) }
-    ensures refused { IsErrOf result InvalidData → (who : Owners) (id : ℕ) → Stands mini.old who
-        → who.sectors (stream_owner id) ≡ ids_of links.old
-        → links_version links.old ≡ version_of (allocator_of mini.old) → ⊥ }
+    ensures refused { IsErrOf result InvalidData → IsNoChain links.old mini.old }
     ensures size { OnOk result (length (ids_of links.new)
         ≡ sectors_for (links_version links.old) len) }
     ensures kept { OnErr result (has_failed_here (allocator_of mini.new) ≡ false
@@ -71,9 +64,7 @@ fn zero_tail<F: Medium>(mini: &mut MiniAllocator<F>, links: &Links, size: u64) -
         → MovesLong id (ids_of links.now) mini.old mini.new who
         × Overwrites size (replicate (tail_in (links_version links.now) size) 0)
         (allocator_of mini.old) (allocator_of mini.new) links.now) }
-    ensures refused { IsErrOf result InvalidData → (who : Owners) (id : ℕ) → Stands mini.old who
-        → who.sectors (stream_owner id) ≡ ids_of links.now
-        → links_version links.now ≡ version_of (allocator_of mini.old) → ⊥ }
+    ensures refused { IsErrOf result InvalidData → IsNoChain links.now mini.old }
     ensures past { IsErrOf result InvalidInput
         → len_of links.now < size + tail_in (links_version links.now) size }
     ensures goes_on { GoesOn (allocator_of mini.old) (allocator_of mini.new) }
@@ -86,24 +77,16 @@ fn zero_tail<F: Medium>(mini: &mut MiniAllocator<F>, links: &Links, size: u64) -
     overwrite_long(mini, links, size, &zeros[..tail])
 }
 
-// Makes a long stream of so many bytes one of another number: it keeps its first bytes, and has zeros behind them. After an error
-// nothing is changed, or it has failed.
-pub(crate) fn stretch_long<F: Medium>(
+// As `stretch_long`: the chain is cut to the sectors that the old size needs, and zeros are written behind that, before it gets
+// another length. So it serves a chain that is longer than its stream, with old bytes in it.
+fn cut_and_lengthen<F: Medium>(
     mini: &mut MiniAllocator<F>,
     links: &mut Links,
     size: u64,
     len: u64,
 ) -> Result<(), Error>
-    ensures stretched { OnOk result ((who : Owners) (id : ℕ) (e : Entry) (content : List ℕ)
-        → Stands mini.old who → HasStream (live_of mini.old) who id e content → e.size ≡ size
-        → mini_cutoff ≤ size → mini_cutoff ≤ len
-        → who.sectors (stream_owner id) ≡ ids_of links.old
-        → links_version links.old ≡ version_of (allocator_of mini.old)
-        → (it : Houses id (first_of (ids_of links.new)) (resized len content) mini.old mini.new who)
-        × (it.moves.now.sectors (stream_owner id) ≡ ids_of links.new)) }
-    ensures refused { IsErrOf result InvalidData → (who : Owners) (id : ℕ) → Stands mini.old who
-        → who.sectors (stream_owner id) ≡ ids_of links.old
-        → links_version links.old ≡ version_of (allocator_of mini.old) → ⊥ }
+    ensures stretched { OnOk result (Stretches size len mini.old mini.new links.old links.new) }
+    ensures refused { IsErrOf result InvalidData → IsNoChain links.old mini.old }
     ensures kept { OnErr result (has_failed_here (allocator_of mini.new) ≡ false
         → ids_of links.new ≡ ids_of links.old) }
     ensures version { links_version links.new ≡ links_version links.old }
@@ -128,4 +111,78 @@ pub(crate) fn stretch_long<F: Medium>(
         return Err(error);
     }
     Ok(())
+}
+
+// As `stretch_long`, for a stream that becomes longer and whose chain has no sector that it doesn't need: this takes in the others
+// first, which are zeros, so that nothing is changed where their numbers are missing.
+fn lengthen_long<F: Medium>(
+    mini: &mut MiniAllocator<F>,
+    links: &mut Links,
+    size: u64,
+    len: u64,
+) -> Result<(), Error>
+    requires more { size ≤ len }
+    requires tight { length (ids_of links.old) ≤ sectors_for (links_version links.old) size }
+    ensures stretched { OnOk result (Stretches size len mini.old mini.new links.old links.new) }
+    ensures refused { IsErrOf result InvalidData → IsNoChain links.old mini.old }
+    ensures kept { OnErr result (has_failed_here (allocator_of mini.new) ≡ false
+        → ids_of links.new ≡ ids_of links.old) }
+    ensures version { links_version links.new ≡ links_version links.old }
+    ensures rests { OnErr result ((has_failed_here (allocator_of mini.new) ≡ true)
+        ⊎ KeepsOwners mini.old mini.new) }
+    ensures full { IsErrOf result Full → has_failed_here (allocator_of mini.new) ≡ false
+        → LacksSectors (allocator_of mini.old) links.old
+        (sectors_for (links_version links.old) len) }
+    ensures goes_on { GoesOn (allocator_of mini.old) (allocator_of mini.new) }
+    ensures answers { Answers IsInvalidOrFull result (allocator_of mini.old)
+        (allocator_of mini.new) }
+{
+    if let Err(error) = resize_chain(mini, links, len) {
+        return Err(error);
+    }
+    if let Err(error) = zero_tail(mini, links, size) {
+        mini.fail();
+        return Err(error);
+    }
+    Ok(())
+}
+
+// Whether a chain has sectors that so many bytes don't need.
+fn has_spare(links: &Links, size: u64) -> bool
+    ensures { IsTrue result ↔ (sectors_for (links_version links.now) size
+        < length (ids_of links.now)) }
+{
+    let len = links.version().sector_len() as u64;
+    size.div_ceil(len) < links.sector_ids().len() as u64
+}
+
+// Makes a long stream of so many bytes one of another number: it keeps its first bytes, and has zeros behind them. After an error
+// nothing is changed, or it has failed.
+pub(crate) fn stretch_long<F: Medium>(
+    mini: &mut MiniAllocator<F>,
+    links: &mut Links,
+    size: u64,
+    len: u64,
+) -> Result<(), Error>
+    ensures stretched { OnOk result (Stretches size len mini.old mini.new links.old links.new) }
+    ensures refused { IsErrOf result InvalidData → IsNoChain links.old mini.old }
+    ensures kept { OnErr result (has_failed_here (allocator_of mini.new) ≡ false
+        → ids_of links.new ≡ ids_of links.old) }
+    ensures version { links_version links.new ≡ links_version links.old }
+    ensures rests { OnErr result ((has_failed_here (allocator_of mini.new) ≡ true)
+        ⊎ KeepsOwners mini.old mini.new) }
+    ensures full { IsErrOf result Full → has_failed_here (allocator_of mini.new) ≡ false
+        → LacksSectors (allocator_of mini.old) links.old
+        (sectors_for (links_version links.old) len) }
+    ensures goes_on { GoesOn (allocator_of mini.old) (allocator_of mini.new) }
+    ensures answers { Answers IsInvalidOrFull result (allocator_of mini.old)
+        (allocator_of mini.new) }
+{
+    if len <= size {
+        return resize_chain(mini, links, len);
+    }
+    if has_spare(links, size) {
+        return cut_and_lengthen(mini, links, size, len);
+    }
+    lengthen_long(mini, links, size, len)
 }

@@ -9,7 +9,7 @@ ghost use Rattle.cfb_mini.specs.Changing.{KeepsOwners};
 ghost use Rattle.cfb_mini.specs.Views.{allocator_of};
 ghost use Rattle.cfb_owned.specs.Chains.{GoesOn, IsInvalidPlaceOrFull};
 ghost use Rattle.cfb_streams.specs.declared.opening.StreamLinks.TheVariants.{Short};
-ghost use Rattle.cfb_writing.specs.Streams.{resized, AreAlike, HasNoLinks, IsPast, LacksOwnRoom, RewritesIn};
+ghost use Rattle.cfb_writing.specs.Streams.{resized, AreAlike, HasNoLinks, IsPast, LacksRoomFor, RewritesIn};
 ghost use Rattle.std.specs.Prelude.{false, length, true, IsErrOf, OnErr, OnOk, ◌<◌, ◌≡◌, ◌⊎◌};
 
 use crate::moving::move_stream;
@@ -84,11 +84,12 @@ pub fn overwrite_stream<F: Medium>(
 }
 
 /// Makes the stream that has this entry and these sectors so many bytes long: it keeps its first bytes, and has zeros behind them.
-/// A stream whose size comes to 4096 moves from mini sectors to sectors, and one whose size falls below it to mini sectors; a short
-/// one gets other mini sectors. The links are the stream's afterwards. `InvalidInput` where the size doesn't fit into an entry (in
-/// version 3 past 2^32 - 1), and then nothing is changed; `InvalidData` where no such stream is there, or the file hasn't its
-/// sectors; `Full` where fewer numbers of sectors are left. The other errors are `Memory`, `Device`, and `Failed` after an earlier
-/// fault. After an error nothing is changed, or the file has failed ([MS-CFB] 2.3, 2.4, 2.6.3).
+/// A stream whose size comes to 4096 moves from mini sectors to sectors, and one whose size falls below it to mini sectors; a
+/// short one gets other mini sectors. The links are the stream's afterwards. `InvalidInput` where the size doesn't fit into an
+/// entry (in version 3 past 2^32 - 1), and then nothing is changed; `InvalidData` where no such stream is there, or the file
+/// hasn't its sectors; `Full` where numbers are missing for the further sectors that it needs. The other errors are `Memory`,
+/// `Device`, and `Failed` after an earlier fault. After an error nothing is changed, or the file has failed ([MS-CFB] 2.3, 2.4,
+/// 2.6.3).
 pub fn resize_stream<F: Medium>(
     alloc: Global,
     mini: &mut MiniAllocator<F>,
@@ -106,7 +107,7 @@ pub fn resize_stream<F: Medium>(
     ensures rests { OnErr result ((has_failed_here (allocator_of mini.new) ≡ true)
         ⊎ KeepsOwners mini.old mini.new) }
     ensures full { IsErrOf result Full → has_failed_here (allocator_of mini.new) ≡ false
-        → LacksOwnRoom id links.old mini.old }
+        → LacksRoomFor id links.old len mini.old }
     ensures goes_on { GoesOn (allocator_of mini.old) (allocator_of mini.new) }
     ensures answers { Answers IsInvalidPlaceOrFull result (allocator_of mini.old)
         (allocator_of mini.new) }

@@ -114,8 +114,8 @@ pub(crate) fn take_home<F: Medium>(
     requires whole { len < mini_cutoff → length bytes.now ≡ len }
     ensures taken { IfOk result (λ links. (who : Owners) (id : ℕ) → Stands mini.old who
         → OwnsNothing who (stream_owner id)
-        → (it : Houses id (first_of (sectors_in links)) (resized len bytes.now) mini.old mini.new who)
-        × AreOwned (version_of (allocator_of mini.old)) it.moves.now id len links) }
+        → (it : Houses id (first_of (sectors_in links)) (resized len bytes.now) mini.old mini.new
+        who) × AreOwned (version_of (allocator_of mini.old)) it.moves.now id len links) }
     ensures refused { IsErrOf result InvalidData → (who : Owners) (id : ℕ) → Stands mini.old who
         → OwnsNothing who (stream_owner id) → ⊥ }
     ensures live { OnOk result (has_failed_here (allocator_of mini.new) ≡ false) }

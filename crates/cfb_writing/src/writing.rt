@@ -12,7 +12,7 @@ ghost use Rattle.cfb_owned.specs.Chains.{GoesOn, IsInvalidPlaceOrFull};
 ghost use Rattle.cfb_owners.specs.Owners.{first_of};
 ghost use Rattle.cfb_sectors.specs.Header.{mini_cutoff};
 ghost use Rattle.cfb_streams.specs.declared.opening.StreamLinks.TheVariants.{Long};
-ghost use Rattle.cfb_writing.specs.Streams.{resized, AreAlike, HasNoLinks, IsPast, LacksOwnRoom, RewritesIn};
+ghost use Rattle.cfb_writing.specs.Streams.{resized, AreAlike, HasNoLinks, IsPast, LacksRoomFor, RewritesIn};
 ghost use Rattle.std.specs.Prelude.{false, length, true, IsErrOf, IsTrue, OnErr, OnOk, ◌+◌, ◌<◌, ◌≡◌, ◌≤◌, ◌↔◌, ◌⊎◌};
 
 use crate::lengths::stretch_long;
@@ -81,10 +81,10 @@ pub(crate) fn first_sector(links: &Links) -> u32
 }
 
 /// Makes the long stream that has this entry and these sectors so many bytes long, which are at least 4096: it keeps its first
-/// bytes, and has zeros behind them. `InvalidInput` where the size doesn't fit into an entry (in version 3 past 2^32 - 1), and then
-/// nothing is changed; `InvalidData` where no such stream is there, or the file hasn't its sectors; `Full` where fewer numbers of
-/// sectors are left. The other errors are `Memory`, `Device`, and `Failed` after an earlier fault. After an error nothing is
-/// changed, or the file has failed ([MS-CFB] 2.3).
+/// bytes, and has zeros behind them. `InvalidInput` where the size doesn't fit into an entry (in version 3 past 2^32 - 1), and
+/// then nothing is changed; `InvalidData` where no such stream is there, or the file hasn't its sectors; `Full` where numbers are
+/// missing for the further sectors that it needs. The other errors are `Memory`, `Device`, and `Failed` after an earlier fault.
+/// After an error nothing is changed, or the file has failed ([MS-CFB] 2.3).
 pub fn resize_long_stream<F: Medium>(
     mini: &mut MiniAllocator<F>,
     id: u32,
@@ -102,7 +102,7 @@ pub fn resize_long_stream<F: Medium>(
     ensures rests { OnErr result ((has_failed_here (allocator_of mini.new) ≡ true)
         ⊎ KeepsOwners mini.old mini.new) }
     ensures full { IsErrOf result Full → has_failed_here (allocator_of mini.new) ≡ false
-        → LacksOwnRoom id (Long links.old) mini.old }
+        → LacksRoomFor id (Long links.old) len mini.old }
     ensures goes_on { GoesOn (allocator_of mini.old) (allocator_of mini.new) }
     ensures answers { Answers IsInvalidPlaceOrFull result (allocator_of mini.old)
         (allocator_of mini.new) }

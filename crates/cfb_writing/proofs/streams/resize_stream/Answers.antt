@@ -2,7 +2,7 @@ use Rattle.std.proofs.Common.{sym, subst}
 use Rattle.cfb_sectors.proofs.Appending.{on_ok}
 use Rattle.cfb_streams.specs.declared.opening.StreamLinks.{StreamLinks}
 use Rattle.cfb_streams.specs.declared.opening.StreamLinks.TheVariants.{Long}
-use Rattle.cfb_writing.specs.Streams.{resized, HasNoLinks, LacksOwnRoom, RewritesIn}
+use Rattle.cfb_writing.specs.Streams.{resized, HasNoLinks, LacksRoomFor, RewritesIn}
 use Rattle.cfb_writing.proofs.streams.resize_stream.Goals as goal
 
 pub returns-in-Long-clause-resized : goal.returns-in-Long-clause-resized
@@ -14,4 +14,4 @@ pub returns-in-Long-clause-refused : goal.returns-in-Long-clause-refused
 returns-in-Long-clause-refused g c = λ wrong. subst (λ (l : StreamLinks). HasNoLinks c.args.id l c.args.mini.now) (sym c.in-Long.is) (c.resize_long_stream.ensures.refused wrong)
 
 pub returns-in-Long-clause-full : goal.returns-in-Long-clause-full
-returns-in-Long-clause-full g c = λ wrong live. subst (λ (l : StreamLinks). LacksOwnRoom c.args.id l c.args.mini.now) (sym c.in-Long.is) (c.resize_long_stream.ensures.full wrong live)
+returns-in-Long-clause-full g c = λ wrong live. subst (λ (l : StreamLinks). LacksRoomFor c.args.id l c.args.len c.args.mini.now) (sym c.in-Long.is) (c.resize_long_stream.ensures.full wrong live)

@@ -1,10 +1,11 @@
-use Rattle.std.proofs.Common.{◌≡◌, ◌≤◌, inl, inr, ap, sym, subst, ◌∙◌, ⊎_elim, arith}
+use Rattle.std.proofs.Common.{◌≡◌, ◌≤◌, length, inl, inr, ap, sym, subst, ◌∙◌, ⊎_elim, arith}
 use Rattle.std.specs.Prelude.{slice_get, Some}
 use Rattle.std.proofs.lemmas.Option.{slice_get_within}
 use Rattle.cfb_directory.specs.Entries.{entries_in}
 use Rattle.cfb_directory.specs.Views.{entries_held}
 use Rattle.cfb_live.proofs.Standing.{stands_of}
 use Rattle.cfb_mini.specs.Views.{allocator_of, directory_of}
+use Rattle.cfb_owned.specs.Chains.{len_of}
 use Rattle.cfb_owned.proofs.GoingOn.{goes_cause, goes_then}
 use Rattle.cfb_sectors.specs.Header.{mini_cutoff}
 use Rattle.cfb_tree.specs.Directory.{Entry}
@@ -12,7 +13,7 @@ use Rattle.cfb_tree.specs.EntryViews.{entry_in}
 use Rattle.cfb_tree.proofs.OneContent.{Some_same}
 use Rattle.cfb_writing.specs.Streams.{resized}
 use Rattle.cfb_writing.proofs.Links.{entries_count}
-use Rattle.cfb_writing.proofs.LongAt.{long_owned, long_size, long_up, long_version}
+use Rattle.cfb_writing.proofs.LongAt.{long_owned, long_room, long_size, long_up, long_version}
 use Rattle.cfb_writing.proofs.LongBytes.{length-resized}
 use Rattle.cfb_writing.proofs.Placed.{entry_moved, entry_of, found_at, placed_links, stream_placed}
 use Rattle.cfb_writing.proofs.Stretching.{lacks_room}
@@ -95,10 +96,8 @@ returns-in-Err-clause-full g c = λ wrong live letters tree path content at are.
     let it = c.args.mini.now in
     let links = c.args.links.now in
     let id = c.args.id in
-    let was = entry_of letters it tree path id content at in
-    let told : slice_get (entries_held (directory_of it)) id ≡ Some (entry_in c.dir_entry.result.now) = ap (λ d. slice_get (entries_held d) id) (sym c.directory-3.ensures) ∙ c.dir_entry.ensures in
-    let same : was.entry ≡ entry_in c.dir_entry.result.now = Some_same (sym (found_at letters it tree path id content at) ∙ told) in
-    lacks_room it links _ _ (long_size letters it tree path id content at links are ∙ ap (λ (x : Entry). x.size) same) (long_version letters it tree path id content at links are) (c.in-Err.ensures.full wrong live)
+    let room = subst (λ n. n ≤ len_of links) (sym (long_size letters it tree path id content at links are)) (long_room letters it tree path id content at links are) in
+    lacks_room it links (length content) c.args.len room (long_version letters it tree path id content at links are) (c.in-Err.ensures.full wrong live)
 
 pub returns-in-Err-set_place-clause-goes_on : goal.returns-in-Err-set_place-clause-goes_on
 returns-in-Err-set_place-clause-goes_on g c = goes_then _ _ _ c.stretch_long.ensures.goes_on c.set_place.ensures.goes_on

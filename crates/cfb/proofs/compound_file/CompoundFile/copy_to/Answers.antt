@@ -1,4 +1,4 @@
-use Rattle.std.proofs.Common.{◌≡◌, ap, subst, sym, ◌∙◌, IsTrue, []}
+use Rattle.std.proofs.Common.{ap, subst, sym, ◌∙◌, IsTrue}
 use Rattle.cfb_copying.specs.Copied.{HoldsCopy}
 use Rattle.cfb_fat.specs.Tables.{version_of}
 use Rattle.cfb_medium.specs.Bytes.{overwritten}

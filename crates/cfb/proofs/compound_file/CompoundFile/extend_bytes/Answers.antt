@@ -1,4 +1,4 @@
-use Rattle.std.proofs.Common.{[], length, inl, inr, ap, subst, ◌∙◌, ⊎_elim, arith}
+use Rattle.std.proofs.Common.{[], inl, inr, ap, subst, ◌∙◌, ⊎_elim, arith}
 use Rattle.cfb_fat.specs.Keeping.{fails_cause}
 use Rattle.cfb_fat.specs.Resting.{all_rest_refl}
 use Rattle.cfb_medium.specs.Bytes.{overwritten}

@@ -1,6 +1,5 @@
 use mathlib.Core.Option.{some}
-use Rattle.std.proofs.Common.{◌≡◌, ◌∙◌, Ok, Err, ap, refl, subst, sym}
-use Rattle.cfb_medium.specs.declared.error.Error.TheVariants.{Failed, InvalidData}
+use Rattle.std.proofs.Common.{◌∙◌, ap, refl, subst, sym}
 use Rattle.cfb.specs.Views.{Rests}
 use Rattle.cfb.specs.Writing.{IsWritten}
 use Rattle.cfb.proofs.compound_file.CompoundFile.open_stream.Goals as goal

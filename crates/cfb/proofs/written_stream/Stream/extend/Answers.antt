@@ -1,6 +1,5 @@
-use Rattle.std.proofs.Common.{◌≡◌, ◌≤◌, ◌<◌, length, ap, refl, subst, sym, ◌∙◌, inl, inr, ⊎_elim, arith}
+use Rattle.std.proofs.Common.{length, ap, refl, subst, sym, ◌∙◌, inl, inr, ⊎_elim, arith}
 use Rattle.cfb_chains.proofs.ChainWriting.{length_within}
-use Rattle.cfb_medium.specs.Bytes.{overwritten}
 use Rattle.cfb_tree.specs.Changes.{changed, with_bytes}
 use Rattle.cfb_writing.specs.Streams.{resized, LacksRoom}
 use Rattle.cfb_writing.proofs.LongBytes.{length-resized}
@@ -40,4 +39,4 @@ returns-clause-written g c = λ path tree content s.
 pub returns-in-Err-clause-full : goal.returns-in-Err-clause-full
 returns-in-Err-clause-full g c = λ wrong live.
     let it = c.args.self.now in
-    inr (λ path tree content s. subst (LacksRoom (mini_of (file_under it))) (sym s.len) (c.in-Err.ensures.full (err_as c.in-Err.error Full wrong) live path tree content s.written))
+    inr (λ path tree content s. subst (λ n. LacksRoom (mini_of (file_under it)) n c.args.end) (sym s.len) (c.in-Err.ensures.full (err_as c.in-Err.error Full wrong) live path tree content s.written))

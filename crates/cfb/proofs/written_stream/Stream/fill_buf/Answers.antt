@@ -1,7 +1,25 @@
-use Rattle.std.proofs.Common.{◌≡◌, drop, length, subst, take}
+use Rattle.std.proofs.Common.{◌≡◌, drop, length, refl, rules, subst, take}
 use Rattle.cfb.proofs.written_stream.Stream.fill_buf.Goals as goal
 
-pub returns-in-Ok-clause-bytes : goal.returns-in-Ok-clause-bytes
-returns-in-Ok-clause-bytes g c = λ path tree content s.
-    let bytes = c.buffer.result.now in
-    subst (λ n. bytes ≡ take (length bytes) (drop n content)) c.in-Ok.ensures.unmoved (c.buffer.ensures.bytes path tree content (c.in-Ok.ensures.rests.keeps path tree content s))
+pub returns-in-Ok : goal.returns-in-Ok
+returns-in-Ok g c =
+    let bytes = c.buffer.result.now in (
+      (
+        refl,
+        λ _. tt,
+        record {
+          rests = c.in-Ok.ensures.rests;
+          place = c.in-Ok.ensures.unmoved;
+          count = c.buffer.ensures.count;
+          cause = tt;
+        },
+      ),
+      record {
+        leaves = tt;
+        bytes = λ path tree content s.
+            subst (λ n. bytes ≡ take (length bytes) (drop n content)) c.in-Ok.ensures.unmoved (c.buffer.ensures.bytes path tree content (c.in-Ok.ensures.rests.keeps path tree content s));
+        most = search rules;
+        some = search rules;
+        fault = tt;
+      },
+    )

@@ -18,4 +18,4 @@ returns-clause-resized g c = rewrites_so (resized c.args.len) c.args.self.now _ 
 pub returns-in-Err-clause-full : goal.returns-in-Err-clause-full
 returns-in-Err-clause-full g c = λ wrong live.
     let it = c.args.self.now in
-    inr (λ path tree content s. subst (LacksRoom (mini_of (file_under it))) (sym s.len) (c.in-Err.ensures.full wrong live path tree content s.written))
+    inr (λ path tree content s. subst (λ n. LacksRoom (mini_of (file_under it)) n c.args.len) (sym s.len) (c.in-Err.ensures.full wrong live path tree content s.written))

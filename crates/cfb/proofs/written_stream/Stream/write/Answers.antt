@@ -2,7 +2,9 @@ use Rattle.std.proofs.Common.{◌<◌, ◌≤◌, ◌^◌, arith, inl, inr, refl
 use Rattle.cfb_fat.specs.Tables.{version_of}
 use Rattle.cfb_medium.specs.Versions.{stream_len_mask}
 use Rattle.cfb_medium.specs.declared.error.Error.TheVariants.{Full}
-use Rattle.cfb.specs.Writing.{allocator_under}
+use Rattle.cfb_writing.specs.Streams.{LacksRoom}
+use Rattle.cfb.specs.Views.{mini_of}
+use Rattle.cfb.specs.Writing.{allocator_under, file_under, stream_len}
 use Rattle.cfb.proofs.Standing.{err_as, on_err, on_ok, stands_as}
 use Rattle.cfb.proofs.written_stream.Stream.write.Goals as goal
 
@@ -49,7 +51,8 @@ pub returns-then-end-self-clause-full : goal.returns-then-end-self-clause-full
 returns-then-end-self-clause-full g c = λ wrong live.
     ⊎_elim
     (λ many. inl (subst (λ n. 2 ^ 63 ≤ n) c.in-Ok.ensures.end.0 many))
-    (λ lacks. inr (λ path tree content s. lacks path tree content (stands_as c.args.self.now _ refl refl refl path tree content s)))
+    (λ lacks. inr (λ path tree content s.
+    subst (λ n. LacksRoom (mini_of (file_under c.args.self.now)) (stream_len c.args.self.now) n) c.in-Ok.ensures.end.0 (lacks path tree content (stands_as c.args.self.now _ refl refl refl path tree content s))))
     (c.extend.ensures.full wrong live)
 
 pub returns-clause-full : goal.returns-clause-full
