@@ -4,16 +4,16 @@ ghost use Rattle.cfb_fat.specs.Tables.{HasCauseBelow};
 ghost use Rattle.cfb_medium.specs.Calls.{IsFaultUnless};
 ghost use Rattle.cfb_mini.specs.Views.{allocator_of, Rests};
 ghost use Rattle.cfb_streams.specs.Content.{count_from, most_of, HasContent, IsAheadOf};
-ghost use Rattle.std.specs.Prelude.{IfErr, List, OnOk, ℕ, ◌<◌, ◌≡◌, ◌≤◌, ◌⊎◌};
+ghost use Rattle.std.specs.Prelude.{min, IfErr, List, OnOk, ℕ, ◌-◌, ◌<◌, ◌≡◌, ◌≤◌, ◌⊎◌};
 
 use crate::reading::read_stream;
 use crate::{ReadAhead, StreamLinks};
 use cfb_medium::{Error, ReadMedium};
 use cfb_mini::MiniAllocator;
 
-/// Reads ahead from a place of a stream of so many bytes on, where no byte from there on was read ahead yet: at most so many as
-/// were asked for at once. `InvalidData` where the file hasn't the bytes; the other errors are faults. After an error nothing is
-/// read ahead, and nothing else is changed ([MS-CFB] 2.6.3).
+/// Reads ahead from a place of a stream of so many bytes on, where no byte from there on was read ahead yet: all that it has, or
+/// so many as are read at once where that is less. `InvalidData` where the file hasn't the bytes; the other errors are faults.
+/// After an error nothing is read ahead, and nothing else is changed ([MS-CFB] 2.6.3).
 pub fn read_ahead<F: ReadMedium>(
     mini: &mut MiniAllocator<F>,
     links: &StreamLinks,
@@ -23,6 +23,8 @@ pub fn read_ahead<F: ReadMedium>(
 ) -> Result<(), Error>
     requires { at ≤ len }
     ensures some { OnOk result (at < len → 0 < count_from ahead.new at) }
+    ensures whole { OnOk result (count_from ahead.old at ≡ 0
+        → count_from ahead.new at ≡ min (len - at) (most_of ahead.old)) }
     ensures most { most_of ahead.new ≡ most_of ahead.old }
     ensures content { (content : List ℕ) → HasContent mini.old links.now len content
         → IsAheadOf content ahead.old → IsAheadOf content ahead.new }
