@@ -1,6 +1,6 @@
 //! Entries changed in their places.
 ghost use Rattle.cfb_directory.specs.Changes.{changed_entry, HasDirectory, KeepsEntries, LiesBeside, SetsEntry};
-ghost use Rattle.cfb_directory.specs.Views.{allocator_of, entries_held, IsDirectory};
+ghost use Rattle.cfb_directory.specs.Views.{allocator_of, entries_held, IsDirectory, Rests};
 ghost use Rattle.cfb_chains.specs.ChainCalls.{IsInvalid};
 ghost use Rattle.cfb_fat.specs.Calls.{Answers};
 ghost use Rattle.cfb_fat.specs.Tables.{has_failed_here, version_of};
@@ -98,6 +98,7 @@ impl<F: Medium> Directory<F> {
             → SetsEntry id (changed_entry change e) self.old self.new) }
         ensures kept { OnErr result (KeepsEntries self.old self.new) }
         ensures memory { IsDirectory self.old → LiesBeside self.old → IsDirectory self.new }
+        ensures rests { IsErrOf result InvalidInput → Rests self.old self.new }
         ensures refused { IsErrOf result InvalidData → HasDirectory self.old → ⊥ }
         ensures large { (e : Entry) → slice_get (entries_held self.old) id ≡ Some e
             → IsErrOf result InvalidInput ↔ ((has_failed_here (allocator_of self.old) ≡ false)
@@ -124,6 +125,7 @@ impl<F: Medium> Directory<F> {
             → SetsEntry 0 (changed_entry change e) self.old self.new) }
         ensures kept { OnErr result (KeepsEntries self.old self.new) }
         ensures memory { IsDirectory self.old → LiesBeside self.old → IsDirectory self.new }
+        ensures rests { IsErrOf result InvalidInput → Rests self.old self.new }
         ensures refused { IsErrOf result InvalidData → HasDirectory self.old → ⊥ }
         ensures large { (e : Entry) → slice_get (entries_held self.old) 0 ≡ Some e
             → IsErrOf result InvalidInput ↔ ((has_failed_here (allocator_of self.old) ≡ false)

@@ -1,10 +1,10 @@
 //! Entries that come and go: children of storages by name ([MS-CFB] 2.6.4).
 ghost use Rattle.cfb_chains.specs.ChainCalls.{IsInvalid, IsInvalidOrFull};
 ghost use Rattle.cfb_directory.specs.Changes.{HasDirectory, KeepsEntries, LiesBeside, SetsEntry};
-ghost use Rattle.cfb_directory.specs.Children.{AddsAt, AddsChild, HasHolders, HoldsChild, HoldsStorage, IsNameFree, IsNameTaken, IsRefusedInsert, IsRefusedRemove, LinksNew, Removes, RemovesAt, RemovesChild};
+ghost use Rattle.cfb_directory.specs.Children.{AddsAt, AddsChild, HasHolders, HasNoStorage, HoldsChild, HoldsStorage, IsNameFree, IsNameTaken, IsRefusedInsert, IsRefusedRemove, LinksNew, Removes, RemovesAt, RemovesChild};
 ghost use Rattle.cfb_directory.specs.Entries.{SizesFit};
 ghost use Rattle.cfb_directory.specs.Growth.{GrowsDirectory, IsReady, LacksEntries};
-ghost use Rattle.cfb_directory.specs.Views.{allocator_of, entries_held, IsDirectory};
+ghost use Rattle.cfb_directory.specs.Views.{allocator_of, entries_held, IsDirectory, Rests};
 ghost use Rattle.cfb_fat.specs.Calls.{Answers};
 ghost use Rattle.cfb_fat.specs.Tables.{has_failed_here, version_of};
 ghost use Rattle.cfb_medium.specs.Times.{units_of};
@@ -113,10 +113,10 @@ impl<F: Medium> Directory<F> {
             → IsNameTaken (letters_of letters.now) (entries_held self.old) parent (chars name.now) }
         ensures named { IsErrOf result InvalidInput → (IsTrue (is_name (chars name.now)) → ⊥)
             × IsNameFree (letters_of letters.now) (entries_held self.old) parent (chars name.now) }
+        ensures rests { IsErrOf result AlreadyExists ⊎ IsErrOf result InvalidInput
+            → Rests self.old self.new }
         ensures refused { IsErrOf result InvalidData
-            → (reads : ℕ → ℕ → List ℕ → Bool) (tree : Tree) (path : Path)
-            → HoldsStorage (letters_of letters.now) reads (entries_held self.old) tree path parent
-            → IsReady self.old → ⊥ }
+            → HasNoStorage (letters_of letters.now) self.old parent }
         ensures full { IsErrOf result Full → has_failed_here (allocator_of self.new) ≡ false
             → LacksEntries self.old }
         ensures grown { OnOk result (HasDirectory self.old → GrowsDirectory self.old self.new) }
@@ -242,10 +242,9 @@ impl<F: Medium> Directory<F> {
             × RemovesAt (entries_held self.old) (entries_held self.new) id) }
         ensures missing { IsErrOf result NotFound
             → IsNameFree (letters_of letters.now) (entries_held self.old) parent (chars name.now) }
+        ensures rests { IsErrOf result NotFound → Rests self.old self.new }
         ensures refused { IsErrOf result InvalidData
-            → (reads : ℕ → ℕ → List ℕ → Bool) (tree : Tree) (path : Path)
-            → HoldsStorage (letters_of letters.now) reads (entries_held self.old) tree path parent
-            → IsReady self.old → ⊥ }
+            → HasNoStorage (letters_of letters.now) self.old parent }
         ensures grown { OnOk result (HasDirectory self.old → GrowsDirectory self.old self.new) }
         ensures kept { OnErr result (has_failed_here (allocator_of self.new) ≡ false
             → KeepsEntries self.old self.new) }
