@@ -1,5 +1,5 @@
 -- Entries of a directory that come and go ([MS-CFB] 2.6.3, 2.6.4).
-use Rattle.std.specs.Prelude.{◌≡◌, ◌≢◌, ℕ, ◌⊎◌, Bool, List, slice_get, slice_set, IfSome, None, Some}
+use Rattle.std.specs.Prelude.{◌≡◌, ◌≢◌, ℕ, ◌⊎◌, Bool, List, length, slice_get, slice_set, IfSome, None, Some}
 use Rattle.cfb_medium.specs.declared.error.Error.{Error}
 use Rattle.cfb_medium.specs.declared.error.Error.TheVariants.{AlreadyExists, Full, InvalidData, InvalidInput, NotFound}
 use Rattle.cfb_medium.specs.declared.medium.ReadMedium.{Ghosts}
@@ -81,10 +81,12 @@ pub record LinksNew (version : Version) (link : Link) (e : Entry) (old new : Lis
 abbrev pub StayBut : List Entry → List Entry → ℕ → Type 0
 StayBut old new id = (k : ℕ) (e : Entry) → (k ≡ id → ⊥) → slice_get old k ≡ Some e → HasAt new k e
 
--- entry `id`, which was in no use if it was there, is this one; the others are as they were: all but for links and colours
+-- entry `id`, which was in no use if it was there, is this one; the others are as they were: all but for links and colours. They
+-- have become more only where none was in no use
 pub record AddsAt (old new : List Entry) (e : Entry) (id : ℕ) : Type 0 where
   pub entry : HasAt new id e
   pub unused : (was : Entry) → slice_get old id ≡ Some was → was.kind ≡ kind_unallocated
+  pub longer : (k : ℕ) → IsUnused old k → length new ≡ length old
   pub others : StayBut old new id
   pub sizes : (version : Version) → e.size ≡ 0 → SizesFit version old → SizesFit version new
 
