@@ -92,11 +92,12 @@ impl<F: Medium> Directory<F> {
         Ok(id)
     }
 
-    /// Gives the storage `parent` a child of this name and kind, and tells the number of its entry: the entry is written
-    /// first, and then the link that leads to it. A stream is empty; a storage has the moment as both times. Refused are in
-    /// this order: a name that a child has (`AlreadyExists`), and one that is invalid (`InvalidInput`). `Full` where no
-    /// entry is in no use and numbers of entries or sectors are missing, `InvalidData` where the entries hold no tree with such a storage, or the file hasn't the
-    /// directory's sectors beside its tables. After an error nothing is changed, or it has failed ([MS-CFB] 2.6.4).
+    /// Gives the storage `parent` a child of this name and kind, and tells the number of its entry: the entry is written first,
+    /// and then the link that leads to it. A stream is empty; a storage has the moment as both times. Refused are in this
+    /// order: a name that a child has (`AlreadyExists`), and one that is invalid (`InvalidInput`). `Full` where no entry is in
+    /// no use and numbers of entries or sectors are missing, `InvalidData` where the entries hold no tree with such a storage,
+    /// or the file hasn't the directory's sectors beside its tables. After an error nothing is changed, or it has failed
+    /// ([MS-CFB] 2.6.4).
     pub fn insert_dir_entry(
         &mut self,
         letters: &CaseMapper,
