@@ -27,6 +27,7 @@ use Rattle.cfb_siblings.specs.Changes.{IsUnused}
 use Rattle.cfb_tree.specs.Directory.{Entry, entries_of, greatest_entry}
 use Rattle.cfb_tree.specs.Entries.{empty_entry}
 use Rattle.cfb_directory.specs.Changes.{HasDirectory, LiesBeside}
+use Rattle.cfb_directory.specs.Entries.{HasNoneUnused}
 use Rattle.cfb_directory.specs.Growth.{count_words, longer, GrowsDirectory, IsCounted, LacksEntries}
 use Rattle.cfb_directory.specs.Views.{allocator_of, directory_ids, entries_held, links_of, IsDirectory}
 use Rattle.cfb_directory.specs.declared.directory.Directory.{Directory}
@@ -212,22 +213,25 @@ module _ {F : Type 0} {g : Ghosts F} where
       is_directory new (λ live honest. (grown (has_directory old (goes.live live) (subst IsTrue goes.honest honest) held beside)).has)
 
   -- no number for the sector of entries that was asked for
-  pub lacks_sector : (it : Directory F g) (count : ℕ) → count ≡ length (directory_ids it) + 1 → LacksSectors (allocator_of it) (links_of it) count → LacksEntries it
+  pub lacks_sector : (it : Directory F g) (count : ℕ) → count ≡ length (directory_ids it) + 1 → LacksSectors (allocator_of it) (links_of it) count → HasNoneUnused (entries_held it) → LacksEntries it
   unfolding LacksEntries
-  lacks_sector it count is lacks =
+  lacks_sector it count is lacks none =
       let one : count - length (directory_ids it) ≡ 1 = omega (arith, is) in
-      ⊎_elim (λ few. inr (inl (subst (LacksNumbers (allocator_of it)) one few))) (λ long. inr (inr (omega (arith, long, is)))) lacks
+      (none, ⊎_elim (λ few. inr (inl (subst (LacksNumbers (allocator_of it)) one few))) (λ long. inr (inr (omega (arith, long, is)))) lacks)
 
   -- no numbers for the entries of one
-  pub lacks_places : (it : Directory F g) → greatest_entry + 1 < length (entries_held it) + dir_entries_per_sector (version_of (allocator_of it)) → LacksEntries it
+  pub lacks_places : (it : Directory F g) → greatest_entry + 1 < length (entries_held it) + dir_entries_per_sector (version_of (allocator_of it)) → HasNoneUnused (entries_held it) → LacksEntries it
   unfolding LacksEntries
-  lacks_places it few = inl few
+  lacks_places it few none = (none, inl few)
 
   -- what is missing of a directory is missing of one with the same entries and sectors
   pub lacks_same : (old new : Directory F g) → allocator_of new ≡ allocator_of old → directory_ids new ≡ directory_ids old → entries_held new ≡ entries_held old → LacksEntries new → LacksEntries old
   unfolding LacksEntries
-  lacks_same old new allocator ids entries =
-      ⊎_elim
-      (λ few. inl (subst (λ a. greatest_entry + 1 < length (entries_held old) + dir_entries_per_sector (version_of a)) allocator
-      (subst (λ es. greatest_entry + 1 < length es + dir_entries_per_sector (version_of (allocator_of new))) entries few)))
-      (⊎_elim (λ few. inr (inl (subst (λ a. LacksNumbers a 1) allocator few))) (λ long. inr (inr (subst (λ l. greatest_regular < length l) ids long))))
+  lacks_same old new allocator ids entries lacks = (
+    subst HasNoneUnused entries lacks.0,
+    ⊎_elim
+        (λ few. inl (subst (λ a. greatest_entry + 1 < length (entries_held old) + dir_entries_per_sector (version_of a)) allocator
+        (subst (λ es. greatest_entry + 1 < length es + dir_entries_per_sector (version_of (allocator_of new))) entries few)))
+        (⊎_elim (λ few. inr (inl (subst (λ a. LacksNumbers a 1) allocator few))) (λ long. inr (inr (subst (λ l. greatest_regular < length l) ids long))))
+        lacks.1,
+  )

@@ -3,6 +3,7 @@ use Rattle.std.proofs.Common.{◌≡◌, ℕ, ◌+◌, ◌<◌, ◌≤◌, Bool,
 use Rattle.std.specs.Prelude.{nat_eq, slice_get, slice_set, Option, Some, None}
 use Rattle.std.proofs.lemmas.Bool.Decides.{eqb_tells}
 use Rattle.std.proofs.lemmas.Option.{slice_get_past}
+use Rattle.std.proofs.Math.ListN.{length-set}
 use Rattle.cfb_medium.specs.Versions.{dir_entries_per_sector}
 use Rattle.cfb_medium.specs.declared.version.Version.{Version}
 use Rattle.cfb_tree.specs.Changes.{added}
@@ -135,6 +136,13 @@ relinked_sizes v link target es fits = by_entry (slice_get es (holder link)) ref
     by_entry None is = fits
     by_entry (Some x) is = sizes_set v es (holder link) (linked_to link target x) (let few = fits (holder link) x is in let same = (as_linked link target x).size in omega (arith, few, same)) fits
 
+length_relinked : (link : Link) (target : ℕ) (es : List Entry) → length (relinked link target es) ≡ length es
+length_relinked link target es = by_entry (slice_get es (holder link))
+  where
+    by_entry : (at : Option Entry) → length (with_entry es (holder link) (linked_to link target) at) ≡ length es
+    by_entry None = refl
+    by_entry (Some x) = length-set es (holder link) (linked_to link target x)
+
 pub inserted_others : (version : Version) (link : Link) (e : Entry) (old new : List Entry) (id : ℕ) → LinksNew version link e old new id → AddsAt old new e id
 inserted_others version link e old new id links =
     let more = replicate (dir_entries_per_sector version) empty_entry in
@@ -143,6 +151,8 @@ inserted_others version link e old new id links =
     record {
       entry = inserted_at version link e old new id links;
       unused = λ x found. ap (λ (y : Entry). y.kind) (Some_same (sym (keep id x found) ∙ links.unused.found)) ∙ links.unused.of_kind;
+      longer = λ k unused. ap length links.entries ∙ length_relinked link id (slice_set links.grown id e) ∙ length-set links.grown id e
+          ∙ ⊎_elim (λ same. ap length same) (λ more. absurd (more.2 k unused)) links.behind;
       others = λ k x other found. subst (λ l. HasAt l k x) (sym links.entries)
           (relinked_at link id k (slice_set links.grown id e) x (set_changes_only links.grown id e k x (differs k id other) (keep k x found)));
       sizes = λ v small fits. subst (SizesFit v) (sym links.entries)

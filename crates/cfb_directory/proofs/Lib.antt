@@ -9,6 +9,7 @@ pub mod Judging
 pub mod Lists
 pub mod Longer
 pub mod LongerColors
+pub mod Noted
 pub mod Parts
 pub mod ReadTrees
 pub mod Readiness

@@ -9,12 +9,14 @@ use Rattle.cfb_chains.specs.LinkViews.{ids_of}
 use Rattle.cfb_chains.proofs.ChainWriting.{length-joined}
 use Rattle.cfb_chains.proofs.LongerTables.{never}
 use Rattle.cfb_fat.specs.Seeing.{seen_of}
-use Rattle.cfb_fat.specs.Tables.{bytes_of, has_failed_here, is_honest, version_of}
+use Rattle.cfb_fat.specs.Tables.{bytes_of, has_failed_here, is_honest, version_of, AllRests}
+use Rattle.cfb_fat.specs.declared.allocator.Allocator.{Allocator}
+use Rattle.cfb_chains.specs.Grown.{IsLinked}
 use Rattle.cfb_owned.specs.Chains.{content_of, len_of, GoesOn, HasChain, Overwrites}
 use Rattle.cfb_tree.specs.Directory.{Entry, FitsEntry, entries_of, entry_bytes}
 use Rattle.cfb_directory.specs.Changes.{HasDirectory, LiesBeside, SetsEntry}
 use Rattle.cfb_directory.specs.Lent.{IsKeptOver}
-use Rattle.cfb_directory.specs.Views.{allocator_of, directory_ids, entries_held, links_of, IsDirectory}
+use Rattle.cfb_directory.specs.Views.{allocator_of, directory_ids, entries_held, links_of, with_allocator, IsDirectory}
 use Rattle.cfb_directory.specs.declared.directory.Directory.{Directory}
 use Rattle.cfb_directory.proofs.EntryBytes.{entry_written, length-entries}
 
@@ -98,3 +100,17 @@ module _ {F : Type 0} {g : Ghosts F} where
     linked = never (has_failed_here (allocator_of it)) failed;
     entries = never (has_failed_here (allocator_of it)) failed;
   }
+
+  -- memory is that of the bytes still where nothing but reads happened
+  pub rests_kept : (it : Directory F g) (later : Allocator F g) → GoesOn (allocator_of it) later → AllRests (allocator_of it) later → IsDirectory it → IsDirectory (with_allocator it later)
+  rests_kept it later goes rests held =
+      let ids = directory_ids it in
+      let v = version_of (allocator_of it) in
+      record {
+        version = λ live honest. held.version (goes.live live) (subst IsTrue goes.honest honest) ∙ sym goes.version;
+        linked = λ live honest. subst (λ fat. IsLinked fat ids) (sym rests.fat) (held.linked (goes.live live) (subst IsTrue goes.honest honest));
+        entries = λ live honest.
+            let before = subst IsTrue goes.honest honest in
+            held.entries (goes.live live) before ∙ ap (λ b. entries_of v (joined v b ids)) (sym (rests.sectors.bytes before))
+            ∙ ap (λ u. entries_of u (joined u (bytes_of later) ids)) (sym goes.version);
+      }

@@ -1,7 +1,8 @@
 -- Entries of a directory that come and go ([MS-CFB] 2.6.3, 2.6.4).
-use Rattle.std.specs.Prelude.{◌≡◌, ◌≢◌, ℕ, ◌⊎◌, Bool, List, slice_get, slice_set, IfSome, None, Some}
+use Rattle.std.specs.Prelude.{◌≡◌, ◌≢◌, ℕ, ◌⊎◌, Bool, List, length, slice_get, slice_set, IfSome, None, Some}
 use Rattle.cfb_medium.specs.declared.error.Error.{Error}
 use Rattle.cfb_medium.specs.declared.error.Error.TheVariants.{AlreadyExists, Full, InvalidData, InvalidInput, NotFound}
+use Rattle.cfb_medium.specs.declared.medium.ReadMedium.{Ghosts}
 use Rattle.cfb_medium.specs.declared.version.Version.{Version}
 use Rattle.cfb_siblings.specs.Changes.{HoldsOneLess, HoldsOneMore, IsAlone, IsUnused}
 use Rattle.cfb_siblings.specs.Links.{holder, relinked}
@@ -17,7 +18,9 @@ use Rattle.cfb_tree.specs.Tree.{Tree}
 use Rattle.cfb_tree.specs.Directory.{kind_unallocated, Entry}
 use Rattle.cfb_tree.specs.Entries.{empty_entry}
 use Rattle.cfb_directory.specs.Entries.{SizesFit}
-use Rattle.cfb_directory.specs.Growth.{MayGrow}
+use Rattle.cfb_directory.specs.Growth.{IsReady, MayGrow}
+use Rattle.cfb_directory.specs.Views.{entries_held}
+use Rattle.cfb_directory.specs.declared.directory.Directory.{Directory}
 
 -- refusals by rule of a new child: the name is taken or invalid, no number is left, or the directory isn't there as it must be
 abbrev pub IsRefusedInsert : Error → Type 0
@@ -78,10 +81,12 @@ pub record LinksNew (version : Version) (link : Link) (e : Entry) (old new : Lis
 abbrev pub StayBut : List Entry → List Entry → ℕ → Type 0
 StayBut old new id = (k : ℕ) (e : Entry) → (k ≡ id → ⊥) → slice_get old k ≡ Some e → HasAt new k e
 
--- entry `id`, which was in no use if it was there, is this one; the others are as they were: all but for links and colours
+-- entry `id`, which was in no use if it was there, is this one; the others are as they were: all but for links and colours. They
+-- have become more only where none was in no use
 pub record AddsAt (old new : List Entry) (e : Entry) (id : ℕ) : Type 0 where
   pub entry : HasAt new id e
   pub unused : (was : Entry) → slice_get old id ≡ Some was → was.kind ≡ kind_unallocated
+  pub longer : (k : ℕ) → IsUnused old k → length new ≡ length old
   pub others : StayBut old new id
   pub sizes : (version : Version) → e.size ≡ 0 → SizesFit version old → SizesFit version new
 
@@ -108,3 +113,9 @@ pub record RemovesAt (old new : List Entry) (id : ℕ) : Type 0 where
   pub entry : slice_get new id ≡ Some empty_entry
   pub others : StayBut old new id
   pub sizes : (version : Version) → SizesFit version old → SizesFit version new
+
+module _ {F : Type 0} {g : Ghosts F} where
+  -- the directory isn't ready, or holds no tree with a storage at this number ([MS-CFB] 2.6.2)
+  abbrev pub HasNoStorage : Letters → Directory F g → ℕ → Type 0
+  HasNoStorage letters it parent = (reads : ℕ → ℕ → List ℕ → Bool) (tree : Tree) (path : Path)
+      → HoldsStorage letters reads (entries_held it) tree path parent → IsReady it → ⊥

@@ -13,7 +13,7 @@ use Rattle.cfb_fat.specs.Tables.{bytes_of, orderly_of, version_of}
 use Rattle.cfb_tree.specs.Directory.{greatest_entry, Entry}
 use Rattle.cfb_tree.specs.Entries.{empty_entry}
 use Rattle.cfb_directory.specs.Changes.{HasDirectory}
-use Rattle.cfb_directory.specs.Entries.{SizesFit}
+use Rattle.cfb_directory.specs.Entries.{HasNoneUnused, SizesFit}
 use Rattle.cfb_directory.specs.Views.{allocator_of, directory_ids, entries_held}
 use Rattle.cfb_directory.specs.declared.directory.Directory.{Directory}
 
@@ -31,9 +31,9 @@ IsCounted V4 bytes count = filled_part bytes 40 4 ≡ to_le_bytes w32 count
 abbrev pub longer : Version → List Entry → List Entry
 longer version entries = entries ++ replicate (dir_entries_per_sector version) empty_entry
 
--- the entries, or with those of a sector in no use behind them, where each has a number ([MS-CFB] 2.6.1)
+-- the entries, or where none is in no use, with those of a sector behind them, where each has a number ([MS-CFB] 2.6.1)
 abbrev pub MayGrow : Version → List Entry → List Entry → Type 0
-MayGrow version old new = (new ≡ old) ⊎ ((new ≡ longer version old) × (length new ≤ greatest_entry + 1))
+MayGrow version old new = (new ≡ old) ⊎ ((new ≡ longer version old) × (length new ≤ greatest_entry + 1) × HasNoneUnused old)
 
 module _ {F : Type 0} {g : Ghosts F} where
   -- the directory has its sectors, and behind them others that were in no use; where the header counted them it does. No other
@@ -52,8 +52,8 @@ module _ {F : Type 0} {g : Ghosts F} where
     pub orderly : IsTrue (orderly_of (allocator_of it))
     pub sizes : SizesFit (version_of (allocator_of it)) (entries_held it)
 
-  -- numbers are missing for a sector of entries more: of the entries, or of the sector, in the FAT or in the directory's chain
-  -- ([MS-CFB] 2.2, 2.6.1)
+  -- no entry is in no use, and numbers are missing for a sector of entries more: of the entries, or of the sector, in the FAT or
+  -- in the directory's chain ([MS-CFB] 2.2, 2.6.1)
   unfoldable pub LacksEntries : Directory F g → Type 0
-  LacksEntries it = (greatest_entry + 1 < length (entries_held it) + dir_entries_per_sector (version_of (allocator_of it)))
-      ⊎ LacksNumbers (allocator_of it) 1 ⊎ (greatest_regular < length (directory_ids it))
+  LacksEntries it = HasNoneUnused (entries_held it) × ((greatest_entry + 1 < length (entries_held it) + dir_entries_per_sector (version_of (allocator_of it)))
+      ⊎ LacksNumbers (allocator_of it) 1 ⊎ (greatest_regular < length (directory_ids it)))

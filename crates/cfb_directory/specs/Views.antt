@@ -30,6 +30,10 @@ module _ {F : Type 0} {g : Ghosts F} where
   abbrev pub entries_held : Directory F g → List Entry
   entries_held it = entries_in it.entries.items.items
 
+  -- numbers of entries, among which are those of all in no use
+  abbrev pub numbers_noted : Directory F g → List ℕ
+  numbers_noted it = it.entries.unused.items
+
   -- memory is that of the bytes: while nothing failed and the medium is honest the FAT has the chain of the directory's sectors,
   -- and the entries are those that these hold ([MS-CFB] 2.6)
   pub record IsDirectory (it : Directory F g) : Type 0 where

@@ -1,6 +1,7 @@
 //! Entries changed in their places.
 ghost use Rattle.cfb_directory.specs.Changes.{changed_entry, HasDirectory, KeepsEntries, LiesBeside, SetsEntry};
-ghost use Rattle.cfb_directory.specs.Views.{allocator_of, entries_held, IsDirectory};
+ghost use Rattle.cfb_directory.specs.Entries.{IsNoted};
+ghost use Rattle.cfb_directory.specs.Views.{allocator_of, entries_held, numbers_noted, IsDirectory, Rests};
 ghost use Rattle.cfb_chains.specs.ChainCalls.{IsInvalid};
 ghost use Rattle.cfb_fat.specs.Calls.{Answers};
 ghost use Rattle.cfb_fat.specs.Tables.{has_failed_here, version_of};
@@ -60,11 +61,13 @@ impl<F: Medium> Directory<F> {
     pub(crate) fn write_entry(&mut self, id: u32, entry: DirEntry) -> Result<(), Error>
         requires there { id < length (entries_held self.old) }
         requires size { entry.stream_len ≤ stream_len_mask (version_of (allocator_of self.old)) }
+        requires noted { IsNoted (numbers_noted self.old) id (entry_in entry) }
         ensures set { OnOk result (SetsEntry id (entry_in entry) self.old self.new) }
         ensures kept { OnErr result (KeepsEntries self.old self.new) }
         ensures memory { IsDirectory self.old → LiesBeside self.old → IsDirectory self.new }
         ensures refused { IsErrOf result InvalidData → HasDirectory self.old → ⊥ }
         ensures valid { IsErrOf result InvalidInput → ⊥ }
+        ensures noted { numbers_noted self.new ≡ numbers_noted self.old }
         ensures goes_on { GoesOn (allocator_of self.old) (allocator_of self.new) }
         ensures answers { Answers IsInvalid result (allocator_of self.old)
             (allocator_of self.new) }
@@ -98,6 +101,7 @@ impl<F: Medium> Directory<F> {
             → SetsEntry id (changed_entry change e) self.old self.new) }
         ensures kept { OnErr result (KeepsEntries self.old self.new) }
         ensures memory { IsDirectory self.old → LiesBeside self.old → IsDirectory self.new }
+        ensures rests { IsErrOf result InvalidInput → Rests self.old self.new }
         ensures refused { IsErrOf result InvalidData → HasDirectory self.old → ⊥ }
         ensures large { (e : Entry) → slice_get (entries_held self.old) id ≡ Some e
             → IsErrOf result InvalidInput ↔ ((has_failed_here (allocator_of self.old) ≡ false)
@@ -124,6 +128,7 @@ impl<F: Medium> Directory<F> {
             → SetsEntry 0 (changed_entry change e) self.old self.new) }
         ensures kept { OnErr result (KeepsEntries self.old self.new) }
         ensures memory { IsDirectory self.old → LiesBeside self.old → IsDirectory self.new }
+        ensures rests { IsErrOf result InvalidInput → Rests self.old self.new }
         ensures refused { IsErrOf result InvalidData → HasDirectory self.old → ⊥ }
         ensures large { (e : Entry) → slice_get (entries_held self.old) 0 ≡ Some e
             → IsErrOf result InvalidInput ↔ ((has_failed_here (allocator_of self.old) ≡ false)

@@ -1,10 +1,10 @@
 //! Entries that come and go: children of storages by name ([MS-CFB] 2.6.4).
 ghost use Rattle.cfb_chains.specs.ChainCalls.{IsInvalid, IsInvalidOrFull};
 ghost use Rattle.cfb_directory.specs.Changes.{HasDirectory, KeepsEntries, LiesBeside, SetsEntry};
-ghost use Rattle.cfb_directory.specs.Children.{AddsAt, AddsChild, HasHolders, HoldsChild, HoldsStorage, IsNameFree, IsNameTaken, IsRefusedInsert, IsRefusedRemove, LinksNew, Removes, RemovesAt, RemovesChild};
-ghost use Rattle.cfb_directory.specs.Entries.{SizesFit};
+ghost use Rattle.cfb_directory.specs.Children.{AddsAt, AddsChild, HasHolders, HasNoStorage, HoldsChild, HoldsStorage, IsNameFree, IsNameTaken, IsRefusedInsert, IsRefusedRemove, LinksNew, Removes, RemovesAt, RemovesChild};
+ghost use Rattle.cfb_directory.specs.Entries.{IsOneOf, SizesFit};
 ghost use Rattle.cfb_directory.specs.Growth.{GrowsDirectory, IsReady, LacksEntries};
-ghost use Rattle.cfb_directory.specs.Views.{allocator_of, entries_held, IsDirectory};
+ghost use Rattle.cfb_directory.specs.Views.{allocator_of, entries_held, numbers_noted, IsDirectory, Rests};
 ghost use Rattle.cfb_fat.specs.Calls.{Answers};
 ghost use Rattle.cfb_fat.specs.Tables.{has_failed_here, version_of};
 ghost use Rattle.cfb_medium.specs.Times.{units_of};
@@ -39,6 +39,7 @@ impl<F: Medium> Directory<F> {
         ensures refused { IsErrOf result InvalidData → HasDirectory self.old
             → HasEntry (entries_held self.old) (holder link)
             → SizesFit (version_of (allocator_of self.old)) (entries_held self.old) → ⊥ }
+        ensures noted { numbers_noted self.new ≡ numbers_noted self.old }
         ensures goes_on { GoesOn (allocator_of self.old) (allocator_of self.new) }
         ensures answers { Answers IsInvalid result (allocator_of self.old)
             (allocator_of self.new) }
@@ -91,11 +92,12 @@ impl<F: Medium> Directory<F> {
         Ok(id)
     }
 
-    /// Gives the storage `parent` a child of this name and kind, and tells the number of its entry: the entry is written
-    /// first, and then the link that leads to it. A stream is empty; a storage has the moment as both times. Refused are in
-    /// this order: a name that a child has (`AlreadyExists`), and one that is invalid (`InvalidInput`). `Full` where numbers of
-    /// entries or sectors are missing, `InvalidData` where the entries hold no tree with such a storage, or the file hasn't the
-    /// directory's sectors beside its tables. After an error nothing is changed, or it has failed ([MS-CFB] 2.6.4).
+    /// Gives the storage `parent` a child of this name and kind, and tells the number of its entry: the entry is written first,
+    /// and then the link that leads to it. A stream is empty; a storage has the moment as both times. Refused are in this
+    /// order: a name that a child has (`AlreadyExists`), and one that is invalid (`InvalidInput`). `Full` where no entry is in
+    /// no use and numbers of entries or sectors are missing, `InvalidData` where the entries hold no tree with such a storage,
+    /// or the file hasn't the directory's sectors beside its tables. After an error nothing is changed, or it has failed
+    /// ([MS-CFB] 2.6.4).
     pub fn insert_dir_entry(
         &mut self,
         letters: &CaseMapper,
@@ -113,10 +115,10 @@ impl<F: Medium> Directory<F> {
             → IsNameTaken (letters_of letters.now) (entries_held self.old) parent (chars name.now) }
         ensures named { IsErrOf result InvalidInput → (IsTrue (is_name (chars name.now)) → ⊥)
             × IsNameFree (letters_of letters.now) (entries_held self.old) parent (chars name.now) }
+        ensures rests { IsErrOf result AlreadyExists ⊎ IsErrOf result InvalidInput
+            → Rests self.old self.new }
         ensures refused { IsErrOf result InvalidData
-            → (reads : ℕ → ℕ → List ℕ → Bool) (tree : Tree) (path : Path)
-            → HoldsStorage (letters_of letters.now) reads (entries_held self.old) tree path parent
-            → IsReady self.old → ⊥ }
+            → HasNoStorage (letters_of letters.now) self.old parent }
         ensures full { IsErrOf result Full → has_failed_here (allocator_of self.new) ≡ false
             → LacksEntries self.old }
         ensures grown { OnOk result (HasDirectory self.old → GrowsDirectory self.old self.new) }
@@ -149,6 +151,7 @@ impl<F: Medium> Directory<F> {
         ensures grown { OnOk result (HasDirectory self.old → GrowsDirectory self.old self.new) }
         ensures refused { IsErrOf result InvalidData → IsReady self.old
             → IfSome joined (λ it. HasEntry (entries_held self.old) (holder it.link)) → ⊥ }
+        ensures noted { numbers_noted self.new ≡ numbers_noted self.old }
         ensures goes_on { GoesOn (allocator_of self.old) (allocator_of self.new) }
         ensures answers { Answers IsInvalid result (allocator_of self.old)
             (allocator_of self.new) }
@@ -163,6 +166,7 @@ impl<F: Medium> Directory<F> {
     fn take_out(&mut self, removal: Removal, id: u32) -> Result<(), Error>
         requires live { has_failed_here (allocator_of self.old) ≡ false }
         requires there { id < length (entries_held self.old) }
+        requires noted { IsOneOf (numbers_noted self.old) id }
         ensures taken { OnOk result (entries_held self.new
             ≡ slice_set (taken_out removal (entries_held self.old)) id empty_entry) }
         ensures grown { OnOk result (HasDirectory self.old → GrowsDirectory self.old self.new) }
@@ -242,10 +246,9 @@ impl<F: Medium> Directory<F> {
             × RemovesAt (entries_held self.old) (entries_held self.new) id) }
         ensures missing { IsErrOf result NotFound
             → IsNameFree (letters_of letters.now) (entries_held self.old) parent (chars name.now) }
+        ensures rests { IsErrOf result NotFound → Rests self.old self.new }
         ensures refused { IsErrOf result InvalidData
-            → (reads : ℕ → ℕ → List ℕ → Bool) (tree : Tree) (path : Path)
-            → HoldsStorage (letters_of letters.now) reads (entries_held self.old) tree path parent
-            → IsReady self.old → ⊥ }
+            → HasNoStorage (letters_of letters.now) self.old parent }
         ensures grown { OnOk result (HasDirectory self.old → GrowsDirectory self.old self.new) }
         ensures kept { OnErr result (has_failed_here (allocator_of self.new) ≡ false
             → KeepsEntries self.old self.new) }

@@ -1,6 +1,6 @@
 //! The directory in memory, over the sectors that hold it.
 ghost use Rattle.cfb_chains.specs.LinkViews.{ids_of};
-ghost use Rattle.cfb_directory.specs.Entries.{SizesFit};
+ghost use Rattle.cfb_directory.specs.Entries.{entries_in, AreNoted, IsNoted, SizesFit};
 ghost use Rattle.cfb_directory.specs.Taken.{HasAny, HasSize, IsTakenAs};
 ghost use Rattle.cfb_fat.specs.Tables.{bytes_of, fat_of, has_failed as allocator_failed, has_failed_here, is_honest, medium_of, sectors_of, version_of, AllRests, HasCauseBelow};
 ghost use Rattle.cfb_medium.specs.Calls.{Extends, HasCauseSince, IsFaultUnless};
@@ -32,16 +32,17 @@ pub(crate) struct Entries {
     pub(crate) items: Vec<DirEntry>,
     pub(crate) unused: Vec<u32>,
     ghost some: { 0 < length items.items },
+    ghost noted: { AreNoted unused.items (entries_in items.items) },
 }
 
 impl Entries {
-    ghost use Rattle.cfb_directory.specs.Entries.{entries_in};
-
     // Puts an entry in the place of the one of this number.
     pub(crate) fn set(&mut self, id: usize, entry: DirEntry)
-        requires { id < length self.old.items.items }
-        ensures { entries_in self.new.items.items
+        requires there { id < length self.old.items.items }
+        requires noted { IsNoted self.old.unused.items id (entry_in entry) }
+        ensures after { entries_in self.new.items.items
             ≡ slice_set (entries_in self.old.items.items) id (entry_in entry) }
+        ensures noted { self.new.unused.items ≡ self.old.unused.items }
     {
         self.items[id] = entry;
     }
@@ -170,7 +171,6 @@ impl<F: ReadMedium> Directory<F> {
 }
 
 impl<F: ReadMedium> Directory<F> {
-    ghost use Rattle.cfb_directory.specs.Entries.{entries_in};
     ghost use Rattle.cfb_directory.specs.Views.{entries_held};
 
     /// The number of the entry to which these names lead from the root, whose own is 0; none where the tree has no object

@@ -2,7 +2,7 @@
 ghost use Rattle.cfb_chains.specs.ChainCalls.{IsInvalidOrFull};
 ghost use Rattle.cfb_chains.specs.Owned.{Leaves};
 ghost use Rattle.cfb_directory.specs.Changes.{HasDirectory, KeepsEntries, LiesBeside};
-ghost use Rattle.cfb_directory.specs.Entries.{entries_in};
+ghost use Rattle.cfb_directory.specs.Entries.{entries_in, AreNoted, HasNoneUnused, IsOneOf};
 ghost use Rattle.cfb_directory.specs.Growth.{count_words, longer, GrowsDirectory, IsCounted, LacksEntries, MayGrow};
 ghost use Rattle.cfb_fat.specs.Calls.{Answers};
 ghost use Rattle.cfb_fat.specs.Seeing.{seen_of};
@@ -13,7 +13,7 @@ ghost use Rattle.cfb_sectors.specs.Sectors.{sector};
 ghost use Rattle.cfb_siblings.specs.Changes.{IsUnused};
 ghost use Rattle.cfb_tree.specs.Directory.{greatest_entry};
 ghost use Rattle.cfb_tree.specs.Entries.{empty_entry};
-ghost use Rattle.std.specs.Prelude.{false, length, replicate, vec_capacity, vec_len, IfErr, IfOk, IfSome, IsErrOf, IsTrue, OnErr, OnOk, [], ◌+◌, ◌++◌, ◌≡◌, ◌≤◌};
+ghost use Rattle.std.specs.Prelude.{false, length, replicate, vec_capacity, vec_len, IfErr, IfNone, IfOk, IfSome, IsErrOf, IsTrue, OnErr, OnOk, ℕ, [], ◌+◌, ◌++◌, ◌<◌, ◌≡◌, ◌≤◌, ◌↔◌};
 
 use crate::Directory;
 use crate::directory::Entries;
@@ -26,7 +26,7 @@ use std::alloc::Global;
 
 // Whether there is an entry of this number in no use.
 fn is_unused(entries: &[DirEntry], id: u32) -> bool
-    ensures { IsTrue result → IsUnused (entries_in entries.now) id }
+    ensures { IsTrue result ↔ IsUnused (entries_in entries.now) id }
 {
     if id > MAX_REGULAR_STREAM_ID {
         return false;
@@ -39,7 +39,8 @@ fn is_unused(entries: &[DirEntry], id: u32) -> bool
 
 /// The numbers of the entries in no use, in falling order.
 pub(crate) fn unused_among(alloc: Global, entries: &[DirEntry]) -> Result<Vec<u32>, Error>
-    ensures { IfErr result (λ e. e ≡ Memory) }
+    ensures noted { IfOk result (λ found. AreNoted found.items (entries_in entries.now)) }
+    ensures error { IfErr result (λ e. e ≡ Memory) }
 {
     let mut found = Vec::new(alloc);
     let count = entries.len().min(MAX_REGULAR_STREAM_ID as usize + 1) as u32;
@@ -66,6 +67,9 @@ fn append_empty(items: &mut Vec<DirEntry>, count: usize)
 fn append_numbers(numbers: &mut Vec<u32>, first: u32, count: u32)
     requires room { vec_len numbers.old + count ≤ vec_capacity numbers.old }
     requires fits { first + count ≤ greatest_entry + 1 }
+    ensures kept { (id : ℕ) → IsOneOf numbers.old.items id → IsOneOf numbers.new.items id }
+    ensures noted { (id : ℕ) → first ≤ id → id < first + count
+        → IsOneOf numbers.new.items id }
 {
     for id in (first..first + count).rev() {
         numbers.push_reserved(id);
@@ -77,6 +81,7 @@ impl Entries {
     fn find_unused(&mut self) -> Option<u32>
         ensures same { entries_in self.new.items.items ≡ entries_in self.old.items.items }
         ensures found { IfSome result (IsUnused (entries_in self.new.items.items)) }
+        ensures none { IfNone result (HasNoneUnused (entries_in self.new.items.items)) }
     {
         'search: while let Some(&id) = self.unused.last() {
             if is_unused(&self.items, id) {
@@ -90,6 +95,7 @@ impl Entries {
     // Notes the number of an entry that comes out of use.
     pub(crate) fn note(&mut self, id: u32) -> Result<(), Error>
         ensures same { entries_in self.new.items.items ≡ entries_in self.old.items.items }
+        ensures noted { OnOk result (IsOneOf self.new.unused.items id) }
         ensures error { IfErr result (λ e. e ≡ Memory) }
     {
         self.unused.push(id)?;
@@ -143,10 +149,11 @@ fn write_count<F: Medium>(allocator: &mut Allocator<F>, count: u32) -> Result<()
 impl<F: Medium> Directory<F> {
     ghost use Rattle.cfb_directory.specs.Views.{allocator_of, entries_held, IsDirectory};
 
-    // Takes in a sector of entries in no use, and gives the number of the first of them. `Full` where numbers of entries or of
+    // Where none is in no use: takes in a sector of such entries, and gives the number of the first of them. `Full` where numbers of entries or of
     // sectors are missing, `InvalidData` where the tables can't be changed or haven't the directory's chain. After an error
     // nothing is changed, or it has failed.
     fn grow(&mut self) -> Result<u32, Error>
+        requires { HasNoneUnused (entries_held self.old) }
         ensures first { IfOk result (IsUnused (entries_held self.new)) }
         ensures entries { OnOk result (entries_held self.new
             ≡ longer (version_of (allocator_of self.old)) (entries_held self.old)) }

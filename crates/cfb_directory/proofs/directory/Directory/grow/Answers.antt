@@ -91,7 +91,7 @@ returns-then-first-count-clause-full g c = λ wrong live.
     let at = c.len-first.ensures in
     let count : c.dir_entries_per_sector-count.result ≡ dir_entries_per_sector v = c.dir_entries_per_sector-count.ensures ∙ ap dir_entries_per_sector c.version.ensures in
     let many = c.if-first-count.true in
-    lacks_places it (omega (arith, size, at, count, many))
+    lacks_places it (omega (arith, size, at, count, many)) c.requires
 
 pub returns-in-Err-set_chain_len-clause-full : goal.returns-in-Err-set_chain_len-clause-full
 returns-in-Err-set_chain_len-clause-full g c = λ wrong live.
@@ -99,4 +99,4 @@ returns-in-Err-set_chain_len-clause-full g c = λ wrong live.
     let links = links_of it in
     let count = one_more (links_version links) (ids_of links) c.sector_ids.result.now c.version-2.result c.sector_len.result c.sector_ids.ensures c.sector_len.ensures c.version-2.ensures in
     let is : c.in-Err-set_chain_len.error ≡ Full = cc in
-    lacks_sector it _ count (c.in-Err-set_chain_len.ensures.full (ap Err is) live)
+    lacks_sector it _ count (c.in-Err-set_chain_len.ensures.full (ap Err is) live) c.requires

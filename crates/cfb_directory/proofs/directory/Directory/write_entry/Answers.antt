@@ -7,7 +7,7 @@ use Rattle.cfb_tree.specs.Directory.{entry_bytes, FitsEntry}
 use Rattle.cfb_tree.specs.EntryViews.{entry_in}
 use Rattle.cfb_tree.proofs.EntryRead.{length-entry_bytes}
 use Rattle.cfb_directory.specs.Views.{allocator_of, links_of}
-use Rattle.cfb_directory.proofs.Setting.{entry_set, entry_there, set_kept}
+use Rattle.cfb_directory.proofs.Setting.{entry_set, entry_there, failed_is, rests_kept, set_kept}
 use Rattle.cfb_directory.proofs.directory.Directory.write_entry.Goals as goal
 use Rattle.cfb_directory.proofs.directory.Directory.write_entry.Goals.{in-InvalidInput, in_default-error}
 
@@ -42,7 +42,12 @@ returns-clause-set g c =
     let e = entry_in c.args.entry in
     let fits : FitsEntry (version_of c.args.self.now.allocator) e = subst (λ v. FitsEntry v e) c.version.ensures c.fits.ensures in
     let is : c.deref.result.now ≡ entry_bytes e = c.deref.ensures.value ∙ c.in_default.ensures.ok ∙ ap (λ l. l ++ entry_bytes e) c.new-bytes.ensures.items in
-    entry_set c.args.self.now _ c.args.id (128 * c.from.result) e c.deref.result.now c.overwrite_chain.ensures.goes_on refl c.set.ensures c.requires.there fits is (ap (λ n. 128 * n) c.from.ensures) c.in_default-overwrite_chain.ensures.written
+    entry_set c.args.self.now _ c.args.id (128 * c.from.result) e c.deref.result.now c.overwrite_chain.ensures.goes_on refl c.set.ensures.after c.requires.there fits is (ap (λ n. 128 * n) c.from.ensures) c.in_default-overwrite_chain.ensures.written
 
 pub returns-clause-memory : goal.returns-clause-memory
 returns-clause-memory g c = set_kept c.args.self.now _ c.args.id (entry_in c.args.entry) c.overwrite_chain.ensures.goes_on (returns-clause-set g c)
+
+pub returns-in-Err-overwrite_chain-clause-memory : goal.returns-in-Err-overwrite_chain-clause-memory
+returns-in-Err-overwrite_chain-clause-memory g c = λ held beside.
+    let it = c.args.self.now in
+    ⊎_elim (λ failed. failed_is _ failed) (λ rests. rests_kept it c.overwrite_chain.new.allocator c.overwrite_chain.ensures.goes_on rests held) c.in-Err-overwrite_chain.ensures.answers.after

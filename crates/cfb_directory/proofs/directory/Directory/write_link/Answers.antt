@@ -5,9 +5,21 @@ use Rattle.cfb_siblings.specs.Links.{holder}
 use Rattle.cfb_tree.specs.EntryViews.{entry_in}
 use Rattle.cfb_directory.specs.Changes.{SetsEntry}
 use Rattle.cfb_directory.specs.Entries.{entries_in}
-use Rattle.cfb_directory.specs.Views.{entries_held}
+use Rattle.cfb_directory.specs.Views.{entries_held, numbers_noted}
+use Rattle.cfb_tree.specs.Directory.{Entry}
 use Rattle.cfb_directory.proofs.Judging.{found_in}
+use Rattle.cfb_directory.proofs.Noted.{linked_kind, noted_same}
 use Rattle.cfb_directory.proofs.directory.Directory.write_link.Goals as goal
+
+pub write_entry-requires-clause-noted : goal.write_entry-requires-clause-noted
+write_entry-requires-clause-noted g c =
+    let old = c.args.self.now in
+    let e = entry_in c.in-Some.entry.now in
+    let at = c.in-Some.ensures.lookup in
+    let found : slice_get (entries_held old) c.holder-id.result ≡ Some e =
+    ap (λ l. slice_get (entries_in l) c.holder-id.result) (sym c.deref.ensures.value) ∙ found_in c.deref.result.now c.holder-id.result c.in-Some.entry.now at.3.0 at.1 in
+    noted_same (numbers_noted old) (entries_held old) c.holder-id.result e (entry_in c.relink.new.entry) found
+    (ap (λ (x : Entry). x.kind) c.relink.ensures ∙ linked_kind c.args.link c.args.target e) old.entries.noted
 
 pub returns-clause-set : goal.returns-clause-set
 returns-clause-set g c =
