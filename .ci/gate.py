@@ -3,6 +3,7 @@ wrong bodies of each crate whose line in must-fail.tried is missing or differs, 
 each request for memory of growths in turn. It works on a copy."""
 import os
 import re
+import resource
 import shutil
 import subprocess
 import sys
@@ -61,6 +62,8 @@ def main():
         last, status = run(f"{room}/checkout")
         if not status and not all([is_well(f"{room}/checkout", it) for it in TRIALS]):
             last, status = "0 passed, 1 failed", 1
+    used = resource.getrusage(resource.RUSAGE_CHILDREN)
+    print(f"processor minutes: {(used.ru_utime + used.ru_stime) / 60:.0f}")
     print(f"wrong bodies tried: {sum(count[it] for it in sums if it not in standing)}")
     print(f"wrong bodies that stand as tried: {sum(count[it] for it in standing)}")
     print(last)
