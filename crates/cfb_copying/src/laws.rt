@@ -18,18 +18,20 @@ use cfb_medium::ReadMedium;
 
 /// A file in the making stays one by each chain that is added to it.
 pub fn files_are_made_by_chains<F: ReadMedium>()
-    ensures { (directory mini_fat : ℕ) (a b : Table F F.ReadMedium) (before links : ChainLinks) (own bytes : ℕ → List ℕ)
-        (key : ℕ) (content : List ℕ) → IsMade directory mini_fat a own bytes → own key ≡ ids_of before → GoesOn a b
+    ensures { (directory mini_fat : ℕ) (a b : Table F F.ReadMedium)
+        (before links : ChainLinks) (own bytes : ℕ → List ℕ) (key : ℕ) (content : List ℕ)
+        → IsMade directory mini_fat a own bytes → own key ≡ ids_of before → GoesOn a b
         → has_failed_here b ≡ false → CopiesChain content a b before links
-        → IsMade directory mini_fat b (with_list key (ids_of links) own) (with_list key content bytes) }
+        → IsMade directory mini_fat b (with_list key (ids_of links) own)
+        (with_list key content bytes) }
 {}
 
 /// A copy of a live file means the tree that the file means, and is sound; every sector of it serves a use.
 pub fn copies_mean_the_same_tree()
-    ensures held { (s t : LiveFile) (who : Owners) (own : ℕ → List ℕ) (letters : Letters) (tree : Tree)
-        → (h : MeansHeld s who letters tree) → IsCopied s who h.ids t own
+    ensures held { (s t : LiveFile) (who : Owners) (own : ℕ → List ℕ) (letters : Letters)
+        (tree : Tree) → (h : MeansHeld s who letters tree) → IsCopied s who h.ids t own
         → MeansHeld t (record { sectors = own; minis = who.minis }) letters tree }
-    ensures tight { (s t : LiveFile) (who : Owners) (own : ℕ → List ℕ) (letters : Letters) (tree : Tree)
-        → (h : MeansHeld s who letters tree) → IsCopied s who h.ids t own
+    ensures tight { (s t : LiveFile) (who : Owners) (own : ℕ → List ℕ) (letters : Letters)
+        (tree : Tree) → (h : MeansHeld s who letters tree) → IsCopied s who h.ids t own
         → IsTight letters t.bytes tree }
 {}

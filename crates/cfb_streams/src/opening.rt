@@ -59,7 +59,8 @@ fn open_short<F: ReadMedium>(
 
 // The sectors of a long one.
 fn open_long<F: ReadMedium>(mini: &MiniAllocator<F>, start: u32, size: u64) -> Result<Links, Error>
-    ensures chain { IfOk result (λ links. Chain (fat_of (allocator_of mini.now)) start (ids_of links)
+    ensures chain { IfOk result (λ links.
+        Chain (fat_of (allocator_of mini.now)) start (ids_of links)
         × (links_version links ≡ version_of (allocator_of mini.now))
         × (size ≤ length (ids_of links) * sector_len (version_of (allocator_of mini.now)))) }
     ensures small { OnOk result (size < 2 ^ 63) }

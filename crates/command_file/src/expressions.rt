@@ -68,7 +68,8 @@ fn operands_of(alloc: Global, json: &Json) -> Result<Vec<Expr>, Error>
 // Each expression of a list.
 #[cycle(expressions)]
 fn expressions_of(alloc: Global, list: &[Json]) -> Result<Vec<Expr>, Error>
-    ensures { Gives (λ args. map formula_of args.items) result (all_in formula_in (items_view list.now)) }
+    ensures { Gives (λ args. map formula_of args.items) result
+        (all_in formula_in (items_view list.now)) }
 {
     let mut args = Vec::new(alloc);
     for item in list {
