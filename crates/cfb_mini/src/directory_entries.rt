@@ -30,8 +30,9 @@ use cfb_tree::{CaseMapper, ObjType};
 
 impl<F: Medium> MiniAllocator<F> {
     /// Changes an entry of the directory in its place, as `Directory::with_dir_entry_mut` does. Whoever changes the root's entry
-    /// leaves where its stream begins: that is the mini stream, which this layer keeps. `InvalidInput` where the version has no room
-    /// for its size, and then nothing is changed. After another error nothing is changed, or it has failed ([MS-CFB] 2.6.1).
+    /// leaves where its stream begins: that is the mini stream, which this layer keeps. `InvalidInput` where the version has no
+    /// room for its size, and then nothing is changed. After another error nothing is changed, or it has failed
+    /// ([MS-CFB] 2.6.1).
     pub fn with_dir_entry_mut(&mut self, id: u32, change: EntryChange) -> Result<(), Error>
         requires { id < length (entries_held (directory_of self.old)) }
         ensures set { OnOk result ((e : Entry)
