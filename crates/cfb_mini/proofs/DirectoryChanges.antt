@@ -19,8 +19,10 @@ use Rattle.cfb_directory.specs.Views as directory
 use Rattle.cfb_directory.specs.declared.directory.Directory.{Directory}
 use Rattle.cfb_mini.specs.Changing.{ChangesDirectory, HasOwners, KeepsOwners}
 use Rattle.cfb_mini.specs.Children.{HasRoot}
+use Rattle.cfb_mini.specs.Files.{HasCounts, HasHeader}
 use Rattle.cfb_mini.specs.Views.{allocator_of, directory_of, mini_stream_ids}
 use Rattle.cfb_mini.specs.declared.mini_allocator.MiniAllocator.{MiniAllocator}
+use Rattle.cfb_mini.proofs.Counts.{counts_rest}
 use Rattle.cfb_mini.proofs.Keeping.{bytes_still, linked_still, over_rests, pick, pick_mine, pick_other}
 
 pub not_failed : (b : Bool) → (b ≡ true → ⊥) → b ≡ false
@@ -63,9 +65,9 @@ module _ {F : Type 0} {g : Ghosts F} where
       → Becomes (sector (version_of (allocator_of it))) words (directory.directory_ids (directory_of it)) more (directory.directory_ids d) (seen_of (allocator_of it)) (seen_of (directory.allocator_of d))
       → (directory.IsDirectory (directory_of it) → LiesBeside (directory_of it) → directory.IsDirectory d)
       → ((root : Entry) → slice_get (directory.entries_held d) 0 ≡ Some root → root.start ≡ slice_index_or (mini_stream_ids it) 0 end_of_chain)
-      → ChangesDirectory words it (record it { directory = d }) own
+      → (HasHeader it → HasCounts it → HasCounts (record it { directory = d })) → ChangesDirectory words it (record it { directory = d }) own
   unfolding seen_of
-  directory_changes words more it d own h goes longer becomes remembers root =
+  directory_changes words more it d own h goes longer becomes remembers root counts =
       let a = allocator_of it in
       let b = directory.allocator_of d in
       let v = version_of a in
@@ -100,6 +102,7 @@ module _ {F : Type 0} {g : Ghosts F} where
           mini_stream = others 2 (λ same. omega (arith, same)) ∙ h.mini_stream;
         };
         mini_fat = refl;
+        counts = counts;
       }
 
   -- nothing happened but reads
@@ -123,4 +126,5 @@ module _ {F : Type 0} {g : Ghosts F} where
           mini_fat = h.mini_fat;
           mini_stream = h.mini_stream;
         };
+        counts = counts_rest it (record it { directory = d }) rests ids refl;
       }

@@ -38,6 +38,7 @@ use Rattle.cfb_mini.specs.declared.links.MiniLinks.{MiniLinks}
 use Rattle.cfb_mini.specs.declared.mini_allocator.MiniAllocator.{MiniAllocator}
 use Rattle.cfb_mini.specs.declared.mini_fat.MiniFat.{MiniFat}
 use Rattle.cfb_mini.proofs.Entries.{content_len}
+use Rattle.cfb_mini.proofs.Counts.{counts_beside}
 use Rattle.cfb_mini.proofs.KeptFile.{file_beside, file_told}
 use Rattle.cfb_mini.proofs.MiniOwners.{becomes_fewer, becomes_more, becomes_none, becomes_same}
 
@@ -182,6 +183,7 @@ module _ {F : Type 0} {g : Ghosts F} where
         freed = freed;
         becomes = becomes;
         entries = refl;
+        counts = counts_beside it (moved it b mini) _ goes becomes.leaves refl (ap ids_of lies.links);
       }
 
   -- a mini chain ended sooner
@@ -208,6 +210,7 @@ module _ {F : Type 0} {g : Ghosts F} where
         becomes = becomes;
         bytes = same;
         entries = refl;
+        counts = counts_beside it (moved it b mini) _ goes becomes.leaves refl (ap ids_of lies.links);
       }
 
   -- memory of the mini FAT over reads
@@ -366,7 +369,7 @@ module _ {F : Type 0} {g : Ghosts F} where
         stream = ap (λ l. joined (version_of b) (bytes_of b) (ids_of l)) did.stream ∙ bytes_still a b (ids_of it.mini_fat.stream) goes stream_stays;
         told = did.told;
         entries = refl;
-        file = file_told it (moved it b mini) _ goes becomes.leaves did.told.first refl (ap ids_of did.stream) refl;
+        file = file_told it (moved it b mini) _ goes becomes.leaves did.told refl (ap ids_of did.stream) refl;
       }
 
   -- only reads happened, and the mini FAT is the same
@@ -446,6 +449,7 @@ module _ {F : Type 0} {g : Ghosts F} where
         };
         mini_fat = refl;
         entries = refl;
+        counts = counts_beside it (with_allocator it b) _ goes becomes.leaves refl refl;
       }
 
   -- an owner's chain of sectors

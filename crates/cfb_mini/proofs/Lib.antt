@@ -1,3 +1,4 @@
+pub mod Counts
 pub mod Cutting
 pub mod DirectoryChanges
 pub mod Entries

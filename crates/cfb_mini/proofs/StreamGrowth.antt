@@ -1,5 +1,5 @@
 -- The mini stream takes in a sector, and the root's entry tells of it.
-use Rattle.std.proofs.Common.{◌≡◌, ℕ, ◌+◌, ◌*◌, ◌<◌, ◌≤◌, false, List, [], ◌∷◌, ◌++◌, length, take, replicate, set, refl, ap, sym, subst, ◌∙◌, arith, append-nil, length-append, IsTrue}
+use Rattle.std.proofs.Common.{◌≡◌, ℕ, ◌+◌, ◌*◌, ◌<◌, ◌≤◌, false, List, [], ◌∷◌, ◌++◌, length, take, replicate, set, refl, ap, sym, subst, ◌∙◌, arith, append-nil, length-append, IsTrue, inl}
 use Rattle.std.specs.Prelude.{slice_get, slice_index_or, Some}
 use Rattle.std.proofs.lemmas.List.{take_all}
 use Rattle.cfb_medium.specs.Numbers.{numbers}
@@ -40,6 +40,7 @@ use Rattle.cfb_mini.specs.declared.mini_allocator.MiniAllocator.{MiniAllocator}
 use Rattle.cfb_mini.specs.declared.mini_fat.MiniFat.{MiniFat}
 use Rattle.cfb_mini.proofs.Headers.{front_then}
 use Rattle.cfb_mini.proofs.Keeping.{bytes_still, linked_still, others_stay, pick, pick_mine, pick_other, still_owned}
+use Rattle.cfb_mini.proofs.Counts.{part_spared}
 use Rattle.cfb_mini.proofs.KeptFile.{file_spared, front_kept, longer_by, sizes_set}
 
 -- the first of a list that was set
@@ -151,7 +152,8 @@ module _ {F : Type 0} {g : Ghosts F} where
             ∙ ap (λ n. set (directory.entries_held (directory_of it)) 0 (placed x n len)) start_is
             ∙ ap (λ n. set (directory.entries_held (directory_of it)) 0 (placed x (slice_index_or later 0 end_of_chain) n)) len_is;
         file = file_spared it (record it { directory = d; mini_fat = mini }) resized.more all.version longer
-            (front_then 68 (bytes_of a) (bytes_of m) (bytes_of b) (front_kept a m _ becomes.leaves) (front_kept m b _ touches.leaves)) sets.ids (ap ids_of links) sectors
+            (front_then 68 (bytes_of a) (bytes_of m) (bytes_of b) (front_kept a m _ becomes.leaves) (front_kept m b _ touches.leaves))
+            (part_spared m b [] _ touches.leaves 40 (omega arith) (inl (omega arith), tt) ∙ part_spared a m [] _ becomes.leaves 40 (omega arith) (inl (omega arith), tt)) sets.ids (ap ids_of links) sectors
             (λ fit. subst (SizesFit v) (sym sets.entries) (sizes_set v (directory.entries_held (directory_of it)) 0 (placed e start len) fits fit));
       }
 

@@ -15,7 +15,7 @@ use Rattle.cfb_fat.specs.declared.allocator.Allocator.{Allocator}
 use Rattle.cfb_owned.specs.Chains.{place_of, GoesOn}
 use Rattle.cfb_tree.specs.Directory.{Entry}
 use Rattle.cfb_directory.specs.Views as directory
-use Rattle.cfb_mini.specs.Files.{LeavesFile}
+use Rattle.cfb_mini.specs.Files.{HasCounts, HasHeader, LeavesFile}
 use Rattle.cfb_mini.specs.Growing.{LacksMore, TellsMiniFat}
 use Rattle.cfb_mini.specs.LinkViews.{minis_of}
 use Rattle.cfb_mini.specs.Minis.{all_words, mini_place, mini_sector}
@@ -78,6 +78,7 @@ module _ {F : Type 0} {g : Ghosts F} where
     pub freed : HaveEntry free (mini_fat_of new) minis
     pub becomes : Becomes (sector (version_of (allocator_of old))) [] (own 1) [] (own 1) (seen_of (allocator_of old)) (seen_of (allocator_of new))
     pub entries : directory.entries_held (directory_of new) ≡ directory.entries_held (directory_of old)
+    pub counts : HasHeader old → HasCounts old → HasCounts new
 
   -- The sectors of this owner, which is none of these three, are free. All else that is owned stays, and the mini FAT.
   pub record FreesChain (key : ℕ) (old new : MiniAllocator F g) (own : ℕ → List ℕ) : Type 0 where
@@ -86,6 +87,7 @@ module _ {F : Type 0} {g : Ghosts F} where
     pub owners : (then : ℕ → List ℕ) → then key ≡ [] → ((k : ℕ) → (k ≡ key → ⊥) → then k ≡ own k) → HasOwners new then
     pub mini_fat : mini_fat_of new ≡ mini_fat_of old
     pub entries : directory.entries_held (directory_of new) ≡ directory.entries_held (directory_of old)
+    pub counts : HasHeader old → HasCounts old → HasCounts new
 
   -- The mini chain keeps so many mini sectors, those at its front, and the others are free; no sector but the mini FAT's own is
   -- touched. The mini stream's bytes are those that they were.
@@ -96,6 +98,7 @@ module _ {F : Type 0} {g : Ghosts F} where
     pub becomes : Becomes (sector (version_of (allocator_of old))) [] (own 1) [] (own 1) (seen_of (allocator_of old)) (seen_of (allocator_of new))
     pub bytes : mini_stream_of new ≡ mini_stream_of old
     pub entries : directory.entries_held (directory_of new) ≡ directory.entries_held (directory_of old)
+    pub counts : HasHeader old → HasCounts old → HasCounts new
 
   -- The mini chain took in the first mini sector that was free, behind its last one; the mini stream has it. The mini stream's bytes are those
   -- that they were.
@@ -142,6 +145,7 @@ module _ {F : Type 0} {g : Ghosts F} where
     pub becomes : Becomes (sector (version_of (allocator_of old))) words (own 0) more (directory.directory_ids (directory_of new)) (seen_of (allocator_of old)) (seen_of (allocator_of new))
     pub owners : (then : ℕ → List ℕ) → then 0 ≡ directory.directory_ids (directory_of new) → ((k : ℕ) → (k ≡ 0 → ⊥) → then k ≡ own k) → HasOwners new then
     pub mini_fat : mini_fat_of new ≡ mini_fat_of old
+    pub counts : HasHeader old → HasCounts old → HasCounts new
 
   -- nothing but reads and flushes was done, and each owner has what it had
   pub record KeepsOwners (old new : MiniAllocator F g) : Type 0 where
@@ -149,6 +153,7 @@ module _ {F : Type 0} {g : Ghosts F} where
     pub entries : directory.entries_held (directory_of new) ≡ directory.entries_held (directory_of old)
     pub mini_fat : mini_fat_of new ≡ mini_fat_of old
     pub owners : (own : ℕ → List ℕ) → HasOwners old own → HasOwners new own
+    pub counts : IsTrue (is_honest (allocator_of old)) → HasCounts old → HasCounts new
 
   -- the root's entry tells where the mini stream begins and how many bytes it has, and all other entries stay; or all do, and the
   -- mini stream has the sectors that it had

@@ -7,7 +7,7 @@ ghost use Rattle.cfb_directory.specs.Views.{entries_held};
 ghost use Rattle.cfb_fat.specs.Calls.{Answers};
 ghost use Rattle.cfb_fat.specs.Tables.{has_failed_here, version_of};
 ghost use Rattle.cfb_medium.specs.Versions.{stream_len_mask};
-ghost use Rattle.cfb_medium.specs.declared.error.Error.TheVariants.{Full, InvalidData, InvalidInput};
+ghost use Rattle.cfb_medium.specs.declared.error.Error.TheVariants.{AlreadyExists, Full, InvalidData, InvalidInput};
 ghost use Rattle.cfb_medium.specs.Times.{units_of};
 ghost use Rattle.cfb_mini.specs.Changing.{ChangesDirectory, HasOwners, KeepsOwners};
 ghost use Rattle.cfb_mini.specs.Children.{HasRoot, IsUsable, RefusesChild};
@@ -30,8 +30,9 @@ use cfb_tree::{CaseMapper, ObjType};
 
 impl<F: Medium> MiniAllocator<F> {
     /// Changes an entry of the directory in its place, as `Directory::with_dir_entry_mut` does. Whoever changes the root's entry
-    /// leaves where its stream begins: that is the mini stream, which this layer keeps. After an error nothing is changed, or it
-    /// has failed ([MS-CFB] 2.6.1).
+    /// leaves where its stream begins: that is the mini stream, which this layer keeps. `InvalidInput` where the version has no
+    /// room for its size, and then nothing is changed. After another error nothing is changed, or it has failed
+    /// ([MS-CFB] 2.6.1).
     pub fn with_dir_entry_mut(&mut self, id: u32, change: EntryChange) -> Result<(), Error>
         requires { id < length (entries_held (directory_of self.old)) }
         ensures set { OnOk result ((e : Entry)
@@ -51,6 +52,7 @@ impl<F: Medium> MiniAllocator<F> {
             < (changed_entry change e).size)) }
         ensures rests { OnErr result ((has_failed_here (allocator_of self.new) ≡ true)
             ⊎ KeepsOwners self.old self.new) }
+        ensures unchanged { IsErrOf result InvalidInput → KeepsOwners self.old self.new }
         ensures goes_on { GoesOn (allocator_of self.old) (allocator_of self.new) }
         ensures answers { Answers (λ e. (e ≡ InvalidData) ⊎ (e ≡ InvalidInput)) result
             (allocator_of self.old) (allocator_of self.new) }
@@ -61,7 +63,8 @@ impl<F: Medium> MiniAllocator<F> {
         Ok(())
     }
 
-    /// Gives the storage `parent` a child of this name and kind, as `Directory::insert_dir_entry` does. After an error nothing is
+    /// Gives the storage `parent` a child of this name and kind, as `Directory::insert_dir_entry` does. `AlreadyExists` where a
+    /// child has the name, `InvalidInput` where the name is invalid, and then nothing is changed. After another error nothing is
     /// changed, or it has failed ([MS-CFB] 2.6.4).
     pub fn insert_dir_entry(
         &mut self,
@@ -88,6 +91,8 @@ impl<F: Medium> MiniAllocator<F> {
             → LacksEntries (directory_of self.old) }
         ensures rests { OnErr result ((has_failed_here (allocator_of self.new) ≡ true)
             ⊎ KeepsOwners self.old self.new) }
+        ensures unchanged { IsErrOf result AlreadyExists ⊎ IsErrOf result InvalidInput
+            → KeepsOwners self.old self.new }
         ensures goes_on { GoesOn (allocator_of self.old) (allocator_of self.new) }
         ensures answers { Answers IsRefusedInsert result (allocator_of self.old)
             (allocator_of self.new) }

@@ -4,6 +4,7 @@ use Rattle.cfb_directory.specs.Growth.{count_words}
 use Rattle.cfb_directory.specs.Views as directory
 use Rattle.cfb_directory.proofs.Setting.{has_directory}
 use Rattle.cfb_mini.specs.Views.{allocator_of, directory_of}
+use Rattle.cfb_mini.proofs.Counts.{counts_grown}
 use Rattle.cfb_mini.proofs.DirectoryChanges.{added_start, directory_beside, directory_changes, either, keeps_owners, not_failed}
 use Rattle.cfb_mini.proofs.mini_allocator.MiniAllocator.insert_dir_entry.Goals as goal
 
@@ -46,3 +47,9 @@ returns-clause-changes g c = λ own h root.
     let grown = did.grown (has_directory (directory_of it) did.answers.live.0 h.honest h.memory.directory (directory_beside it own h)) in
     directory_changes (count_words (version_of (allocator_of it))) grown.more it d own h c.insert_dir_entry.ensures.goes_on grown.ids grown.becomes c.insert_dir_entry.ensures.memory
     (λ e at. added_start (directory.entries_held (directory_of it)) (directory.entries_held d) _ e c.in-Ok.id _ did.entry root h.memory.stream_at at)
+    (counts_grown it d c.insert_dir_entry.ensures.goes_on grown)
+
+pub returns-in-Err-clause-unchanged : goal.returns-in-Err-clause-unchanged
+returns-in-Err-clause-unchanged g c = λ ruled.
+    let rests = c.in-Err.ensures.rests ruled in
+    keeps_owners c.args.self.now c.insert_dir_entry.new.self rests.allocator rests.ids rests.entries c.insert_dir_entry.ensures.memory

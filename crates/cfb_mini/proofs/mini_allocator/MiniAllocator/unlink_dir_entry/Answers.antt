@@ -4,6 +4,7 @@ use Rattle.cfb_directory.specs.Growth.{count_words}
 use Rattle.cfb_directory.specs.Views as directory
 use Rattle.cfb_directory.proofs.Setting.{has_directory}
 use Rattle.cfb_mini.specs.Views.{allocator_of, directory_of}
+use Rattle.cfb_mini.proofs.Counts.{counts_grown}
 use Rattle.cfb_mini.proofs.DirectoryChanges.{directory_beside, directory_changes, either, keeps_owners, not_failed, removed_start}
 use Rattle.cfb_mini.proofs.mini_allocator.MiniAllocator.unlink_dir_entry.Goals as goal
 
@@ -34,3 +35,4 @@ returns-clause-changes g c = λ own h root other.
     let grown = did.grown (has_directory (directory_of it) did.answers.live.0 h.honest h.memory.directory (directory_beside it own h)) in
     directory_changes (count_words (version_of (allocator_of it))) grown.more it d own h c.unlink_dir_entry.ensures.goes_on grown.ids grown.becomes c.unlink_dir_entry.ensures.memory
     (λ e at. removed_start (directory.entries_held (directory_of it)) (directory.entries_held d) e c.args.id _ did.entry root other h.memory.stream_at at)
+    (counts_grown it d c.unlink_dir_entry.ensures.goes_on grown)

@@ -1,4 +1,4 @@
-use Rattle.std.proofs.Common.{inl, inr, [], append-nil, ap, sym, subst, ◌∙◌, ⊎_elim}
+use Rattle.std.proofs.Common.{inl, inr, [], append-nil, ap, sym, subst, ◌∙◌, ⊎_elim, refl}
 use Rattle.std.specs.Prelude.{slice_get}
 use Rattle.cfb_chains.specs.Owned.{Becomes}
 use Rattle.cfb_fat.specs.Seeing.{seen_of}
@@ -7,6 +7,7 @@ use Rattle.cfb_sectors.specs.Sectors.{sector}
 use Rattle.cfb_directory.specs.Views as directory
 use Rattle.cfb_directory.proofs.Setting.{has_directory}
 use Rattle.cfb_mini.specs.Views.{allocator_of, directory_of}
+use Rattle.cfb_mini.proofs.Counts.{counts_beside}
 use Rattle.cfb_mini.proofs.DirectoryChanges.{directory_beside, directory_changes, first_start, keeps_owners, not_failed}
 use Rattle.cfb_mini.proofs.mini_allocator.MiniAllocator.with_dir_entry_mut.Goals as goal
 
@@ -30,3 +31,9 @@ returns-clause-changes g c = λ own e h found keeps.
     let has = has_directory (directory_of it) c.in_default.ensures.answers.live.0 h.honest h.memory.directory (directory_beside it own h) in
     directory_changes [] [] it d own h c.with_dir_entry_mut.ensures.goes_on (sets.ids ∙ sym (append-nil (directory.directory_ids (directory_of it)))) (subst (λ l. Becomes (sector (version_of (allocator_of it))) [] (directory.directory_ids (directory_of it)) [] l (seen_of (allocator_of it)) (seen_of (directory.allocator_of d))) (sym sets.ids) (sets.becomes has)) c.with_dir_entry_mut.ensures.memory
     (λ root at. first_start (directory.entries_held (directory_of it)) c.args.id e _ root _ found keeps h.memory.stream_at (ap (λ l. slice_get l 0) (sym sets.entries) ∙ at))
+    (counts_beside it (record it { directory = d }) _ c.with_dir_entry_mut.ensures.goes_on (sets.becomes has).leaves sets.ids refl)
+
+pub returns-in-Err-clause-unchanged : goal.returns-in-Err-clause-unchanged
+returns-in-Err-clause-unchanged g c = λ ruled.
+    let rests = c.in-Err.ensures.rests ruled in
+    keeps_owners c.args.self.now c.with_dir_entry_mut.new.self rests.allocator rests.ids rests.entries c.with_dir_entry_mut.ensures.memory
