@@ -1,11 +1,8 @@
 -- What a live file means, as those see it who read it.
-use Rattle.std.proofs.Common.{◌++◌, take, refl, ap, sym, subst, ◌∙◌, IsTrue}
+use Rattle.std.proofs.Common.{take, refl, ap, sym, subst, ◌∙◌}
 use Rattle.cfb_medium.specs.declared.medium.ReadMedium.{Ghosts}
 use Rattle.cfb_sectors.specs.Sectors.{fat_in}
-use Rattle.cfb_chains.specs.Owned.{Owned}
-use Rattle.cfb_fat.specs.Tables.{bytes_of, difat_sectors_of, fat_of, fat_sectors_of, tables_of, version_of}
-use Rattle.cfb_mini.specs.Changing.{KeepsOwners}
-use Rattle.cfb_mini.specs.Views as mini
+use Rattle.cfb_fat.specs.Tables.{bytes_of, fat_sectors_of, version_of}
 use Rattle.cfb_mini.specs.Views.{allocator_of, directory_of}
 use Rattle.cfb_mini.specs.declared.mini_allocator.MiniAllocator.{MiniAllocator}
 use Rattle.cfb_opening.specs.Opened as opening
@@ -15,7 +12,7 @@ use Rattle.cfb_tree.specs.Names.{Letters}
 use Rattle.cfb_tree.specs.Tree.{Tree}
 use Rattle.cfb_live.specs.Live.{live_of}
 use Rattle.cfb_live.specs.Live as live
-use Rattle.cfb_live.proofs.Resting.{means_stays}
+use Rattle.cfb_live.proofs.Resting.{keeps_rests, means_stays}
 use Rattle.cfb.specs.Doing.{Keeps, Means}
 use Rattle.cfb.specs.Streams.{Holds}
 use Rattle.cfb.specs.Views.{letters_in, mini_of, Rests}
@@ -50,26 +47,6 @@ module _ {F : Type 0} {g : Ghosts F} where
     means = means_is (live_of (mini_of it)) m.live.who (letters_in it) tree m.live.held;
   }
 
-  -- reads leave each owner what it has
-  rests_keep : (old new : MiniAllocator F g) → mini.Rests old new → KeepsOwners old new
-  rests_keep old new rests =
-      let a = allocator_of old in
-      let b = allocator_of new in
-      let r = rests.directory.allocator in record {
-        allocator = r;
-        entries = rests.directory.entries;
-        mini_fat = rests.mini_fat;
-        owners = λ own h. record {
-          honest = subst IsTrue (sym r.sectors.honest) h.honest;
-          memory = rests.kept h.memory;
-          owned = subst (λ t. Owned t (tables_of b) own) (sym r.fat)
-              (subst (λ t. Owned (fat_of a) t own) (ap (λ l. l ++ fat_sectors_of a) (sym r.difat_sectors) ∙ ap (λ l. difat_sectors_of b ++ l) (sym r.fat_sectors)) h.owned);
-          directory = h.directory ∙ sym rests.directory.ids;
-          mini_fat = h.mini_fat ∙ sym rests.mini_fat_ids;
-          mini_stream = h.mini_stream ∙ sym rests.mini_stream_ids;
-        };
-      }
-
   pub means_kept : (old new : CompoundFile F g) (tree : Tree) → Keeps old new → Means old tree → Means new tree
   means_kept old new tree k m = record {
     sound = k.sound ∙ m.sound;
@@ -77,4 +54,4 @@ module _ {F : Type 0} {g : Ghosts F} where
   }
 
   pub means_read : (old new : CompoundFile F g) (tree : Tree) → Rests old new → Means old tree → Means new tree
-  means_read old new tree r m = means_kept old new tree (record { mini = rests_keep (mini_of old) (mini_of new) r.mini; letters = r.letters; sound = r.sound }) m
+  means_read old new tree r m = means_kept old new tree (record { mini = keeps_rests (mini_of old) (mini_of new) r.mini; letters = r.letters; sound = r.sound }) m

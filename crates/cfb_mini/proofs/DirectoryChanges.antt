@@ -22,7 +22,6 @@ use Rattle.cfb_mini.specs.Children.{HasRoot}
 use Rattle.cfb_mini.specs.Files.{HasCounts, HasHeader}
 use Rattle.cfb_mini.specs.Views.{allocator_of, directory_of, mini_stream_ids}
 use Rattle.cfb_mini.specs.declared.mini_allocator.MiniAllocator.{MiniAllocator}
-use Rattle.cfb_mini.proofs.Counts.{counts_rest}
 use Rattle.cfb_mini.proofs.Keeping.{bytes_still, linked_still, over_rests, pick, pick_mine, pick_other}
 
 pub not_failed : (b : Bool) → (b ≡ true → ⊥) → b ≡ false
@@ -126,5 +125,4 @@ module _ {F : Type 0} {g : Ghosts F} where
           mini_fat = h.mini_fat;
           mini_stream = h.mini_stream;
         };
-        counts = counts_rest it (record it { directory = d }) rests ids refl;
       }

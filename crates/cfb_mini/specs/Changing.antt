@@ -153,7 +153,6 @@ module _ {F : Type 0} {g : Ghosts F} where
     pub entries : directory.entries_held (directory_of new) ≡ directory.entries_held (directory_of old)
     pub mini_fat : mini_fat_of new ≡ mini_fat_of old
     pub owners : (own : ℕ → List ℕ) → HasOwners old own → HasOwners new own
-    pub counts : IsTrue (is_honest (allocator_of old)) → HasCounts old → HasCounts new
 
   -- the root's entry tells where the mini stream begins and how many bytes it has, and all other entries stay; or all do, and the
   -- mini stream has the sectors that it had
