@@ -29,9 +29,6 @@ module _ (letters : Letters) (directory : List Entry) (Reads : Entry → List �
   abbrev pub Came : Link → ℕ → ℕ → Type 0
   Came link at steps = Searched directory Reads letters wanted parent at_storage.entry.child at_storage.children at_storage.inside at_storage.within link at steps
 
-  pub parent_there : slice_get directory parent ≡ None → ⊥
-  parent_there lost = let never : Some at_storage.entry ≡ None = sym at_storage.found ∙ lost in absurd (cc)
-
   pub came_first : (e : Entry) → slice_get directory parent ≡ Some e → Came (Child parent) e.child 0
   came_first e found =
       let is : at_storage.entry ≡ e = Some_same (sym at_storage.found ∙ found) in

@@ -107,9 +107,6 @@ is_owner_found directory id e b found if_so only_so = (
   λ it. only_so (λ kind. it.holds (ap (λ y. y.kind) (Some_same (sym it.found ∙ found)) ∙ kind)),
 )
 
-pub is_owner_lost : (directory : List Entry) (id : ℕ) → slice_get directory id ≡ None → IsOwner directory id → ⊥
-is_owner_lost directory id lost it = let never : Some it.entry ≡ None = sym it.found ∙ lost in absurd (cc)
-
 -- a kind's byte against that of streams
 pub not_stream : (byte kind : ℕ) → byte ≡ kind → (IsTrue (not (nat_eq byte kind_stream)) → kind ≡ kind_stream → ⊥)
     × ((kind ≡ kind_stream → ⊥) → IsTrue (not (nat_eq byte kind_stream)))

@@ -27,9 +27,6 @@ append_keeps [] more id e h = absurd (cc)
 append_keeps (x ∷ old) more zero e h = h
 append_keeps (x ∷ old) more (suc id) e h = append_keeps old more id e h
 
-pub append_changes_only : (old more : List Entry) (p : ℕ) → ChangesOnly p old (old ++ more)
-append_changes_only old more p id e apart h = append_keeps old more id e h
-
 pub name_kept : (e f : Entry) (name : List ℕ) → f.name_len ≡ e.name_len → f.name_units ≡ e.name_units → HasName e name → HasName f name
 name_kept e f name len units h = record { even = rw len h.even; fits = rw len h.fits; spelled = rw (len, units) h.spelled }
 
@@ -157,10 +154,6 @@ stay_then old mid new Reads Reads' Reads'' (id ∷ ids) h k = (
   stay_then old mid new Reads Reads' Reads'' ids h.1 k.1,
 )
 
-for_each : {P : ℕ → Type 0} (ids : List ℕ) → ((id : ℕ) → P id) → AllByRecursion P ids
-for_each [] h = tt
-for_each (id ∷ ids) h = (h id, for_each ids h)
-
 pub either_same : (m n : ℕ) → (m ≡ n) ⊎ (nat_eq m n ≡ false)
 either_same zero zero = inl refl
 either_same zero (suc n) = inr (grind arith)
@@ -176,37 +169,3 @@ module _ (old new : List Entry) (p : ℕ) (e f : Entry) (only : ChangesOnly p ol
         (f, subst (λ k. slice_get new k ≡ Some f) same now, on_left ∙ ap (λ y. y.left) is, on_right ∙ ap (λ y. y.right) is)
     | inr other ↦ (g, only id g other found, refl, refl)
   ]
-
-  pub siblings_same_links : (id : ℕ) (ids : List ℕ) → f.left ≡ e.left → f.right ≡ e.right → Siblings old id ids → Siblings new id ids
-  siblings_same_links id ids on_left on_right = siblings_links old new id ids (for_each ids (λ k. links_stay k on_left on_right))
-
-  -- one entry changes in colour, start or size alone, and its bytes stay: all entries stay
-  pub stay_one : (Reads Reads' : Entry → List ℕ → Type 0) (ids : List ℕ) → HasSameFacts e f → f.left ≡ e.left → f.right ≡ e.right → f.child ≡ e.child
-      → ((bytes : List ℕ) → Reads e bytes → Reads' f bytes) → ((g : Entry) (bytes : List ℕ) → Reads g bytes → Reads' g bytes)
-      → AllStay old new Reads Reads' ids
-  stay_one Reads Reads' [] same left right child own others = tt
-  stay_one Reads Reads' (id ∷ ids) same left right child own others = (
-    λ g found. elim (either_same p id) as (λ x. Stays old new Reads Reads' id g) [
-      | inl is ↦
-          let one : e ≡ g = Some_same (sym was ∙ ap (λ k. slice_get old k) is ∙ found) in
-          subst (Stays old new Reads Reads' id) one record {
-            now = f;
-            found = subst (λ k. slice_get new k ≡ Some f) is now;
-            same = same;
-            left = left;
-            right = right;
-            child = child;
-            reads = own;
-          }
-      | inr other ↦ record {
-        now = g;
-        found = only id g other found;
-        same = record { name_units = refl; name_len = refl; kind = refl; facts = refl };
-        left = refl;
-        right = refl;
-        child = refl;
-        reads = others g;
-      }
-    ],
-    stay_one Reads Reads' ids same left right child own others,
-  )

@@ -10,9 +10,9 @@ use Rattle.cfb_siblings.specs.Links.{holder, linked_to, with_entry, relinked}
 use Rattle.cfb_siblings.specs.Places.{HasEntry, Hangs, first, to_left, to_right}
 use Rattle.cfb_siblings.specs.declared.links.Link.{Link}
 use Rattle.cfb_siblings.specs.declared.links.Link.TheVariants.{Child, Left, Right}
-use Rattle.cfb_siblings.proofs.Parts.{ChangesOnly, HasSameFacts, AllStay, Relinks, root_after, IsPlaced}
+use Rattle.cfb_siblings.proofs.Parts.{HasSameFacts, Relinks, root_after, IsPlaced}
 use Rattle.cfb_siblings.proofs.Lists.{all_parts, apart_in, apart_turned, distinct_swap, distinct_moved}
-use Rattle.cfb_siblings.proofs.Frames.{set_changes_only, set_found, stay_apart, stay_then}
+use Rattle.cfb_siblings.proofs.Frames.{set_changes_only, set_found}
 use Rattle.cfb_siblings.proofs.Joining.{halves, headed}
 
 -- the holder of the link where a walk ends is an entry
@@ -143,66 +143,7 @@ held_in directory Reads (Child id) ids c within h place = tt
 held_in directory Reads (Left id) ids c within h (xs, ys, is) = among directory Reads id xs ys c within (rw is at h)
 held_in directory Reads (Right id) ids c within h (xs, ys, is) = among directory Reads id xs ys c within (rw is at h)
 
--- what lies outside of the storage p stays, and p but for its child
-pub record StaysOutside (old new : List Entry) (Reads : Entry → List ℕ → Type 0) (sooner further : List ℕ) (p : ℕ) (e f : Entry) : Type 0 where
-  pub sooner_stay : AllStay old new Reads Reads sooner
-  pub further_stay : AllStay old new Reads Reads further
-  pub was : slice_get old p ≡ Some e
-  pub now : slice_get new p ≡ Some f
-  pub same : HasSameFacts e f
-  pub left : f.left ≡ e.left
-  pub right : f.right ≡ e.right
-
 module _ (Reads : Entry → List ℕ → Type 0) (sooner further : List ℕ) (p : ℕ) where
-  pub outside_then : (old mid new : List Entry) (e f g : Entry) → StaysOutside old mid Reads sooner further p e f
-      → StaysOutside mid new Reads sooner further p f g → StaysOutside old new Reads sooner further p e g
-  outside_then old mid new e f g a b = record {
-    sooner_stay = stay_then old mid new Reads Reads Reads sooner a.sooner_stay b.sooner_stay;
-    further_stay = stay_then old mid new Reads Reads Reads further a.further_stay b.further_stay;
-    was = a.was;
-    now = b.now;
-    same = record {
-      name_units = b.same.name_units ∙ a.same.name_units;
-      name_len = b.same.name_len ∙ a.same.name_len;
-      kind = b.same.kind ∙ a.same.kind;
-      facts = b.same.facts ∙ a.same.facts;
-    };
-    left = b.left ∙ a.left;
-    right = b.right ∙ a.right;
-  }
-
-  -- an entry inside, or a new one, is written
-  pub outside_written : (old new : List Entry) (e : Entry) (n : ℕ) → ChangesOnly n old new → IsApart n (sooner ++ p ∷ further)
-      → slice_get old p ≡ Some e → StaysOutside old new Reads sooner further p e e
-  outside_written old new e n only apart was =
-      let parts = all_parts (λ k. nat_eq n k ≡ false) sooner (p ∷ further) apart in
-      record {
-        sooner_stay = stay_apart old new Reads Reads n sooner only (λ x bytes r. r) parts.0;
-        further_stay = stay_apart old new Reads Reads n further only (λ x bytes r. r) parts.1.1;
-        was = was;
-        now = only p e parts.1.0 was;
-        same = same_facts e;
-        left = refl;
-        right = refl;
-      }
-
-  -- a link of the storage to its children, or among them, was made to lead elsewhere
-  pub outside_linked : (old new : List Entry) (e : Entry) (link : Link) (target : ℕ) (r : Relinks old new link target) (own : IsLinkOf p link)
-      → IsApart (holder link) (sooner ++ further) → (was : slice_get old p ≡ Some e)
-      → StaysOutside old new Reads sooner further p e (owner_after old new p e link target r own was).now
-  outside_linked old new e link target r own apart was =
-      let parts = all_parts (λ k. nat_eq (holder link) k ≡ false) sooner further apart in
-      let owner = owner_after old new p e link target r own was in
-      record {
-        sooner_stay = stay_apart old new Reads Reads (holder link) sooner r.only (λ x bytes r. r) parts.0;
-        further_stay = stay_apart old new Reads Reads (holder link) further r.only (λ x bytes r. r) parts.1;
-        was = was;
-        now = owner.found;
-        same = owner.same;
-        left = owner.left;
-        right = owner.right;
-      }
-
   -- the holder of such a link lies not outside
   pub link_inside : (link : Link) (within : List ℕ) → IsLinkOf p link → IsDistinct nat_eq (sooner ++ p ∷ (within ++ further)) → IsHeldIn link within
       → IsApart (holder link) (sooner ++ further)

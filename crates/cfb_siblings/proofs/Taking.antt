@@ -327,6 +327,3 @@ module _ (letters : Letters) (Reads : Entry → List ℕ → Type 0) (by_place :
   lefts_once =
       let ids = subst (IsDistinct nat_eq) found.ids_are (siblings_distinct old Reads st.inside st.children st.within st.holds within_once) in
       (distinct_parts found.front found.lefts ((distinct_parts (found.front ++ found.lefts) (at ∷ (found.rights ++ found.back)) ids).0)).1
-
-  pub at_there : slice_get old at ≡ None → ⊥
-  at_there lost = let never : Some taken.named.entry ≡ None = sym taken.named.found ∙ lost in absurd (cc)
