@@ -9,7 +9,7 @@ use Rattle.msi_values.specs.Datum.{Datum, null, number, text, binary}
 use Rattle.msi_pool.specs.Pool.{Pool, at_place, last_place, place_among, used, without_use}
 use Rattle.msi_pool.specs.declared.stringref.ValueRef.{ValueRef}
 use Rattle.msi_pool.specs.declared.stringref.ValueRef.TheVariants as cell
-use Rattle.msi_pool.proofs.PoolPlaces.{place_among-pos}
+use Rattle.msi_places.proofs.PoolPlaces.{place_among-pos}
 use Rattle.msi_tables.specs.Table.{datum_at}
 use Rattle.msi_changes.specs.Laws.{names_place}
 use Rattle.msi_changes.specs.Changes.{counted, taken_back}

@@ -4,7 +4,7 @@ use Rattle.std.specs.Prelude.{◌==◌, ◌||◌, ◌&&◌, nat_lt, bytes_eq, sl
 use Rattle.std.proofs.lemmas.Slice.Eq.{bytes_eq-Decides}
 use Rattle.std.proofs.lemmas.Grind.{common_steps}
 use Rattle.msi_pool.specs.Pool.{Place, no_place, place_among, takes, with_use}
-use Rattle.msi_pool.proofs.PoolPlaces.{place_among-pos}
+use Rattle.msi_places.proofs.PoolPlaces.{place_among-pos}
 
 -- the text at an index has a use
 abbrev pub in_use : List Place → ℕ → Bool

@@ -3,7 +3,7 @@ use Rattle.std.proofs.Common.{◌≡◌, ℕ, zero, suc, ◌+◌, ◌-◌, ◌<�
 use Rattle.std.specs.Prelude.{◌==◌, nat_lt, slice_index_or, if◌then◌else◌}
 use Rattle.std.proofs.lemmas.Bool.Decides.{nat_tests}
 use Rattle.msi_pool.specs.Pool.{Place, no_place, one_less, place_among, takes, with_use, without_use}
-use Rattle.msi_pool.proofs.PoolPlaces.{place_among-pos}
+use Rattle.msi_places.proofs.PoolPlaces.{place_among-pos}
 use Rattle.msi_changes.proofs.Kept.{text_at}
 
 abbrev pub count_at : List Place → ℕ → ℕ

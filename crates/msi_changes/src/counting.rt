@@ -6,7 +6,7 @@ ghost use Rattle.msi_changes.specs.Changes.{all_taken_back, counted, row_counted
 ghost use Rattle.msi_tables.specs.Held.{rows_held};
 
 use cfb_medium::Error;
-use msi_pool::{StringPool, ValueRef};
+use msi_pool::{Draft, ValueRef};
 use msi_values::Value;
 use std::alloc::Global;
 
@@ -14,12 +14,13 @@ use std::alloc::Global;
 #[tactic(auto, using(crate::proofs::Uses::counted_so, crate::proofs::Uses::full_so, crate::proofs::Uses::marked))]
 pub(crate) fn count_value(
     alloc: Global,
-    pool: &mut StringPool,
+    pool: &mut Draft<'_>,
     value: &Value,
 ) -> Result<ValueRef, Error>
-    ensures counts { Answers (λ cell. (cell, pool.new.pool)) result
-        (counted pool.old.pool (datum_of value.now)) }
-    ensures marked { pool.new.modified ≡ false → pool.new ≡ pool.old }
+    ensures counts { Answers (λ cell. (cell, pool.new.state.pool)) result
+        (counted pool.old.state.pool (datum_of value.now)) }
+    ensures marked { pool.new.state.modified ≡ false → pool.new.state ≡ pool.old.state }
+    ensures under { pool.new.under ≡ pool.old.under }
 {
     let value = value.clone(alloc)?;
     ValueRef::create(value, pool)
@@ -29,12 +30,13 @@ pub(crate) fn count_value(
 #[tactic(auto, using(crate::proofs::Turns::turned, crate::proofs::Turns::refused, crate::proofs::Turns::ended, crate::proofs::Turns::begun))]
 pub(crate) fn count_row(
     alloc: Global,
-    pool: &mut StringPool,
+    pool: &mut Draft<'_>,
     values: &[Value],
 ) -> Result<Vec<ValueRef>, Error>
-    ensures counts { Answers (λ cells. (cells.items, pool.new.pool)) result
-        (row_counted pool.old.pool (data_of values.now)) }
-    ensures marked { pool.new.modified ≡ false → pool.new ≡ pool.old }
+    ensures counts { Answers (λ cells. (cells.items, pool.new.state.pool)) result
+        (row_counted pool.old.state.pool (data_of values.now)) }
+    ensures marked { pool.new.state.modified ≡ false → pool.new.state ≡ pool.old.state }
+    ensures under { pool.new.under ≡ pool.old.under }
 {
     let mut cells = Vec::new(alloc);
     for value in values {
@@ -47,12 +49,13 @@ pub(crate) fn count_row(
 #[tactic(auto, using(crate::proofs::Turns::turned, crate::proofs::Turns::refused, crate::proofs::Turns::ended, crate::proofs::Turns::begun))]
 pub(crate) fn count_rows(
     alloc: Global,
-    pool: &mut StringPool,
+    pool: &mut Draft<'_>,
     rows: &[Vec<Value>],
 ) -> Result<Vec<Vec<ValueRef>>, Error>
-    ensures counts { Answers (λ cells. (rows_held cells.items, pool.new.pool)) result
-        (rows_counted pool.old.pool (map (λ row. data_of row.items) rows.now)) }
-    ensures marked { pool.new.modified ≡ false → pool.new ≡ pool.old }
+    ensures counts { Answers (λ cells. (rows_held cells.items, pool.new.state.pool)) result
+        (rows_counted pool.old.state.pool (map (λ row. data_of row.items) rows.now)) }
+    ensures marked { pool.new.state.modified ≡ false → pool.new.state ≡ pool.old.state }
+    ensures under { pool.new.under ≡ pool.old.under }
 {
     let mut cells = Vec::new(alloc);
     for row in rows {
@@ -63,17 +66,19 @@ pub(crate) fn count_rows(
 
 // Takes the use of a cell's text back. `InvalidData` where its place has no use.
 #[tactic(auto, using(crate::proofs::Uses::taken_so, crate::proofs::Uses::unused_so, crate::proofs::Uses::taken_marked))]
-pub(crate) fn take_back_cell(pool: &mut StringPool, cell: ValueRef) -> Result<(), Error>
-    ensures takes { Answers (λ _. pool.new.pool) result (taken_back pool.old.pool cell) }
-    ensures marked { pool.new.modified ≡ false → pool.new ≡ pool.old }
+pub(crate) fn take_back_cell(pool: &mut Draft<'_>, cell: ValueRef) -> Result<(), Error>
+    ensures takes { Answers (λ _. pool.new.state.pool) result (taken_back pool.old.state.pool cell) }
+    ensures marked { pool.new.state.modified ≡ false → pool.new.state ≡ pool.old.state }
+    ensures under { pool.new.under ≡ pool.old.under }
 {
     cell.remove(pool)
 }
 
 // Takes the uses of all cells of a row back. `InvalidData` where a place has no use.
-pub(crate) fn take_back(pool: &mut StringPool, row: &[ValueRef]) -> Result<(), Error>
-    ensures takes { Answers (λ _. pool.new.pool) result (all_taken_back pool.old.pool row.now) }
-    ensures marked { pool.new.modified ≡ false → pool.new ≡ pool.old }
+pub(crate) fn take_back(pool: &mut Draft<'_>, row: &[ValueRef]) -> Result<(), Error>
+    ensures takes { Answers (λ _. pool.new.state.pool) result (all_taken_back pool.old.state.pool row.now) }
+    ensures marked { pool.new.state.modified ≡ false → pool.new.state ≡ pool.old.state }
+    ensures under { pool.new.under ≡ pool.old.under }
 {
     for cell in row {
         take_back_cell(pool, *cell)?;

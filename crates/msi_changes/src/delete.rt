@@ -13,7 +13,7 @@ ghost use Rattle.msi_tables.specs.Rows.{AreWritable};
 use crate::counting::take_back;
 use cfb_medium::Error;
 use msi_expr::{Expr, fmt_condition, knows_condition, matches, narrowed};
-use msi_pool::{StringPool, ValueRef};
+use msi_pool::{Draft, StringPool, ValueRef};
 use msi_tables::Table;
 use std::alloc::Global;
 use std::fmt;
@@ -98,13 +98,16 @@ impl Delete {
         if !knows_condition(alloc, table, &self.condition)? {
             return Err(Error::InvalidInput);
         }
-        let mut counted = pool.draft(alloc)?;
+        let mut counted = pool.draft();
         let left = match rows_left(alloc, pool, table, &self.condition, rows, &mut counted) {
             Err(error) => return Err(error),
             Ok(left) => left,
         };
-        *pool = counted;
-        Ok(left)
+        let changes = counted.into_changes();
+        match pool.adopt(changes) {
+            Err(error) => Err(error),
+            Ok(()) => Ok(left),
+        }
     }
 }
 
@@ -117,14 +120,15 @@ fn rows_left(
     table: &Rc<Table>,
     condition: &Option<Expr>,
     rows: Vec<Vec<ValueRef>>,
-    counted: &mut StringPool,
+    counted: &mut Draft<'_>,
 ) -> Result<Vec<Vec<ValueRef>>, Error>
     requires { IsTrue (knows_condition (heading_of (rc_value table.now)).columns
         (condition_of condition.now)) }
-    ensures left { Answers (λ left. (rows_held left.items, counted.new.pool)) result
+    ensures left { Answers (λ left. (rows_held left.items, counted.new.state.pool)) result
         (left_of (matches pool.now.pool (heading_of (rc_value table.now)).columns
-        (condition_of condition.now)) counted.old.pool (rows_held rows.items)) }
-    ensures marked { counted.new.modified ≡ false → counted.new ≡ counted.old }
+        (condition_of condition.now)) counted.old.state.pool (rows_held rows.items)) }
+    ensures marked { counted.new.state.modified ≡ false → counted.new.state ≡ counted.old.state }
+    ensures under { counted.new.under ≡ counted.old.under }
 {
     let mut left = Vec::new(alloc);
     for row in rows {

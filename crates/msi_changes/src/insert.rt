@@ -133,15 +133,18 @@ impl Insert {
             Err(error) => return Err(error),
             Ok(()) => {}
         }
-        let mut counted = pool.draft(alloc)?;
+        let mut counted = pool.draft();
         let mut new_rows = match count_rows(alloc, &mut counted, &self.new_rows) {
             Err(error) => return Err(error),
             Ok(new_rows) => new_rows,
         };
         let mut rows = rows;
         rows.append(&mut new_rows)?;
-        *pool = counted;
-        Ok(rows)
+        let changes = counted.into_changes();
+        match pool.adopt(changes) {
+            Err(error) => Err(error),
+            Ok(()) => Ok(rows),
+        }
     }
 }
 

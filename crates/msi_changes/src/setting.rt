@@ -10,7 +10,7 @@ ghost use Rattle.std.specs.Prelude.{◌≡◌, false, slice_set, string_bytes};
 
 use crate::counting::{count_value, take_back_cell};
 use cfb_medium::Error;
-use msi_pool::{StringPool, ValueRef};
+use msi_pool::{Draft, ValueRef};
 use msi_tables::Table;
 use msi_values::{BorrowedValue, Value};
 use std::alloc::Global;
@@ -90,13 +90,14 @@ pub(crate) fn set_values<'a>(
 fn set_cell(
     alloc: Global,
     table: &Table,
-    pool: &mut StringPool,
+    pool: &mut Draft<'_>,
     row: &mut Vec<ValueRef>,
     set: &(String, Value),
 ) -> Result<(), Error>
-    ensures sets { Answers (λ _. (row.new.items, pool.new.pool)) result
-        (cell_set (heading_of table.now).columns pool.old.pool row.old.items (set_of set.now)) }
-    ensures marked { pool.new.modified ≡ false → pool.new ≡ pool.old }
+    ensures sets { Answers (λ _. (row.new.items, pool.new.state.pool)) result
+        (cell_set (heading_of table.now).columns pool.old.state.pool row.old.items (set_of set.now)) }
+    ensures marked { pool.new.state.modified ≡ false → pool.new.state ≡ pool.old.state }
+    ensures under { pool.new.under ≡ pool.old.under }
 {
     let place = table.index_for_column_name(&set.0).unwrap_or(0);
     let old = row.get(place).copied().unwrap_or(ValueRef::Null);
@@ -116,13 +117,14 @@ fn set_cell(
 pub(crate) fn set_cells(
     alloc: Global,
     table: &Table,
-    pool: &mut StringPool,
+    pool: &mut Draft<'_>,
     row: &mut Vec<ValueRef>,
     sets: &[(String, Value)],
 ) -> Result<(), Error>
-    ensures sets { Answers (λ _. (row.new.items, pool.new.pool)) result
-        (cells_set (heading_of table.now).columns pool.old.pool row.old.items (sets_of sets.now)) }
-    ensures marked { pool.new.modified ≡ false → pool.new ≡ pool.old }
+    ensures sets { Answers (λ _. (row.new.items, pool.new.state.pool)) result
+        (cells_set (heading_of table.now).columns pool.old.state.pool row.old.items (sets_of sets.now)) }
+    ensures marked { pool.new.state.modified ≡ false → pool.new.state ≡ pool.old.state }
+    ensures under { pool.new.under ≡ pool.old.under }
 {
     for set in sets {
         set_cell(alloc, table, pool, row, set)?;

@@ -19,7 +19,7 @@ use crate::printing::fmt_sets;
 use crate::setting::{are_sets, set_cells, set_values, sets_key};
 use cfb_medium::Error;
 use msi_expr::{Expr, fmt_condition, knows_condition, matches, narrowed};
-use msi_pool::{StringPool, ValueRef};
+use msi_pool::{Draft, StringPool, ValueRef};
 use msi_tables::Table;
 use msi_values::{BorrowedValue, Value};
 use std::alloc::Global;
@@ -136,13 +136,16 @@ impl Update {
             Err(error) => return Err(error),
             Ok(()) => {}
         }
-        let mut counted = pool.draft(alloc)?;
+        let mut counted = pool.draft();
         let after = match set_rows(alloc, pool, table, rows, &mut counted, sets, condition) {
             Err(error) => return Err(error),
             Ok(after) => after,
         };
-        *pool = counted;
-        Ok(after)
+        let changes = counted.into_changes();
+        match pool.adopt(changes) {
+            Err(error) => Err(error),
+            Ok(()) => Ok(after),
+        }
     }
 }
 
@@ -231,17 +234,18 @@ fn set_rows(
     pool: &StringPool,
     table: &Rc<Table>,
     rows: Vec<Vec<ValueRef>>,
-    counted: &mut StringPool,
+    counted: &mut Draft<'_>,
     sets: &[(String, Value)],
     condition: &Option<Expr>,
 ) -> Result<Vec<Vec<ValueRef>>, Error>
     requires { IsTrue (knows_condition (heading_of (rc_value table.now)).columns
         (condition_of condition.now)) }
-    ensures sets { Answers (λ after. (rows_held after.items, counted.new.pool)) result
-        (rows_set (heading_of (rc_value table.now)).columns counted.old.pool (sets_of sets.now)
+    ensures sets { Answers (λ after. (rows_held after.items, counted.new.state.pool)) result
+        (rows_set (heading_of (rc_value table.now)).columns counted.old.state.pool (sets_of sets.now)
         (judged (matches pool.now.pool (heading_of (rc_value table.now)).columns
         (condition_of condition.now)) (rows_held rows.items))) }
-    ensures marked { counted.new.modified ≡ false → counted.new ≡ counted.old }
+    ensures marked { counted.new.state.modified ≡ false → counted.new.state ≡ counted.old.state }
+    ensures under { counted.new.under ≡ counted.old.under }
 {
     let mut after = Vec::new(alloc);
     for row in rows {

@@ -1,10 +1,6 @@
 pub mod PoolHeads
 pub mod PoolReads
 pub mod PoolFound
-pub mod PoolPlaces
-pub mod PoolIndexed
-pub mod PoolRooms
-pub mod PoolSteps
 pub mod PoolRoundTrip
 pub mod PoolStays
 pub mod Worked

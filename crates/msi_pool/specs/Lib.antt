@@ -1,8 +1,6 @@
 pub mod Pool
-pub mod PoolHeld
-pub mod PoolIndex
-pub mod PoolParts
 pub mod PoolKept
 pub mod PoolState
 pub mod PoolReading
 pub mod Refs
+pub mod PoolDraft

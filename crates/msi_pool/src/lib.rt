@@ -1,21 +1,17 @@
 //! The string pool of a Windows Installer database, and the cells that refer to it.
 #![tactic(auto)]
 
-mod held;
-mod indexing;
+mod draft;
 mod laws;
-mod parts;
-mod places;
 mod poolbuilder;
 mod stringpool;
 mod stringref;
 
+pub use draft::{CountsUses, Draft, PoolChanges};
 pub use laws::{
     cells_compare_equal, pools_are_read_as_they_are_held, uses_leave_places_kept,
     written_pools_are_read,
 };
-pub use parts::{PoolParts, StdParts};
-pub use places::Places;
 pub use poolbuilder::StringPoolBuilder;
 pub use stringpool::StringPool;
 pub use stringref::{StringRef, ValueRef};

@@ -3,13 +3,14 @@ ghost use Rattle.std.specs.Prelude.{◌≡◌, ◌↔◌, ◌⊎◌, ◌+◌, �
 ghost use Rattle.std.specs.List.{flat_map, list_all};
 ghost use Rattle.msi_texts.specs.Page.{encoded};
 ghost use Rattle.msi_pool.specs.Pool.{place, last_place, without_use, at_place, places_of, used, head_bytes, head_of, stored_place, pool_stream, data_stream, width_bit};
+ghost use Rattle.msi_pool.specs.PoolDraft.{AreChangesOver, adopted};
 ghost use Rattle.msi_pool.specs.PoolState.{changed_to, is_in_size, length_limit};
 ghost use Rattle.cfb_medium.specs.declared.error.Error.TheVariants.{InvalidInput, InvalidData, Memory};
 
-use crate::held::Held;
-use crate::places::Places;
+use crate::draft::{Draft, PoolChanges};
 use crate::stringref::StringRef;
 use cfb_medium::Error;
+use msi_places::Places;
 use msi_texts::{CodePage, write_u16, write_u32};
 use std::alloc::{AllocError, Global};
 use std::marker::Model;
@@ -32,21 +33,17 @@ const LENGTH_LIMIT: usize = 4294967295;
 pub struct StringPool {
     codepage: CodePage,
     long_string_refs: bool,
-    held: Held,
+    places: Places,
     is_modified: bool,
 }
 
 impl Model for StringPool {
     ghost use Rattle.msi_pool.specs.Pool.{Pool};
     ghost use Rattle.msi_pool.specs.PoolState.{PoolState};
-    ghost use Rattle.msi_pool.specs.PoolHeld.{held_places};
-    ghost use Rattle.std.specs.Prelude.{length, ◌<◌, ◌^◌};
 
     ghost Value = { PoolState };
 
-    ghost view = { λ p. record { pool = record { page = p.codepage; long = p.long_string_refs; places = held_places p.held }; modified = p.is_modified } };
-
-    ghost invariant = { λ p. length (held_places p.held) < 2 ^ 32 };
+    ghost view = { λ p. record { pool = record { page = p.codepage; long = p.long_string_refs; places = p.places.places }; modified = p.is_modified } };
 }
 
 impl StringPool {
@@ -57,7 +54,7 @@ impl StringPool {
         StringPool {
             codepage,
             long_string_refs: false,
-            held: Held::Indexed(Places::new(alloc)),
+            places: Places::new(alloc),
             is_modified: true,
         }
     }
@@ -85,25 +82,37 @@ impl StringPool {
         Ok(StringPool {
             codepage,
             long_string_refs,
-            held: Held::Indexed(Places::of(alloc, strings)?),
+            places: Places::of(alloc, strings)?,
             is_modified: false,
         })
     }
 
-    /// A copy of its own, to be changed and put in the place of this pool. It takes with it what finds
-    /// texts quickly; where this pool stays, the next draft makes that anew. Memory leaves it as it was.
-    pub fn draft(&mut self, alloc: Global) -> Result<StringPool, Error>
-        ensures ok { IfOk result (λ draft. draft ≡ self.old) }
-        ensures same { self.new ≡ self.old }
-        ensures err { IfErr result (λ e. e ≡ Memory) }
+    /// A draft to be changed, whose changes this pool can take over. It takes no memory until it is changed, and this pool stays
+    /// as it is where the draft is dropped.
+    pub fn draft(&self) -> Draft<'_>
+        ensures same { result.state ≡ self.now }
+        ensures under { result.under ≡ self.now.pool.places }
     {
-        let held = self.held.draft(alloc)?;
-        Ok(StringPool {
-            codepage: self.codepage,
-            long_string_refs: self.long_string_refs,
-            held,
-            is_modified: self.is_modified,
-        })
+        Draft::new(
+            self.codepage,
+            self.long_string_refs,
+            self.places.draft(),
+            self.is_modified,
+        )
+    }
+
+    /// Takes over what a draft changed. After Memory, the one error, the pool is as it was.
+    pub fn adopt(&mut self, changes: PoolChanges) -> Result<(), Error>
+        requires { AreChangesOver self.old.pool.places changes }
+        ensures ok { OnOk result (self.new ≡ adopted self.old.pool.places changes) }
+        ensures err { OnErr result (self.new ≡ self.old) }
+        ensures kinds { IfErr result (λ e. e ≡ Memory) }
+    {
+        self.places.adopt(changes.places)?;
+        self.codepage = changes.codepage;
+        self.long_string_refs = changes.long_string_refs;
+        self.is_modified = changes.is_modified;
+        Ok(())
     }
 
     /// The page under which the texts are written.
@@ -125,7 +134,7 @@ impl StringPool {
     pub fn num_strings(&self) -> u32
         ensures { result ≡ length self.now.pool.places }
     {
-        self.held.strings().len() as u32
+        self.places.list().len() as u32
     }
 
     /// Whether references take three bytes instead of two.
@@ -160,7 +169,7 @@ impl StringPool {
     pub fn get(&self, string_ref: StringRef) -> &str
         ensures { result.now ≡ (at_place self.now.pool.places string_ref).text }
     {
-        match self.held.strings().get(string_ref.index()) {
+        match self.places.list().get(string_ref.index()) {
             Some((text, _)) => text.as_str(),
             None => "",
         }
@@ -170,7 +179,7 @@ impl StringPool {
     pub fn refcount(&self, string_ref: StringRef) -> u16
         ensures { result ≡ (at_place self.now.pool.places string_ref).count }
     {
-        match self.held.strings().get(string_ref.index()) {
+        match self.places.list().get(string_ref.index()) {
             Some((_, count)) => *count,
             None => 0,
         }
@@ -188,7 +197,7 @@ impl StringPool {
         ensures kinds { IfErr result (λ e. (e ≡ Memory) ⊎ (e ≡ InvalidInput)) }
         ensures err { OnErr result (self.new ≡ self.old) }
     {
-        let number = self.held.incref(text, last_place(self.long_string_refs))?;
+        let number = self.places.incref(text, last_place(self.long_string_refs))?;
         self.mark_modified();
         Ok(StringRef::new(number))
     }
@@ -206,7 +215,7 @@ impl StringPool {
         ensures kinds { IfErr result (λ e. (e ≡ Memory) ⊎ (e ≡ InvalidData)) }
         ensures err { OnErr result (self.new ≡ self.old) }
     {
-        self.held.decref(string_ref)?;
+        self.places.decref(string_ref.number() - 1)?;
         self.mark_modified();
         Ok(())
     }
@@ -229,7 +238,7 @@ impl StringPool {
         };
         let mut bytes = Vec::new(*writer.allocator());
         write_u32(&mut bytes, self.codepage.id() as u32 + width_bit)?;
-        write_heads(&mut bytes, self.codepage, self.held.strings())?;
+        write_heads(&mut bytes, self.codepage, self.places.list())?;
         if LENGTH_LIMIT <= bytes.len() {
             return Err(Error::InvalidInput);
         }
@@ -244,7 +253,7 @@ impl StringPool {
         ensures kinds { IfErr result (λ e. e ≡ Memory) }
         ensures err { OnErr result (writer.new.items ≡ writer.old.items) }
     {
-        let bytes = text_bytes(*writer.allocator(), self.codepage, self.held.strings())?;
+        let bytes = text_bytes(*writer.allocator(), self.codepage, self.places.list())?;
         writer.extend_from_slice(bytes.as_slice())?;
         Ok(())
     }
@@ -313,7 +322,7 @@ fn text_bytes(
 }
 
 // The greatest number of a place.
-fn last_place(long: bool) -> u32
+pub(crate) fn last_place(long: bool) -> u32
     ensures last { result ≡ last_place long }
     ensures small { result < 2 ^ 24 }
 {

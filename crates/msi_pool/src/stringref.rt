@@ -6,6 +6,7 @@ ghost use Rattle.msi_values.specs.Datum.{datum_of};
 ghost use Rattle.msi_pool.specs.Refs.{ref_width, ref_of, number_of, ref_at, fits_width, cell_of, with_value, is_counted, without_value, value_at};
 ghost use Rattle.cfb_medium.specs.declared.error.Error.TheVariants.{InvalidInput, InvalidData, Memory};
 
+use crate::draft::CountsUses;
 use crate::stringpool::StringPool;
 use cfb_medium::Error;
 use msi_texts::{read_u16, read_u24, write_u16, write_u24};
@@ -129,17 +130,18 @@ pub enum ValueRef {
 }
 
 impl ValueRef {
-    /// The cell of a value, whose text is counted in the pool. InvalidInput where the pool is full; then,
-    /// and after Memory, the pool is unchanged.
-    pub fn create(value: Value, string_pool: &mut StringPool) -> Result<ValueRef, Error>
-        ensures cell { IfOk result (λ cell. cell_of string_pool.old.pool (datum_of value)
+    /// The cell of a value, whose text is counted in the pool or its draft. InvalidInput where the pool is full; then,
+    /// and after Memory, it is unchanged.
+    pub fn create<P: CountsUses>(value: Value, string_pool: &mut P) -> Result<ValueRef, Error>
+        ensures cell { IfOk result (λ cell. cell_of (P.state string_pool.old).pool (datum_of value)
             ≡ Some cell) }
-        ensures counted { OnOk result (string_pool.new
-            ≡ with_value string_pool.old (datum_of value)) }
+        ensures counted { OnOk result (P.state string_pool.new
+            ≡ with_value (P.state string_pool.old) (datum_of value)) }
         ensures full { IsErrOf result InvalidInput
-            ↔ (cell_of string_pool.old.pool (datum_of value) ≡ None) }
+            ↔ (cell_of (P.state string_pool.old).pool (datum_of value) ≡ None) }
         ensures kinds { IfErr result (λ e. (e ≡ Memory) ⊎ (e ≡ InvalidInput)) }
-        ensures err { OnErr result (string_pool.new ≡ string_pool.old) }
+        ensures err { OnErr result (P.state string_pool.new ≡ P.state string_pool.old) }
+        ensures under { P.under string_pool.new ≡ P.under string_pool.old }
     {
         match value {
             Value::Null => Ok(ValueRef::Null),
@@ -150,13 +152,15 @@ impl ValueRef {
     }
 
     /// Takes the use of the cell's text back. InvalidData where its place has no use; then, and after Memory,
-    /// the pool is unchanged.
-    pub fn remove(self, string_pool: &mut StringPool) -> Result<(), Error>
-        ensures ok { OnOk result (string_pool.new ≡ without_value string_pool.old self) }
+    /// the pool or its draft is unchanged.
+    pub fn remove<P: CountsUses>(self, string_pool: &mut P) -> Result<(), Error>
+        ensures ok { OnOk result (P.state string_pool.new
+            ≡ without_value (P.state string_pool.old) self) }
         ensures unused { IsErrOf result InvalidData
-            ↔ (is_counted string_pool.old.pool self ≡ false) }
+            ↔ (is_counted (P.state string_pool.old).pool self ≡ false) }
         ensures kinds { IfErr result (λ e. (e ≡ Memory) ⊎ (e ≡ InvalidData)) }
-        ensures err { OnErr result (string_pool.new ≡ string_pool.old) }
+        ensures err { OnErr result (P.state string_pool.new ≡ P.state string_pool.old) }
+        ensures under { P.under string_pool.new ≡ P.under string_pool.old }
     {
         match self {
             ValueRef::Str(string_ref) => string_pool.decref(string_ref),

@@ -6,5 +6,5 @@ use Rattle.msi_changes.proofs.Turns.{behind}
 use Rattle.msi_changes.proofs.counting.count_row.Given as goal
 
 abbrev pub invariant-loop-value : goal.invariant-loop-value
-invariant-loop-value l = ((in_turn counted l.pool.pool (data_of (drop l.value-index l.values)) >>= behind l.cells.items) ≡ row_counted l.fn.pool.pool (data_of l.values))
-    × (l.pool.modified ≡ false → l.pool ≡ l.fn.pool)
+invariant-loop-value l = ((in_turn counted l.pool.state.pool (data_of (drop l.value-index l.values)) >>= behind l.cells.items) ≡ row_counted l.fn.pool.state.pool (data_of l.values))
+    × (l.pool.state.modified ≡ false → l.pool.state ≡ l.fn.pool.state) × (l.pool.under ≡ l.fn.pool.under)

@@ -11,5 +11,5 @@ use Rattle.msi_changes.proofs.delete.rows_left.Given as goal
 abbrev pub invariant-loop-row : goal.invariant-loop-row
 invariant-loop-row l =
     let matching = matches l.pool.pool (heading_of (rc_value l.table)).columns (condition_of l.condition) in
-    ((left_of matching l.counted.pool (rows_held (into_iter_items l.row-iterator)) >>= behind (rows_held l.left.items)) ≡ left_of matching l.fn.counted.pool (rows_held l.fn.rows.items))
-    × (l.counted.modified ≡ false → l.counted ≡ l.fn.counted)
+    ((left_of matching l.counted.state.pool (rows_held (into_iter_items l.row-iterator)) >>= behind (rows_held l.left.items)) ≡ left_of matching l.fn.counted.state.pool (rows_held l.fn.rows.items))
+    × (l.counted.state.modified ≡ false → l.counted.state ≡ l.fn.counted.state) × (l.counted.under ≡ l.fn.counted.under)

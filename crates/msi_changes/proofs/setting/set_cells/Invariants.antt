@@ -6,5 +6,5 @@ use Rattle.msi_changes.proofs.setting.set_cells.Given as goal
 
 abbrev pub invariant-loop-set : goal.invariant-loop-set
 invariant-loop-set l =
-    (cells_set (heading_of l.table).columns l.pool.pool l.row.items (sets_of (drop l.set-index l.sets)) ≡ cells_set (heading_of l.table).columns l.fn.pool.pool l.fn.row.items (sets_of l.sets))
-    × (l.pool.modified ≡ false → l.pool ≡ l.fn.pool)
+    (cells_set (heading_of l.table).columns l.pool.state.pool l.row.items (sets_of (drop l.set-index l.sets)) ≡ cells_set (heading_of l.table).columns l.fn.pool.state.pool l.fn.row.items (sets_of l.sets))
+    × (l.pool.state.modified ≡ false → l.pool.state ≡ l.fn.pool.state) × (l.pool.under ≡ l.fn.pool.under)

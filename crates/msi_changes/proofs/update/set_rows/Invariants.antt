@@ -14,6 +14,6 @@ abbrev pub invariant-loop-row : goal.invariant-loop-row
 invariant-loop-row l =
     let columns = (heading_of (rc_value l.table)).columns in
     let matching = matches l.pool.pool columns (condition_of l.condition) in
-    ((in_turn (row_set columns (sets_of l.sets)) l.counted.pool (judged matching (rows_held (into_iter_items l.row-iterator))) >>= behind (rows_held l.after.items))
-    ≡ rows_set columns l.fn.counted.pool (sets_of l.sets) (judged matching (rows_held l.fn.rows.items)))
-    × (l.counted.modified ≡ false → l.counted ≡ l.fn.counted)
+    ((in_turn (row_set columns (sets_of l.sets)) l.counted.state.pool (judged matching (rows_held (into_iter_items l.row-iterator))) >>= behind (rows_held l.after.items))
+    ≡ rows_set columns l.fn.counted.state.pool (sets_of l.sets) (judged matching (rows_held l.fn.rows.items)))
+    × (l.counted.state.modified ≡ false → l.counted.state ≡ l.fn.counted.state) × (l.counted.under ≡ l.fn.counted.under)

@@ -1,0 +1,72 @@
+-- The first place that takes a text, and the list after its use.
+use Rattle.std.proofs.Common.{◌≡◌, ◌≢◌, ℕ, zero, suc, ◌+◌, ◌-◌, ◌<◌, ◌≤◌, Bool, true, false, cond, List, [], ◌∷◌, ◌++◌, length, get_or, refl, ap, arith}
+use Rattle.std.specs.Prelude.{slice_set, nat_lt}
+use Rattle.std.proofs.lemmas.Bool.Decides.{nat_tests}
+use Rattle.msi_places.specs.Places.{Place, takes, place_among, with_use, one_less, without_use}
+
+abbrev with_one_more : List ℕ → Place → Place
+with_one_more t p = record { text = t; count = p.count + 1 }
+
+-- places are numbered from 1
+pub place_among-pos : (t : List ℕ) (ps : List Place) → 0 < place_among t ps
+place_among-pos t [] = omega arith
+place_among-pos t (p ∷ ps) = go (takes t p)
+  where
+    go : (b : Bool) → 0 < cond b 1 (place_among t ps + 1)
+    go true = omega arith
+    go false = omega arith
+
+-- at the first place that takes the text, its count rises
+pub with_use-set : (t : List ℕ) (ps : List Place) (i : ℕ) (d : Place) → i + 1 ≡ place_among t ps → i < length ps →
+    slice_set ps i (with_one_more t (get_or ps i d)) ≡ with_use t ps
+with_use-set t [] i d h l = absurd (omega arith)
+with_use-set t (p ∷ ps) i d h l = go (takes t p) (with_use-set t ps) i h l
+  where
+    go : (b : Bool) → ((i : ℕ) (d : Place) → i + 1 ≡ place_among t ps → i < length ps → slice_set ps i (with_one_more t (get_or ps i d)) ≡ with_use t ps) →
+        (i : ℕ) → i + 1 ≡ cond b 1 (place_among t ps + 1) → i < suc (length ps) →
+        slice_set (p ∷ ps) i (with_one_more t (get_or (p ∷ ps) i d)) ≡ cond b (with_one_more t p ∷ ps) (p ∷ with_use t ps)
+    go true ih zero h l = refl
+    go true ih (suc i) h l = absurd (omega arith)
+    go false ih zero h l = absurd (omega (arith, place_among-pos t ps))
+    go false ih (suc i) h l = ap (λ z. p ∷ z) (ih i d (omega arith) (omega arith))
+
+-- past the last a new place is made
+pub with_use-push : (t : List ℕ) (ps : List Place) (i : ℕ) → i + 1 ≡ place_among t ps → length ps ≤ i →
+    ps ++ record { text = t; count = 1 } ∷ [] ≡ with_use t ps
+with_use-push t [] i h l = refl
+with_use-push t (p ∷ ps) i h l = go (takes t p) (with_use-push t ps) i h l
+  where
+    go : (b : Bool) → ((i : ℕ) → i + 1 ≡ place_among t ps → length ps ≤ i → ps ++ record { text = t; count = 1 } ∷ [] ≡ with_use t ps) →
+        (i : ℕ) → i + 1 ≡ cond b 1 (place_among t ps + 1) → suc (length ps) ≤ i →
+        p ∷ (ps ++ record { text = t; count = 1 } ∷ []) ≡ cond b (with_one_more t p ∷ ps) (p ∷ with_use t ps)
+    go true ih i h l = absurd (omega arith)
+    go false ih zero h l = absurd (omega arith)
+    go false ih (suc i) h l = ap (λ z. p ∷ z) (ih i (omega arith) (omega arith))
+
+-- the place that takes a text has room for a use
+pub place_among-room : (t : List ℕ) (ps : List Place) (i : ℕ) (d : Place) → i + 1 ≡ place_among t ps → i < length ps → (get_or ps i d).count < 65535
+place_among-room t [] i d h l = absurd (omega arith)
+place_among-room t (p ∷ ps) i d h l = go (takes t p) refl (place_among-room t ps) i h l
+  where
+    go : (b : Bool) → takes t p ≡ b → ((i : ℕ) (d : Place) → i + 1 ≡ place_among t ps → i < length ps → (get_or ps i d).count < 65535) →
+        (i : ℕ) → i + 1 ≡ cond b 1 (place_among t ps + 1) → i < suc (length ps) → (get_or (p ∷ ps) i d).count < 65535
+    go true e ih zero h l = grind (arith, nat_tests, e)
+    go true e ih (suc i) h l = absurd (omega arith)
+    go false e ih zero h l = absurd (omega (arith, place_among-pos t ps))
+    go false e ih (suc i) h l = ih i d (omega arith) (omega arith)
+
+-- at a place with a use the count falls
+pub without_use-set : (n : ℕ) (ps : List Place) (i : ℕ) (d : Place) → i + 1 ≡ n → i < length ps → slice_set ps i (one_less (get_or ps i d)) ≡ without_use n ps
+without_use-set n [] i d h l = absurd (omega arith)
+without_use-set zero (p ∷ ps) i d h l = absurd (omega arith)
+without_use-set (suc zero) (p ∷ ps) zero d h l = refl
+without_use-set (suc zero) (p ∷ ps) (suc i) d h l = absurd (omega arith)
+without_use-set (suc (suc n)) (p ∷ ps) zero d h l = absurd (omega arith)
+without_use-set (suc (suc n)) (p ∷ ps) (suc i) d h l = ap (λ z. p ∷ z) (without_use-set (suc n) ps i d (omega arith) (omega arith))
+
+-- the last use takes the text with it
+pub one_less-last : (text : List ℕ) (count : ℕ) (none : List ℕ) → count ≢ 0 → count - 1 ≡ 0 → none ≡ [] → record { text = none; count = count - 1 } ≡ one_less (record { text = text; count = count })
+one_less-last text count none used last e = let one : count ≡ 1 = omega arith in rw (one, e) refl
+
+pub one_less-more : (text : List ℕ) (count : ℕ) → count - 1 ≢ 0 → record { text = text; count = count - 1 } ≡ one_less (record { text = text; count = count })
+one_less-more text count more = let many : nat_lt count 2 ≡ false = grind (arith, nat_tests) in rw many refl

@@ -1,0 +1,4 @@
+pub mod Places
+pub mod PoolIndex
+pub mod PoolParts
+pub mod PoolDraft

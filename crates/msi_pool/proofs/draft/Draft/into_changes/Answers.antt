@@ -1,0 +1,16 @@
+use Rattle.std.proofs.Common.{◌≡◌, ap, subst}
+use Rattle.msi_places.specs.PoolDraft.{AreChangesOf, taken_over}
+use Rattle.msi_pool.specs.PoolDraft.{AreChangesOver, adopted}
+use Rattle.msi_pool.specs.PoolState.{Drafted}
+use Rattle.msi_pool.proofs.draft.Draft.into_changes.Goals as goal
+
+pub returns-clause-changes : goal.returns-clause-changes
+unfolding AreChangesOver
+returns-clause-changes c = subst (λ (v : Drafted). AreChangesOf v.under c.into_changes.result) c.self.view_is c.into_changes.ensures.changes
+
+pub returns-clause-state : goal.returns-clause-state
+unfolding adopted
+returns-clause-state c =
+    let d = c.self.inside in
+    subst (λ (v : Drafted). record { pool = record { page = d.codepage; long = d.long_string_refs; places = taken_over v.under c.into_changes.result }; modified = d.is_modified } ≡ v.state) c.self.view_is
+    (ap (λ places. record { pool = record { page = d.codepage; long = d.long_string_refs; places = places }; modified = d.is_modified }) c.into_changes.ensures.places)

@@ -1,0 +1,149 @@
+//! Drafts of a pool, which hold only what they changed.
+ghost use Rattle.std.specs.Prelude.{◌≡◌, ◌↔◌, ◌⊎◌, Some, None, IfOk, OnOk, OnErr, IfErr, IsErrOf, string_bytes};
+ghost use Rattle.msi_pool.specs.Pool.{at_place, place, used, without_use};
+ghost use Rattle.msi_pool.specs.PoolDraft.{AreChangesOver, adopted};
+ghost use Rattle.msi_pool.specs.PoolState.{changed_to};
+ghost use Rattle.cfb_medium.specs.declared.error.Error.TheVariants.{InvalidInput, InvalidData, Memory};
+
+use crate::stringpool::{StringPool, last_place};
+use crate::stringref::StringRef;
+use cfb_medium::Error;
+use msi_places::{Changes, DraftParts, Places};
+use msi_texts::CodePage;
+use std::marker::Model;
+
+/// Counts uses of texts at places: a pool, or a draft of one.
+pub trait CountsUses: Drop {
+    ghost use Rattle.std.specs.Prelude.{List};
+    ghost use Rattle.msi_pool.specs.Pool.{Place};
+    ghost use Rattle.msi_pool.specs.PoolState.{PoolState};
+
+    /// The pool that is seen.
+    ghost state: { Self → PoolState };
+
+    /// The places of the pool that it lies over.
+    ghost under: { Self → List Place };
+
+    /// Counts a use of the text at the least place that is free or holds it with a count below 65535,
+    /// else at a new place, and tells where. InvalidInput where no reference could name that place;
+    /// then, and after Memory, nothing changed.
+    fn incref(&mut self, text: String) -> Result<StringRef, Error>
+        ensures place { IfOk result (λ n. place (state self.old).pool (string_bytes text)
+            ≡ Some n) }
+        ensures counted { OnOk result (state self.new
+            ≡ changed_to (used (state self.old).pool (string_bytes text))) }
+        ensures full { IsErrOf result InvalidInput
+            ↔ (place (state self.old).pool (string_bytes text) ≡ None) }
+        ensures kinds { IfErr result (λ e. (e ≡ Memory) ⊎ (e ≡ InvalidInput)) }
+        ensures err { OnErr result (state self.new ≡ state self.old) }
+        ensures under { under self.new ≡ under self.old };
+
+    /// Takes back a use at a place. The last takes the text with it. InvalidData where the place has no
+    /// use; then, and after Memory, nothing changed.
+    fn decref(&mut self, string_ref: StringRef) -> Result<(), Error>
+        ensures ok { OnOk result (state self.new
+            ≡ changed_to (record (state self.old).pool {
+              places = without_use string_ref (state self.old).pool.places;
+            })) }
+        ensures unused { IsErrOf result InvalidData
+            ↔ ((at_place (state self.old).pool.places string_ref).count ≡ 0) }
+        ensures kinds { IfErr result (λ e. (e ≡ Memory) ⊎ (e ≡ InvalidData)) }
+        ensures err { OnErr result (state self.new ≡ state self.old) }
+        ensures under { under self.new ≡ under self.old };
+}
+
+impl CountsUses for StringPool {
+    ghost use Rattle.std.specs.Prelude.{[]};
+
+    ghost state = { λ p. p };
+
+    ghost under = { λ p. [] };
+
+    fn incref(&mut self, text: String) -> Result<StringRef, Error> {
+        StringPool::incref(self, text)
+    }
+
+    fn decref(&mut self, string_ref: StringRef) -> Result<(), Error> {
+        StringPool::decref(self, string_ref)
+    }
+}
+
+/// A pool to be changed in place of another, which it borrows: it holds only what changed.
+#[derive(Drop)]
+pub struct Draft<'a> {
+    codepage: CodePage,
+    long_string_refs: bool,
+    places: Places<DraftParts<'a>>,
+    is_modified: bool,
+}
+
+impl<'a> Model for Draft<'a> {
+    ghost use Rattle.msi_pool.specs.PoolState.{Drafted};
+
+    ghost Value = { Drafted };
+
+    ghost view = { λ d. record { state = record { pool = record { page = d.codepage; long = d.long_string_refs; places = d.places.places }; modified = d.is_modified }; under = d.places.under } };
+}
+
+/// What a draft changed of its pool.
+#[derive(Drop)]
+pub struct PoolChanges {
+    pub(crate) codepage: CodePage,
+    pub(crate) long_string_refs: bool,
+    pub(crate) places: Changes,
+    pub(crate) is_modified: bool,
+}
+
+impl<'a> Draft<'a> {
+    // A draft with these places.
+    pub(crate) fn new(
+        codepage: CodePage,
+        long_string_refs: bool,
+        places: Places<DraftParts<'a>>,
+        is_modified: bool,
+    ) -> Draft<'a>
+        ensures page { result.state.pool.page ≡ codepage }
+        ensures long { result.state.pool.long ≡ long_string_refs }
+        ensures places { result.state.pool.places ≡ places.entry.places }
+        ensures modified { result.state.modified ≡ is_modified }
+        ensures under { result.under ≡ places.entry.under }
+    {
+        Draft {
+            codepage,
+            long_string_refs,
+            places,
+            is_modified,
+        }
+    }
+
+    /// What the draft changed, for its pool to take over.
+    pub fn into_changes(self) -> PoolChanges
+        ensures changes { AreChangesOver self.entry.under result }
+        ensures state { adopted self.entry.under result ≡ self.entry.state }
+    {
+        PoolChanges {
+            codepage: self.codepage,
+            long_string_refs: self.long_string_refs,
+            is_modified: self.is_modified,
+            places: self.places.into_changes(),
+        }
+    }
+}
+
+impl<'a> CountsUses for Draft<'a> {
+    ghost state = { λ d. d.state };
+
+    ghost under = { λ d. d.under };
+
+    fn incref(&mut self, text: String) -> Result<StringRef, Error> {
+        let number = self.places.incref(text, last_place(self.long_string_refs))?;
+        self.is_modified = true;
+        Ok(StringRef::new(number))
+    }
+
+    fn decref(&mut self, string_ref: StringRef) -> Result<(), Error> {
+        self.places.decref(string_ref.number() - 1)?;
+        self.is_modified = true;
+        Ok(())
+    }
+}
