@@ -153,13 +153,13 @@ impl<'a> PoolParts for DraftParts<'a> {
 fn place_at<'b>(
     base: &'b Places,
     changed: &'b BTreeMap<u32, (String, u16)>,
-    added: &'b Vec<(String, u16)>,
+    added: &'b [(String, u16)],
     index: u32,
 ) -> Option<&'b (String, u16)>
     ensures some { IfSome result (λ entry. place_of entry.now ≡ slice_index_or
-        (laid (place_in changed.now) base.now.places ++ places_of added.now.items) index no_place) }
+        (laid (place_in changed.now) base.now.places ++ places_of added.now) index no_place) }
     ensures none { IfNone result (length (laid (place_in changed.now) base.now.places
-        ++ places_of added.now.items) ≤ index) }
+        ++ places_of added.now) ≤ index) }
 {
     let list = base.list();
     if list.len() <= index as usize {

@@ -71,7 +71,8 @@ impl<'a> Places<DraftParts<'a>> {
     }
 }
 
-// Puts each text of the one map into the other, without places where that lacks it. The one error is Memory.
+// Puts each text of the one map into the other, without places where that lacks it. After Memory, the one error, some may be
+// there, without places.
 fn hold_texts(
     alloc: Global,
     room: &mut BTreeMap<String, BTreeSet<u32>>,
@@ -127,14 +128,14 @@ fn hold_added(
     match add_places(free, given) {
         Ok(()) => {}
         Err(error) => {
-            drop_used(list, free, given);
+            drop_used(list.as_slice(), free, given);
             return Err(error);
         }
     }
     match list.append(&mut added) {
         Ok(()) => Ok(()),
         Err(_) => {
-            drop_used(list, free, given);
+            drop_used(list.as_slice(), free, given);
             Err(Error::Memory)
         }
     }
@@ -156,10 +157,10 @@ fn add_places(free: &mut BTreeSet<u32>, given: &BTreeSet<u32>) -> Result<(), Err
 }
 
 // Takes those of some places that aren't free in the list out of a set.
-fn drop_used(list: &Vec<(String, u16)>, free: &mut BTreeSet<u32>, given: &BTreeSet<u32>)
+fn drop_used(list: &[(String, u16)], free: &mut BTreeSet<u32>, given: &BTreeSet<u32>)
     ensures { (i : ℕ) → has_place free.new i
         ≡ (has_place free.old i && (not (has_place given.now i)
-        || passes_at is_free (places_of list.now.items) i)) }
+        || passes_at is_free (places_of list.now) i)) }
 {
     for index in given {
         drop_if_used(list, free, *index);
@@ -167,10 +168,10 @@ fn drop_used(list: &Vec<(String, u16)>, free: &mut BTreeSet<u32>, given: &BTreeS
 }
 
 // Takes a place that isn't free in the list out of a set.
-fn drop_if_used(list: &Vec<(String, u16)>, free: &mut BTreeSet<u32>, index: u32)
+fn drop_if_used(list: &[(String, u16)], free: &mut BTreeSet<u32>, index: u32)
     ensures { (i : ℕ) → has_place free.new i
         ≡ (if i == index then has_place free.old i
-        && passes_at is_free (places_of list.now.items) index else has_place free.old i) }
+        && passes_at is_free (places_of list.now) index else has_place free.old i) }
 {
     if !is_free_at(list, index) {
         let _ = free.remove(&index);

@@ -10,4 +10,4 @@ use Rattle.msi_places.proofs.drafts.drop_used.Given as goal
 
 -- what was taken out and what is left to take give the whole
 abbrev pub invariant-loop-index : goal.invariant-loop-index
-invariant-loop-index l = (i : ℕ) → (has_place l.free i && (not (list_any (is_at (nat_cmp i)) l.index-iterator) || passes_at is_free (places_of l.list.items) i)) ≡ (has_place l.fn.free i && (not (has_place l.fn.given i) || passes_at is_free (places_of l.fn.list.items) i))
+invariant-loop-index l = (i : ℕ) → (has_place l.free i && (not (list_any (is_at (nat_cmp i)) l.index-iterator) || passes_at is_free (places_of l.list) i)) ≡ (has_place l.fn.free i && (not (has_place l.fn.given i) || passes_at is_free (places_of l.fn.list) i))
