@@ -1,6 +1,6 @@
 -- The first place that takes a text, and the list after its use.
-use Rattle.std.proofs.Common.{◌≡◌, ◌≢◌, ℕ, zero, suc, ◌+◌, ◌-◌, ◌<◌, ◌≤◌, Bool, true, false, cond, List, [], ◌∷◌, ◌++◌, length, get_or, refl, ap, arith}
-use Rattle.std.specs.Prelude.{slice_set, nat_lt}
+use Rattle.std.proofs.Common.{◌≡◌, ℕ, zero, suc, ◌+◌, ◌<◌, ◌≤◌, Bool, true, false, cond, List, [], ◌∷◌, ◌++◌, length, get_or, refl, ap, arith}
+use Rattle.std.specs.Prelude.{slice_set}
 use Rattle.std.proofs.lemmas.Bool.Decides.{nat_tests}
 use Rattle.msi_places.specs.Places.{Place, takes, place_among, with_use, one_less, without_use}
 
@@ -63,10 +63,3 @@ without_use-set (suc zero) (p ∷ ps) zero d h l = refl
 without_use-set (suc zero) (p ∷ ps) (suc i) d h l = absurd (omega arith)
 without_use-set (suc (suc n)) (p ∷ ps) zero d h l = absurd (omega arith)
 without_use-set (suc (suc n)) (p ∷ ps) (suc i) d h l = ap (λ z. p ∷ z) (without_use-set (suc n) ps i d (omega arith) (omega arith))
-
--- the last use takes the text with it
-pub one_less-last : (text : List ℕ) (count : ℕ) (none : List ℕ) → count ≢ 0 → count - 1 ≡ 0 → none ≡ [] → record { text = none; count = count - 1 } ≡ one_less (record { text = text; count = count })
-one_less-last text count none used last e = let one : count ≡ 1 = omega arith in rw (one, e) refl
-
-pub one_less-more : (text : List ℕ) (count : ℕ) → count - 1 ≢ 0 → record { text = text; count = count - 1 } ≡ one_less (record { text = text; count = count })
-one_less-more text count more = let many : nat_lt count 2 ≡ false = grind (arith, nat_tests) in rw many refl

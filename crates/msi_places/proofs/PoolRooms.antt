@@ -84,7 +84,3 @@ room_kept m n x s0 s u found same t i =
     go : (e : Bool) → bytes_eq t x ≡ e → places_of_text (cond e (Some s) (get_by_text m t)) i ≡ has_room m t i
     go true e = ap (λ ks. list_any (is_at (nat_cmp i)) ks) same ∙ ap (λ o. places_of_text o i) found ∙ ap (λ y. has_room m y i) (sym ((bytes_eq-Decides t x).0 e))
     go false e = refl
-
--- the text has no place
-pub room_none : (m : Rooms) (x : List ℕ) (s : Places) → s.keys ≡ [] → Some s ≡ get_by_text m x → (i : ℕ) → has_room m x i ≡ false
-room_none m x s none found i = sym (ap (λ o. places_of_text o i) found) ∙ ap (λ ks. list_any (is_at (nat_cmp i)) ks) none

@@ -268,11 +268,3 @@ module _ (s n : Parts) (x : IsIndexed s) (p : Place) (few : length s.places + 1 
     other_room = λ t k apart. room t k;
     own_room = λ t. room t end ∙ no_room t ∙ sym (roomy_full t p full);
   }) refl few is
-
--- no places, and nothing beside them
-pub nothing_indexed : (n : Parts) → n.places ≡ [] → ((k : ℕ) → n.free k ≡ false) → ((t : List ℕ) (k : ℕ) → n.room t k ≡ false) → IsIndexed n
-nothing_indexed n is free room = record {
-  few = (let e = ap length is in omega (arith, e));
-  frees = λ k. free k ∙ ap (λ z. passes_at is_free z k) (sym is);
-  rooms = λ t k. room t k ∙ ap (λ z. passes_at (is_roomy t) z k) (sym is);
-}
