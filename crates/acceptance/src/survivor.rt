@@ -1,5 +1,5 @@
 //! A medium in memory that survives stops.
-ghost use Rattle.std.specs.Prelude.{◌≡◌, ◌<◌, ◌++◌, [], ◌∷◌, true, false, refl, length, OnErr, OnOk, IfErr, IfOk};
+ghost use Rattle.std.specs.Prelude.{◌≡◌, ◌<◌, ◌++◌, [], ◌∷◌, true, false, refl, length, Some, slice_index_or, OnErr, OnOk, IfErr, IfOk};
 ghost use Rattle.std.proofs.Common.{arith, inl};
 ghost use Rattle.cfb_medium.specs.declared.error.Error.TheVariants.{Memory};
 ghost use Rattle.cfb_medium.specs.Memory.{memory_bytes};
@@ -90,7 +90,9 @@ impl ReadMedium for Survivor {
 }
 
 impl Medium for Survivor {
-    ghost use Rattle.acceptance.specs.Survivor.{IsKeptAlone};
+    ghost use Rattle.acceptance.specs.Survivor.{lists_kept, IsKeptAlone};
+
+    ghost survives = { true };
 
     ghost has_published = { λ m bytes. IsKeptAlone m bytes };
 
@@ -110,9 +112,20 @@ impl Medium for Survivor {
         Ok(())
     }
 
+    /// A growth that is refused is `Memory`, and leaves all as it was.
+    fn roll_back(&mut self) -> Result<(), Error> {
+        let copy = Vec::from_slice(self.alloc, self.kept[self.first].as_slice())?;
+        self.shown = MemoryMedium::from_bytes(self.alloc, copy);
+        Ok(())
+    }
+
     fn has_failed(&self) -> bool {
         false
     }
 
     ghost continues_published = { λ a _ _ adds _ alone given from. alone given (adds.left a.first given (from.0, Prim.omega (arith, adds.later, from.1), from.2, from.3)) };
+
+    ghost published_left = { λ _ _ left _ _ alone from. alone left from };
+
+    ghost something_left = { λ m _ _. (Some (slice_index_or (lists_kept m) m.first []), m.first, Prim.omega arith, Prim.omega (arith, m.within), refl) };
 }

@@ -99,6 +99,8 @@ impl ReadMedium for FailingMedium {
 }
 
 impl Medium for FailingMedium {
+    ghost survives = { false };
+
     ghost has_published = { λ _ _. ⊤ };
 
     fn write_at(&mut self, at: u64, bytes: &[u8]) -> Result<(), Error> {
@@ -122,9 +124,17 @@ impl Medium for FailingMedium {
         Ok(())
     }
 
+    fn roll_back(&mut self) -> Result<(), Error> {
+        Err(Error::InvalidInput)
+    }
+
     fn has_failed(&self) -> bool {
         false
     }
 
     ghost continues_published = { λ _ _ _ _ _ _. tt };
+
+    ghost published_left = { λ _ _ _ survives. Prim.absurd (Prim.cc survives) };
+
+    ghost something_left = { λ _ survives. Prim.absurd (Prim.cc survives) };
 }

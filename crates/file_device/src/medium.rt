@@ -113,6 +113,8 @@ impl ReadMedium for FileMedium {
 }
 
 impl Medium for FileMedium {
+    ghost survives = { false };
+
     ghost has_published = { λ _ _. ⊤ };
 
     fn write_at(&mut self, at: u64, bytes: &[u8]) -> Result<(), Error> {
@@ -141,9 +143,18 @@ impl Medium for FileMedium {
         }
     }
 
+    /// Always `InvalidInput`, and changes nothing: what is written stands in the file.
+    fn roll_back(&mut self) -> Result<(), Error> {
+        Err(Error::InvalidInput)
+    }
+
     fn has_failed(&self) -> bool {
         false
     }
 
     ghost continues_published = { λ _ _ _ _ _ _. tt };
+
+    ghost published_left = { λ _ _ _ survives. Prim.absurd (Prim.cc survives) };
+
+    ghost something_left = { λ _ survives. Prim.absurd (Prim.cc survives) };
 }
