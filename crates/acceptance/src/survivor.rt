@@ -1,6 +1,7 @@
 //! A medium in memory that survives stops.
 ghost use Rattle.std.specs.Prelude.{◌≡◌, ◌<◌, ◌++◌, [], ◌∷◌, true, false, refl, length, Some, slice_index_or, OnErr, OnOk, IfErr, IfOk};
 ghost use Rattle.std.proofs.Common.{arith, inl};
+ghost use Rattle.std.proofs.lemmas.List.{length-map};
 ghost use Rattle.cfb_medium.specs.declared.error.Error.TheVariants.{Memory};
 ghost use Rattle.cfb_medium.specs.Memory.{memory_bytes};
 
@@ -127,5 +128,5 @@ impl Medium for Survivor {
 
     ghost published_left = { λ _ _ left _ _ alone from. alone left from };
 
-    ghost something_left = { λ m _ _. (Some (slice_index_or (lists_kept m) m.first []), m.first, Prim.omega arith, Prim.omega (arith, m.within), refl) };
+    ghost something_left = { λ m _ _. (Some (slice_index_or (lists_kept m) m.first []), (m.first, Prim.omega arith, Prim.omega (arith, m.within, length-map m.kept.items (λ bytes. bytes.items)), refl)) };
 }
