@@ -1,9 +1,9 @@
 //! The device, and how it is opened.
-ghost use Rattle.std.specs.Prelude.{◌≡◌, ◌≢◌, ◌≤◌, ⊤, ℕ, [], true, false, is_err, length, IfOk, IfErr, refl};
+ghost use Rattle.std.specs.Prelude.{◌≡◌, ◌≢◌, ◌≤◌, ⊤, ℕ, [], true, false, is_err, length, IfOk, IfErr, OnOk, refl};
 ghost use Rattle.std.proofs.Common.{arith, inl};
 ghost use Rattle.cfb_medium.specs.Calls.{Extends};
 ghost use Rattle.staged.specs.Device.{IsDeviceFault, counted_up};
-ghost use Rattle.file_device.specs.FileDevice.{IsOpenRefusal, failures_of, writes_of, one_of};
+ghost use Rattle.file_device.specs.FileDevice.{IsOpenRefusal, failures_of, writes_of, syncs_of, one_of};
 ghost use Rattle.staged.specs.declared.device.Which.{Which};
 
 use crate::file::DiskFile;
@@ -134,6 +134,8 @@ impl Device for FileDevice {
 
     ghost writes = { λ d which. writes_of d which };
 
+    ghost syncs = { λ d which. syncs_of d which };
+
     ghost failures = { λ d. failures_of d };
 
     ghost rests = { λ a b. DiskRests a b };
@@ -147,6 +149,8 @@ impl Device for FileDevice {
     fn len(&mut self, which: Which) -> Result<u64, Error>
         ensures failures { failures_of self.old ≤ failures_of self.new }
         ensures rests { Extends DiskRests self.old self.new }
+        ensures unsynced { (file : Which) → syncs_of self.new file ≡ syncs_of self.old file }
+        ensures calm { OnOk result (failures_of self.new ≡ failures_of self.old) }
         ensures fault { IfErr result (IsDeviceFault failures_of self.old self.new) }
         ensures lost { KeepsLost which (is_err result) self.old self.new }
     {
@@ -160,6 +164,8 @@ impl Device for FileDevice {
         ensures within { IfOk result (λ count. count ≤ length buffer.old) }
         ensures failures { failures_of self.old ≤ failures_of self.new }
         ensures rests { Extends DiskRests self.old self.new }
+        ensures unsynced { (file : Which) → syncs_of self.new file ≡ syncs_of self.old file }
+        ensures calm { OnOk result (failures_of self.new ≡ failures_of self.old) }
         ensures fault { IfErr result (IsDeviceFault failures_of self.old self.new) }
         ensures lost { KeepsLost which (is_err result) self.old self.new }
     {
@@ -174,6 +180,8 @@ impl Device for FileDevice {
         ensures others { (other : Which) → other ≢ which
             → writes_of self.new other ≡ writes_of self.old other }
         ensures failures { failures_of self.old ≤ failures_of self.new }
+        ensures unsynced { (file : Which) → syncs_of self.new file ≡ syncs_of self.old file }
+        ensures calm { OnOk result (failures_of self.new ≡ failures_of self.old) }
         ensures fault { IfErr result (IsDeviceFault failures_of self.old self.new) }
         ensures lost { KeepsLost which (is_err result) self.old self.new }
     {
@@ -187,10 +195,15 @@ impl Device for FileDevice {
     fn sync(&mut self, which: Which) -> Result<(), Error>
         ensures failures { failures_of self.old ≤ failures_of self.new }
         ensures rests { Extends DiskRests self.old self.new }
+        ensures synced { syncs_of self.new which ≡ counted_up (syncs_of self.old which) }
+        ensures others { (other : Which) → other ≢ which
+            → syncs_of self.new other ≡ syncs_of self.old other }
+        ensures calm { OnOk result (failures_of self.new ≡ failures_of self.old) }
         ensures fault { IfErr result (IsDeviceFault failures_of self.old self.new) }
         ensures lost { KeepsLost which (is_err result) self.old self.new }
         ensures noted { is_lost self.new which ≡ is_err result }
     {
+        self.counts.sync(which);
         match self.files.sync(which) {
             Ok(()) => Ok(()),
             Err(_) => Err(self.counts.fault()),
