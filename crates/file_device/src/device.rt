@@ -6,7 +6,7 @@ ghost use Rattle.staged.specs.Device.{IsDeviceFault, counted_up};
 ghost use Rattle.file_device.specs.FileDevice.{IsOpenRefusal, failures_of, writes_of, syncs_of, one_of};
 ghost use Rattle.staged.specs.declared.device.Which.{Which};
 
-use crate::file::DiskFile;
+use crate::file::{DiskFile, check_regular};
 use cfb_medium::Error;
 use staged::{Counts, Device, Which};
 use std::fs::{File, TryLockError};
@@ -54,7 +54,7 @@ pub struct FileDevice {
 }
 
 impl FileDevice {
-    /// The files of these paths; a log that is missing is made, and is on the disk with its folder. `NotFound` where the home file or a
+    /// The files of these paths; a log that is missing is made. Both are on the disk with their folders then. `NotFound` where the home file or a
     /// folder is missing, else `Device`: also where a file is no regular one or may not be written, and where another program has it.
     pub fn open<R: Files<File = File>>(rt: &R, home: &str, log: &str) -> Result<FileDevice, Error>
         ensures failures { IfOk result (λ device. failures_of device ≡ 0) }
@@ -64,7 +64,7 @@ impl FileDevice {
         opened(rt, home, log, false)
     }
 
-    /// The files of these paths; each that is missing is made, and is on the disk with its folder. `NotFound` where a folder is missing,
+    /// The files of these paths; each that is missing is made. Both are on the disk with their folders then. `NotFound` where a folder is missing,
     /// else `Device`, as for `open`.
     pub fn create<R: Files<File = File>>(rt: &R, home: &str, log: &str) -> Result<FileDevice, Error>
         ensures failures { IfOk result (λ device. failures_of device ≡ 0) }
@@ -116,10 +116,14 @@ fn opened_file<R: Files<File = File>>(rt: &R, path: &str, is_made: bool) -> Resu
     }
 }
 
-// Whether a file is there that another program has locked.
+// Whether a file is there that another program has locked to write it. The look takes a shared lock, so that two looks at once don't
+// find each other.
 fn is_in_use<R: Files<File = File>>(rt: &R, path: &str) -> bool {
+    if check_regular(rt, path).is_err() {
+        return false;
+    }
     match File::open(rt, path) {
-        Ok(file) => matches!(file.try_lock(), Err(TryLockError::WouldBlock)),
+        Ok(file) => matches!(file.try_lock_shared(), Err(TryLockError::WouldBlock)),
         Err(_) => false,
     }
 }
