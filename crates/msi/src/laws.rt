@@ -1,7 +1,8 @@
 //! Laws of the definitions, each the contract of a function.
-ghost use Rattle.std.specs.Prelude.{◌≡◌, ◌↔◌, ℕ, Bool, true, IsTrue, List, None, Ok, Option, Some, filter, slice_get};
+ghost use Rattle.std.specs.Prelude.{◌≡◌, ◌↔◌, ◌<◌, ◌^◌, ℕ, All, Bool, true, IsTrue, List, None, Ok, Option, Some, filter, length, slice_get};
 ghost use Rattle.std.specs.List.{remove};
 ghost use Rattle.std.specs.List.Sorted.{IsStrictlySortedBy};
+ghost use Rattle.std.specs.Str.{is_utf8};
 ghost use Rattle.cfb_tree.specs.Changes.{with_bytes, with_changed, with_child};
 ghost use Rattle.cfb_tree.specs.Names.{Letters, name_cmp, name_key};
 ghost use Rattle.cfb_tree.specs.Objects.{a_stream, child, is_same_name, Object};
@@ -11,11 +12,14 @@ ghost use Rattle.msi_columns.specs.Column.{Column};
 ghost use Rattle.msi_columns.specs.declared.column.ColumnType.{ColumnType};
 ghost use Rattle.msi_expr.specs.Formula.{Formula};
 ghost use Rattle.msi_pool.specs.Pool.{Pool};
+ghost use Rattle.msi_pool.specs.PoolKept.{AreFreeEmpty, IsWritable};
 ghost use Rattle.msi_props.specs.Props.{Props};
-ghost use Rattle.msi_tables.specs.Rows.{rows_of, Row};
-ghost use Rattle.msi_tables.specs.Table.{Table};
+ghost use Rattle.msi_tables.specs.Rows.{rows_of, IsStored, Row};
+ghost use Rattle.msi_tables.specs.Table.{IsStoredByKeys, Table};
+ghost use Rattle.msi.specs.Back.{CanBeStored, ComeBack};
 ghost use Rattle.msi_values.specs.Datum.{Datum};
 ghost use Rattle.msi.specs.Calls.{Creates, Deletes, Drops, Inserts, HasOneAnswer, Updates};
+ghost use Rattle.msi.specs.Fit.{is_fit_pool};
 ghost use Rattle.msi.specs.Known.{HaveColumns, HaveRows, package_with, Parts};
 ghost use Rattle.msi.specs.Opening.{may_use, opened};
 ghost use Rattle.msi.specs.Package.{at_name, is_stream, objects, stream_at, Package, Packs};
@@ -120,4 +124,22 @@ pub fn streams_are_put_among_the_objects()
 pub fn read_rows_name_no_place_0()
     ensures { (long : Bool) (kinds : List ColumnType) (bytes : List ℕ) (rows : List Row)
         → rows_of long kinds bytes ≡ Some rows → uses_in rows 0 ≡ 0 }
+{}
+
+/// Rows that a table can store come back from their bytes in the order in which they are stored, after an update or a delete and
+/// after an insert.
+pub fn stored_rows_come_back()
+    ensures stored { (long : Bool) (columns : List Column) (rows stored : List Row)
+        → IsStored columns rows stored → CanBeStored long columns rows
+        → ComeBack long columns stored }
+    ensures by_keys { (long : Bool) (pool : Pool) (columns : List Column) (rows stored : List Row)
+        → IsStoredByKeys pool columns rows stored → CanBeStored long columns rows
+        → ComeBack long columns stored }
+{}
+
+/// A pool in memory that is fit has streams that are read as that pool, where no text stands at a free place.
+pub fn fit_pools_can_be_written()
+    ensures { (pool : Pool) → IsTrue (is_fit_pool pool)
+        → All (λ p. IsTrue (is_utf8 p.text) × (p.count < 2 ^ 16)) pool.places
+        → length pool.places < 2 ^ 32 → AreFreeEmpty pool.places → IsWritable pool }
 {}
