@@ -1,5 +1,5 @@
 """The merge gate: proves every crate and its tests from nothing, looks at the layout, runs programs and tests, tries the
-wrong bodies of each crate whose line in must-fail.tried is missing or differs, ends runs of msidb by force, and refuses
+wrong bodies of each crate whose line in must-fail.tried is missing or differs (many at a time, rt-many), ends runs of msidb by force, and refuses
 each request for memory of growths in turn. It works on a copy."""
 import os
 import re
@@ -29,7 +29,7 @@ def run(room):
     begin, last = time.monotonic(), "0 passed, 1 failed"
     words = {"cwd": room, "stdin": subprocess.DEVNULL, "stdout": subprocess.PIPE, "stderr": subprocess.STDOUT}
     unbuffered = {**os.environ, "PYTHONUNBUFFERED": "1"}
-    with subprocess.Popen(["rt", "ci"], text=True, errors="replace", env=unbuffered, **words) as ran:
+    with subprocess.Popen([sys.executable, tried.ROOT / ".ci" / "rt-many", "ci"], text=True, errors="replace", env=unbuffered, **words) as ran:
         for line in ran.stdout:
             line = line.rstrip("\n")
             if re.fullmatch(r"\d+ passed, \d+ failed", line):
