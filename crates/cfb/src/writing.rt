@@ -1,5 +1,6 @@
 //! Streams of a file, opened by their paths and written.
 ghost use Rattle.cfb.specs.Doing.{Means as MeansTree};
+ghost use Rattle.cfb.specs.Putting.{IsRefusedOpening};
 ghost use Rattle.cfb.specs.Streams.{IsWant, KeepsStream};
 ghost use Rattle.cfb.specs.Views.{letters_in, mini_of, sound_of, Rests};
 ghost use Rattle.cfb.specs.Writing.{file_under, place_of, FindsWritten, IsFound, IsLostAt, IsWritten, KeepsAt, LacksRoomAt, Opens, RewritesAt};
@@ -13,7 +14,7 @@ ghost use Rattle.cfb_medium.specs.Calls.{IsFaultUnless};
 ghost use Rattle.cfb_meaning.specs.TreeRules.{open_stream, refused};
 ghost use Rattle.cfb_medium.specs.Bytes.{overwritten};
 ghost use Rattle.cfb_medium.specs.Versions.{stream_len_mask};
-ghost use Rattle.cfb_medium.specs.declared.error.Error.TheVariants.{Failed, Full, InvalidData, InvalidInput};
+ghost use Rattle.cfb_medium.specs.declared.error.Error.TheVariants.{Failed, Full, InvalidData, InvalidInput, Memory};
 ghost use Rattle.cfb_mini.specs.Views.{allocator_of, directory_of};
 ghost use Rattle.cfb_owned.specs.Chains.{GoesOn, IsInvalidPlaceOrFull};
 ghost use Rattle.cfb_tree.specs.Paths.{Path};
@@ -40,6 +41,7 @@ impl<F: ReadMedium> CompoundFile<F> {
         ensures refused { (tree : Tree) → MeansTree self.now tree
             → IfErr result (λ e. IsWant self.now e
             ⊎ (answer_at (letters_in self.now) tree open_stream (names_in path.now) ≡ refused e)) }
+        ensures error { IfErr result (λ e. (e ≡ Memory) ⊎ IsRefusedOpening e) }
     {
         let names = match name_chain_from_path(self.alloc, path) {
             Ok(names) => names,
@@ -59,7 +61,7 @@ impl<F: ReadMedium> CompoundFile<F> {
 
     // Finds the entry and the sectors of the stream at a path, and gives the entry's number and how many bytes the stream has.
     // Nothing is read ahead of it yet.
-    fn find_written(&mut self, path: &str) -> Result<(u32, u64), Error>
+    pub(crate) fn find_written(&mut self, path: &str) -> Result<(u32, u64), Error>
         ensures rests { Rests self.old self.new }
         ensures small { IfOk result (λ it. it.1 < 2 ^ 63) }
         ensures found { (tree : Tree) → MeansTree self.old tree → IfOk result (λ it.
@@ -71,6 +73,7 @@ impl<F: ReadMedium> CompoundFile<F> {
             → IsErrOf result Failed }
         ensures unsound { has_failed_here (allocator_of (mini_of self.old)) ≡ false
             → sound_of self.old ≡ false → IsErrOf result InvalidData }
+        ensures error { IfErr result (λ e. IsWant self.old e ⊎ IsRefusedOpening e) }
     {
         match self.check_live() {
             Ok(()) => {}
