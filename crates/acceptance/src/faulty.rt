@@ -3,7 +3,7 @@ ghost use Rattle.std.specs.Prelude.{◌≡◌, ◌≤◌, ⊤, false, refl};
 ghost use Rattle.std.proofs.Common.{arith, inl};
 ghost use Rattle.staged.specs.Memory.{memory_files};
 ghost use Rattle.staged.specs.Device.{Rests};
-ghost use Rattle.staged.specs.Counts.{counted_failures, counted_writes};
+ghost use Rattle.staged.specs.Counts.{counted_failures, counted_writes, counted_syncs};
 ghost use Rattle.staged.specs.declared.device.Which.{Which};
 
 use cfb_medium::Error;
@@ -71,6 +71,8 @@ impl Device for FaultyDevice {
 
     ghost writes = { λ d which. counted_writes d.counts which };
 
+    ghost syncs = { λ d which. counted_syncs d.counts which };
+
     ghost failures = { λ d. counted_failures d.counts };
 
     ghost rests = { λ a b. ((which : Which) → counted_writes b.counts which ≡ counted_writes a.counts which)
@@ -111,6 +113,7 @@ impl Device for FaultyDevice {
     }
 
     fn sync(&mut self, which: Which) -> Result<(), Error> {
+        self.counts.sync(which);
         if self.fuse.blows() {
             return Err(self.counts.fault());
         }

@@ -233,8 +233,10 @@ impl<F: Medium> Directory<F> {
             → IsErrOf result Failed × Rests self.old self.new }
         ensures cause { IfErr result (HasCauseBelow (allocator_of self.old)
             (allocator_of self.new)) }
-        ensures failures { F.failures (medium_of (allocator_of self.old))
-            ≤ F.failures (medium_of (allocator_of self.new)) }
+        ensures medium { (F.failures (medium_of (allocator_of self.old))
+            ≤ F.failures (medium_of (allocator_of self.new)))
+            × OnOk result (F.failed (medium_of (allocator_of self.new))
+            ≡ F.failed (medium_of (allocator_of self.old))) }
         ensures fault { IfErr result (IsFaultUnless ⊥) }
     {
         self.allocator.commit()

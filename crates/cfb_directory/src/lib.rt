@@ -5,9 +5,11 @@ mod changes;
 mod children;
 mod directory;
 mod free;
+mod husk;
 mod lending;
 mod reading;
 mod walk;
 
 pub use changes::EntryChange;
 pub use directory::Directory;
+pub use husk::DirectoryHusk;

@@ -6,6 +6,7 @@ ghost use Rattle.cfb_chains.specs.Changes.{IsNoneOf};
 ghost use Rattle.cfb_fat.specs.Listed.{Lists};
 ghost use Rattle.cfb_fat.specs.Orderly.{AreBelow, IsOrderly};
 ghost use Rattle.cfb_sectors.specs.Held.{bytes_of as sectors_bytes, count_of as sectors_count, has_failed_here as sectors_failed, medium_of as sectors_medium, version_of as sectors_version, AreCounted, IsHonest as AreHonest, IsRefused, LeavesOldOrBytes, Rests};
+ghost use Rattle.cfb_sectors.specs.RollingBack.{RollsBack};
 ghost use Rattle.cfb_sectors.specs.Sectors.{fat_in, free, Chain as IsChain};
 ghost use Rattle.std.specs.Prelude.{false, length, slice_get, slice_index, take, true, IfErr, IfOk, IsErrOf, IsTrue, List, None, OnErr, OnOk, Some, ℕ, ◌*◌, ◌++◌, ◌/◌, ◌<◌, ◌≡◌, ◌≤◌, ◌↔◌, ◌⊎◌, ◌||◌};
 
@@ -76,6 +77,23 @@ impl<F: ReadMedium> Allocator<F> {
                 first_free: 0,
             }),
             Err(error) => Err((sectors.into_inner(), error)),
+        }
+    }
+
+    /// An allocator without a FAT, over a medium of which nothing is known: every call is refused.
+    pub fn husk(alloc: Global, version: Version, medium: F) -> Allocator<F>
+        ensures medium { medium_of result ≡ medium }
+        ensures version { version_of result ≡ version }
+        ensures failed { has_failed_here result ≡ true }
+    {
+        Allocator {
+            alloc,
+            sectors: Sectors::husk(version, medium),
+            difat_sectors: Vec::new(alloc),
+            fat_sectors: Vec::new(alloc),
+            fat: Vec::new(alloc),
+            is_orderly: false,
+            first_free: 0,
         }
     }
 
@@ -247,9 +265,47 @@ impl<F: Medium> Allocator<F> {
         ensures failed { has_failed_here self.old ≡ true
             → IsErrOf result Failed × AllRests self.old self.new }
         ensures cause { IfErr result (HasCauseBelow self.old self.new) }
-        ensures failures { F.failures (medium_of self.old) ≤ F.failures (medium_of self.new) }
+        ensures medium { (F.failures (medium_of self.old) ≤ F.failures (medium_of self.new))
+            × OnOk result (F.failed (medium_of self.new) ≡ F.failed (medium_of self.old)) }
         ensures fault { IfErr result (IsFaultUnless ⊥) }
     {
         self.sectors.commit()
+    }
+
+    /// The medium, taken back to the bytes that were published last, also where the allocator has failed. A refusal gives the
+    /// allocator as it was: `InvalidInput` of a medium that doesn't survive a stop, `Failed` of one that has failed, `Memory`
+    /// and `Device`.
+    pub fn roll_back(self) -> Result<F, (Allocator<F>, Error)>
+        ensures rolled { IfOk result (RollsBack F.honest F.bytes F.continues F.has_published
+            (medium_of self)) }
+        ensures rests { IfErr result (λ e. AllRests self e.0) }
+        ensures cause { IfErr result (λ e. HasCauseSince F.continues F.failures F.failed
+            (medium_of self) (medium_of e.0) e.1) }
+        ensures fault { IfErr result (λ e. IsFaultUnless (F.survives ≡ false) e.1) }
+    {
+        let Allocator {
+            alloc,
+            sectors,
+            difat_sectors,
+            fat_sectors,
+            fat,
+            is_orderly,
+            first_free,
+        } = self;
+        match sectors.roll_back() {
+            Ok(medium) => Ok(medium),
+            Err((sectors, error)) => {
+                let same = Allocator {
+                    alloc,
+                    sectors,
+                    difat_sectors,
+                    fat_sectors,
+                    fat,
+                    is_orderly,
+                    first_free,
+                };
+                Err((same, error))
+            }
+        }
     }
 }

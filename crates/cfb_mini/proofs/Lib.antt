@@ -1,4 +1,5 @@
 pub mod Counts
+pub mod CoveredStream
 pub mod Cutting
 pub mod DirectoryChanges
 pub mod Entries

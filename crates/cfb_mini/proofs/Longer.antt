@@ -1,5 +1,5 @@
 -- Mini chains that become longer, step by step.
-use Rattle.std.proofs.Common.{◌≡◌, ℕ, ◌+◌, ◌*◌, ◌<◌, ◌≤◌, inl, inr, List, [], ◌∷◌, ◌++◌, length, get_or, replicate, set, refl, ap, sym, subst, ◌∙◌, arith, ⊎_elim, append_assoc, append-nil, length-append, IsTrue}
+use Rattle.std.proofs.Common.{◌≡◌, ◌⊎◌, ℕ, ◌+◌, ◌*◌, ◌<◌, ◌≤◌, inl, inr, List, [], ◌∷◌, ◌++◌, length, get_or, replicate, set, refl, ap, sym, subst, ◌∙◌, arith, ⊎_elim, append_assoc, append-nil, length-append, IsTrue}
 use Rattle.std.specs.List.{count_by, AllByRecursion}
 use Rattle.std.specs.Prelude.{nat_eq, Result, Ok, Err, slice_get, slice_index_or, Some}
 use Rattle.std.proofs.lemmas.Bool.Decides.{eqb_tells, leb_tells}
@@ -21,8 +21,9 @@ use Rattle.cfb_fat.specs.Resting.{all_rest_then}
 use Rattle.cfb_fat.specs.Seeing.{seen_of}
 use Rattle.cfb_fat.specs.Tables.{bytes_of, difat_sectors_of, fat_of, fat_sectors_of, is_honest, tables_of, version_of, AllRests}
 use Rattle.cfb_fat.specs.declared.allocator.Allocator.{Allocator}
+use Rattle.cfb_tree.specs.Directory.{Entry}
 use Rattle.cfb_directory.specs.Views as directory
-use Rattle.cfb_mini.specs.Changing.{mini_seen, Extends, GrowsMiniFat, GrowsMiniStream, HasOwners, LacksMini, Lengthens, TellsStream}
+use Rattle.cfb_mini.specs.Changing.{mini_seen, CoversStream, Extends, GrowsMiniFat, GrowsMiniStream, HasOwners, LacksMini, Lengthens, TellsStream}
 use Rattle.cfb_mini.specs.Growing.{LacksMore}
 use Rattle.cfb_mini.specs.Views.{allocator_of, directory_of, mini_fat_ids, mini_fat_of, mini_stream_ids, mini_stream_len, mini_stream_of, IsMini, Rests}
 use Rattle.cfb_mini.specs.declared.mini_allocator.MiniAllocator.{MiniAllocator}
@@ -232,6 +233,20 @@ module _ {F : Type 0} {g : Ghosts F} where
         file = file_then a b c h.file k.file;
       }
 
+  -- the root's entry tells of the mini stream, whether or not it did before
+  told_anew : (a b c : MiniAllocator F g)
+      → ((e : Entry) → slice_get (directory.entries_held (directory_of b)) 0 ≡ Some e → directory.entries_held (directory_of c) ≡ set (directory.entries_held (directory_of b)) 0 (record e { start = slice_index_or (mini_stream_ids c) 0 end_of_chain; size = mini_stream_len c }))
+      → TellsStream a b → TellsStream a c
+  told_anew a b c root h = ⊎_elim
+      (λ same. inr (λ e found. root e (ap (λ l. slice_get l 0) same.0 ∙ found) ∙ ap (λ l. set l 0 (record e { start = slice_index_or (mini_stream_ids c) 0 end_of_chain; size = mini_stream_len c })) same.0))
+      (λ told. inr (λ e found.
+      let mid_root = record e { start = slice_index_or (mini_stream_ids b) 0 end_of_chain; size = mini_stream_len b } in
+      let held = directory.entries_held (directory_of a) in
+      root mid_root (ap (λ l. slice_get l 0) (told e found) ∙ set_found held e mid_root found)
+      ∙ ap (λ l. set l 0 (record mid_root { start = slice_index_or (mini_stream_ids c) 0 end_of_chain; size = mini_stream_len c })) (told e found)
+      ∙ set_again held mid_root (record e { start = slice_index_or (mini_stream_ids c) 0 end_of_chain; size = mini_stream_len c })))
+      h
+
   -- the mini stream did
   pub lengthens_by_stream : (a b c : MiniAllocator F g) (minis mid : List ℕ) (own : ℕ → List ℕ) → version_of (allocator_of b) ≡ version_of (allocator_of a) → Lengthens a b minis mid own → GrowsMiniStream b c (own_now b own) → Lengthens a c minis mid own
   lengthens_by_stream a b c minis mid own version h k =
@@ -256,15 +271,30 @@ module _ {F : Type 0} {g : Ghosts F} where
             (λ other. others n other.1 off ∙ sym (now_other b own n other.1 off))
             (eqb_tells n 1));
         others = λ n past. stays_then (allocator_of a) (allocator_of b) (allocator_of c) (own n) (mine n) version (now_other b own n (λ same. omega (arith, same, past)) (λ same. omega (arith, same, past))) (h.others n past) (k.others n past);
-        entries = ⊎_elim
-            (λ same. inr (λ e found. k.root e (ap (λ l. slice_get l 0) same.0 ∙ found) ∙ ap (λ l. set l 0 (record e { start = slice_index_or (mini_stream_ids c) 0 end_of_chain; size = mini_stream_len c })) same.0))
-            (λ told. inr (λ e found.
-            let mid_root = record e { start = slice_index_or (mini_stream_ids b) 0 end_of_chain; size = mini_stream_len b } in
-            let held = directory.entries_held (directory_of a) in
-            k.root mid_root (ap (λ l. slice_get l 0) (told e found) ∙ set_found held e mid_root found)
-            ∙ ap (λ l. set l 0 (record mid_root { start = slice_index_or (mini_stream_ids c) 0 end_of_chain; size = mini_stream_len c })) (told e found)
-            ∙ set_again held mid_root (record e { start = slice_index_or (mini_stream_ids c) 0 end_of_chain; size = mini_stream_len c })))
-            h.entries;
+        entries = told_anew a b c k.root h.entries;
+        file = file_then a b c h.file k.file;
+      }
+
+  -- the root's entry was set
+  pub lengthens_by_cover : (a b c : MiniAllocator F g) (minis mid : List ℕ) (own : ℕ → List ℕ) → version_of (allocator_of b) ≡ version_of (allocator_of a) → Lengthens a b minis mid own → CoversStream b c (own_now b own) → Lengthens a c minis mid own
+  lengthens_by_cover a b c minis mid own version h k =
+      let mine = own_now b own in
+      let new = k.owners in
+      let fat : mini_fat_ids c ≡ mini_fat_ids b = sym new.mini_fat ∙ now_fat b own in
+      let ids : mini_stream_ids c ≡ mini_stream_ids b = sym new.mini_stream ∙ now_stream b own in
+      let len : mini_stream_len c ≡ mini_stream_len b = sym (stream_size c mine new) ∙ ap length k.stream ∙ stream_size b mine (lengthened_owners a b minis mid own h) in
+      record {
+        taken = h.taken;
+        minis_are = h.minis_are;
+        were_free = h.were_free;
+        inside = subst (λ m. AllByRecursion (λ n. 64 * n + 64 ≤ m) h.taken) (sym len) h.inside;
+        linked = subst (λ l. IsLinked l mid) (sym k.mini_fat) h.linked;
+        numbers = subst (StayBut mid (mini_fat_of a)) (sym k.mini_fat) h.numbers;
+        zeros = h.zeros;
+        stream = k.stream ∙ h.stream;
+        owners = λ then is_fat is_stream others. owners_same c mine then (now_same b own then (is_fat ∙ fat) (is_stream ∙ ids) others) new;
+        others = λ n past. stays_then (allocator_of a) (allocator_of b) (allocator_of c) (own n) (mine n) version (now_other b own n (λ same. omega (arith, same, past)) (λ same. omega (arith, same, past))) (h.others n past) (k.others n past);
+        entries = told_anew a b c k.root h.entries;
         file = file_then a b c h.file k.file;
       }
 
@@ -350,7 +380,7 @@ module _ {F : Type 0} {g : Ghosts F} where
   }
 
   -- as many sectors have as many bytes
-  len_same : (b c : MiniAllocator F g) → version_of (allocator_of c) ≡ version_of (allocator_of b) → IsMini b → IsMini c → mini_stream_ids c ≡ mini_stream_ids b → mini_stream_len c ≡ mini_stream_len b
+  pub len_same : (b c : MiniAllocator F g) → version_of (allocator_of c) ≡ version_of (allocator_of b) → IsMini b → IsMini c → mini_stream_ids c ≡ mini_stream_ids b → mini_stream_len c ≡ mini_stream_len b
   len_same b c version is now ids =
       ap (λ v. length (mini_stream_ids c) * sector_len v) (now.over.stream_version ∙ version ∙ sym is.over.stream_version) ∙ ap (λ l. length l * sector_len (links_version b.mini_fat.stream)) ids
 
@@ -409,3 +439,7 @@ module _ {F : Type 0} {g : Ghosts F} where
         entries = tells_then a b c (len_same b c next was.memory new.memory) h.entries k.entries;
         file = file_then a b c h.file k.file;
       }
+
+  -- the root's size was raised, or it was enough
+  pub lengthens_covered : (a b c : MiniAllocator F g) (minis mid : List ℕ) (own : ℕ → List ℕ) → version_of (allocator_of b) ≡ version_of (allocator_of a) → Lengthens a b minis mid own → Rests b c ⊎ CoversStream b c (own_now b own) → Lengthens a c minis mid own
+  lengthens_covered a b c minis mid own version h did = ⊎_elim (λ rests. lengthens_rest a b c minis mid own version h rests) (λ covers. lengthens_by_cover a b c minis mid own version h covers) did

@@ -137,6 +137,20 @@ module _ {F : Type 0} {g : Ghosts F} where
         → directory.entries_held (directory_of new) ≡ slice_set (directory.entries_held (directory_of old)) 0 (record e { start = slice_index_or (mini_stream_ids new) 0 end_of_chain; size = mini_stream_len new })
     pub file : LeavesFile old new
 
+  -- the root's size covers each sector of the mini stream, and so each mini sector in use ([MS-CFB] 2.6.3)
+  abbrev pub IsCovered : MiniAllocator F g → Type 0
+  IsCovered it = (root : Entry) → slice_get (directory.entries_held (directory_of it)) 0 ≡ Some root → mini_stream_len it ≤ root.size
+
+  -- The root's entry tells where the mini stream begins and how many bytes it has. All other entries stay, and all that is owned.
+  pub record CoversStream (old new : MiniAllocator F g) (own : ℕ → List ℕ) : Type 0 where
+    pub owners : HasOwners new own
+    pub others : (k : ℕ) → 2 < k → Stays (sector (version_of (allocator_of old))) (seen_of (allocator_of old)) (seen_of (allocator_of new)) (own k)
+    pub stream : mini_stream_of new ≡ mini_stream_of old
+    pub mini_fat : mini_fat_of new ≡ mini_fat_of old
+    pub root : (e : Entry) → slice_get (directory.entries_held (directory_of old)) 0 ≡ Some e
+        → directory.entries_held (directory_of new) ≡ slice_set (directory.entries_held (directory_of old)) 0 (record e { start = slice_index_or (mini_stream_ids new) 0 end_of_chain; size = mini_stream_len new })
+    pub file : LeavesFile old new
+
   -- The directory took in sectors that were in no use, if any; but for these, its own, and these numbers of the header nothing was
   -- touched. All else that is owned stays, and the mini FAT.
   pub record ChangesDirectory (words : List ℕ) (old new : MiniAllocator F g) (own : ℕ → List ℕ) : Type 0 where

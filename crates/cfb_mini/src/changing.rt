@@ -61,8 +61,10 @@ impl<F: Medium> MiniAllocator<F> {
             → IsErrOf result Failed × Rests self.old self.new }
         ensures cause { IfErr result (HasCauseBelow (allocator_of self.old)
             (allocator_of self.new)) }
-        ensures failures { F.failures (medium_of (allocator_of self.old))
-            ≤ F.failures (medium_of (allocator_of self.new)) }
+        ensures medium { (F.failures (medium_of (allocator_of self.old))
+            ≤ F.failures (medium_of (allocator_of self.new)))
+            × OnOk result (F.failed (medium_of (allocator_of self.new))
+            ≡ F.failed (medium_of (allocator_of self.old))) }
         ensures fault { IfErr result (IsFaultUnless ⊥) }
     {
         self.directory.commit()
@@ -107,7 +109,7 @@ impl<F: Medium> MiniAllocator<F> {
     /// free. Its bytes are those that it had. `false` where the mini stream has none that is free, and then nothing is
     /// changed. `InvalidData` where the mini FAT hasn't the chain's last one, and then nothing is changed, or the FAT hasn't
     /// the mini FAT's chain; `Full` where the chain has as many mini sectors as there are numbers. After an error nothing is
-    /// changed, or it has failed ([MS-CFB] 2.4).
+    /// changed, or it has failed. The root's size stays: `lengthen_mini_chain` sees to it ([MS-CFB] 2.4).
     pub fn extend_mini_chain(&mut self, links: &mut MiniLinks) -> Result<bool, Error>
         ensures extended { IfOk result (λ took. took ≡ true → (own : ℕ → List ℕ)
             → HasOwners self.old own → IsLinked (mini_fat_of self.old) (minis_of links.old)

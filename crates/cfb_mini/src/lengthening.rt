@@ -5,7 +5,7 @@ ghost use Rattle.cfb_fat.specs.Calls.{Answers};
 ghost use Rattle.cfb_fat.specs.Tables.{has_failed_here, orderly_of, AllFails, HasCauseBelow};
 ghost use Rattle.cfb_medium.specs.Calls.{IsFaultUnless};
 ghost use Rattle.cfb_medium.specs.declared.error.Error.TheVariants.{Full, InvalidData};
-ghost use Rattle.cfb_mini.specs.Changing.{GrowsMiniFat, GrowsMiniStream, HasOwners, LacksMini, Lengthens};
+ghost use Rattle.cfb_mini.specs.Changing.{GrowsMiniFat, GrowsMiniStream, HasOwners, IsCovered, LacksMini, Lengthens};
 ghost use Rattle.cfb_mini.specs.LinkViews.{minis_of};
 ghost use Rattle.cfb_mini.specs.Views.{allocator_of, mini_fat_of, IsMini, Rests};
 ghost use Rattle.cfb_owned.specs.Chains.{GoesOn};
@@ -107,7 +107,8 @@ impl<F: Medium> MiniAllocator<F> {
     }
 
     /// Makes a mini chain so many mini sectors long: each that it takes in is the first of the mini stream that is free, and
-    /// has the bytes that it had; mini FAT and mini stream become longer where they must. A chain that is so long stays.
+    /// has the bytes that it had; mini FAT and mini stream become longer where they must, and the root's size covers the mini
+    /// stream then, whatever size it had. A chain that is so long stays.
     /// `InvalidData` where the FAT's tables can't be changed, or FAT or mini FAT haven't the chains that memory tells of;
     /// `Full` where no number is left, or no room for the mini stream's size (in version 3 past 2^32 - 1 bytes). After an
     /// error nothing is changed, or it has failed ([MS-CFB] 2.4, 2.6.2).
@@ -115,7 +116,8 @@ impl<F: Medium> MiniAllocator<F> {
         ensures lengthened { OnOk result ((own : ℕ → List ℕ) → HasOwners self.old own
             → IsLinked (mini_fat_of self.old) (minis_of links.old)
             → Lengthens self.old self.new (minis_of links.old) (minis_of links.new) own
-            × (length (minis_of links.new) ≤ max count (length (minis_of links.old)))) }
+            × (length (minis_of links.new) ≤ max count (length (minis_of links.old)))
+            × (length (minis_of links.old) < count → IsCovered self.new)) }
         ensures enough { OnOk result (count ≤ length (minis_of links.new)) }
         ensures kept { OnErr result (has_failed_here (allocator_of self.new) ≡ false
             → minis_of links.new ≡ minis_of links.old) }
@@ -138,6 +140,10 @@ impl<F: Medium> MiniAllocator<F> {
             return Ok(());
         }
         if let Err(error) = self.take_or_grow(links) {
+            return Err(error);
+        }
+        if let Err(error) = self.cover_mini_stream() {
+            self.fail();
             return Err(error);
         }
         self.lengthen_on(links, count)

@@ -2,10 +2,12 @@
 #![tactic(auto)]
 
 mod changing;
+mod covering;
 mod directory_entries;
 mod entering;
 mod freeing;
 mod growing;
+mod husk;
 mod laws;
 mod lending;
 mod lengthening;
@@ -19,6 +21,7 @@ mod stream_growth;
 mod taking;
 mod writing;
 
+pub use husk::MiniHusk;
 pub use laws::mini_sectors_are_parts;
 pub use links::MiniLinks;
 pub use mini_allocator::MiniAllocator;

@@ -22,7 +22,7 @@ use std::alloc::Global;
 /// The mini FAT and the mini stream of a compound file, over its directory ([MS-CFB] 2.4, 2.6.2).
 #[derive(Drop)]
 pub struct MiniAllocator<F: ReadMedium> {
-    alloc: Global,
+    pub(crate) alloc: Global,
     pub(crate) directory: Directory<F>,
     pub(crate) mini_fat: MiniFat,
 }

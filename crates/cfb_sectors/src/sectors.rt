@@ -1,9 +1,10 @@
 //! A medium seen as a header's sector and those behind it.
 ghost use Rattle.cfb_medium.specs.Bytes.{overwritten};
-ghost use Rattle.cfb_medium.specs.Calls.{Extends, IsFaultUnless};
+ghost use Rattle.cfb_medium.specs.Calls.{Extends, HasCauseSince, IsFaultUnless};
 ghost use Rattle.cfb_medium.specs.Versions.{sector_len};
 ghost use Rattle.cfb_medium.specs.declared.error.Error.TheVariants.{Failed, Full, InvalidData};
 ghost use Rattle.cfb_sectors.specs.Initial.{initial};
+ghost use Rattle.cfb_sectors.specs.RollingBack.{RollsBack};
 ghost use Rattle.cfb_sectors.specs.Sectors.{filled_part, greatest_regular, sector_start, sectors_in};
 ghost use Rattle.std.specs.Prelude.{false, length, replicate, true, IfErr, IfOk, IsErrOf, IsTrue, MatchOption, OnErr, OnOk, ◌+◌, ◌<◌, ◌≡◌, ◌≤◌, ◌↔◌, ◌⊎◌, ◌||◌, ◌^◌};
 
@@ -47,6 +48,21 @@ impl<F: ReadMedium> Sectors<F> {
         }
     }
 
+    /// No sectors, over a medium of which nothing is known: every call is refused.
+    pub fn husk(version: Version, inner: F) -> Sectors<F>
+        ensures medium { medium_of result ≡ inner }
+        ensures version { version_of result ≡ version }
+        ensures count { count_of result ≡ 0 }
+        ensures failed { has_failed_here result ≡ true }
+    {
+        Sectors {
+            inner,
+            version,
+            num_sectors: 0,
+            failed: true,
+        }
+    }
+
     /// The version.
     pub fn version(&self) -> Version
         ensures { result ≡ version_of self.now }
@@ -79,12 +95,7 @@ impl<F: ReadMedium> Sectors<F> {
     pub fn into_inner(self) -> F
         ensures { result ≡ medium_of self }
     {
-        let Sectors {
-            inner,
-            version: _,
-            num_sectors: _,
-            failed: _,
-        } = self;
+        let Sectors { inner, .. } = self;
         inner
     }
 
@@ -396,7 +407,8 @@ impl<F: Medium> Sectors<F> {
         ensures failed { has_failed_here self.old ≡ true
             → IsErrOf result Failed × Rests self.old self.new }
         ensures cause { IfErr result (HasItsCause self.old self.new) }
-        ensures failures { F.failures (medium_of self.old) ≤ F.failures (medium_of self.new) }
+        ensures medium { (F.failures (medium_of self.old) ≤ F.failures (medium_of self.new))
+            × OnOk result (F.failed (medium_of self.new) ≡ F.failed (medium_of self.old)) }
         ensures fault { IfErr result (IsFaultUnless ⊥) }
     {
         if self.failed {
@@ -406,5 +418,36 @@ impl<F: Medium> Sectors<F> {
         self.inner.commit()?;
         self.failed = false;
         Ok(())
+    }
+
+    /// The medium, taken back to the bytes that were published last, also where the sectors have failed. A refusal gives the
+    /// sectors as they were: `InvalidInput` of a medium that doesn't survive a stop, `Failed` of one that has failed, `Memory`
+    /// and `Device`.
+    pub fn roll_back(self) -> Result<F, (Sectors<F>, Error)>
+        ensures rolled { IfOk result (RollsBack F.honest F.bytes F.continues F.has_published
+            (medium_of self)) }
+        ensures rests { IfErr result (λ e. Rests self e.0) }
+        ensures cause { IfErr result (λ e. HasCauseSince F.continues F.failures F.failed
+            (medium_of self) (medium_of e.0) e.1) }
+        ensures fault { IfErr result (λ e. IsFaultUnless (F.survives ≡ false) e.1) }
+    {
+        let Sectors {
+            mut inner,
+            version,
+            num_sectors,
+            failed,
+        } = self;
+        match inner.roll_back() {
+            Ok(()) => Ok(inner),
+            Err(error) => {
+                let same = Sectors {
+                    inner,
+                    version,
+                    num_sectors,
+                    failed,
+                };
+                Err((same, error))
+            }
+        }
     }
 }

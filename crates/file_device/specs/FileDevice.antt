@@ -4,7 +4,7 @@ use Rattle.cfb_medium.specs.declared.error.Error.{Error}
 use Rattle.cfb_medium.specs.declared.error.Error.TheVariants.{NotFound, Device}
 use Rattle.staged.specs.declared.device.Which.{Which}
 use Rattle.staged.specs.declared.device.Which.TheVariants.{Home, Log}
-use Rattle.staged.specs.Counts.{counted_failures, counted_writes}
+use Rattle.staged.specs.Counts.{counted_failures, counted_writes, counted_syncs}
 use Rattle.file_device.specs.declared.file.DiskFile.{DiskFile}
 use Rattle.file_device.specs.declared.device.Pair.{Pair}
 use Rattle.file_device.specs.declared.device.FileDevice.{FileDevice}
@@ -18,6 +18,9 @@ failures_of d = counted_failures d.counts
 
 abbrev pub writes_of : FileDevice → Which → ℕ
 writes_of d which = counted_writes d.counts which
+
+abbrev pub syncs_of : FileDevice → Which → ℕ
+syncs_of d which = counted_syncs d.counts which
 
 -- why two files can't be opened
 abbrev pub IsOpenRefusal : Error → Type 0

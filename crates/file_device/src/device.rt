@@ -1,12 +1,12 @@
 //! The device, and how it is opened.
-ghost use Rattle.std.specs.Prelude.{◌≡◌, ◌≢◌, ◌≤◌, ⊤, ℕ, [], true, false, is_err, length, IfOk, IfErr, refl};
+ghost use Rattle.std.specs.Prelude.{◌≡◌, ◌≢◌, ◌≤◌, ⊤, ℕ, [], true, false, is_err, length, IfOk, IfErr, OnOk, refl};
 ghost use Rattle.std.proofs.Common.{arith, inl};
 ghost use Rattle.cfb_medium.specs.Calls.{Extends};
 ghost use Rattle.staged.specs.Device.{IsDeviceFault, counted_up};
-ghost use Rattle.file_device.specs.FileDevice.{IsOpenRefusal, failures_of, writes_of, one_of};
+ghost use Rattle.file_device.specs.FileDevice.{IsOpenRefusal, failures_of, writes_of, syncs_of, one_of};
 ghost use Rattle.staged.specs.declared.device.Which.{Which};
 
-use crate::file::DiskFile;
+use crate::file::{DiskFile, check_regular};
 use cfb_medium::Error;
 use staged::{Counts, Device, Which};
 use std::fs::{File, TryLockError};
@@ -54,7 +54,7 @@ pub struct FileDevice {
 }
 
 impl FileDevice {
-    /// The files of these paths; a log that is missing is made, and is on the disk with its folder. `NotFound` where the home file or a
+    /// The files of these paths; a log that is missing is made. Both are on the disk with their folders then. `NotFound` where the home file or a
     /// folder is missing, else `Device`: also where a file is no regular one or may not be written, and where another program has it.
     pub fn open<R: Files<File = File>>(rt: &R, home: &str, log: &str) -> Result<FileDevice, Error>
         ensures failures { IfOk result (λ device. failures_of device ≡ 0) }
@@ -64,7 +64,7 @@ impl FileDevice {
         opened(rt, home, log, false)
     }
 
-    /// The files of these paths; each that is missing is made, and is on the disk with its folder. `NotFound` where a folder is missing,
+    /// The files of these paths; each that is missing is made. Both are on the disk with their folders then. `NotFound` where a folder is missing,
     /// else `Device`, as for `open`.
     pub fn create<R: Files<File = File>>(rt: &R, home: &str, log: &str) -> Result<FileDevice, Error>
         ensures failures { IfOk result (λ device. failures_of device ≡ 0) }
@@ -116,10 +116,14 @@ fn opened_file<R: Files<File = File>>(rt: &R, path: &str, is_made: bool) -> Resu
     }
 }
 
-// Whether a file is there that another program has locked.
+// Whether a file is there that another program has locked to write it. The look takes a shared lock, so that two looks at once don't
+// find each other.
 fn is_in_use<R: Files<File = File>>(rt: &R, path: &str) -> bool {
+    if check_regular(rt, path).is_err() {
+        return false;
+    }
     match File::open(rt, path) {
-        Ok(file) => matches!(file.try_lock(), Err(TryLockError::WouldBlock)),
+        Ok(file) => matches!(file.try_lock_shared(), Err(TryLockError::WouldBlock)),
         Err(_) => false,
     }
 }
@@ -134,6 +138,8 @@ impl Device for FileDevice {
 
     ghost writes = { λ d which. writes_of d which };
 
+    ghost syncs = { λ d which. syncs_of d which };
+
     ghost failures = { λ d. failures_of d };
 
     ghost rests = { λ a b. DiskRests a b };
@@ -147,6 +153,8 @@ impl Device for FileDevice {
     fn len(&mut self, which: Which) -> Result<u64, Error>
         ensures failures { failures_of self.old ≤ failures_of self.new }
         ensures rests { Extends DiskRests self.old self.new }
+        ensures unsynced { (file : Which) → syncs_of self.new file ≡ syncs_of self.old file }
+        ensures calm { OnOk result (failures_of self.new ≡ failures_of self.old) }
         ensures fault { IfErr result (IsDeviceFault failures_of self.old self.new) }
         ensures lost { KeepsLost which (is_err result) self.old self.new }
     {
@@ -160,6 +168,8 @@ impl Device for FileDevice {
         ensures within { IfOk result (λ count. count ≤ length buffer.old) }
         ensures failures { failures_of self.old ≤ failures_of self.new }
         ensures rests { Extends DiskRests self.old self.new }
+        ensures unsynced { (file : Which) → syncs_of self.new file ≡ syncs_of self.old file }
+        ensures calm { OnOk result (failures_of self.new ≡ failures_of self.old) }
         ensures fault { IfErr result (IsDeviceFault failures_of self.old self.new) }
         ensures lost { KeepsLost which (is_err result) self.old self.new }
     {
@@ -174,6 +184,8 @@ impl Device for FileDevice {
         ensures others { (other : Which) → other ≢ which
             → writes_of self.new other ≡ writes_of self.old other }
         ensures failures { failures_of self.old ≤ failures_of self.new }
+        ensures unsynced { (file : Which) → syncs_of self.new file ≡ syncs_of self.old file }
+        ensures calm { OnOk result (failures_of self.new ≡ failures_of self.old) }
         ensures fault { IfErr result (IsDeviceFault failures_of self.old self.new) }
         ensures lost { KeepsLost which (is_err result) self.old self.new }
     {
@@ -187,10 +199,15 @@ impl Device for FileDevice {
     fn sync(&mut self, which: Which) -> Result<(), Error>
         ensures failures { failures_of self.old ≤ failures_of self.new }
         ensures rests { Extends DiskRests self.old self.new }
+        ensures synced { syncs_of self.new which ≡ counted_up (syncs_of self.old which) }
+        ensures others { (other : Which) → other ≢ which
+            → syncs_of self.new other ≡ syncs_of self.old other }
+        ensures calm { OnOk result (failures_of self.new ≡ failures_of self.old) }
         ensures fault { IfErr result (IsDeviceFault failures_of self.old self.new) }
         ensures lost { KeepsLost which (is_err result) self.old self.new }
         ensures noted { is_lost self.new which ≡ is_err result }
     {
+        self.counts.sync(which);
         match self.files.sync(which) {
             Ok(()) => Ok(()),
             Err(_) => Err(self.counts.fault()),

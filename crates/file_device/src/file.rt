@@ -1,7 +1,7 @@
 //! An open file.
 ghost use Rattle.std.specs.Prelude.{◌≡◌, ◌≤◌, true, is_err, length, IfOk};
 
-use std::fs::{File, OpenOptions};
+use std::fs::{self, File, OpenOptions};
 use std::io;
 use std::os::unix::fs::FileExt;
 use std::path::Path;
@@ -19,25 +19,21 @@ pub struct DiskFile {
 const FURTHEST: u64 = (1 << 63) - 1;
 
 impl DiskFile {
-    // Opens a regular file, or makes it, and locks it. A file that was made is on the disk with its folder.
+    // Opens a regular file, or makes it, and locks it. It is on the disk with its folder then: also where an earlier program made it,
+    // and was stopped before that lasted.
     pub fn open<R: Files<File = File>>(rt: &R, path: &str, is_made: bool) -> io::Result<DiskFile> {
         let mut options = OpenOptions::new();
         let _ = options.read(true).write(true);
-        let (file, is_new) = match options.open(rt, path) {
-            Ok(file) => (file, false),
+        let file = match check_regular(rt, path) {
+            Ok(()) => options.open(rt, path)?,
             Err(error) if is_made && error.kind() == io::ErrorKind::NotFound => {
-                (options.create_new(true).open(rt, path)?, true)
+                options.create_new(true).open(rt, path)?
             }
             Err(error) => return Err(error),
         };
         file.try_lock()?;
-        if !file.metadata()?.is_file() {
-            return Err(io::ErrorKind::Unsupported.into());
-        }
-        if is_new {
-            file.sync_all()?;
-            sync_folder(rt, path)?;
-        }
+        file.sync_all()?;
+        sync_folder(rt, path)?;
         Ok(DiskFile {
             file,
             is_lost: false,
@@ -46,11 +42,9 @@ impl DiskFile {
 
     // Opens a regular file that is only read. Others may read it too.
     pub fn open_to_read<R: Files<File = File>>(rt: &R, path: &str) -> io::Result<DiskFile> {
+        check_regular(rt, path)?;
         let file = File::open(rt, path)?;
         file.try_lock_shared()?;
-        if !file.metadata()?.is_file() {
-            return Err(io::ErrorKind::Unsupported.into());
-        }
         Ok(DiskFile {
             file,
             is_lost: false,
@@ -62,6 +56,13 @@ impl DiskFile {
         let opened = DiskFile::open(rt, path, true)?;
         opened.file.set_len(0)?;
         Ok(opened)
+    }
+
+    // Whether a sync has failed.
+    pub fn is_lost(&self) -> bool
+        ensures { result ≡ self.now.is_lost }
+    {
+        self.is_lost
     }
 
     // The number of bytes, where what is shown can be trusted.
@@ -110,6 +111,15 @@ impl DiskFile {
         let synced = self.file.sync_all();
         self.is_lost = synced.is_err();
         synced
+    }
+}
+
+// Refuses what is no regular file: a folder, a pipe, a device node. It isn't opened for that, since opening a pipe may wait.
+pub fn check_regular<R: Files<File = File>>(rt: &R, path: &str) -> io::Result<()> {
+    if fs::metadata(rt, path)?.is_file() {
+        Ok(())
+    } else {
+        Err(io::ErrorKind::Unsupported.into())
     }
 }
 

@@ -1,9 +1,9 @@
 //! A medium over one file on disk.
-ghost use Rattle.std.specs.Prelude.{◌≡◌, ◌≤◌, ⊤, ℕ, [], true, false, is_err, length, IfOk, IfErr, refl};
+ghost use Rattle.std.specs.Prelude.{◌≡◌, ◌≤◌, ⊤, ℕ, [], ◌+◌, ◌^◌, true, false, is_err, length, IfOk, IfErr, Ok, Err, IsErrOf, refl};
 ghost use Rattle.std.proofs.Common.{arith, inl};
-ghost use Rattle.cfb_medium.specs.Calls.{Extends};
+ghost use Rattle.cfb_medium.specs.Calls.{Extends, IsFaultUnless};
 ghost use Rattle.file_device.specs.FileDevice.{IsOpenRefusal};
-ghost use Rattle.file_device.specs.FileMedium.{medium_failures};
+ghost use Rattle.file_device.specs.FileMedium.{medium_failures, HasMediumCause, MoreFailures, StaysLost, is_lost};
 
 use crate::file::DiskFile;
 use cfb_medium::{Error, Medium, ReadMedium};
@@ -13,7 +13,8 @@ use std::io;
 use std::rt::Files;
 
 /// One file on disk, which is written in place: a stop may leave anything of it. It is locked as long as the medium lives, so that no
-/// second program writes what this one reads.
+/// second program writes what this one reads. Once a sync has failed each call is `Device`, since what is shown may be missing on the
+/// disk.
 ///
 /// What is proved of it are its count of failures and the causes of its errors; nothing is claimed of its bytes.
 #[derive(Drop)]
@@ -87,14 +88,25 @@ impl ReadMedium for FileMedium {
 
     ghost left_since = { λ _ _ _. ⊤ };
 
-    fn len(&mut self) -> Result<u64, Error> {
+    fn len(&mut self) -> Result<u64, Error>
+        ensures continues { Extends (λ a b. MoreFailures a b) self.old self.new }
+        ensures cause { IfErr result (HasMediumCause self.old self.new) }
+        ensures fault { IfErr result (λ error. error ≡ Error.Device) }
+        ensures lost { StaysLost (IsErrOf result Error.Device) self.old self.new }
+    {
         match self.file.len() {
             Ok(len) => Ok(len),
             Err(_) => Err(self.counts.fault()),
         }
     }
 
-    fn read_at(&mut self, at: u64, buffer: &mut [u8]) -> Result<usize, Error> {
+    fn read_at(&mut self, at: u64, buffer: &mut [u8]) -> Result<usize, Error>
+        ensures within { IfOk result (λ count. count ≤ length buffer.old) }
+        ensures continues { Extends (λ a b. MoreFailures a b) self.old self.new }
+        ensures cause { IfErr result (HasMediumCause self.old self.new) }
+        ensures fault { IfErr result (λ error. error ≡ Error.Device) }
+        ensures lost { StaysLost (IsErrOf result Error.Device) self.old self.new }
+    {
         match self.file.read_at(at, buffer) {
             Ok(count) => Ok(count),
             Err(_) => Err(self.counts.fault()),
@@ -117,7 +129,20 @@ impl Medium for FileMedium {
 
     ghost has_published = { λ _ _. ⊤ };
 
-    fn write_at(&mut self, at: u64, bytes: &[u8]) -> Result<(), Error> {
+    /// After a failed sync it is `Device`. An empty write changes nothing, wherever it is.
+    fn write_at(&mut self, at: u64, bytes: &[u8]) -> Result<(), Error>
+        ensures continues { Extends (λ a b. MoreFailures a b) self.old self.new }
+        ensures cause { IfErr result (HasMediumCause self.old self.new) }
+        ensures refusal { IfErr result (IsFaultUnless (2 ^ 63 ≤ at + length bytes.now)) }
+        ensures empty { bytes.now ≡ [] → is_lost self.old ≡ false → result ≡ Ok tt }
+        ensures lost { StaysLost (IsErrOf result Error.Device) self.old self.new }
+    {
+        if self.file.is_lost() {
+            return Err(self.counts.fault());
+        }
+        if bytes.is_empty() {
+            return Ok(());
+        }
         if at > END || bytes.len() as u64 > END - at {
             return Err(Error::InvalidInput);
         }
@@ -128,7 +153,13 @@ impl Medium for FileMedium {
     }
 
     /// Syncs the file. After a failure each later call is `Device`, since what is shown may be missing on the disk.
-    fn flush(&mut self) -> Result<(), Error> {
+    fn flush(&mut self) -> Result<(), Error>
+        ensures continues { Extends (λ a b. MoreFailures a b) self.old self.new }
+        ensures cause { IfErr result (HasMediumCause self.old self.new) }
+        ensures fault { IfErr result (λ error. error ≡ Error.Device) }
+        ensures lost { StaysLost (IsErrOf result Error.Device) self.old self.new }
+        ensures noted { is_lost self.new ≡ is_err result }
+    {
         match self.file.sync() {
             Ok(()) => Ok(()),
             Err(_) => Err(self.counts.fault()),
@@ -136,15 +167,29 @@ impl Medium for FileMedium {
     }
 
     /// The same as `flush`.
-    fn commit(&mut self) -> Result<(), Error> {
+    fn commit(&mut self) -> Result<(), Error>
+        ensures continues { Extends (λ a b. MoreFailures a b) self.old self.new }
+        ensures cause { IfErr result (HasMediumCause self.old self.new) }
+        ensures fault { IfErr result (λ error. error ≡ Error.Device) }
+        ensures lost { StaysLost (IsErrOf result Error.Device) self.old self.new }
+        ensures noted { is_lost self.new ≡ is_err result }
+    {
         match self.file.sync() {
             Ok(()) => Ok(()),
             Err(_) => Err(self.counts.fault()),
         }
     }
 
-    /// Always `InvalidInput`, and changes nothing: what is written stands in the file.
-    fn roll_back(&mut self) -> Result<(), Error> {
+    /// `InvalidInput`, and changes nothing: what is written stands in the file. After a failed sync it is `Device`.
+    fn roll_back(&mut self) -> Result<(), Error>
+        ensures continues { Extends (λ a b. MoreFailures a b) self.old self.new }
+        ensures cause { IfErr result (HasMediumCause self.old self.new) }
+        ensures refused { is_lost self.old ≡ false → result ≡ Err Error.InvalidInput }
+        ensures lost { StaysLost (IsErrOf result Error.Device) self.old self.new }
+    {
+        if self.file.is_lost() {
+            return Err(self.counts.fault());
+        }
         Err(Error::InvalidInput)
     }
 

@@ -40,8 +40,8 @@ impl Fuse {
     }
 }
 
-/// A device that passes calls on to another, but for some that fail and don't reach it. It counts failures and writes itself; a
-/// write that fails is counted too.
+/// A device that passes calls on to another, but for some that fail and don't reach it. It counts failures, writes and
+/// syncs itself; one that fails is counted too.
 #[derive(Drop)]
 pub struct FuseDevice<D: Device> {
     inner: D,
@@ -50,13 +50,14 @@ pub struct FuseDevice<D: Device> {
 }
 
 impl<D: Device> FuseDevice<D> {
-    ghost use Rattle.staged.specs.Fuse.{inner_of, fuse_of, fuse_failures, fuse_writes};
+    ghost use Rattle.staged.specs.Fuse.{inner_of, fuse_of, fuse_failures, fuse_writes, fuse_syncs};
 
     /// Passes so many calls on, fails so many, and passes the rest on.
     pub fn new(device: D, pass: u64, fail: u64) -> Self
         ensures inner { inner_of result ≡ device }
         ensures fuse { fuse_of result ≡ record { pass = pass; fail = fail } }
         ensures writes { (which : Which) → fuse_writes result which ≡ 0 }
+        ensures syncs { (which : Which) → fuse_syncs result which ≡ 0 }
         ensures failures { fuse_failures result ≡ 0 }
     {
         FuseDevice {
@@ -75,13 +76,15 @@ impl<D: Device> FuseDevice<D> {
 }
 
 impl<D: Device> Device for FuseDevice<D> {
-    ghost use Rattle.staged.specs.Fuse.{inner_of, fuse_failures, fuse_writes, FuseRests, GoesByFuse};
+    ghost use Rattle.staged.specs.Fuse.{inner_of, fuse_failures, fuse_writes, fuse_syncs, FuseRests, GoesByFuse, IsRead, IsOneWrite, IsOneSync};
 
     ghost content = { λ d. D.content d.inner };
 
     ghost honest = { λ d. D.honest d.inner };
 
     ghost writes = { λ d which. fuse_writes d which };
+
+    ghost syncs = { λ d which. fuse_syncs d which };
 
     ghost failures = { λ d. fuse_failures d };
 
@@ -102,8 +105,11 @@ impl<D: Device> Device for FuseDevice<D> {
         ensures honest { D.honest (inner_of self.new) ≡ D.honest (inner_of self.old) }
         ensures failures { fuse_failures self.old ≤ fuse_failures self.new }
         ensures rests { Extends (λ a b. FuseRests D.rests a b) self.old self.new }
+        ensures unsynced { (file : Which) → fuse_syncs self.new file ≡ fuse_syncs self.old file }
+        ensures calm { OnOk result (fuse_failures self.new ≡ fuse_failures self.old) }
         ensures fault { IfErr result (IsDeviceFault (λ d. fuse_failures d) self.old self.new) }
-        ensures fuse { GoesByFuse D.failures self.old self.new (is_err result) }
+        ensures fuse { GoesByFuse D.failures (IsRead D.writes D.syncs) self.old self.new
+            (is_err result) }
     {
         if self.fuse.blows() {
             return Err(self.counts.fault());
@@ -124,8 +130,11 @@ impl<D: Device> Device for FuseDevice<D> {
         ensures honest { D.honest (inner_of self.new) ≡ D.honest (inner_of self.old) }
         ensures failures { fuse_failures self.old ≤ fuse_failures self.new }
         ensures rests { Extends (λ a b. FuseRests D.rests a b) self.old self.new }
+        ensures unsynced { (file : Which) → fuse_syncs self.new file ≡ fuse_syncs self.old file }
+        ensures calm { OnOk result (fuse_failures self.new ≡ fuse_failures self.old) }
         ensures fault { IfErr result (IsDeviceFault (λ d. fuse_failures d) self.old self.new) }
-        ensures fuse { GoesByFuse D.failures self.old self.new (is_err result) }
+        ensures fuse { GoesByFuse D.failures (IsRead D.writes D.syncs) self.old self.new
+            (is_err result) }
     {
         if self.fuse.blows() {
             return Err(self.counts.fault());
@@ -158,8 +167,11 @@ impl<D: Device> Device for FuseDevice<D> {
         ensures remembers { Remembers (λ d. D.moment (inner_of d))
             (λ d moment left. D.left_since (inner_of d) moment left) self.old self.new }
         ensures failures { fuse_failures self.old ≤ fuse_failures self.new }
+        ensures unsynced { (file : Which) → fuse_syncs self.new file ≡ fuse_syncs self.old file }
+        ensures calm { OnOk result (fuse_failures self.new ≡ fuse_failures self.old) }
         ensures fault { IfErr result (IsDeviceFault (λ d. fuse_failures d) self.old self.new) }
-        ensures fuse { GoesByFuse D.failures self.old self.new (is_err result) }
+        ensures fuse { GoesByFuse D.failures (IsOneWrite D.writes D.syncs which) self.old self.new
+            (is_err result) }
     {
         self.counts.write(which);
         if self.fuse.blows() {
@@ -180,9 +192,15 @@ impl<D: Device> Device for FuseDevice<D> {
         ensures honest { D.honest (inner_of self.new) ≡ D.honest (inner_of self.old) }
         ensures failures { fuse_failures self.old ≤ fuse_failures self.new }
         ensures rests { Extends (λ a b. FuseRests D.rests a b) self.old self.new }
+        ensures synced { fuse_syncs self.new which ≡ counted_up (fuse_syncs self.old which) }
+        ensures others { (other : Which) → other ≢ which
+            → fuse_syncs self.new other ≡ fuse_syncs self.old other }
+        ensures calm { OnOk result (fuse_failures self.new ≡ fuse_failures self.old) }
         ensures fault { IfErr result (IsDeviceFault (λ d. fuse_failures d) self.old self.new) }
-        ensures fuse { GoesByFuse D.failures self.old self.new (is_err result) }
+        ensures fuse { GoesByFuse D.failures (IsOneSync D.writes D.syncs which) self.old self.new
+            (is_err result) }
     {
+        self.counts.sync(which);
         if self.fuse.blows() {
             return Err(self.counts.fault());
         }

@@ -8,7 +8,7 @@ use Rattle.staged.proofs.Moments.{same_leaves, same_remembers, pushed_leaves, pu
 use Rattle.staged.proofs.memory.MemoryDeviceDevice.sync.Goals as goal
 
 pub returns-in-Ok-clause-durable : goal.returns-in-Ok-clause-durable
-returns-in-Ok-clause-durable c = λ honest left may.
+returns-in-Ok-clause-durable c = λ left may.
     let old = c.args.self.now in
     kept_by_sync c.args.which (first_files old) (memory_calls old) (memory_files old) (old.home_stands, old.log_stands) left
     (subst (λ (f : Files). MayBeLeft f (memory_calls old ++ synced c.args.which ∷ []) left) c.record_sync.ensures.first (subst (λ (cs : List Made). MayBeLeft (first_files c.record_sync.new.self) cs left) c.in-Ok.ensures.ok may))
