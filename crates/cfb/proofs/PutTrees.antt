@@ -1,22 +1,32 @@
 -- A stream that is made, and then gets its bytes.
 use Rattle.std.proofs.Common.{◌≡◌, ℕ, ◌<◌, Bool, true, false, List, [], ◌∷◌, ◌++◌, length, refl, ap, sym, subst, ◌∙◌, arith}
-use Rattle.std.specs.Prelude.{None, Option, Some}
+use Rattle.std.specs.Prelude.{if◌then◌else◌, is_some, None, Option, Some}
 use Rattle.std.specs.Ordering.{is_eq, is_lt, ordering_reverse}
 use Rattle.std.specs.declared.cmp.Ordering.{Ordering}
 use Rattle.std.specs.declared.cmp.Ordering.TheVariants.{Equal, Greater, Less}
+use Rattle.cfb_entries.specs.Others.{HasFreePlace}
+use Rattle.cfb_entries.proofs.Others.{added_stands}
+use Rattle.cfb_live.proofs.NewPlaces.{path_is}
+use Rattle.cfb_meaning.specs.TreeRules.{create_new_stream, done, is_stream_found, made, on_storage, on_stream, refused, tree_step, Answer, Outcome}
+use Rattle.cfb_medium.specs.declared.error.Error.{Error}
+use Rattle.cfb_medium.specs.declared.error.Error.TheVariants.{AlreadyExists, InvalidInput}
 use Rattle.cfb_siblings.specs.Places.{path_to}
 use Rattle.cfb_siblings.proofs.Naming.{child_here}
 use Rattle.cfb_tree.specs.Changes.{added, changed, changed_below, holding, last_of, parent_of, with_bytes, with_changed, with_child}
-use Rattle.cfb_tree.specs.Names.{Letters, name_cmp}
+use Rattle.cfb_tree.specs.Names.{is_name, Letters, name_cmp}
 use Rattle.cfb_tree.specs.Objects.{a_storage, a_stream, before, child, is_same_name, name_of, object_at, object_from, root_object, tree_of, Object}
 use Rattle.cfb_tree.specs.Paths.{Path}
-use Rattle.cfb_tree.specs.Tree.{nothing, storage, stream, Content, Tree}
+use Rattle.cfb_tree.specs.Tree.{nothing, storage, stream, Content, Facts, Tree}
 use Rattle.cfb_tree.proofs.NameOrder.{name_cmp_total}
+use Rattle.cfb.specs.Putting.{put_over, putting, rewriting}
 
 eq_self : (o : Ordering) → o ≡ ordering_reverse o → is_eq o ≡ true
 eq_self Less is = absurd (cc)
 eq_self Equal is = refl
 eq_self Greater is = absurd (cc)
+
+abbrev answered : Outcome → Answer
+answered outcome = outcome.1
 
 module _ (letters : Letters) where
   same_self : (a : List ℕ) → is_same_name letters a a ≡ true
@@ -116,3 +126,96 @@ module _ (letters : Letters) where
         ap (λ o. tree_of t (changed_below letters (with_bytes bytes) (path_to up name) o)) (root_of (with_child letters (a_stream name 0 [])) up tree)
         ∙ ap (tree_of t) (put_below up (root_object tree) free)
         ∙ other_root (with_child letters (a_stream name 0 bytes)) up tree t
+
+  module _ (tree : Tree) (path : Path) where
+    -- where one new object is made, every one is; where one is refused, every one is so
+    made_from : (a b : Object) (o : Option Object) → (on_storage tree (λ p. if is_name (last_of path) then (added letters a path tree, done) else (tree, refused InvalidInput)) o).1 ≡ done
+        → (on_storage tree (λ p. if is_name (last_of path) then (added letters b path tree, done) else (tree, refused InvalidInput)) o) ≡ (added letters b path tree, done)
+    made_from a b None is = absurd (cc)
+    made_from a b (Some (a_stream n s x)) is = absurd (cc)
+    made_from a b (Some (a_storage n f i)) is = by_name (is_name (last_of path)) is
+      where
+        by_name : (valid : Bool) → answered (if valid then (added letters a path tree, done) else (tree, refused InvalidInput)) ≡ done → ◌≡◌ {A = Outcome} (if valid then (added letters b path tree, done) else (tree, refused InvalidInput)) (added letters b path tree, done)
+        by_name true is = refl
+        by_name false is = absurd (cc)
+
+    made_done : (a b : Object) → (made letters tree path a).1 ≡ done → made letters tree path b ≡ (added letters b path tree, done)
+    made_done a b is = made_from a b (object_at letters tree (parent_of path)) is
+
+    answer_from : (a b : Object) (o : Option Object) → (on_storage tree (λ p. if is_name (last_of path) then (added letters a path tree, done) else (tree, refused InvalidInput)) o).1
+        ≡ (on_storage tree (λ p. if is_name (last_of path) then (added letters b path tree, done) else (tree, refused InvalidInput)) o).1
+    answer_from a b None = refl
+    answer_from a b (Some (a_stream n s x)) = refl
+    answer_from a b (Some (a_storage n f i)) = by_name (is_name (last_of path))
+      where
+        by_name : (valid : Bool) → answered (if valid then (added letters a path tree, done) else (tree, refused InvalidInput)) ≡ answered (if valid then (added letters b path tree, done) else (tree, refused InvalidInput))
+        by_name true = refl
+        by_name false = refl
+
+    made_alike : (a b : Object) → (made letters tree path a).1 ≡ (made letters tree path b).1
+    made_alike a b = answer_from a b (object_at letters tree (parent_of path))
+
+    -- the storage of an object that is made
+    storage_there : (a : Object) → (made letters tree path a).1 ≡ done → (n : List ℕ) × (f : Facts) × (i : Content) × (object_at letters tree (parent_of path) ≡ Some (a_storage n f i))
+    storage_there a is = by_object (object_at letters tree (parent_of path)) refl is
+      where
+        by_object : (o : Option Object) → object_at letters tree (parent_of path) ≡ o → (on_storage tree (λ p. if is_name (last_of path) then (added letters a path tree, done) else (tree, refused InvalidInput)) o).1 ≡ done
+            → (n : List ℕ) × (f : Facts) × (i : Content) × (object_at letters tree (parent_of path) ≡ Some (a_storage n f i))
+        by_object None at is = absurd (cc)
+        by_object (Some (a_stream n s x)) at is = absurd (cc)
+        by_object (Some (a_storage n f i)) at is = (n, f, i, at)
+
+    some_names : object_at letters tree path ≡ None → 0 < length path
+    some_names free = by_path path free
+      where
+        by_path : (p : Path) → object_at letters tree p ≡ None → 0 < length p
+        by_path [] free = absurd (cc)
+        by_path (name ∷ names) free = omega arith
+
+    -- a new stream is made where no object is
+    new_made : (tree_step letters tree (create_new_stream path)).1 ≡ done → (object_at letters tree path ≡ None) × (tree_step letters tree (create_new_stream path) ≡ made letters tree path (a_stream (last_of path) 0 []))
+    new_made is = by_object (object_at letters tree path) is
+      where
+        by_object : (o : Option Object) → answered (if is_some o then (tree, refused AlreadyExists) else made letters tree path (a_stream (last_of path) 0 [])) ≡ done
+            → (o ≡ None) × ((if is_some o then (tree, refused AlreadyExists) else made letters tree path (a_stream (last_of path) 0 [])) ≡ made letters tree path (a_stream (last_of path) 0 []))
+        by_object None is = (refl, refl)
+        by_object (Some o) is = absurd (cc)
+
+    module _ (bytes : List ℕ) where
+      -- LAW: a stream is made at the path, and gets the bytes: so is one put there
+      pub put_new : (tree_step letters tree (create_new_stream path)).1 ≡ done → (later : Tree) → (tree_step letters tree (create_new_stream path)).0 ≡ later
+          → (rewriting bytes letters later path ≡ (changed letters (with_bytes bytes) path later, done)) × (putting bytes letters tree path ≡ (changed letters (with_bytes bytes) path later, done))
+      put_new is later gives =
+          let empty = a_stream (last_of path) 0 [] in
+          let new = new_made is in
+          let accepted : (made letters tree path empty).1 ≡ done = ap (λ (o : Outcome). o.1) (sym new.1) ∙ is in
+          let step = made_done empty empty accepted in
+          let there : later ≡ added letters empty path tree = sym gives ∙ ap (λ (o : Outcome). o.0) (new.1 ∙ step) in
+          let storage = storage_there empty accepted in
+          let place : HasFreePlace letters tree empty path = record { below_root = some_names new.0; named = refl; name = storage.0; facts = storage.1; inside = storage.2; storage = storage.3; free = new.0 } in
+          let found : object_at letters later path ≡ Some empty = ap (λ t. object_at letters t path) there ∙ (added_stands letters tree empty path place).there in
+          let up = path_is path (some_names new.0) in
+          let whole : changed letters (with_bytes bytes) path later ≡ added letters (a_stream (last_of path) 0 bytes) path tree =
+          ap (changed letters (with_bytes bytes) path) there
+          ∙ subst (λ p. changed letters (with_bytes bytes) p (added letters empty path tree) ≡ added letters (a_stream (last_of path) 0 bytes) path tree) up
+          (put_at (last_of path) bytes (parent_of path) tree (ap (object_at letters tree) up ∙ new.0)) in
+          (ap (λ o. on_stream later (λ b. (changed letters (with_bytes bytes) path later, done)) o) found,
+          ap (λ o. put_over bytes letters tree path o) new.0 ∙ made_done empty (a_stream (last_of path) 0 bytes) accepted ∙ ap (λ t. (t, done)) (sym whole))
+
+      -- LAW: where no stream is at the path, one is put there just where one is made
+      pub put_refused : (e : Error) → is_stream_found (object_at letters tree path) ≡ false → (tree_step letters tree (create_new_stream path)).1 ≡ refused e → (putting bytes letters tree path).1 ≡ refused e
+      put_refused e none is = by_object (object_at letters tree path) none is
+        where
+          by_object : (o : Option Object) → is_stream_found o ≡ false → answered (if is_some o then (tree, refused AlreadyExists) else made letters tree path (a_stream (last_of path) 0 [])) ≡ refused e → (put_over bytes letters tree path o).1 ≡ refused e
+          by_object None none is = made_alike (a_stream (last_of path) 0 bytes) (a_stream (last_of path) 0 []) ∙ is
+          by_object (Some (a_stream n s x)) none is = absurd (cc)
+          by_object (Some (a_storage n f i)) none is = is
+
+      -- LAW: where one is, it is rewritten
+      pub put_there : is_stream_found (object_at letters tree path) ≡ true → putting bytes letters tree path ≡ rewriting bytes letters tree path
+      put_there there = by_object (object_at letters tree path) there
+        where
+          by_object : (o : Option Object) → is_stream_found o ≡ true → put_over bytes letters tree path o ≡ on_stream tree (λ b. (changed letters (with_bytes bytes) path tree, done)) o
+          by_object None there = absurd (cc)
+          by_object (Some (a_stream n s x)) there = refl
+          by_object (Some (a_storage n f i)) there = absurd (cc)
