@@ -1,5 +1,5 @@
 -- What a recovery gives.
-use Rattle.std.proofs.Common.{◌≡◌, ◌≤◌, ◌<◌, ◌-◌, ◌^◌, sym, ap, Some, arith, ⊎_elim}
+use Rattle.std.proofs.Common.{◌≡◌, ◌≤◌, ◌<◌, ◌-◌, ◌^◌, ◌∙◌, sym, ap, None, Some, List, arith, ⊎_elim}
 use Rattle.std.proofs.lemmas.Bool.{cases_lt}
 use Rattle.std.specs.Prelude.{ℕ}
 use Rattle.staged.specs.Files.{Files}
@@ -19,6 +19,12 @@ recovers_home old new answer by = recovers_by (logged old) old new answer by
 -- a closed log leaves the home file
 pub closed_home : (files : Files) → logged files ≡ ClosedLog → recovered files ≡ Some files.home
 closed_home files closed = ap (recovered_by files) closed
+
+-- beside a malformed log a recovery gives nothing
+pub never_recovered : (files : Files) (bytes : List ℕ) → logged files ≡ MalformedLog → recovered files ≡ Some bytes → ⊥
+never_recovered files bytes malformed given =
+    let none : None ≡ Some bytes = sym (ap (recovered_by files) malformed) ∙ given in
+    absurd (cc none)
 
 -- a failure that was counted after a first part of a call was counted in the call
 pub faults : (a b c : ℕ) → a < 2 ^ 64 - 1 → a ≤ b → b ≤ c → (b < 2 ^ 64 - 1 → b < c) → a < c

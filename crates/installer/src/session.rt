@@ -42,7 +42,7 @@ impl<D: Device> Session<D> {
     ghost use Rattle.installer.specs.Sessions.{device_below, has_failed, package_of, course_of, IsAt, IsFaultOf};
 
     /// Recovers, and begins a new package on an empty home file; nothing is committed. `AlreadyExists` where the home file isn't empty,
-    /// `InvalidData` for a malformed log, `Device` for a fault of the device, which is handed back.
+    /// `InvalidData` for a malformed log, `Device` for a fault of the device, which is handed back. A malformed log leaves both files.
     pub fn create(alloc: Global, device: D) -> Result<Session<D>, (D, Error)>
         ensures package { IfOk result (λ session. package_of session ≡ bare None) }
         ensures sound { IfOk result (λ session. has_failed session ≡ false) }
@@ -57,6 +57,8 @@ impl<D: Device> Session<D> {
             refusal.1) }
         ensures found_too { IfErr result (λ refusal. refusal.1 ≢ error.Device
             → FoundAtReturn D.Device device refusal.0 []) }
+        ensures left { IfErr result (λ refusal. refusal.1 ≡ error.InvalidData
+            → Extends D.rests device refusal.0) }
     {
         let mut medium = match recovered_medium(alloc, device) {
             Ok(medium) => medium,
@@ -74,7 +76,8 @@ impl<D: Device> Session<D> {
     }
 
     /// Recovers, and goes on with the package of the home file. `InvalidData` for a malformed log and for a home file that no session has
-    /// written, `Memory` where there is no room, `Device` for a fault of the device, which is handed back.
+    /// written, `Memory` where there is no room, `Device` for a fault of the device, which is handed back. A malformed log leaves both
+    /// files.
     pub fn open(alloc: Global, device: D) -> Result<Session<D>, (D, Error)>
         ensures package { IsTrue (D.honest device)
             → IfOk result (λ session. (bytes : List ℕ) × (recovered (D.content device) ≡ Some bytes)
@@ -89,10 +92,13 @@ impl<D: Device> Session<D> {
             refusal.1) }
         ensures found_too { IfErr result (λ refusal. refusal.1 ≢ error.Device
             → FoundAtReturn D.Device device refusal.0 []) }
+        ensures left { IsTrue (D.honest device) → logged (D.content device) ≡ MalformedLog
+            → IfErr result (λ refusal. refusal.1 ≡ error.InvalidData
+            → Extends D.rests device refusal.0) }
     {
         let mut medium = match recovered_medium(alloc, device) {
             Ok(medium) => medium,
-            Err((device, error)) => return Err((device, error)),
+            Err(refusal) => return Err(refusal),
         };
         match read_contents(alloc, &mut medium) {
             Ok(contents) => Ok(Session {

@@ -55,10 +55,10 @@ module _ (long : Bool) (n : ℕ) (bytes : List ℕ) where
       let rest = row_read (before + width_of long k) ks r in
       (ap (λ m. suc m) rest.0, sum_by-cons (use_of 0) here (row_at long n bytes (before + width_of long k) ks r) ∙ omega (arith, cell_none k (le_number (slice_range bytes start (start + width_of long k))), rest.1))
 
-abbrev Read : List ColumnType → List Row → Type 0
+abbrev pub Read : List ColumnType → List Row → Type 0
 Read ks rows = All (λ row. length row ≡ length ks) rows × (uses_in rows 0 ≡ 0)
 
-rows_read : (long : Bool) (ks : List ColumnType) (bytes : List ℕ) (rows : List Row) → rows_of long ks bytes ≡ Some rows → Read ks rows
+pub rows_read : (long : Bool) (ks : List ColumnType) (bytes : List ℕ) (rows : List Row) → rows_of long ks bytes ≡ Some rows → Read ks rows
 rows_read long ks bytes rows is = on (row_count long ks bytes) (nat_le (row_count long ks bytes) max_rows) is
   where
     read : (m : ℕ) (numbers : List ℕ) → Read ks (map (row_at long m bytes 0 ks) numbers)

@@ -24,6 +24,9 @@ use Rattle.msi_tables.specs.Rows.{AreWritable, Row, can_write, kinds_of, max_row
 use Rattle.msi_tables.specs.Table.{Table, are_distinct, key_values, keys_of}
 use Rattle.msi_expr.specs.Formula.{Formula}
 use Rattle.msi_expr.specs.Conditions.{knows_condition, matches}
+use Rattle.msi_pool.specs.PoolState.{PoolState}
+use Rattle.msi_pool.specs.declared.draft.PoolChanges.{PoolChanges}
+use Rattle.msi_changes.specs.Prepared.{pool_after}
 use Rattle.msi_changes.specs.Changes.{all_taken_back, cell_set, cells_set, counted, deleted, in_turn, inserted, is_valid_set, keys_after, new_keys, option_first, row_counted, row_set, rows_counted, rows_set, sets_key, taken_back, updated}
 use Rattle.msi_changes.specs.Laws.{KeepsPlaces, KeepsShape}
 use Rattle.msi_changes.proofs.CellUses.{after_ok}
@@ -322,7 +325,7 @@ module _ (may : Bool) (pool : Pool) (t : Table) (sets : List (List ℕ × Datum)
 
 -- ---- what is answered
 
-pub shape_told : (pool after : Pool) (t : Table) (r : Result (Vec (Vec ValueRef Global) Global) Error) (expected : Result (List Row × Pool) Error) → Answers (λ rows. (rows_held rows.items, after)) r expected
-    → IfOk expected (KeepsShape pool t) → AreWritable pool.long t.columns t.rows → IfOk r (λ rows. AreWritable pool.long t.columns (rows_held rows.items))
-shape_told pool after t (Ok rows) expected is keeps old = let told : KeepsShape pool t (rows_held rows.items, after) = (rw is at keeps) in told.writable old
-shape_told pool after t (Err e) expected is keeps old = tt
+pub shape_told : (state : PoolState) (t : Table) (r : Result (Vec (Vec ValueRef Global) Global × PoolChanges) Error) (expected : Result (List Row × Pool) Error) → Answers (λ r. (rows_held r.0.items, pool_after state r.1)) r expected
+    → IfOk expected (KeepsShape state.pool t) → AreWritable state.pool.long t.columns t.rows → IfOk r (λ r. AreWritable state.pool.long t.columns (rows_held r.0.items))
+shape_told state t (Ok r) expected is keeps old = let told : KeepsShape state.pool t (rows_held r.0.items, pool_after state r.1) = (rw is at keeps) in told.writable old
+shape_told state t (Err e) expected is keeps old = tt

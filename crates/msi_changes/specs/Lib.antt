@@ -4,3 +4,4 @@ pub mod Keys
 pub mod Laws
 pub mod Printed
 pub mod Said
+pub mod Prepared

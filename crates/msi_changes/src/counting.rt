@@ -45,9 +45,9 @@ pub(crate) fn count_row(
     Ok(cells)
 }
 
-// The cells of rows of values, likewise.
+/// The cells of rows of values, whose texts are counted in the draft row by row. `InvalidInput` where the pool is full.
 #[tactic(auto, using(crate::proofs::Turns::turned, crate::proofs::Turns::refused, crate::proofs::Turns::ended, crate::proofs::Turns::begun))]
-pub(crate) fn count_rows(
+pub fn count_rows(
     alloc: Global,
     pool: &mut Draft<'_>,
     rows: &[Vec<Value>],
@@ -74,8 +74,8 @@ pub(crate) fn take_back_cell(pool: &mut Draft<'_>, cell: ValueRef) -> Result<(),
     cell.remove(pool)
 }
 
-// Takes the uses of all cells of a row back. `InvalidData` where a place has no use.
-pub(crate) fn take_back(pool: &mut Draft<'_>, row: &[ValueRef]) -> Result<(), Error>
+/// Takes the uses of all cells of a row back. `InvalidData` where a place has no use.
+pub fn take_back(pool: &mut Draft<'_>, row: &[ValueRef]) -> Result<(), Error>
     ensures takes { Answers (λ _. pool.new.state.pool) result (all_taken_back pool.old.state.pool row.now) }
     ensures marked { pool.new.state.modified ≡ false → pool.new.state ≡ pool.old.state }
     ensures under { pool.new.under ≡ pool.old.under }

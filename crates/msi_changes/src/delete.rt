@@ -5,6 +5,7 @@ ghost use Rattle.msi_texts.specs.Results.{Answers};
 ghost use Rattle.msi_expr.specs.Formula.{formula_of};
 ghost use Rattle.msi_changes.specs.Applied.{left_of, with_rows};
 ghost use Rattle.msi_changes.specs.Changes.{deleted};
+ghost use Rattle.msi_changes.specs.Prepared.{pool_after, AreChangesFor};
 ghost use Rattle.msi_expr.specs.Conditions.{knows_condition, matches, condition_of, narrowed};
 ghost use Rattle.msi_changes.specs.Said.{delete_condition, delete_name};
 ghost use Rattle.msi_tables.specs.Held.{heading_of, rows_held};
@@ -13,7 +14,7 @@ ghost use Rattle.msi_tables.specs.Rows.{AreWritable};
 use crate::counting::take_back;
 use cfb_medium::Error;
 use msi_expr::{Expr, fmt_condition, knows_condition, matches, narrowed};
-use msi_pool::{Draft, StringPool, ValueRef};
+use msi_pool::{Draft, PoolChanges, StringPool, ValueRef};
 use msi_tables::Table;
 use std::alloc::Global;
 use std::fmt;
@@ -58,9 +59,29 @@ impl Delete {
         self.table_name.as_str()
     }
 
-    /// The rows of a table for which the condition counts as false; the texts of the others are taken back from the pool.
-    /// `InvalidInput` where the condition names a column that isn't there, `InvalidData` where a text has no use to take back.
-    /// After an error the pool is as it was.
+    /// The rows of a table for which the condition counts as false, and what this changes of the pool: in a draft of it the
+    /// texts of the others are taken back. `InvalidInput` where the condition names a column that isn't there, `InvalidData`
+    /// where a text has no use to take back.
+    pub fn prepare(
+        &self,
+        alloc: Global,
+        table: &Rc<Table>,
+        rows: Vec<Vec<ValueRef>>,
+        pool: &StringPool,
+    ) -> Result<(Vec<Vec<ValueRef>>, PoolChanges), Error>
+        ensures deletes { Answers (λ r. (rows_held r.0.items, pool_after pool.now r.1)) result
+            (deleted true pool.now.pool (with_rows (heading_of (rc_value table.now))
+            (rows_held rows.items)) (delete_condition self.now)) }
+        ensures changes { IfOk result (λ r. AreChangesFor pool.now r.1) }
+        ensures shape { AreWritable pool.now.pool.long (heading_of (rc_value table.now)).columns
+            (rows_held rows.items)
+            → IfOk result (λ r. AreWritable pool.now.pool.long
+            (heading_of (rc_value table.now)).columns (rows_held r.0.items)) }
+    {
+        self.prepared(alloc, table, rows, pool)
+    }
+
+    /// The same, and the pool takes the changes over. After an error, `Memory` among them, it is as it was.
     pub fn apply(
         &self,
         alloc: Global,
@@ -78,22 +99,28 @@ impl Delete {
         ensures marked { pool.new.modified ≡ false → pool.new ≡ pool.old }
         ensures err { OnErr result (pool.new ≡ pool.old) }
     {
-        self.changed(alloc, table, rows, pool)
+        let (rows, changes) = match self.prepare(alloc, table, rows, pool) {
+            Err(error) => return Err(error),
+            Ok(prepared) => prepared,
+        };
+        match pool.adopt(changes) {
+            Err(error) => Err(error),
+            Ok(()) => Ok(rows),
+        }
     }
 
     // The same without a word on which rows can be written.
-    fn changed(
+    fn prepared(
         &self,
         alloc: Global,
         table: &Rc<Table>,
         rows: Vec<Vec<ValueRef>>,
-        pool: &mut StringPool,
-    ) -> Result<Vec<Vec<ValueRef>>, Error>
-        ensures deletes { Answers (λ left. (rows_held left.items, pool.new.pool)) result
-            (deleted true pool.old.pool (with_rows (heading_of (rc_value table.now))
+        pool: &StringPool,
+    ) -> Result<(Vec<Vec<ValueRef>>, PoolChanges), Error>
+        ensures deletes { Answers (λ r. (rows_held r.0.items, pool_after pool.now r.1)) result
+            (deleted true pool.now.pool (with_rows (heading_of (rc_value table.now))
             (rows_held rows.items)) (delete_condition self.now)) }
-        ensures marked { pool.new.modified ≡ false → pool.new ≡ pool.old }
-        ensures err { OnErr result (pool.new ≡ pool.old) }
+        ensures changes { IfOk result (λ r. AreChangesFor pool.now r.1) }
     {
         if !knows_condition(alloc, table, &self.condition)? {
             return Err(Error::InvalidInput);
@@ -104,10 +131,7 @@ impl Delete {
             Ok(left) => left,
         };
         let changes = counted.into_changes();
-        match pool.adopt(changes) {
-            Err(error) => Err(error),
-            Ok(()) => Ok(left),
-        }
+        Ok((left, changes))
     }
 }
 

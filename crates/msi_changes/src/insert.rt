@@ -4,6 +4,7 @@ ghost use Rattle.std.specs.Prelude.{◌≡◌, ◌⊎◌, ◌++◌, [], ◌∷�
 ghost use Rattle.msi_texts.specs.Results.{Answers};
 ghost use Rattle.msi_values.specs.Datum.{data_of};
 ghost use Rattle.msi_changes.specs.Applied.{with_rows, IsAccepted};
+ghost use Rattle.msi_changes.specs.Prepared.{pool_after, AreChangesFor};
 ghost use Rattle.msi_changes.specs.Changes.{inserted};
 ghost use Rattle.msi_changes.specs.Said.{insert_name, insert_rows};
 ghost use Rattle.msi_tables.specs.Held.{heading_of, rows_held};
@@ -14,7 +15,7 @@ use crate::keys::{check_new_keys, key_set, keys_of, keys_of_values};
 use crate::printing::fmt_rows;
 use crate::validity::are_rows;
 use cfb_medium::Error;
-use msi_pool::{StringPool, ValueRef};
+use msi_pool::{PoolChanges, StringPool, ValueRef};
 use msi_tables::Table;
 use msi_values::Value;
 use std::alloc::Global;
@@ -91,10 +92,30 @@ impl Insert {
         &self.new_rows
     }
 
-    /// The rows of a table with the new ones behind them, whose texts are counted in the pool row by row. In this order:
-    /// `InvalidInput` for a row that has not a value for each column, or one that its column doesn't take; `InvalidData` where
-    /// a key is stored twice; for each new key in turn `AlreadyExists` where it is stored, `InvalidInput` where an earlier
-    /// new row has it; `InvalidInput` for more than 65536 rows, and where the pool is full. After an error the pool is as it was.
+    /// The rows of a table with the new ones behind them, whose texts are counted row by row in a draft of the pool, and what it
+    /// changed. In this order: `InvalidInput` for a row that has not a value for each column, or one that its column doesn't
+    /// take; `InvalidData` where a key is stored twice; for each new key in turn `AlreadyExists` where it is stored,
+    /// `InvalidInput` where an earlier new row has it; `InvalidInput` for more than 65536 rows, and where the pool is full.
+    pub fn prepare(
+        &self,
+        alloc: Global,
+        table: &Table,
+        rows: Vec<Vec<ValueRef>>,
+        pool: &StringPool,
+    ) -> Result<(Vec<Vec<ValueRef>>, PoolChanges), Error>
+        ensures inserts { Answers (λ r. (rows_held r.0.items, pool_after pool.now r.1)) result
+            (inserted true pool.now.pool (with_rows (heading_of table.now) (rows_held rows.items))
+            (insert_rows self.now)) }
+        ensures changes { IfOk result (λ r. AreChangesFor pool.now r.1) }
+        ensures shape { AreWritable pool.now.pool.long (heading_of table.now).columns
+            (rows_held rows.items)
+            → IfOk result (λ r. AreWritable pool.now.pool.long (heading_of table.now).columns
+            (rows_held r.0.items)) }
+    {
+        self.prepared(alloc, table, rows, pool)
+    }
+
+    /// The same, and the pool takes the changes over. After an error, `Memory` among them, it is as it was.
     pub fn apply(
         &self,
         alloc: Global,
@@ -112,22 +133,28 @@ impl Insert {
         ensures marked { pool.new.modified ≡ false → pool.new ≡ pool.old }
         ensures err { OnErr result (pool.new ≡ pool.old) }
     {
-        self.changed(alloc, table, rows, pool)
+        let (rows, changes) = match self.prepare(alloc, table, rows, pool) {
+            Err(error) => return Err(error),
+            Ok(prepared) => prepared,
+        };
+        match pool.adopt(changes) {
+            Err(error) => Err(error),
+            Ok(()) => Ok(rows),
+        }
     }
 
     // The same without a word on which rows can be written.
-    fn changed(
+    fn prepared(
         &self,
         alloc: Global,
         table: &Table,
         rows: Vec<Vec<ValueRef>>,
-        pool: &mut StringPool,
-    ) -> Result<Vec<Vec<ValueRef>>, Error>
-        ensures inserts { Answers (λ all. (rows_held all.items, pool.new.pool)) result
-            (inserted true pool.old.pool (with_rows (heading_of table.now) (rows_held rows.items))
+        pool: &StringPool,
+    ) -> Result<(Vec<Vec<ValueRef>>, PoolChanges), Error>
+        ensures inserts { Answers (λ r. (rows_held r.0.items, pool_after pool.now r.1)) result
+            (inserted true pool.now.pool (with_rows (heading_of table.now) (rows_held rows.items))
             (insert_rows self.now)) }
-        ensures marked { pool.new.modified ≡ false → pool.new ≡ pool.old }
-        ensures err { OnErr result (pool.new ≡ pool.old) }
+        ensures changes { IfOk result (λ r. AreChangesFor pool.now r.1) }
     {
         match judge(alloc, table, &rows, pool, &self.new_rows) {
             Err(error) => return Err(error),
@@ -141,10 +168,7 @@ impl Insert {
         let mut rows = rows;
         rows.append(&mut new_rows)?;
         let changes = counted.into_changes();
-        match pool.adopt(changes) {
-            Err(error) => Err(error),
-            Ok(()) => Ok(rows),
-        }
+        Ok((rows, changes))
     }
 }
 

@@ -11,6 +11,7 @@ mod setting;
 mod update;
 mod validity;
 
+pub use counting::{count_rows, take_back};
 pub use delete::Delete;
 pub use insert::Insert;
 pub use laws::{

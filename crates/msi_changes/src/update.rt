@@ -9,6 +9,7 @@ ghost use Rattle.msi_expr.specs.Formula.{formula_of};
 ghost use Rattle.msi_changes.specs.Applied.{judged, with_rows, MaySet};
 ghost use Rattle.msi_changes.specs.Changes.{key_after, keys_after, rows_set, updated};
 ghost use Rattle.msi_changes.specs.Keys.{keys_said};
+ghost use Rattle.msi_changes.specs.Prepared.{pool_after, AreChangesFor};
 ghost use Rattle.msi_expr.specs.Conditions.{knows_condition, matches, condition_of, narrowed};
 ghost use Rattle.msi_changes.specs.Said.{sets_of, update_condition, update_name, update_sets};
 ghost use Rattle.msi_tables.specs.Held.{heading_of, rows_held};
@@ -19,7 +20,7 @@ use crate::printing::fmt_sets;
 use crate::setting::{are_sets, set_cells, set_values, sets_key};
 use cfb_medium::Error;
 use msi_expr::{Expr, fmt_condition, knows_condition, matches, narrowed};
-use msi_pool::{Draft, StringPool, ValueRef};
+use msi_pool::{Draft, PoolChanges, StringPool, ValueRef};
 use msi_tables::Table;
 use msi_values::{BorrowedValue, Value};
 use std::alloc::Global;
@@ -91,11 +92,31 @@ impl Update {
         self.table_name.as_str()
     }
 
-    /// The rows of a table, with new values in the cells for which the condition counts as true: the use of each old text is
-    /// taken back and the new one is counted, row by row and cell by cell. In this order: `InvalidInput` for a column that
-    /// isn't there or doesn't take its value, or where the condition names a column that isn't there; `AlreadyExists` where a
-    /// column of the key is set and a key would stand twice; `InvalidData` for a text that has no use to take back, and
-    /// `InvalidInput` where the pool is full. After an error the pool is as it was.
+    /// The rows of a table, with new values in the cells for which the condition counts as true, and what this changes of the
+    /// pool: in a draft of it the use of each old text is taken back and the new one is counted, row by row and cell by cell.
+    /// In this order: `InvalidInput` for a column that isn't there or doesn't take its value, or where the condition names a
+    /// column that isn't there; `AlreadyExists` where a column of the key is set and a key would stand twice; `InvalidData`
+    /// for a text that has no use to take back, and `InvalidInput` where the pool is full.
+    pub fn prepare(
+        &self,
+        alloc: Global,
+        table: &Rc<Table>,
+        rows: Vec<Vec<ValueRef>>,
+        pool: &StringPool,
+    ) -> Result<(Vec<Vec<ValueRef>>, PoolChanges), Error>
+        ensures updates { Answers (λ r. (rows_held r.0.items, pool_after pool.now r.1)) result
+            (updated true pool.now.pool (with_rows (heading_of (rc_value table.now))
+            (rows_held rows.items)) (update_sets self.now) (update_condition self.now)) }
+        ensures changes { IfOk result (λ r. AreChangesFor pool.now r.1) }
+        ensures shape { AreWritable pool.now.pool.long (heading_of (rc_value table.now)).columns
+            (rows_held rows.items)
+            → IfOk result (λ r. AreWritable pool.now.pool.long
+            (heading_of (rc_value table.now)).columns (rows_held r.0.items)) }
+    {
+        self.prepared(alloc, table, rows, pool)
+    }
+
+    /// The same, and the pool takes the changes over. After an error, `Memory` among them, it is as it was.
     pub fn apply(
         &self,
         alloc: Global,
@@ -113,22 +134,28 @@ impl Update {
         ensures marked { pool.new.modified ≡ false → pool.new ≡ pool.old }
         ensures err { OnErr result (pool.new ≡ pool.old) }
     {
-        self.changed(alloc, table, rows, pool)
+        let (rows, changes) = match self.prepare(alloc, table, rows, pool) {
+            Err(error) => return Err(error),
+            Ok(prepared) => prepared,
+        };
+        match pool.adopt(changes) {
+            Err(error) => Err(error),
+            Ok(()) => Ok(rows),
+        }
     }
 
     // The same without a word on which rows can be written.
-    fn changed(
+    fn prepared(
         &self,
         alloc: Global,
         table: &Rc<Table>,
         rows: Vec<Vec<ValueRef>>,
-        pool: &mut StringPool,
-    ) -> Result<Vec<Vec<ValueRef>>, Error>
-        ensures updates { Answers (λ after. (rows_held after.items, pool.new.pool)) result
-            (updated true pool.old.pool (with_rows (heading_of (rc_value table.now))
+        pool: &StringPool,
+    ) -> Result<(Vec<Vec<ValueRef>>, PoolChanges), Error>
+        ensures updates { Answers (λ r. (rows_held r.0.items, pool_after pool.now r.1)) result
+            (updated true pool.now.pool (with_rows (heading_of (rc_value table.now))
             (rows_held rows.items)) (update_sets self.now) (update_condition self.now)) }
-        ensures marked { pool.new.modified ≡ false → pool.new ≡ pool.old }
-        ensures err { OnErr result (pool.new ≡ pool.old) }
+        ensures changes { IfOk result (λ r. AreChangesFor pool.now r.1) }
     {
         let sets = self.updates.as_slice();
         let condition = &self.condition;
@@ -142,10 +169,7 @@ impl Update {
             Ok(after) => after,
         };
         let changes = counted.into_changes();
-        match pool.adopt(changes) {
-            Err(error) => Err(error),
-            Ok(()) => Ok(after),
-        }
+        Ok((after, changes))
     }
 }
 

@@ -73,7 +73,7 @@ impl<'a> Places<DraftParts<'a>> {
 
 // Puts each text of the one map into the other, without places where that lacks it. After Memory, the one error, some may be
 // there, without places.
-fn hold_texts(
+pub(crate) fn hold_texts(
     alloc: Global,
     room: &mut BTreeMap<String, BTreeSet<u32>>,
     touched: &BTreeMap<String, BTreeSet<u32>>,
@@ -142,7 +142,7 @@ fn hold_added(
 }
 
 // Adds places to a set. After Memory, the one error, some may be there.
-fn add_places(free: &mut BTreeSet<u32>, given: &BTreeSet<u32>) -> Result<(), Error>
+pub(crate) fn add_places(free: &mut BTreeSet<u32>, given: &BTreeSet<u32>) -> Result<(), Error>
     ensures ok { OnOk result ((i : ℕ) → has_place free.new i
         ≡ (has_place free.old i || has_place given.now i)) }
     ensures kept { (i : ℕ) → has_place free.old i ≡ true → has_place free.new i ≡ true }
@@ -157,7 +157,7 @@ fn add_places(free: &mut BTreeSet<u32>, given: &BTreeSet<u32>) -> Result<(), Err
 }
 
 // Takes those of some places that aren't free in the list out of a set.
-fn drop_used(list: &[(String, u16)], free: &mut BTreeSet<u32>, given: &BTreeSet<u32>)
+pub(crate) fn drop_used(list: &[(String, u16)], free: &mut BTreeSet<u32>, given: &BTreeSet<u32>)
     ensures { (i : ℕ) → has_place free.new i
         ≡ (has_place free.old i && (not (has_place given.now i)
         || passes_at is_free (places_of list.now) i)) }
@@ -189,7 +189,7 @@ fn is_free_at(list: &[(String, u16)], index: u32) -> bool
 }
 
 // Writes the changed places before this one to the list, and takes those that have a use out of the free ones.
-fn write_changes(
+pub(crate) fn write_changes(
     list: &mut Vec<(String, u16)>,
     free: &mut BTreeSet<u32>,
     changed: BTreeMap<u32, (String, u16)>,
@@ -235,7 +235,10 @@ fn write_place(list: &mut Vec<(String, u16)>, index: u32, entry: (String, u16))
 }
 
 // Puts the places of each text of the one map into the other, which has the texts, and takes texts without places out of it.
-fn put_rooms(room: &mut BTreeMap<String, BTreeSet<u32>>, touched: BTreeMap<String, BTreeSet<u32>>)
+pub(crate) fn put_rooms(
+    room: &mut BTreeMap<String, BTreeSet<u32>>,
+    touched: BTreeMap<String, BTreeSet<u32>>,
+)
     requires { (t : List ℕ) → IsSome (get_by_text touched t) → IsSome (get_by_text room.old t) }
     ensures { (t : List ℕ) (i : ℕ) → has_room room.new t i
         ≡ option_map_or (λ s. has_place s i) (get_by_text touched t) (has_room room.old t i) }

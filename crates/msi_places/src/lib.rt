@@ -6,7 +6,9 @@ mod drafts;
 mod indexing;
 mod parts;
 mod places;
+mod ready;
 
 pub use draftparts::{Changes, DraftParts};
 pub use parts::{PoolParts, StdParts};
 pub use places::Places;
+pub use ready::ReadyPlaces;

@@ -3,4 +3,5 @@ pub mod PoolReads
 pub mod PoolFound
 pub mod PoolRoundTrip
 pub mod PoolStays
+pub mod PoolFree
 pub mod Worked

@@ -9,7 +9,7 @@ use Rattle.msi_texts.specs.Page.{is_utf8_page, encoded, fits}
 use Rattle.msi_pool.specs.Pool.{Place, takes, with_use, one_less, without_use}
 use Rattle.msi_pool.specs.PoolKept.{AreFreeEmpty, AreKept, CanBeKept, IsKept}
 
-abbrev IsEmptyIfFree : Place → Type 0
+abbrev pub IsEmptyIfFree : Place → Type 0
 IsEmptyIfFree p = p.count ≡ 0 → p.text ≡ []
 
 counted_once_more : (n : ℕ) (t : List ℕ) → n + 1 ≡ 0 → t ≡ []

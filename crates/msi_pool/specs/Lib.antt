@@ -4,3 +4,4 @@ pub mod PoolState
 pub mod PoolReading
 pub mod Refs
 pub mod PoolDraft
+pub mod PoolReady

@@ -4,6 +4,7 @@
 mod draft;
 mod laws;
 mod poolbuilder;
+mod ready;
 mod stringpool;
 mod stringref;
 
@@ -13,5 +14,6 @@ pub use laws::{
     written_pools_are_read,
 };
 pub use poolbuilder::StringPoolBuilder;
+pub use ready::ReadyPool;
 pub use stringpool::StringPool;
 pub use stringref::{StringRef, ValueRef};

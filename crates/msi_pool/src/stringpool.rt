@@ -1,9 +1,10 @@
 //! The string pool: texts, each with the number of its uses.
-ghost use Rattle.std.specs.Prelude.{◌≡◌, ◌↔◌, ◌⊎◌, ◌+◌, ◌<◌, ◌^◌, ◌++◌, [], true, false, IsTrue, nat_lt, map, length, Some, None, IfOk, OnOk, OnErr, IfErr, IsErrOf, string_bytes};
+ghost use Rattle.std.specs.Prelude.{◌≡◌, ◌↔◌, ◌⊎◌, ◌+◌, ◌<◌, ◌^◌, ◌++◌, ◌||◌, ◌==◌, not, [], true, false, IsTrue, nat_lt, map, length, Some, None, IfOk, OnOk, OnErr, IfErr, IsErrOf, string_bytes};
 ghost use Rattle.std.specs.List.{flat_map, list_all};
 ghost use Rattle.msi_texts.specs.Page.{encoded};
 ghost use Rattle.msi_pool.specs.Pool.{place, last_place, without_use, at_place, places_of, used, head_bytes, head_of, stored_place, pool_stream, data_stream, width_bit};
 ghost use Rattle.msi_pool.specs.PoolDraft.{AreChangesOver, adopted};
+ghost use Rattle.msi_pool.specs.PoolKept.{AreFreeEmpty};
 ghost use Rattle.msi_pool.specs.PoolState.{changed_to, is_in_size, length_limit};
 ghost use Rattle.cfb_medium.specs.declared.error.Error.TheVariants.{InvalidInput, InvalidData, Memory};
 
@@ -31,10 +32,10 @@ const LENGTH_LIMIT: usize = 4294967295;
 /// without a use is free.
 #[derive(Drop)]
 pub struct StringPool {
-    codepage: CodePage,
-    long_string_refs: bool,
-    places: Places,
-    is_modified: bool,
+    pub(crate) codepage: CodePage,
+    pub(crate) long_string_refs: bool,
+    pub(crate) places: Places,
+    pub(crate) is_modified: bool,
 }
 
 impl Model for StringPool {
@@ -85,6 +86,31 @@ impl StringPool {
             places: Places::of(alloc, strings)?,
             is_modified: false,
         })
+    }
+
+    // The pool of these places.
+    pub(crate) fn from_places(
+        codepage: CodePage,
+        long_string_refs: bool,
+        is_modified: bool,
+        places: Places,
+    ) -> StringPool
+        ensures { result
+            ≡ record {
+              pool = record {
+                page = codepage;
+                long = long_string_refs;
+                places = places.places;
+              };
+              modified = is_modified;
+            } }
+    {
+        StringPool {
+            codepage,
+            long_string_refs,
+            places,
+            is_modified,
+        }
     }
 
     /// A draft to be changed, whose changes this pool can take over. It takes no memory until it is changed, and this pool stays
@@ -185,6 +211,22 @@ impl StringPool {
         }
     }
 
+    /// The number of uses of each place, in order. The one error is Memory.
+    pub fn counts(&self, alloc: Global) -> Result<Vec<u16>, Error>
+        ensures counts { IfOk result (λ counts. counts.items
+            ≡ map (λ p. p.count) self.now.pool.places) }
+        ensures kinds { IfErr result (λ e. e ≡ Memory) }
+    {
+        counts_of(alloc, self.places.list())
+    }
+
+    /// Whether no text stands at a free place.
+    pub fn are_free_empty(&self) -> bool
+        ensures { IsTrue result ↔ AreFreeEmpty self.now.pool.places }
+    {
+        are_free_empty(self.places.list())
+    }
+
     /// Counts a use of the text at the least place that is free or holds it with a count below 65535,
     /// else at a new place, and tells where. InvalidInput where no reference could name that place;
     /// then, and after Memory, nothing changed.
@@ -257,6 +299,28 @@ impl StringPool {
         writer.extend_from_slice(bytes.as_slice())?;
         Ok(())
     }
+}
+
+// The number of uses of each place. The one error is Memory.
+fn counts_of(alloc: Global, strings: &[(String, u16)]) -> Result<Vec<u16>, Error>
+    ensures counts { IfOk result (λ counts. counts.items
+        ≡ map (λ p. p.count) (places_of strings.now)) }
+    ensures kinds { IfErr result (λ e. e ≡ Memory) }
+{
+    let mut counts = Vec::new(alloc);
+    for (_, count) in strings {
+        counts.push(*count)?;
+    }
+    Ok(counts)
+}
+
+// Whether no text stands at a free place.
+fn are_free_empty(strings: &[(String, u16)]) -> bool
+    ensures { result ≡ list_all (λ s. not (s.1 == 0) || (length (string_bytes s.0) == 0)) strings.now }
+{
+    strings
+        .iter()
+        .all(|entry| entry.1 != 0 || entry.0.is_empty())
 }
 
 // Appends how a length and a count are written: a length of 0 with a count stands for the one behind it.

@@ -1,6 +1,6 @@
 use Rattle.std.proofs.Common.{◌∙◌, sym, refl, [], inl, inr, ⊎_elim, arith}
 use Rattle.staged.specs.Staged.{Continues, device_of, staged_bytes}
-use Rattle.installer.proofs.Recovering.{faults}
+use Rattle.installer.proofs.Recovering.{faults, never_recovered}
 use Rattle.installer.proofs.Surviving.{return_then, return_same, return_recovered}
 use Rattle.installer.proofs.Stopping.{survives_alike, alike_then}
 use Rattle.installer.proofs.session.Session.open.Goals as goal
@@ -59,3 +59,7 @@ returns-in-Err-read_contents-clause-survives g c =
     survives_alike g.D.Device g.met.D.Device.counts_now c.args.device (device_of c.read_contents.new.medium) (sym keeps.as_honest ∙ c.in-Ok.ensures.honest) (omega (arith, c.in-Ok.ensures.failures, keeps.counted))
     (λ honest. alike_then g.D.Device g.met.D.Device.counts_now _ _ _ (c.in-Ok.ensures.stops honest) (g.met.D.Device.rests_leaves _ _ rests))
     )
+
+pub returns-in-Err-read_contents-clause-left : goal.returns-in-Err-read_contents-clause-left
+returns-in-Err-read_contents-clause-left g c = λ honest malformed.
+    absurd (never_recovered (g.D.Device.content c.args.device) (staged_bytes c.in-Ok.medium) malformed (c.in-Ok.ensures.bytes honest))

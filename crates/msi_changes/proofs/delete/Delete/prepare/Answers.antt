@@ -4,9 +4,9 @@ use Rattle.msi_tables.specs.Held.{heading_of, rows_held}
 use Rattle.msi_changes.specs.Applied.{with_rows}
 use Rattle.msi_changes.specs.Said.{delete_condition}
 use Rattle.msi_changes.proofs.Shapes.{delete_shape, shape_told}
-use Rattle.msi_changes.proofs.delete.Delete.apply.Goals as goal
+use Rattle.msi_changes.proofs.delete.Delete.prepare.Goals as goal
 
 pub returns-clause-shape : goal.returns-clause-shape
 returns-clause-shape c = λ old.
     let t = with_rows (heading_of (rc_value c.args.table.now)) (rows_held c.args.rows.items) in
-    shape_told c.args.pool.now.pool c.changed.new.pool.pool t c.changed.result _ c.changed.ensures.deletes (delete_shape true c.args.pool.now.pool t (delete_condition c.args.self.now)) old
+    shape_told c.args.pool.now t c.prepared.result _ c.prepared.ensures.deletes (delete_shape true c.args.pool.now.pool t (delete_condition c.args.self.now)) old

@@ -1,0 +1,9 @@
+//! Reading the schema of a Windows Installer database from the rows of its system tables.
+#![tactic(auto)]
+
+mod cells;
+mod column;
+mod laws;
+
+pub use column::column_from_rows;
+pub use laws::columns_are_read_by_their_rows;
