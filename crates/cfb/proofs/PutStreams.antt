@@ -22,7 +22,7 @@ use Rattle.cfb_tree.specs.Tree.{Tree}
 use Rattle.cfb_tree.proofs.OneContent.{Some_same}
 use Rattle.cfb.specs.Doing.{Does, Keeps, Means}
 use Rattle.cfb.specs.Putting.{answer_by, putting, rewriting, IsRefusedPut, IsRefusedRewriting, KeepsMeant, Puts}
-use Rattle.cfb.specs.Views.{letters_in, mini_of, said_at, sound_of, Shows}
+use Rattle.cfb.specs.Views.{letters_in, mini_of, said_at, sound_of, validation_of, Shows}
 use Rattle.cfb.specs.declared.compound_file.CompoundFile.{CompoundFile}
 use Rattle.cfb.proofs.Holding.{holds_shown}
 use Rattle.cfb.proofs.LiveMeaning.{holds_meant, means_kept}
@@ -109,14 +109,14 @@ module _ {F : Type 0} {g : Ghosts F} where
     module _ (mid : CompoundFile F g) (x : Unit {0}) (did : Does {T = Unit {0}} path (λ names. create_new_stream names) (Ok x) old mid) where
       -- LAW: one was made, and its bytes were not written: then the file has failed
       pub puts_failed : (b new : CompoundFile F g) (e : Error) → Puts {T = Unit {0}} (rewriting bytes) path (Err e) mid b → has_failed_here (allocator_of (mini_of new)) ≡ true
-          → (letters_in new ≡ letters_in b) × (sound_of new ≡ sound_of b) → Puts {T = Unit {0}} (putting bytes) path (Err e) old new
+          → (letters_in new ≡ letters_in b) × (sound_of new ≡ sound_of b) × (validation_of new ≡ validation_of b) → Puts {T = Unit {0}} (putting bytes) path (Err e) old new
       puts_failed b new e p failed seen = record {
         failed = λ before. let never = did.failed before in absurd (cc);
         unsound = λ live unsound. let never = (did.unsound live unsound).0 in absurd (cc);
         done = tt;
         refused = λ tree m. inl (why tree m);
         rests = inl failed;
-        seen = (seen.0 ∙ p.seen.0 ∙ did.seen.0, seen.1 ∙ p.seen.1 ∙ did.seen.1);
+        seen = (seen.0 ∙ p.seen.0 ∙ did.seen.0, seen.1 ∙ p.seen.1 ∙ did.seen.1, seen.2 ∙ p.seen.2 ∙ did.seen.2);
       }
         where
           why : (tree : Tree) → Means old tree → IsFault e
@@ -151,7 +151,7 @@ module _ {F : Type 0} {g : Ghosts F} where
             };
         refused = tt;
         rests = tt;
-        seen = (p.seen.0 ∙ did.seen.0, p.seen.1 ∙ did.seen.1);
+        seen = (p.seen.0 ∙ did.seen.0, p.seen.1 ∙ did.seen.1, p.seen.2 ∙ did.seen.2);
       }
 
   -- ---- errors and their causes

@@ -31,7 +31,7 @@ use Rattle.cfb_writing.proofs.LongBytes.{length-resized}
 use Rattle.cfb.specs.Doing.{Means}
 use Rattle.cfb.specs.Putting.{answer_by, rewriting, IsRefusedOpening, IsRefusedRewriting, KeepsMeant, Puts}
 use Rattle.cfb.specs.Streams.{IsWant}
-use Rattle.cfb.specs.Views.{letters_in, mini_of, sound_of, Rests}
+use Rattle.cfb.specs.Views.{letters_in, mini_of, sound_of, validation_of, Rests}
 use Rattle.cfb.specs.Writing.{FindsWritten, IsLostAt, IsWritten, KeepsAt, RewritesAt}
 use Rattle.cfb.specs.declared.compound_file.CompoundFile.{CompoundFile}
 use Rattle.cfb.proofs.Standing.{err_as}
@@ -101,11 +101,11 @@ module _ {F : Type 0} {g : Ghosts F} where
           done = tt;
           refused = λ tree m. ⊎_elim (λ want. inl (want_fault old e want)) (λ rule. inr (refused_too (letters_in old) tree bytes path e rule, keeps)) (told tree m);
           rests = inr keeps;
-          seen = (r.letters, r.sound);
+          seen = (r.letters, r.sound, r.validation);
         }
 
     module _ (id len : ℕ) (live : has_failed_here (allocator_of (mini_of old)) ≡ true → ⊥) (sound : has_failed_here (allocator_of (mini_of old)) ≡ false → sound_of old ≡ false → ⊥)
-        (found : (tree : Tree) → Means old tree → FindsWritten old mid path tree id len) (seen : (letters_in new ≡ letters_in mid) × (sound_of new ≡ sound_of mid)) where
+        (found : (tree : Tree) → Means old tree → FindsWritten old mid path tree id len) (seen : (letters_in new ≡ letters_in mid) × (sound_of new ≡ sound_of mid) × (validation_of new ≡ validation_of mid)) where
       -- LAW: its bytes were not written
       pub not_written : (e : Error) → (e ≡ InvalidInput → (names : Path) (tree : Tree) (content : List ℕ) → IsWritten mid names tree id content → length content ≡ len → ⊥)
           → (e ≡ InvalidData → IsLostAt id mid) → (has_failed_here (allocator_of (mini_of new)) ≡ true) ⊎ KeepsAt id mid new
@@ -116,7 +116,7 @@ module _ {F : Type 0} {g : Ghosts F} where
         done = tt;
         refused = λ tree m. inl (why tree m fault);
         rests = ⊎_elim (λ failed. inl failed) (λ k. inr (record { means = λ tree m. let f = found tree m in means_written new f.names tree id f.content (k f.names tree f.content f.written) })) kept;
-        seen = (seen.0 ∙ r.letters, seen.1 ∙ r.sound);
+        seen = (seen.0 ∙ r.letters, seen.1 ∙ r.sound, seen.2 ∙ r.validation);
       }
         where
           why : (tree : Tree) → Means old tree → IsFaultUnless ⊥ e ⊎ IsInvalidPlaceOrFull e → IsFault e
@@ -151,7 +151,7 @@ module _ {F : Type 0} {g : Ghosts F} where
             };
         refused = tt;
         rests = tt;
-        seen = (seen.0 ∙ r.letters, seen.1 ∙ r.sound);
+        seen = (seen.0 ∙ r.letters, seen.1 ∙ r.sound, seen.2 ∙ r.validation);
       }
 
       -- more bytes than an entry tells of are none of those that are put

@@ -13,7 +13,7 @@ use Rattle.cfb_tree.specs.Objects.{a_storage, a_stream, object_at, Object}
 use Rattle.cfb_tree.specs.Paths.{Path}
 use Rattle.cfb_tree.specs.Tree.{Tree}
 use Rattle.cfb.specs.Doing.{Means}
-use Rattle.cfb.specs.Views.{letters_in, mini_of, sound_of}
+use Rattle.cfb.specs.Views.{letters_in, mini_of, sound_of, validation_of}
 use Rattle.cfb.specs.declared.compound_file.CompoundFile.{CompoundFile}
 
 -- what a call at a path makes of a tree, and its answer
@@ -68,4 +68,4 @@ module _ {F : Type 0} {g : Ghosts F} where
     pub done : OnOk result ((tree : Tree) → Means old tree → IsDoneBy rule path tree old new)
     pub refused : IfErr result (λ e. (tree : Tree) → Means old tree → IsFault e ⊎ ((answer_by rule (letters_in old) tree path ≡ refused e) × KeepsMeant old new))
     pub rests : OnErr result ((has_failed_here (allocator_of (mini_of new)) ≡ true) ⊎ KeepsMeant old new)
-    pub seen : (letters_in new ≡ letters_in old) × (sound_of new ≡ sound_of old)
+    pub seen : (letters_in new ≡ letters_in old) × (sound_of new ≡ sound_of old) × (validation_of new ≡ validation_of old)

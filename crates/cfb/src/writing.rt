@@ -2,7 +2,7 @@
 ghost use Rattle.cfb.specs.Doing.{Means as MeansTree};
 ghost use Rattle.cfb.specs.Putting.{IsRefusedOpening};
 ghost use Rattle.cfb.specs.Streams.{IsWant, KeepsStream};
-ghost use Rattle.cfb.specs.Views.{letters_in, mini_of, sound_of, Rests};
+ghost use Rattle.cfb.specs.Views.{letters_in, mini_of, sound_of, validation_of, Rests};
 ghost use Rattle.cfb.specs.Writing.{file_under, place_of, FindsWritten, IsFound, IsLostAt, IsWritten, KeepsAt, LacksRoomAt, Opens, RewritesAt};
 ghost use Rattle.cfb_directory.specs.Views.{entries_held};
 ghost use Rattle.cfb.specs.contracts.compound_file.CompoundFile.{the_row};
@@ -25,7 +25,6 @@ ghost use Rattle.std.specs.Prelude.{false, length, true, IfErr, IfOk, IsErrOf, L
 
 use crate::{CompoundFile, Stream};
 use cfb_medium::{Error, Medium, ReadMedium};
-use cfb_sectors::HasSectors;
 use cfb_siblings::find_entry;
 use cfb_streams::open_stream as find_sectors;
 use cfb_tree::name_chain_from_path;
@@ -125,13 +124,6 @@ impl<F: ReadMedium> CompoundFile<F> {
 }
 
 impl<F: Medium> CompoundFile<F> {
-    // Whether every call is refused after a fault.
-    pub(crate) fn is_failed(&self) -> bool
-        ensures { result ≡ has_failed_here (allocator_of (mini_of self.now)) }
-    {
-        self.mini.directory().allocator().is_failed()
-    }
-
     // Passes on what the medium keeps back; the stream of so many bytes that was opened stays.
     pub(crate) fn flush_under(&mut self, len: u64) -> Result<(), Error>
         ensures keeps { KeepsStream len self.old self.new }
@@ -158,7 +150,8 @@ impl<F: Medium> CompoundFile<F> {
         ensures answers { Answers IsInvalidPlace result (allocator_of (mini_of self.old))
             (allocator_of (mini_of self.new)) }
         ensures seen { (letters_in self.new ≡ letters_in self.old)
-            × (sound_of self.new ≡ sound_of self.old) }
+            × (sound_of self.new ≡ sound_of self.old)
+            × (validation_of self.new ≡ validation_of self.old) }
     {
         if let Err(error) = overwrite_stream(&mut self.mini, id, &self.links, at, bytes) {
             return Err(error);
@@ -183,7 +176,8 @@ impl<F: Medium> CompoundFile<F> {
         ensures answers { Answers IsInvalidPlaceOrFull result (allocator_of (mini_of self.old))
             (allocator_of (mini_of self.new)) }
         ensures seen { (letters_in self.new ≡ letters_in self.old)
-            × (sound_of self.new ≡ sound_of self.old) }
+            × (sound_of self.new ≡ sound_of self.old)
+            × (validation_of self.new ≡ validation_of self.old) }
     {
         if let Err(error) = resize_stream(self.alloc, &mut self.mini, id, &mut self.links, len) {
             return Err(error);
@@ -218,7 +212,8 @@ impl<F: Medium> CompoundFile<F> {
         ensures answers { Answers IsInvalidPlaceOrFull result (allocator_of (mini_of self.old))
             (allocator_of (mini_of self.new)) }
         ensures seen { (letters_in self.new ≡ letters_in self.old)
-            × (sound_of self.new ≡ sound_of self.old) }
+            × (sound_of self.new ≡ sound_of self.old)
+            × (validation_of self.new ≡ validation_of self.old) }
     {
         if let Err(error) = self.resize_bytes(id, end) {
             return Err(error);

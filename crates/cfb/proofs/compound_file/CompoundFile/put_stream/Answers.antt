@@ -20,7 +20,7 @@ returns-in-Err-create_new_stream-clause-puts g c =
 pub returns-in-Err-rewrite_stream-clause-puts : goal.returns-in-Err-rewrite_stream-clause-puts
 returns-in-Err-rewrite_stream-clause-puts g c =
     puts_failed (names_in c.args.path.now) c.args.bytes.now c.args.self.now c.create_new_stream.new.self _ c.in_default-create_new_stream.ensures.does c.rewrite_stream-2.new.self _ c.in-Err-rewrite_stream.error
-    c.in-Err-rewrite_stream.ensures.puts c.fail.ensures.sectors.failed (refl, refl)
+    c.in-Err-rewrite_stream.ensures.puts c.fail.ensures.sectors.failed (refl, refl, refl)
 
 pub returns-in-Err-rewrite_stream-clause-goes_on : goal.returns-in-Err-rewrite_stream-clause-goes_on
 returns-in-Err-rewrite_stream-clause-goes_on g c =
