@@ -13,7 +13,7 @@ use Rattle.cfb_tree.specs.Names.{Letters}
 use Rattle.cfb_tree.specs.Paths.{Path}
 use Rattle.cfb_tree.specs.Tree.{Tree}
 use Rattle.cfb.specs.Doing.{Does}
-use Rattle.cfb.specs.Views.{letters_in, mini_of, sound_of}
+use Rattle.cfb.specs.Views.{letters_in, mini_of, sound_of, validation_of}
 use Rattle.cfb.specs.declared.compound_file.CompoundFile.{CompoundFile}
 
 same_answer : (letters : Letters) (tree : Tree) (moment : ℕ) (path : Option Path) → answer_at letters tree (λ names. touch names moment) path ≡ answer_at letters tree (λ names. set_modified_time names moment) path
@@ -21,9 +21,9 @@ same_answer letters tree moment None = refl
 same_answer letters tree moment (Some names) = refl
 
 module _ {F : Type 0} {g : Ghosts F} {T : Type 0} (path : Option Path) (old new : CompoundFile F g) where
-  pub does_so : (call : Path → Call) (r : Result T Error) → letters_in new ≡ letters_in old → sound_of new ≡ sound_of old → has_failed_here (allocator_of (mini_of old)) ≡ false → sound_of old ≡ true
+  pub does_so : (call : Path → Call) (r : Result T Error) → letters_in new ≡ letters_in old → sound_of new ≡ sound_of old → validation_of new ≡ validation_of old → has_failed_here (allocator_of (mini_of old)) ≡ false → sound_of old ≡ true
       → live.Does (letters_in old) path call r (mini_of old) (mini_of new) → Does path call r old new
-  does_so call (Ok x) letters sound live is did = record {
+  does_so call (Ok x) letters sound validation live is did = record {
     failed = λ failed. let never : true ≡ false = sym failed ∙ live in absurd (cc);
     unsound = λ _ unsound. let never : true ≡ false = sym is ∙ unsound in absurd (cc);
     done = λ tree m.
@@ -31,15 +31,15 @@ module _ {F : Type 0} {g : Ghosts F} {T : Type 0} (path : Option Path) (old new 
         record { names = it.names; at_path = it.at_path; accepted = it.accepted; means = record { sound = sound ∙ is; live = subst (λ l. meaning.Means l (mini_of new) (tree_step (letters_in old) tree (call it.names)).0) (sym letters) it.means } };
     refused = tt;
     rests = tt;
-    seen = (letters, sound);
+    seen = (letters, sound, validation);
   }
-  does_so call (Err e) letters sound live is did = record {
+  does_so call (Err e) letters sound validation live is did = record {
     failed = λ failed. let never : true ≡ false = sym failed ∙ live in absurd (cc);
     unsound = λ _ unsound. let never : true ≡ false = sym is ∙ unsound in absurd (cc);
     done = tt;
     refused = λ tree m. ⊎_elim (λ fault. inl fault) (λ rule. inr (rule.0, record { mini = rule.1; letters = letters; sound = sound })) (did.refused tree m.live);
     rests = ⊎_elim (λ failed. inl failed) (λ keeps. inr (record { mini = keeps; letters = letters; sound = sound })) did.rests;
-    seen = (letters, sound);
+    seen = (letters, sound, validation);
   }
 
   -- to touch an object is to set when it was modified

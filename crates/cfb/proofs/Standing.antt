@@ -38,6 +38,20 @@ module _ {F : Type 0} {g : Ghosts F} where
     len = len ∙ s.len;
   }
 
+  -- what was only read since it was seen so
+  pub rests_as : (a b c : Stream F g) → b.file.ghost_name ≡ a.file.ghost_name → file_under b ≡ file_under a → id_of b ≡ id_of a → stream_len b ≡ stream_len a → Rests b c → Rests a c
+  rests_as a b c name file id len h = record {
+    file = h.file ∙ name;
+    entry = h.entry ∙ id;
+    len = h.len ∙ len;
+    read = subst (λ f. KeepsStream (stream_len a) f (file_under c)) file (subst (λ n. KeepsStream n (file_under b) (file_under c)) len h.read);
+    keeps = λ path tree content s. h.keeps path tree content (stands_as a b file id len path tree content s);
+  }
+
+  -- and an error since then
+  pub gone_as : (a b : Stream F g) (e : Error) → file_under b ≡ file_under a → id_of b ≡ id_of a → stream_len b ≡ stream_len a → IsFaultOrGone b e → IsFaultOrGone a e
+  gone_as a b e file id len = ⊎_elim (λ fault. inl fault) (λ lost. inr (lost.0, λ path tree content s. lost.1 path tree content (stands_as a b file id len path tree content s)))
+
   -- the bytes with which it stands are those that are read
   pub stands_read : (it : Stream F g) (path : Path) (tree : Tree) (content : List ℕ) → Stands it path tree content → HasStream (file_under it) (stream_len it) content
   stands_read it path tree content s = subst (λ n. HasStream (file_under it) n content) (sym s.len) (reads_written (file_under it) path tree (id_of it) content s.written)

@@ -12,7 +12,7 @@ use Rattle.cfb_mini.specs.Changing.{KeepsOwners}
 use Rattle.cfb_mini.specs.Views.{allocator_of}
 use Rattle.cfb_tree.specs.Paths.{Path}
 use Rattle.cfb_tree.specs.Tree.{Tree}
-use Rattle.cfb.specs.Views.{letters_in, mini_of, sound_of}
+use Rattle.cfb.specs.Views.{letters_in, mini_of, sound_of, validation_of}
 use Rattle.cfb.specs.declared.compound_file.CompoundFile.{CompoundFile}
 
 module _ {F : Type 0} {g : Ghosts F} where
@@ -43,4 +43,4 @@ module _ {F : Type 0} {g : Ghosts F} where
     pub done : OnOk result ((tree : Tree) → Means old tree → IsDone path call tree old new)
     pub refused : IfErr result (λ e. (tree : Tree) → Means old tree → IsFault e ⊎ ((answer_at (letters_in old) tree call path ≡ refused e) × Keeps old new))
     pub rests : OnErr result ((has_failed_here (allocator_of (mini_of new)) ≡ true) ⊎ Keeps old new)
-    pub seen : (letters_in new ≡ letters_in old) × (sound_of new ≡ sound_of old)
+    pub seen : (letters_in new ≡ letters_in old) × (sound_of new ≡ sound_of old) × (validation_of new ≡ validation_of old)

@@ -2,10 +2,12 @@
 use Rattle.std.specs.Prelude.{◌≡◌, ℕ, false, Bool, Option, Some, None}
 use Rattle.cfb_directory.specs.Views.{entries_held}
 use Rattle.cfb_entries.specs.Rules.{HoldsSizes}
+use Rattle.cfb_fat.specs.Tables.{has_failed_here}
 use Rattle.cfb_meaning.specs.TreeRules.{Answer, yes, Call, tree_step}
 use Rattle.cfb_medium.specs.declared.medium.ReadMedium.{Ghosts}
 use Rattle.cfb_mini.specs.Views as mini
 use Rattle.cfb_mini.specs.declared.mini_allocator.MiniAllocator.{MiniAllocator}
+use Rattle.cfb_sectors.specs.declared.validation.Validation.{Validation}
 use Rattle.cfb_streams.specs.Content.{most_of}
 use Rattle.cfb_streams.specs.declared.ahead.ReadAhead.{ReadAhead}
 use Rattle.cfb_streams.specs.declared.opening.StreamLinks.{StreamLinks}
@@ -29,9 +31,17 @@ module _ {F : Type 0} {g : Ghosts F} where
   abbrev pub letters_in : CompoundFile F g → Letters
   letters_in it = letter.letters_of it.letters
 
+  -- as which reader it was opened
+  abbrev pub validation_of : CompoundFile F g → Validation
+  validation_of it = it.validation
+
   -- whether it was judged to be sound
   abbrev pub sound_of : CompoundFile F g → Bool
   sound_of it = it.is_sound
+
+  -- no fault has left it in a state in which every call is refused
+  abbrev pub IsLive : CompoundFile F g → Type 0
+  IsLive it = has_failed_here (mini.allocator_of (mini_of it)) ≡ false
 
   -- its entries hold the tree, of whose streams the sizes alone are known ([MS-CFB] 2.6)
   abbrev pub Shows : CompoundFile F g → Tree → Type 0
@@ -48,9 +58,10 @@ module _ {F : Type 0} {g : Ghosts F} where
   abbrev pub most_ahead_of : CompoundFile F g → ℕ
   most_ahead_of it = most_of (ahead_held it)
 
-  -- it was only read: of its layers, letter table and soundness all is as it was, and how many bytes it reads ahead
+  -- it was only read: of its layers, letter table, reader and soundness all is as it was, and how many bytes it reads ahead
   pub record Rests (old new : CompoundFile F g) : Type 0 where
     pub mini : mini.Rests (mini_of old) (mini_of new)
     pub letters : letters_in new ≡ letters_in old
+    pub validation : validation_of new ≡ validation_of old
     pub sound : sound_of new ≡ sound_of old
     pub most : most_ahead_of new ≡ most_ahead_of old

@@ -3,16 +3,18 @@ ghost use Rattle.cfb_directory.specs.Entries.{entries_in};
 ghost use Rattle.cfb_directory.specs.Views.{entries_held};
 ghost use Rattle.cfb_entries.specs.Lists.{TellsEntries};
 ghost use Rattle.cfb_entries.specs.Rules.{answer_at, names_in, TellsEntry};
-ghost use Rattle.cfb_fat.specs.Tables.{has_failed, medium_of, version_of};
+ghost use Rattle.cfb_fat.specs.Tables.{has_failed, has_failed_here, medium_of, version_of, AllFails};
 ghost use Rattle.cfb_meaning.specs.TreeRules.{entry, exists, is_storage, is_stream, read_root_storage, read_storage, root_entry, tree_step, walk, walk_storage, yes};
+ghost use Rattle.cfb_medium.specs.declared.error.Error.TheVariants.{Failed};
 ghost use Rattle.cfb_mini.specs.Views.{allocator_of, directory_of};
 ghost use Rattle.cfb_tree.specs.LetterViews.{letters_of};
 ghost use Rattle.cfb_tree.specs.Tree.{Tree};
-ghost use Rattle.std.specs.Prelude.{◌≡◌};
+ghost use Rattle.std.specs.Prelude.{true, IsErrOf, ◌≡◌};
 
 use cfb_entries::{Entries, Entry, children_at, entry_at, is_stream_at, walk_at};
 use cfb_medium::{Error, Medium, ReadMedium, Version};
 use cfb_mini::MiniAllocator;
+use cfb_sectors::{HasSectors, Validation};
 use cfb_streams::{ReadAhead, StreamLinks};
 use cfb_tree::{CaseMapper, DirEntry};
 use std::alloc::Global;
@@ -23,13 +25,14 @@ pub struct CompoundFile<F: ReadMedium> {
     pub(crate) alloc: Global,
     pub(crate) mini: MiniAllocator<F>,
     pub(crate) letters: CaseMapper,
+    pub(crate) validation: Validation,
     pub(crate) is_sound: bool,
     pub(crate) links: StreamLinks,
     pub(crate) ahead: ReadAhead,
 }
 
 impl<F: ReadMedium> CompoundFile<F> {
-    ghost use Rattle.cfb.specs.Views.{letters_in, mini_of, said_at, sound_of, Shows};
+    ghost use Rattle.cfb.specs.Views.{letters_in, mini_of, said_at, sound_of, IsLive, Shows};
 
     /// The version.
     pub fn version(&self) -> Version
@@ -46,6 +49,7 @@ impl<F: ReadMedium> CompoundFile<F> {
             alloc: _,
             mini,
             letters: _,
+            validation: _,
             is_sound: _,
             links: _,
             ahead: _,
@@ -62,6 +66,13 @@ impl<F: ReadMedium> CompoundFile<F> {
         self.is_sound
     }
 
+    /// The letter table under which names are compared ([MS-CFB] 2.6.4).
+    pub fn letters(&self) -> &CaseMapper
+        ensures { letters_of result.now ≡ letters_in self.now }
+    {
+        &self.letters
+    }
+
     // The entries, by number.
     pub(crate) fn entries(&self) -> &[DirEntry]
         ensures { entries_in result.now ≡ entries_held (directory_of (mini_of self.now)) }
@@ -69,20 +80,37 @@ impl<F: ReadMedium> CompoundFile<F> {
         self.mini.directory().dir_entries()
     }
 
-    /// The root. The one error is `Memory` ([MS-CFB] 2.6.2).
-    pub fn root_entry(&self) -> Result<Entry, Error>
-        ensures { (tree : Tree) → Shows self.now tree
-            → TellsEntry (tree_step (letters_in self.now) tree root_entry).1 result }
+    // Whether every call is refused after a fault.
+    pub(crate) fn is_failed(&self) -> bool
+        ensures { result ≡ has_failed_here (allocator_of (mini_of self.now)) }
     {
+        self.mini.directory().allocator().is_failed()
+    }
+
+    /// The root. `Failed` after an earlier fault; the one other error is `Memory` ([MS-CFB] 2.6.2).
+    pub fn root_entry(&self) -> Result<Entry, Error>
+        ensures told { IsLive self.now → (tree : Tree) → Shows self.now tree
+            → TellsEntry (tree_step (letters_in self.now) tree root_entry).1 result }
+        ensures failed { has_failed_here (allocator_of (mini_of self.now)) ≡ true
+            → IsErrOf result Failed }
+    {
+        if self.is_failed() {
+            return Err(Error::Failed);
+        }
         entry_at(self.alloc, &self.letters, self.entries(), "/")
     }
 
-    /// The object at a path. `InvalidInput` where the path leads above the root, `NotFound` where no object is there. The one
-    /// other error is `Memory`.
+    /// The object at a path. `Failed` after an earlier fault, before all else; `InvalidInput` where the path leads above the root,
+    /// `NotFound` where no object is there. The one other error is `Memory`.
     pub fn entry(&self, path: &str) -> Result<Entry, Error>
-        ensures { (tree : Tree) → Shows self.now tree → TellsEntry
+        ensures told { IsLive self.now → (tree : Tree) → Shows self.now tree → TellsEntry
             (answer_at (letters_in self.now) tree entry (names_in path.now)) result }
+        ensures failed { has_failed_here (allocator_of (mini_of self.now)) ≡ true
+            → IsErrOf result Failed }
     {
+        if self.is_failed() {
+            return Err(Error::Failed);
+        }
         entry_at(self.alloc, &self.letters, self.entries(), path)
     }
 
@@ -113,44 +141,79 @@ impl<F: ReadMedium> CompoundFile<F> {
         !kind.unwrap_or(true)
     }
 
-    /// The children of the root, in their order. The one error is `Memory` ([MS-CFB] 2.6.4).
+    /// The children of the root, in their order. `Failed` after an earlier fault; the one other error is `Memory`
+    /// ([MS-CFB] 2.6.4).
     pub fn read_root_storage(&self) -> Result<Entries, Error>
-        ensures { (tree : Tree) → Shows self.now tree
+        ensures told { IsLive self.now → (tree : Tree) → Shows self.now tree
             → TellsEntries (tree_step (letters_in self.now) tree read_root_storage).1 result }
+        ensures failed { has_failed_here (allocator_of (mini_of self.now)) ≡ true
+            → IsErrOf result Failed }
     {
+        if self.is_failed() {
+            return Err(Error::Failed);
+        }
         children_at(self.alloc, &self.letters, self.entries(), "/")
     }
 
-    /// The children of the storage at a path, in their order. `InvalidInput` where the path leads above the root, `NotFound`
-    /// where no object is there, `InvalidInput` where it is a stream. The one other error is `Memory` ([MS-CFB] 2.6.4).
+    /// The children of the storage at a path, in their order. `Failed` after an earlier fault, before all else; `InvalidInput`
+    /// where the path leads above the root, `NotFound` where no object is there, `InvalidInput` where it is a stream. The one
+    /// other error is `Memory` ([MS-CFB] 2.6.4).
     pub fn read_storage(&self, path: &str) -> Result<Entries, Error>
-        ensures { (tree : Tree) → Shows self.now tree → TellsEntries
+        ensures told { IsLive self.now → (tree : Tree) → Shows self.now tree → TellsEntries
             (answer_at (letters_in self.now) tree read_storage (names_in path.now)) result }
+        ensures failed { has_failed_here (allocator_of (mini_of self.now)) ≡ true
+            → IsErrOf result Failed }
     {
+        if self.is_failed() {
+            return Err(Error::Failed);
+        }
         children_at(self.alloc, &self.letters, self.entries(), path)
     }
 
-    /// The root and all objects in it, each storage before what it holds. The one error is `Memory`.
+    /// The root and all objects in it, each storage before what it holds. `Failed` after an earlier fault; the one other error is
+    /// `Memory`.
     pub fn walk(&self) -> Result<Entries, Error>
-        ensures { (tree : Tree) → Shows self.now tree
+        ensures told { IsLive self.now → (tree : Tree) → Shows self.now tree
             → TellsEntries (tree_step (letters_in self.now) tree walk).1 result }
+        ensures failed { has_failed_here (allocator_of (mini_of self.now)) ≡ true
+            → IsErrOf result Failed }
     {
+        if self.is_failed() {
+            return Err(Error::Failed);
+        }
         walk_at(self.alloc, &self.letters, self.entries(), "/")
     }
 
-    /// The storage at a path and all objects in it, each storage before what it holds. `InvalidInput` where the path leads
-    /// above the root, `NotFound` where no object is there, `InvalidInput` where it is a stream. The one other error is
-    /// `Memory`.
+    /// The storage at a path and all objects in it, each storage before what it holds. `Failed` after an earlier fault, before all
+    /// else; `InvalidInput` where the path leads above the root, `NotFound` where no object is there, `InvalidInput` where it is a
+    /// stream. The one other error is `Memory`.
     pub fn walk_storage(&self, path: &str) -> Result<Entries, Error>
-        ensures { (tree : Tree) → Shows self.now tree → TellsEntries
+        ensures told { IsLive self.now → (tree : Tree) → Shows self.now tree → TellsEntries
             (answer_at (letters_in self.now) tree walk_storage (names_in path.now)) result }
+        ensures failed { has_failed_here (allocator_of (mini_of self.now)) ≡ true
+            → IsErrOf result Failed }
     {
+        if self.is_failed() {
+            return Err(Error::Failed);
+        }
         walk_at(self.alloc, &self.letters, self.entries(), path)
     }
 }
 
 impl<F: Medium> CompoundFile<F> {
-    ghost use Rattle.cfb.specs.Views.{mini_of};
+    ghost use Rattle.cfb.specs.Views.{letters_in, mini_of, sound_of, validation_of};
+
+    /// Leaves it in a state in which every call is refused, as a fault in a write does: for a layer above, where what it changes by
+    /// several calls has come half way. `roll_back` leads out of it.
+    pub fn fail(&mut self)
+        ensures fails { AllFails (allocator_of (mini_of self.old))
+            (allocator_of (mini_of self.new)) }
+        ensures seen { (letters_in self.new ≡ letters_in self.old)
+            × (sound_of self.new ≡ sound_of self.old)
+            × (validation_of self.new ≡ validation_of self.old) }
+    {
+        self.mini.fail();
+    }
 
     /// Whether a fault in a write or a commit has left it, or the medium, in a state in which every call is refused.
     pub fn has_failed(&self) -> bool

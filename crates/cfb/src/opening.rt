@@ -1,6 +1,7 @@
 //! Opening a compound file.
 ghost use Rattle.cfb.specs.Opened.{IsOpenedAs};
-ghost use Rattle.cfb.specs.Views.{letters_in, mini_of, most_ahead_of};
+ghost use Rattle.cfb.specs.Readers.{letters_by, validation_by, IsReadBy, IsSameReader};
+ghost use Rattle.cfb.specs.Views.{letters_in, mini_of, most_ahead_of, validation_of};
 ghost use Rattle.cfb_meaning.specs.Means.{IsOpenable, IsStrictlyOpenable};
 ghost use Rattle.cfb_medium.specs.Calls.{HasCauseSince, IsFaultUnless};
 ghost use Rattle.cfb_medium.specs.declared.error.Error.TheVariants.{InvalidData};
@@ -36,6 +37,7 @@ impl<F: ReadMedium> CompoundFile<F> {
         ensures opens { IfOk result (λ it. OpensAt medium (mini_of it)) }
         ensures letters { IfOk result (λ it. letters_in it ≡ letters_of letters) }
         ensures most { IfOk result (λ it. most_ahead_of it ≡ 65536) }
+        ensures reader { IfOk result (λ it. validation_of it ≡ Permissive) }
         ensures opened { IfOk result (λ it. IsTrue (F.honest medium)
             → IsOpenedAs Permissive (letters_of letters) (F.bytes medium) it) }
         ensures refused { IfErr result (λ e. e.1 ≡ InvalidData → IsTrue (F.honest medium)
@@ -59,6 +61,7 @@ impl<F: ReadMedium> CompoundFile<F> {
         ensures opens { IfOk result (λ it. OpensAt medium (mini_of it)) }
         ensures letters { IfOk result (λ it. letters_in it ≡ letters_of letters) }
         ensures most { IfOk result (λ it. most_ahead_of it ≡ 65536) }
+        ensures reader { IfOk result (λ it. validation_of it ≡ Strict) }
         ensures opened { IfOk result (λ it. IsTrue (F.honest medium)
             → IsOpenedAs Strict (letters_of letters) (F.bytes medium) it) }
         ensures refused { IfErr result (λ e. e.1 ≡ InvalidData → IsTrue (F.honest medium)
@@ -72,16 +75,71 @@ impl<F: ReadMedium> CompoundFile<F> {
     }
 }
 
-// Opens a file in one of the two ways, and judges it. So many bytes of streams are read at once.
-pub(crate) fn open_as<F: ReadMedium>(
+// As which reader a file is opened, under which letter table, and how much of a stream is read at once.
+#[derive(Drop)]
+pub(crate) struct Reader {
+    pub(crate) letters: CaseMapper,
+    pub(crate) validation: Validation,
+    pub(crate) ahead: ReadAhead,
+}
+
+// Opens a file as a reader does, and judges it. A refusal gives the medium and the reader back.
+pub(crate) fn open_by<F: ReadMedium>(
     alloc: Global,
     mut medium: F,
+    reader: Reader,
+) -> Result<CompoundFile<F>, (F, Reader, Error)>
+    ensures opens { IfOk result (λ it. OpensAt medium (mini_of it)) }
+    ensures reader { IfOk result (IsReadBy reader) }
+    ensures opened { IfOk result (λ it. IsTrue (F.honest medium)
+        → IsOpenedAs (validation_by reader) (letters_by reader) (F.bytes medium) it) }
+    ensures refused { IfErr result (λ e. e.2 ≡ InvalidData → IsTrue (F.honest medium)
+        → CanOpen (validation_by reader) (letters_by reader) (F.bytes medium) → ⊥) }
+    ensures same { IfErr result (λ e. IsSameReader reader e.1) }
+    ensures fault { IfErr result (λ e. IsFaultUnless ⊥ e.2 ⊎ (e.2 ≡ InvalidData)) }
+    ensures cause { IfErr result (λ e. HasCauseSince F.continues F.failures F.failed medium
+        e.0 e.2) }
+    ensures left { IfErr result (λ e. OnlyReads F.honest F.bytes F.continues medium e.0) }
+{
+    let len = match medium.len() {
+        Ok(len) => len,
+        Err(error) => return Err((medium, reader, error)),
+    };
+    let mini = match open_file(alloc, medium, &reader.letters, reader.validation) {
+        Ok(mini) => mini,
+        Err((medium, error)) => return Err((medium, reader, error)),
+    };
+    let is_sound = match is_sound(alloc, &mini, len) {
+        Ok(is_sound) => is_sound,
+        Err(error) => return Err((mini.into_inner(), reader, error)),
+    };
+    let Reader {
+        letters,
+        validation,
+        ahead,
+    } = reader;
+    Ok(CompoundFile {
+        alloc,
+        mini,
+        letters,
+        validation,
+        is_sound,
+        links: StreamLinks::Short(MiniLinks::new(alloc)),
+        ahead,
+    })
+}
+
+// Opens a file in one of the two ways. So many bytes of streams are read at once.
+pub(crate) fn open_as<F: ReadMedium>(
+    alloc: Global,
+    medium: F,
     letters: CaseMapper,
     validation: Validation,
     limit: usize,
 ) -> Result<CompoundFile<F>, (F, Error)>
     ensures opens { IfOk result (λ it. OpensAt medium (mini_of it)) }
     ensures letters { IfOk result (λ it. letters_in it ≡ letters_of letters) }
+    ensures validation { IfOk result (λ it. validation_of it ≡ validation) }
     ensures most { IfOk result (λ it. most_ahead_of it ≡ max limit 1024) }
     ensures opened { IfOk result (λ it. IsTrue (F.honest medium)
         → IsOpenedAs validation (letters_of letters) (F.bytes medium) it) }
@@ -92,23 +150,13 @@ pub(crate) fn open_as<F: ReadMedium>(
         e.0 e.1) }
     ensures left { IfErr result (λ e. OnlyReads F.honest F.bytes F.continues medium e.0) }
 {
-    let len = match medium.len() {
-        Ok(len) => len,
-        Err(error) => return Err((medium, error)),
+    let reader = Reader {
+        letters,
+        validation,
+        ahead: ReadAhead::new(alloc, limit),
     };
-    let mini = match open_file(alloc, medium, &letters, validation) {
-        Ok(mini) => mini,
-        Err(refused) => return Err(refused),
-    };
-    match is_sound(alloc, &mini, len) {
-        Ok(is_sound) => Ok(CompoundFile {
-            alloc,
-            mini,
-            letters,
-            is_sound,
-            links: StreamLinks::Short(MiniLinks::new(alloc)),
-            ahead: ReadAhead::new(alloc, limit),
-        }),
-        Err(error) => Err((mini.into_inner(), error)),
+    match open_by(alloc, medium, reader) {
+        Ok(file) => Ok(file),
+        Err((medium, _, error)) => Err((medium, error)),
     }
 }

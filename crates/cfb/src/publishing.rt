@@ -11,7 +11,7 @@ use cfb_medium::{Error, Medium};
 
 impl<F: Medium> CompoundFile<F> {
     ghost use Rattle.cfb.specs.Publishing.{Publishes};
-    ghost use Rattle.cfb.specs.Views.{letters_in, mini_of, sound_of, Rests};
+    ghost use Rattle.cfb.specs.Views.{letters_in, mini_of, sound_of, validation_of, Rests};
 
     /// Passes on what the medium keeps back, and publishes nothing: the file is as it was, also after an error. `Failed` after an
     /// earlier fault, before all else; the other errors are `Memory` and `Device`.
@@ -37,14 +37,17 @@ impl<F: Medium> CompoundFile<F> {
             (sectors_of (allocator_of (mini_of self.new))) }
         ensures memory { KeepsMemory (mini_of self.old) (mini_of self.new) }
         ensures seen { (letters_in self.new ≡ letters_in self.old)
-            × (sound_of self.new ≡ sound_of self.old) }
+            × (sound_of self.new ≡ sound_of self.old)
+            × (validation_of self.new ≡ validation_of self.old) }
         ensures err { OnErr result (has_failed_here (allocator_of (mini_of self.new)) ≡ true) }
         ensures failed { has_failed_here (allocator_of (mini_of self.old)) ≡ true
             → IsErrOf result Failed × Rests self.old self.new }
         ensures cause { IfErr result (HasCauseBelow (allocator_of (mini_of self.old))
             (allocator_of (mini_of self.new))) }
-        ensures failures { F.failures (medium_of (allocator_of (mini_of self.old)))
-            ≤ F.failures (medium_of (allocator_of (mini_of self.new))) }
+        ensures medium { (F.failures (medium_of (allocator_of (mini_of self.old)))
+            ≤ F.failures (medium_of (allocator_of (mini_of self.new))))
+            × OnOk result (F.failed (medium_of (allocator_of (mini_of self.new)))
+            ≡ F.failed (medium_of (allocator_of (mini_of self.old)))) }
         ensures fault { IfErr result (IsFaultUnless ⊥) }
     {
         self.mini.commit()

@@ -155,8 +155,13 @@ impl<F: ReadMedium> CompoundFile<F> {
         ensures keeps { KeepsStream len self.old self.new }
         ensures cause { IfErr result (HasCauseBelow (allocator_of (mini_of self.old))
             (allocator_of (mini_of self.new))) }
+        ensures failed { has_failed_here (allocator_of (mini_of self.old)) ≡ true
+            → IsErrOf result Failed }
         ensures fault { IfErr result (λ e. IsFaultUnless ⊥ e ⊎ IsInvalidPlace e) }
     {
+        if self.is_failed() {
+            return Err(Error::Failed);
+        }
         if buffer.len() < SMALL {
             return self.read_small(at, len, buffer);
         }
@@ -170,9 +175,14 @@ impl<F: ReadMedium> CompoundFile<F> {
         ensures keeps { KeepsStream len self.old self.new }
         ensures cause { IfErr result (HasCauseBelow (allocator_of (mini_of self.old))
             (allocator_of (mini_of self.new))) }
+        ensures failed { has_failed_here (allocator_of (mini_of self.old)) ≡ true
+            → IsErrOf result Failed }
         ensures fault { IfErr result (λ e. IsFaultUnless ⊥ e ⊎ (IsInvalidPlace e
             × ((content : List ℕ) → HasStream self.old len content → ⊥))) }
     {
+        if self.is_failed() {
+            return Err(Error::Failed);
+        }
         read_ahead(&mut self.mini, &self.links, &mut self.ahead, at, len)
     }
 

@@ -1,7 +1,8 @@
 //! Streams of a file, opened by their paths and written.
 ghost use Rattle.cfb.specs.Doing.{Means as MeansTree};
+ghost use Rattle.cfb.specs.Putting.{IsRefusedOpening};
 ghost use Rattle.cfb.specs.Streams.{IsWant, KeepsStream};
-ghost use Rattle.cfb.specs.Views.{letters_in, mini_of, sound_of, Rests};
+ghost use Rattle.cfb.specs.Views.{letters_in, mini_of, sound_of, validation_of, Rests};
 ghost use Rattle.cfb.specs.Writing.{file_under, place_of, FindsWritten, IsFound, IsLostAt, IsWritten, KeepsAt, LacksRoomAt, Opens, RewritesAt};
 ghost use Rattle.cfb_directory.specs.Views.{entries_held};
 ghost use Rattle.cfb.specs.contracts.compound_file.CompoundFile.{the_row};
@@ -13,7 +14,7 @@ ghost use Rattle.cfb_medium.specs.Calls.{IsFaultUnless};
 ghost use Rattle.cfb_meaning.specs.TreeRules.{open_stream, refused};
 ghost use Rattle.cfb_medium.specs.Bytes.{overwritten};
 ghost use Rattle.cfb_medium.specs.Versions.{stream_len_mask};
-ghost use Rattle.cfb_medium.specs.declared.error.Error.TheVariants.{Failed, Full, InvalidData, InvalidInput};
+ghost use Rattle.cfb_medium.specs.declared.error.Error.TheVariants.{Failed, Full, InvalidData, InvalidInput, Memory};
 ghost use Rattle.cfb_mini.specs.Views.{allocator_of, directory_of};
 ghost use Rattle.cfb_owned.specs.Chains.{GoesOn, IsInvalidPlaceOrFull};
 ghost use Rattle.cfb_tree.specs.Paths.{Path};
@@ -24,7 +25,6 @@ ghost use Rattle.std.specs.Prelude.{false, length, true, IfErr, IfOk, IsErrOf, L
 
 use crate::{CompoundFile, Stream};
 use cfb_medium::{Error, Medium, ReadMedium};
-use cfb_sectors::HasSectors;
 use cfb_siblings::find_entry;
 use cfb_streams::open_stream as find_sectors;
 use cfb_tree::name_chain_from_path;
@@ -40,6 +40,7 @@ impl<F: ReadMedium> CompoundFile<F> {
         ensures refused { (tree : Tree) → MeansTree self.now tree
             → IfErr result (λ e. IsWant self.now e
             ⊎ (answer_at (letters_in self.now) tree open_stream (names_in path.now) ≡ refused e)) }
+        ensures error { IfErr result (λ e. (e ≡ Memory) ⊎ IsRefusedOpening e) }
     {
         let names = match name_chain_from_path(self.alloc, path) {
             Ok(names) => names,
@@ -59,7 +60,7 @@ impl<F: ReadMedium> CompoundFile<F> {
 
     // Finds the entry and the sectors of the stream at a path, and gives the entry's number and how many bytes the stream has.
     // Nothing is read ahead of it yet.
-    fn find_written(&mut self, path: &str) -> Result<(u32, u64), Error>
+    pub(crate) fn find_written(&mut self, path: &str) -> Result<(u32, u64), Error>
         ensures rests { Rests self.old self.new }
         ensures small { IfOk result (λ it. it.1 < 2 ^ 63) }
         ensures found { (tree : Tree) → MeansTree self.old tree → IfOk result (λ it.
@@ -71,6 +72,7 @@ impl<F: ReadMedium> CompoundFile<F> {
             → IsErrOf result Failed }
         ensures unsound { has_failed_here (allocator_of (mini_of self.old)) ≡ false
             → sound_of self.old ≡ false → IsErrOf result InvalidData }
+        ensures error { IfErr result (λ e. IsWant self.old e ⊎ IsRefusedOpening e) }
     {
         match self.check_live() {
             Ok(()) => {}
@@ -122,13 +124,6 @@ impl<F: ReadMedium> CompoundFile<F> {
 }
 
 impl<F: Medium> CompoundFile<F> {
-    // Whether every call is refused after a fault.
-    pub(crate) fn is_failed(&self) -> bool
-        ensures { result ≡ has_failed_here (allocator_of (mini_of self.now)) }
-    {
-        self.mini.directory().allocator().is_failed()
-    }
-
     // Passes on what the medium keeps back; the stream of so many bytes that was opened stays.
     pub(crate) fn flush_under(&mut self, len: u64) -> Result<(), Error>
         ensures keeps { KeepsStream len self.old self.new }
@@ -155,7 +150,8 @@ impl<F: Medium> CompoundFile<F> {
         ensures answers { Answers IsInvalidPlace result (allocator_of (mini_of self.old))
             (allocator_of (mini_of self.new)) }
         ensures seen { (letters_in self.new ≡ letters_in self.old)
-            × (sound_of self.new ≡ sound_of self.old) }
+            × (sound_of self.new ≡ sound_of self.old)
+            × (validation_of self.new ≡ validation_of self.old) }
     {
         if let Err(error) = overwrite_stream(&mut self.mini, id, &self.links, at, bytes) {
             return Err(error);
@@ -180,7 +176,8 @@ impl<F: Medium> CompoundFile<F> {
         ensures answers { Answers IsInvalidPlaceOrFull result (allocator_of (mini_of self.old))
             (allocator_of (mini_of self.new)) }
         ensures seen { (letters_in self.new ≡ letters_in self.old)
-            × (sound_of self.new ≡ sound_of self.old) }
+            × (sound_of self.new ≡ sound_of self.old)
+            × (validation_of self.new ≡ validation_of self.old) }
     {
         if let Err(error) = resize_stream(self.alloc, &mut self.mini, id, &mut self.links, len) {
             return Err(error);
@@ -215,7 +212,8 @@ impl<F: Medium> CompoundFile<F> {
         ensures answers { Answers IsInvalidPlaceOrFull result (allocator_of (mini_of self.old))
             (allocator_of (mini_of self.new)) }
         ensures seen { (letters_in self.new ≡ letters_in self.old)
-            × (sound_of self.new ≡ sound_of self.old) }
+            × (sound_of self.new ≡ sound_of self.old)
+            × (validation_of self.new ≡ validation_of self.old) }
     {
         if let Err(error) = self.resize_bytes(id, end) {
             return Err(error);

@@ -86,6 +86,7 @@ impl<'a, F: ReadMedium> Stream<'a, F> {
             (file_under self.new) }
         ensures cause { IfErr result (HasCauseBelow (allocator_under self.old)
             (allocator_under self.new)) }
+        ensures failed { has_failed_here (allocator_under self.old) ≡ true → IsErrOf result Failed }
         ensures fault { IfErr result (λ e. IsFaultUnless ⊥ e ⊎ (IsInvalidPlace e
             × ((content : List ℕ) → HasStream (file_under self.old) (stream_len self.old) content
             → ⊥))) }
@@ -98,8 +99,8 @@ impl<'a, F: ReadMedium> Stream<'a, F> {
     }
 
     /// Reads what the buffer takes of the bytes from the position on, and moves the position behind that. 0 bytes are read at
-    /// the end alone, or into an empty buffer. Each error of a stream that stands is a fault; after it the position stays, and the
-    /// buffer holds any bytes.
+    /// the end alone, or into an empty buffer. `Failed` after an earlier fault, before all else; each error of a stream that stands
+    /// is a fault; after it the position stays, and the buffer holds any bytes.
     pub fn read(&mut self, buffer: &mut [u8]) -> Result<usize, Error>
         ensures read { (path : Path) (tree : Tree) (content : List ℕ)
             → Stands self.old path tree content → IfOk result (λ n. take n buffer.new
@@ -115,13 +116,14 @@ impl<'a, F: ReadMedium> Stream<'a, F> {
         ensures cause { IfErr result (HasCauseBelow
             (allocator_under self.old)
             (allocator_under self.new)) }
+        ensures failed { has_failed_here (allocator_under self.old) ≡ true → IsErrOf result Failed }
         ensures fault { IfErr result (IsFaultOrGone self.old) }
     {
         self.read_some(buffer)
     }
 
-    /// Appends all bytes from the position on, moves the position to the end, and gives how many they were. Each error of a stream
-    /// that stands is a fault; after it position and bytes are as they were.
+    /// Appends all bytes from the position on, moves the position to the end, and gives how many they were. `Failed` after an
+    /// earlier fault, before all else; each error of a stream that stands is a fault; after it position and bytes are as they were.
     pub fn read_to_end(&mut self, bytes: &mut Vec<u8>) -> Result<usize, Error>
         ensures read { (path : Path) (tree : Tree) (content : List ℕ)
             → Stands self.old path tree content → IfOk result (λ n. bytes.new.items
@@ -136,8 +138,12 @@ impl<'a, F: ReadMedium> Stream<'a, F> {
         ensures cause { IfErr result (HasCauseBelow
             (allocator_under self.old)
             (allocator_under self.new)) }
+        ensures failed { has_failed_here (allocator_under self.old) ≡ true → IsErrOf result Failed }
         ensures fault { IfErr result (IsFaultOrGone self.old) }
     {
+        if self.file.is_failed() {
+            return Err(Error::Failed);
+        }
         let front = bytes.len();
         let count = (self.len - self.position) as usize;
         let Some(end) = front.checked_add(count) else {
@@ -153,8 +159,8 @@ impl<'a, F: ReadMedium> Stream<'a, F> {
         }
     }
 
-    /// Reads ahead where no byte from the position on was, so that at least one is but at the end of the stream. Each error of a
-    /// stream that stands is a fault. The position stays.
+    /// Reads ahead where no byte from the position on was, so that at least one is but at the end of the stream. `Failed` after an
+    /// earlier fault, before all else; each error of a stream that stands is a fault. The position stays.
     pub fn fill(&mut self) -> Result<(), Error>
         ensures some { OnOk result (place_of self.old < stream_len self.old
             → 0 < buffered_of self.new) }
@@ -163,6 +169,7 @@ impl<'a, F: ReadMedium> Stream<'a, F> {
         ensures cause { IfErr result (HasCauseBelow
             (allocator_under self.old)
             (allocator_under self.new)) }
+        ensures failed { has_failed_here (allocator_under self.old) ≡ true → IsErrOf result Failed }
         ensures fault { IfErr result (IsFaultOrGone self.old) }
     {
         self.file.read_more(self.position, self.len)
@@ -190,6 +197,7 @@ impl<'a, F: ReadMedium> Stream<'a, F> {
         ensures most { IfOk result (λ b. length b.now ≤ most_ahead_of (file_under self.old)) }
         ensures some { IfOk result (λ b. length b.now ≡ 0
             → place_of self.old ≡ stream_len self.old) }
+        ensures failed { has_failed_here (allocator_under self.old) ≡ true → IsErrOf result Failed }
         ensures fault { IfErr result (IsFaultOrGone self.old) }
     {
         match self.fill() {
@@ -208,18 +216,22 @@ impl<'a, F: ReadMedium> Stream<'a, F> {
         self.position += amount as u64;
     }
 
-    /// Moves the position to a place of the stream or to its end, and gives it. `InvalidInput` where it is before the stream or
-    /// behind its end; then the position stays.
+    /// Moves the position to a place of the stream or to its end, and gives it. `Failed` after an earlier fault, before all else;
+    /// `InvalidInput` where it is before the stream or behind its end. After an error the position stays.
     pub fn seek(&mut self, from: SeekFrom) -> Result<u64, Error>
         ensures ok { IfOk result (λ n. Finds from (stream_len self.old)
             (place_of self.old) n × (place_of self.new ≡ n)) }
-        ensures error { IfErr result (λ e. (e ≡ InvalidInput) × ((n : ℕ)
-            → Finds from (stream_len self.old) (place_of self.old) n
-            → ⊥)) }
+        ensures error { IfErr result (λ e. ((e ≡ Failed)
+            × (has_failed_here (allocator_under self.old) ≡ true)) ⊎ ((e ≡ InvalidInput)
+            × ((n : ℕ) → Finds from (stream_len self.old) (place_of self.old) n → ⊥))) }
+        ensures failed { has_failed_here (allocator_under self.old) ≡ true → IsErrOf result Failed }
         ensures unmoved { OnErr result (place_of self.new
             ≡ place_of self.old) }
         ensures rests { Rests self.old self.new }
     {
+        if self.file.is_failed() {
+            return Err(Error::Failed);
+        }
         let Some(place) = place_found(from, self.len, self.position) else {
             return Err(Error::InvalidInput);
         };

@@ -3,5 +3,5 @@ use Rattle.cfb_entries.specs.Rules.{HoldsSizes}
 use Rattle.cfb_tree.specs.LetterViews.{letters_of}
 use Rattle.cfb.proofs.compound_file.CompoundFile.entry.Goals as goal
 
-pub returns : goal.returns
-returns g c = λ tree h. c.entry_at.ensures tree (subst (λ directory. HoldsSizes (letters_of c.args.self.now.letters) directory tree) (sym c.entries.ensures) h)
+pub returns-clause-told : goal.returns-clause-told
+returns-clause-told g c = λ live tree h. c.entry_at.ensures tree (subst (λ directory. HoldsSizes (letters_of c.args.self.now.letters) directory tree) (sym c.entries.ensures) h)

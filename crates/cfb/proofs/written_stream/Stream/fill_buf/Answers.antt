@@ -20,6 +20,7 @@ returns-in-Ok g c =
             subst (λ n. bytes ≡ take (length bytes) (drop n content)) c.in-Ok.ensures.unmoved (c.buffer.ensures.bytes path tree content (c.in-Ok.ensures.rests.keeps path tree content s));
         most = search rules;
         some = search rules;
+        failed = λ wrong. absurd (let no = c.in-Ok.ensures.failed wrong in cc);
         fault = tt;
       },
     )

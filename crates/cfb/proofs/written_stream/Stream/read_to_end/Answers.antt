@@ -2,6 +2,7 @@ use Rattle.std.proofs.Common.{◌≡◌, ◌∙◌, ◌+◌, ◌-◌, ◌++◌, 
 use Rattle.std.specs.Prelude.{vec_len}
 use Rattle.cfb.specs.Writing.{place_of, stream_len}
 use Rattle.cfb.proofs.Appending.{appended}
+use Rattle.cfb.proofs.Standing.{gone_as, rests_as, stands_as}
 use Rattle.cfb.proofs.written_stream.Stream.read_to_end.Goals as goal
 
 pub returns-in-Ok-clause-read : goal.returns-in-Ok-clause-read
@@ -13,4 +14,13 @@ returns-in-Ok-clause-read g c = λ path tree content s.
     let items = c.in_ok-resize.ensures.items ∙ ap (λ n. take n c.args.bytes.now.items ++ replicate (n - vec_len c.args.bytes.now) 0) end
     ∙ ap (λ n. take (c.len-front.result + (stream_len it - place_of it)) c.args.bytes.now.items ++ replicate (c.len-front.result + (stream_len it - place_of it) - n) 0) (sym c.len-front.ensures) in
     appended c.resize.new.self.len c.len-front.result (stream_len it - place_of it) c.in-Ok.count c.args.bytes.now.items c.deref_mut.result.now c.resize.new.self.items _ c.read.new.buffer wanted
-    (c.len-front.ensures ∙ c.args.bytes.now.ok.0) (c.in_ok-resize.ensures.len ∙ end) c.deref_mut.ensures.value items refl c.read.auto.buffer c.in-Ok.ensures.count (c.in-Ok.ensures.read path tree content s) wanted_len
+    (c.len-front.ensures ∙ c.args.bytes.now.ok.0) (c.in_ok-resize.ensures.len ∙ end) c.deref_mut.ensures.value items refl c.read.auto.buffer c.in-Ok.ensures.count (c.in-Ok.ensures.read path tree content (stands_as it _ refl refl refl path tree content s)) wanted_len
+
+pub returns-in-Ok-clause-rests : goal.returns-in-Ok-clause-rests
+returns-in-Ok-clause-rests g c = rests_as c.args.self.now _ c.read.new.self refl refl refl refl c.in-Ok.ensures.rests
+
+pub returns-in-Err-clause-rests : goal.returns-in-Err-clause-rests
+returns-in-Err-clause-rests g c = rests_as c.args.self.now _ c.read.new.self refl refl refl refl c.in-Err.ensures.rests
+
+pub returns-in-Err-clause-fault : goal.returns-in-Err-clause-fault
+returns-in-Err-clause-fault g c = gone_as c.args.self.now _ c.in-Err.error refl refl refl c.in-Err.ensures.fault

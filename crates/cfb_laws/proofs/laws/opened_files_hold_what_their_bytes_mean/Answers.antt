@@ -1,5 +1,5 @@
 use Rattle.cfb.proofs.Holding.{holds_opened, holds_shown, holds_yet, shown_yet}
-use Rattle.cfb.proofs.laws.opened_files_hold_what_their_bytes_mean.Goals as goal
+use Rattle.cfb_laws.proofs.laws.opened_files_hold_what_their_bytes_mean.Goals as goal
 
 pub returns-clause-opened : goal.returns-clause-opened
 returns-clause-opened g c = λ validation letters medium it tree is opens named opened means. holds_opened validation letters medium it tree is opens named opened means

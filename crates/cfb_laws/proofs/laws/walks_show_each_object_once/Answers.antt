@@ -1,5 +1,5 @@
 use Rattle.cfb.proofs.Walks.{walk_rises, walk_shows_each, walk_shows_once, walk_shows_parents_first, walk_shows_what_is_found, walk_keeps_siblings_in_order}
-use Rattle.cfb.proofs.laws.walks_show_each_object_once.Goals as goal
+use Rattle.cfb_laws.proofs.laws.walks_show_each_object_once.Goals as goal
 
 pub returns-clause-meant : goal.returns-clause-meant
 returns-clause-meant g c letters bytes tree means = means.1.ordered

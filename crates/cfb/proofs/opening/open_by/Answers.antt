@@ -2,21 +2,21 @@ use Rattle.std.proofs.Common.{◌≡◌, ◌∙◌, IsTrue, sym, subst, ⊎_elim
 use Rattle.cfb_medium.specs.declared.error.Error.TheVariants.{Failed, InvalidData, Memory}
 use Rattle.cfb_opening.specs.Opened.{IsOpened}
 use Rattle.cfb_opening.specs.Tables.{OnlyReads}
-use Rattle.cfb_tree.specs.LetterViews.{letters_of}
+use Rattle.cfb.specs.Readers.{letters_by, validation_by}
 use Rattle.cfb.proofs.OpenedFiles.{holds_so, judged_so, opens_since}
 use Rattle.cfb.proofs.OpenedMeans.{means_so}
-use Rattle.cfb.proofs.opening.open_as.Goals as goal
+use Rattle.cfb.proofs.opening.open_by.Goals as goal
 
-pub returns-in-Ok-is_sound-clause-opened : goal.returns-in-Ok-is_sound-clause-opened
-returns-in-Ok-is_sound-clause-opened g c = λ is.
+pub returns-clause-opened : goal.returns-clause-opened
+returns-clause-opened g c = λ is.
     let G = g.F.ReadMedium in
     let old = c.args.medium in
     let it = c.in-Ok-open_file.mini in
-    let letters = letters_of c.args.letters in
+    let letters = letters_by c.args.reader in
     let did = c.in-Ok.ensures in
     let read : OnlyReads G.honest G.bytes G.continues old c.len.new.self = record { as_honest = did.honest; same = did.bytes; extends = did.continues } in
     let told = c.in-Ok-open_file.ensures.opened (subst IsTrue (sym did.honest) is) in
-    let here = subst (λ b. IsOpened c.args.validation letters b it told.0 told.1) (did.bytes is) told.2 in
+    let here = subst (λ b. IsOpened (validation_by c.args.reader) letters b it told.0 told.1) (did.bytes is) told.2 in
     let opens = opens_since old c.len.new.self it read c.in-Ok-open_file.ensures.opens in
     let judged = judged_so old it told.0 letters told.1 c.in-Ok.len c.in-Ok-is_sound.is_sound is opens here.shows here.means (did.length is) c.in-Ok-is_sound.ensures.sound in
     record {

@@ -1,5 +1,5 @@
 use Rattle.cfb.proofs.StreamBytes.{bytes_are, lies_where}
-use Rattle.cfb.proofs.laws.streams_have_the_bytes_of_their_sectors.Goals as goal
+use Rattle.cfb_laws.proofs.laws.streams_have_the_bytes_of_their_sectors.Goals as goal
 
 pub returns-clause-bytes : goal.returns-clause-bytes
 returns-clause-bytes g c = λ it l shows memory e links lies level. bytes_are it l shows memory e links lies level

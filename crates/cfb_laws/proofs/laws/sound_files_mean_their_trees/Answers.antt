@@ -4,7 +4,7 @@ use Rattle.cfb_owners.proofs.SoundIs.{sound_is}
 use Rattle.cfb_live.specs.Live.{live_of}
 use Rattle.cfb.specs.Views.{letters_in, mini_of}
 use Rattle.cfb.proofs.LiveMeaning.{holds_meant, means_kept, means_read}
-use Rattle.cfb.proofs.laws.sound_files_mean_their_trees.Goals as goal
+use Rattle.cfb_laws.proofs.laws.sound_files_mean_their_trees.Goals as goal
 
 pub returns-clause-bytes : goal.returns-clause-bytes
 unfolding live_of

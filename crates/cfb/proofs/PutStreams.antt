@@ -1,0 +1,180 @@
+-- A stream that is put at a path: rewritten where one is, else made and then given its bytes.
+use Rattle.std.proofs.Common.{◌≡◌, Bool, true, false, inl, inr, List, ℕ, refl, ap, sym, subst, ◌∙◌, ⊎_elim}
+use Rattle.std.specs.Prelude.{Err, None, Ok, Option, Result, Some}
+use Rattle.cfb_entries.specs.Rules.{answer_at}
+use Rattle.cfb_fat.specs.Calls.{Answers}
+use Rattle.cfb_fat.specs.Keeping.{fails_cause}
+use Rattle.cfb_fat.specs.Tables.{has_failed_here, AllFails}
+use Rattle.cfb_fat.specs.declared.allocator.Allocator.{Allocator}
+use Rattle.cfb_live.specs.Doing.{IsFault}
+use Rattle.cfb_live.specs.Making.{IsRefusedMade}
+use Rattle.cfb_meaning.specs.TreeRules.{create_new_stream, done, is_stream, is_stream_found, refused, tree_step, yes, Answer, Outcome}
+use Rattle.cfb_medium.specs.declared.error.Error.{Error}
+use Rattle.cfb_medium.specs.declared.medium.ReadMedium.{Ghosts}
+use Rattle.cfb_mini.specs.Views.{allocator_of}
+use Rattle.cfb_owned.specs.Chains.{GoesOn}
+use Rattle.cfb_owned.proofs.GoingOn.{goes_cause}
+use Rattle.cfb_tree.specs.Changes.{changed, with_bytes}
+use Rattle.cfb_tree.specs.Names.{Letters}
+use Rattle.cfb_tree.specs.Objects.{object_at}
+use Rattle.cfb_tree.specs.Paths.{Path}
+use Rattle.cfb_tree.specs.Tree.{Tree}
+use Rattle.cfb_tree.proofs.OneContent.{Some_same}
+use Rattle.cfb.specs.Doing.{Does, Keeps, Means}
+use Rattle.cfb.specs.Putting.{answer_by, putting, rewriting, IsRefusedPut, IsRefusedRewriting, KeepsMeant, Puts}
+use Rattle.cfb.specs.Views.{letters_in, mini_of, said_at, sound_of, validation_of, Shows}
+use Rattle.cfb.specs.declared.compound_file.CompoundFile.{CompoundFile}
+use Rattle.cfb.proofs.Holding.{holds_shown}
+use Rattle.cfb.proofs.LiveMeaning.{holds_meant, means_kept}
+use Rattle.cfb.proofs.PutTrees.{put_new, put_refused, put_there}
+
+abbrev yes_of : Answer → Bool → Bool
+yes_of (yes b) other = b
+yes_of done other = other
+yes_of (refused e) other = other
+yes_of it other = other
+
+-- the answer to whether a stream is there
+said_so : (letters : Letters) (tree : Tree) (names : Path) (b : Bool) → yes b ≡ said_at letters tree is_stream (Some names) → is_stream_found (object_at letters tree names) ≡ b
+said_so letters tree names b is = sym (ap (λ (a : Answer). yes_of a b) is)
+
+pub rewriting_put : (e : Error) → IsRefusedRewriting e → IsRefusedPut e
+rewriting_put e is = inl is
+
+pub made_put : (e : Error) → IsRefusedMade e → IsRefusedPut e
+made_put e is = elim is [
+  | inl there ↦ inr there
+  | inr rest ↦ elim rest [
+    | inl missing ↦ inl (inl (inr (inr missing)))
+    | inr more ↦ elim more [
+      | inl input ↦ inl (inl (inr (inl input)))
+      | inr last ↦ elim last [ inl full ↦ inl (inr full) | inr broken ↦ inl (inl (inl broken)) ]
+    ]
+  ]
+]
+
+module _ (letters : Letters) (tree : Tree) (bytes : List ℕ) where
+  answer_there : (path : Option Path) → yes true ≡ said_at letters tree is_stream path → answer_by (putting bytes) letters tree path ≡ answer_by (rewriting bytes) letters tree path
+  answer_there None is = refl
+  answer_there (Some names) is = ap (λ (o : Outcome). o.1) (put_there letters tree names bytes (said_so letters tree names true is))
+
+  answer_new : (path : Option Path) (e : Error) → yes false ≡ said_at letters tree is_stream path → answer_at letters tree (λ names. create_new_stream names) path ≡ refused e → answer_by (putting bytes) letters tree path ≡ refused e
+  answer_new None e is told = told
+  answer_new (Some names) e is told = put_refused letters tree names bytes e (said_so letters tree names false is) told
+
+module _ {F : Type 0} {g : Ghosts F} where
+  -- a file that means a tree shows it
+  pub means_shown : (it : CompoundFile F g) (tree : Tree) → Means it tree → Shows it tree
+  means_shown it tree m = holds_shown it tree (holds_meant it tree m)
+
+  module _ (path : Option Path) (bytes : List ℕ) (old : CompoundFile F g) where
+    -- LAW: where a stream is at the path it is rewritten
+    pub puts_there : (new : CompoundFile F g) (r : Result (Unit {0}) Error) → ((tree : Tree) → Shows old tree → yes true ≡ said_at (letters_in old) tree is_stream path) → Puts (rewriting bytes) path r old new → Puts (putting bytes) path r old new
+    puts_there new (Ok x) said p = record {
+      failed = p.failed;
+      unsound = p.unsound;
+      done = λ tree m.
+          let d = p.done tree m in
+          let there = said_so (letters_in old) tree d.names true (subst (λ q. yes true ≡ said_at (letters_in old) tree is_stream q) d.at_path (said tree (means_shown old tree m))) in
+          let same = put_there (letters_in old) tree d.names bytes there in
+          record { names = d.names; at_path = d.at_path; accepted = ap (λ (o : Outcome). o.1) same ∙ d.accepted; means = subst (Means new) (ap (λ (o : Outcome). o.0) (sym same)) d.means };
+      refused = tt;
+      rests = tt;
+      seen = p.seen;
+    }
+    puts_there new (Err e) said p = record {
+      failed = p.failed;
+      unsound = p.unsound;
+      done = tt;
+      refused = λ tree m. ⊎_elim (λ fault. inl fault) (λ rule. inr (answer_there (letters_in old) tree bytes path (said tree (means_shown old tree m)) ∙ rule.0, rule.1)) (p.refused tree m);
+      rests = p.rests;
+      seen = p.seen;
+    }
+
+    -- LAW: where none is made none is put
+    pub puts_refused : (new : CompoundFile F g) (e : Error) → ((tree : Tree) → Shows old tree → yes false ≡ said_at (letters_in old) tree is_stream path) → Does {T = Unit {0}} path (λ names. create_new_stream names) (Err e) old new
+        → Puts {T = Unit {0}} (putting bytes) path (Err e) old new
+    puts_refused new e said did = record {
+      failed = did.failed;
+      unsound = λ live unsound. (did.unsound live unsound).0;
+      done = tt;
+      refused = λ tree m. ⊎_elim (λ fault. inl fault) (λ rule. inr (answer_new (letters_in old) tree bytes path e (said tree (means_shown old tree m)) rule.0, keeps rule.1)) (did.refused tree m);
+      rests = ⊎_elim (λ failed. inl failed) (λ k. inr (keeps k)) did.rests;
+      seen = did.seen;
+    }
+      where
+        keeps : Keeps old new → KeepsMeant old new
+        keeps k = record { means = λ tree m. means_kept old new tree k m }
+
+    module _ (mid : CompoundFile F g) (x : Unit {0}) (did : Does {T = Unit {0}} path (λ names. create_new_stream names) (Ok x) old mid) where
+      -- LAW: one was made, and its bytes were not written: then the file has failed
+      pub puts_failed : (b new : CompoundFile F g) (e : Error) → Puts {T = Unit {0}} (rewriting bytes) path (Err e) mid b → has_failed_here (allocator_of (mini_of new)) ≡ true
+          → (letters_in new ≡ letters_in b) × (sound_of new ≡ sound_of b) × (validation_of new ≡ validation_of b) → Puts {T = Unit {0}} (putting bytes) path (Err e) old new
+      puts_failed b new e p failed seen = record {
+        failed = λ before. let never = did.failed before in absurd (cc);
+        unsound = λ live unsound. let never = (did.unsound live unsound).0 in absurd (cc);
+        done = tt;
+        refused = λ tree m. inl (why tree m);
+        rests = inl failed;
+        seen = (seen.0 ∙ p.seen.0 ∙ did.seen.0, seen.1 ∙ p.seen.1 ∙ did.seen.1, seen.2 ∙ p.seen.2 ∙ did.seen.2);
+      }
+        where
+          why : (tree : Tree) → Means old tree → IsFault e
+          why tree m =
+              let d = did.done tree m in
+              let later = (tree_step (letters_in old) tree (create_new_stream d.names)).0 in
+              let both = put_new (letters_in old) tree d.names bytes d.accepted later refl in
+              ⊎_elim (λ fault. fault)
+              (λ rule.
+              let told : (rewriting bytes (letters_in old) later d.names).1 ≡ refused e = subst (λ l. (rewriting bytes l later d.names).1 ≡ refused e) did.seen.0 (subst (λ q. answer_by (rewriting bytes) (letters_in mid) later q ≡ refused e) d.at_path rule.0) in
+              let never : done ≡ refused e = sym (ap (λ (o : Outcome). o.1) both.0) ∙ told in absurd (cc))
+              (p.refused later d.means)
+
+      -- LAW: one was made, and got its bytes
+      pub puts_done : (new : CompoundFile F g) → Puts {T = Unit {0}} (rewriting bytes) path (Ok tt) mid new → Puts {T = Unit {0}} (putting bytes) path (Ok tt) old new
+      puts_done new p = record {
+        failed = λ before. let never = did.failed before in absurd (cc);
+        unsound = λ live unsound. let never = (did.unsound live unsound).0 in absurd (cc);
+        done = λ tree m.
+            let d = did.done tree m in
+            let later = (tree_step (letters_in old) tree (create_new_stream d.names)).0 in
+            let both = put_new (letters_in old) tree d.names bytes d.accepted later refl in
+            let q = p.done later d.means in
+            let names : q.names ≡ d.names = Some_same (sym q.at_path ∙ d.at_path) in
+            let there : Means new (rewriting bytes (letters_in old) later d.names).0 =
+            subst (λ l. Means new (rewriting bytes l later d.names).0) did.seen.0 (subst (λ n. Means new (rewriting bytes (letters_in mid) later n).0) names q.means) in
+            record {
+              names = d.names;
+              at_path = d.at_path;
+              accepted = ap (λ (o : Outcome). o.1) both.1;
+              means = subst (Means new) (ap (λ (o : Outcome). o.0) (both.0 ∙ sym both.1)) there;
+            };
+        refused = tt;
+        rests = tt;
+        seen = (p.seen.0 ∙ did.seen.0, p.seen.1 ∙ did.seen.1, p.seen.2 ∙ did.seen.2);
+      }
+
+  -- ---- errors and their causes
+
+  pub answers_more : {T : Type 0} (Q R : Error → Type 0) (r : Result T Error) (a b : Allocator F g) → ((e : Error) → Q e → R e) → Answers Q r a b → Answers R r a b
+  answers_more Q R (Ok x) a b more told = record { live = told.live; failed = told.failed; after = tt; cause = tt; fault = tt }
+  answers_more Q R (Err e) a b more told = record { live = tt; failed = told.failed; after = told.after; cause = told.cause; fault = ⊎_elim (λ fault. inl fault) (λ rule. inr (more e rule)) told.fault }
+
+  module _ (a m b : Allocator F g) (x : Unit {0}) (made : Answers {T = Unit {0}} IsRefusedMade (Ok x) a m) where
+    pub put_failed_answers : (c : Allocator F g) (e : Error) → GoesOn a m → Answers {T = Unit {0}} IsRefusedRewriting (Err e) m b → AllFails b c → Answers {T = Unit {0}} IsRefusedPut (Err e) a c
+    put_failed_answers c e goes told fails = record {
+      live = tt;
+      failed = λ failed. let before = made.live.0 in absurd (cc);
+      after = inl fails.sectors.failed;
+      cause = fails_cause a b c e (goes_cause a m b e goes made.live.1 told.cause) fails;
+      fault = ⊎_elim (λ fault. inl fault) (λ rule. inr (inl rule)) told.fault;
+    }
+
+    pub put_done_answers : Answers {T = Unit {0}} IsRefusedRewriting (Ok tt) m b → Answers {T = Unit {0}} IsRefusedPut (Ok tt) a b
+    put_done_answers told = record {
+      live = (made.live.0, told.live.1);
+      failed = λ failed. let before = made.live.0 in absurd (cc);
+      after = tt;
+      cause = tt;
+      fault = tt;
+    }

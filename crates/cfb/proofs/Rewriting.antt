@@ -1,0 +1,207 @@
+-- A stream that gets other bytes in one call.
+use Rattle.std.proofs.Common.{◌≡◌, ℕ, ◌+◌, ◌-◌, ◌<◌, ◌≤◌, ◌⊎◌, inl, inr, List, [], ◌∷◌, ◌++◌, append-nil, length, take, drop, replicate, false, true, refl, ap, sym, subst, ◌∙◌, ⊎_elim, arith}
+use Rattle.std.proofs.lemmas.List.{drop_all}
+use Rattle.std.specs.Prelude.{Err, Ok, IsErrOf, None, Option, Result, Some}
+use Rattle.cfb_chains.specs.ChainCalls.{IsInvalidPlace}
+use Rattle.cfb_entries.specs.Rules.{answer_at}
+use Rattle.cfb_fat.specs.Calls.{Answers}
+use Rattle.cfb_fat.specs.Keeping.{own_cause, rests_cause}
+use Rattle.cfb_fat.specs.Resting.{all_rest_then}
+use Rattle.cfb_fat.specs.Tables.{has_failed_here, version_of, AllRests}
+use Rattle.cfb_fat.specs.declared.allocator.Allocator.{Allocator}
+use Rattle.cfb_live.specs.Doing.{IsFault}
+use Rattle.cfb_live.specs.Live as live
+use Rattle.cfb_live.proofs.Resting.{keeps_rests, means_stays}
+use Rattle.cfb_meaning.specs.TreeRules.{close_stream, done, has_bytes, on_stream, open_stream, refused, tree_step}
+use Rattle.cfb_medium.specs.Bytes.{overwritten}
+use Rattle.cfb_medium.specs.Calls.{IsFaultUnless}
+use Rattle.cfb_medium.specs.Versions.{stream_len_mask}
+use Rattle.cfb_medium.specs.declared.error.Error.{Error}
+use Rattle.cfb_medium.specs.declared.error.Error.TheVariants.{Device, Failed, InvalidData, InvalidInput, Memory}
+use Rattle.cfb_medium.specs.declared.medium.ReadMedium.{Ghosts}
+use Rattle.cfb_mini.specs.Views.{allocator_of}
+use Rattle.cfb_owned.specs.Chains.{IsInvalidPlaceOrFull}
+use Rattle.cfb_tree.specs.Changes.{changed, with_bytes}
+use Rattle.cfb_tree.specs.Names.{Letters}
+use Rattle.cfb_tree.specs.Objects.{a_storage, a_stream, object_at, Object}
+use Rattle.cfb_tree.specs.Paths.{Path}
+use Rattle.cfb_tree.specs.Tree.{Tree}
+use Rattle.cfb_writing.specs.Streams.{resized}
+use Rattle.cfb_writing.proofs.LongBytes.{length-resized}
+use Rattle.cfb.specs.Doing.{Means}
+use Rattle.cfb.specs.Putting.{answer_by, rewriting, IsRefusedOpening, IsRefusedRewriting, KeepsMeant, Puts}
+use Rattle.cfb.specs.Streams.{IsWant}
+use Rattle.cfb.specs.Views.{letters_in, mini_of, sound_of, validation_of, Rests}
+use Rattle.cfb.specs.Writing.{FindsWritten, IsLostAt, IsWritten, KeepsAt, RewritesAt}
+use Rattle.cfb.specs.declared.compound_file.CompoundFile.{CompoundFile}
+use Rattle.cfb.proofs.Standing.{err_as}
+use Rattle.cfb.proofs.Written.{means_written}
+
+none_of : (l : List ℕ) → length l ≡ 0 → l ≡ []
+none_of [] none = refl
+none_of (x ∷ xs) none = absurd (omega (arith, none))
+
+-- LAW: all bytes written from the front on over as many are the bytes
+pub overwritten_all : (content bytes : List ℕ) → length content ≡ length bytes → overwritten content 0 bytes ≡ bytes
+overwritten_all content [] long = none_of content long
+overwritten_all content (x ∷ xs) long =
+    let gap : 0 - length content ≡ 0 = omega arith in
+    let rest : drop (0 + length (x ∷ xs)) content ≡ [] = drop_all (0 + length (x ∷ xs)) content (omega (arith, long)) in
+    ap (λ n. replicate n 0 ++ (x ∷ xs) ++ drop (0 + length (x ∷ xs)) content) gap ∙ ap (λ l. (x ∷ xs) ++ l) rest ∙ append-nil (x ∷ xs)
+
+pub overwritten_whole : (content bytes : List ℕ) → overwritten (resized (length bytes) content) 0 bytes ≡ bytes
+overwritten_whole content bytes = overwritten_all (resized (length bytes) content) bytes (length-resized content (length bytes))
+
+pub place_refused : (e : Error) → IsInvalidPlace e → IsRefusedRewriting e
+place_refused e = ⊎_elim (λ broken. inl (inl broken)) (λ input. inl (inr (inl input)))
+
+pub place_or_full : (e : Error) → IsInvalidPlaceOrFull e → IsRefusedRewriting e
+place_or_full e = ⊎_elim (λ place. place_refused e place) (λ full. inr full)
+
+module _ (letters : Letters) (tree : Tree) (bytes : List ℕ) where
+  -- the rule where a stream stands at the path
+  pub rewritten_there : (path : Path) (name : List ℕ) (bits : ℕ) (old : List ℕ) → object_at letters tree path ≡ Some (a_stream name bits old) → rewriting bytes letters tree path ≡ (changed letters (with_bytes bytes) path tree, done)
+  rewritten_there path name bits old at = rw at refl
+
+  same_refusal : (path : Path) (e : Error) (o : Option Object) → (on_stream tree (λ b. (tree, has_bytes b)) o).1 ≡ refused e
+      → (on_stream tree (λ b. (changed letters (with_bytes bytes) path tree, done)) o).1 ≡ refused e
+  same_refusal path e None is = is
+  same_refusal path e (Some (a_stream name bits old)) is = absurd (cc)
+  same_refusal path e (Some (a_storage name facts inside)) is = is
+
+  -- what `open_stream` refuses it refuses
+  pub refused_too : (path : Option Path) (e : Error) → answer_at letters tree open_stream path ≡ refused e → answer_by (rewriting bytes) letters tree path ≡ refused e
+  refused_too None e is = is
+  refused_too (Some path) e is = same_refusal path e (object_at letters tree path) is
+
+module _ {F : Type 0} {g : Ghosts F} where
+  -- a file that was only read means what it meant
+  pub rests_mean : (old new : CompoundFile F g) → Rests old new → KeepsMeant old new
+  rests_mean old new r = record {
+    means = λ tree m. record {
+      sound = r.sound ∙ m.sound;
+      live = subst (λ l. live.Means l (mini_of new) tree) (sym r.letters) (means_stays (mini_of old) (mini_of new) (keeps_rests (mini_of old) (mini_of new) r.mini) (letters_in old) tree m.live);
+    };
+  }
+
+  pub want_fault : (it : CompoundFile F g) (e : Error) → IsWant it e → IsFault e
+  want_fault it e = ⊎_elim (λ memory. subst IsFault (sym memory) (inl tt)) (λ failed. subst IsFault (sym failed.0) (inl tt))
+
+  module _ (path : Option Path) (bytes : List ℕ) (old mid new : CompoundFile F g) (r : Rests old mid) where
+    -- LAW: no stream was found
+    pub not_found : {S : Type 0} (e : Error) → (has_failed_here (allocator_of (mini_of old)) ≡ true → IsErrOf {T = S} (Err e) Failed)
+        → (has_failed_here (allocator_of (mini_of old)) ≡ false → sound_of old ≡ false → IsErrOf {T = S} (Err e) InvalidData)
+        → ((tree : Tree) → Means old tree → IsWant old e ⊎ (answer_at (letters_in old) tree open_stream path ≡ refused e))
+        → Puts {T = Unit {0}} (rewriting bytes) path (Err e) old mid
+    not_found e failed unsound told =
+        let keeps = rests_mean old mid r in
+        record {
+          failed = λ is. err_as e Failed (failed is);
+          unsound = λ live is. err_as e InvalidData (unsound live is);
+          done = tt;
+          refused = λ tree m. ⊎_elim (λ want. inl (want_fault old e want)) (λ rule. inr (refused_too (letters_in old) tree bytes path e rule, keeps)) (told tree m);
+          rests = inr keeps;
+          seen = (r.letters, r.sound, r.validation);
+        }
+
+    module _ (id len : ℕ) (live : has_failed_here (allocator_of (mini_of old)) ≡ true → ⊥) (sound : has_failed_here (allocator_of (mini_of old)) ≡ false → sound_of old ≡ false → ⊥)
+        (found : (tree : Tree) → Means old tree → FindsWritten old mid path tree id len) (seen : (letters_in new ≡ letters_in mid) × (sound_of new ≡ sound_of mid) × (validation_of new ≡ validation_of mid)) where
+      -- LAW: its bytes were not written
+      pub not_written : (e : Error) → (e ≡ InvalidInput → (names : Path) (tree : Tree) (content : List ℕ) → IsWritten mid names tree id content → length content ≡ len → ⊥)
+          → (e ≡ InvalidData → IsLostAt id mid) → (has_failed_here (allocator_of (mini_of new)) ≡ true) ⊎ KeepsAt id mid new
+          → IsFaultUnless ⊥ e ⊎ IsInvalidPlaceOrFull e → Puts {T = Unit {0}} (rewriting bytes) path (Err e) old new
+      not_written e large lost kept fault = record {
+        failed = λ failed. absurd (live failed);
+        unsound = λ alive unsound. absurd (sound alive unsound);
+        done = tt;
+        refused = λ tree m. inl (why tree m fault);
+        rests = ⊎_elim (λ failed. inl failed) (λ k. inr (record { means = λ tree m. let f = found tree m in means_written new f.names tree id f.content (k f.names tree f.content f.written) })) kept;
+        seen = (seen.0 ∙ r.letters, seen.1 ∙ r.sound, seen.2 ∙ r.validation);
+      }
+        where
+          why : (tree : Tree) → Means old tree → IsFaultUnless ⊥ e ⊎ IsInvalidPlaceOrFull e → IsFault e
+          why tree m fault = elim fault [
+            | inl is ↦ inl is
+            | inr rest ↦ elim rest [
+              | inl place ↦ elim place [
+                | inl broken ↦ let f = found tree m in absurd (lost broken f.names tree f.content f.written)
+                | inr input ↦ let f = found tree m in absurd (large input f.names tree f.content f.written (sym f.len_is))
+              ]
+              | inr full ↦ inr full
+            ]
+          ]
+
+      -- LAW: they were
+      pub was_written : (change : List ℕ → List ℕ) → ((content : List ℕ) → length content ≡ len → change content ≡ bytes) → RewritesAt id change mid new → Puts {T = Unit {0}} (rewriting bytes) path (Ok tt) old new
+      was_written change is wrote = record {
+        failed = λ failed. absurd (live failed);
+        unsound = λ alive unsound. absurd (sound alive unsound);
+        done = λ tree m.
+            let f = found tree m in
+            let there = wrote f.names tree f.content f.written in
+            let whole : change f.content ≡ bytes = is f.content (sym f.len_is) in
+            let at = subst (λ l. object_at l tree f.names ≡ Some (a_stream f.written.at.name f.written.at.bits f.content)) r.letters f.written.at.at_path in
+            let step = rewritten_there (letters_in old) tree bytes f.names f.written.at.name f.written.at.bits f.content at in
+            record {
+              names = f.names;
+              at_path = f.at_path;
+              accepted = ap (λ o. o.1) step;
+              means = subst (Means new) (ap (λ b. changed (letters_in mid) (with_bytes b) f.names tree) whole ∙ ap (λ l. changed l (with_bytes bytes) f.names tree) r.letters ∙ sym (ap (λ o. o.0) step))
+                  (means_written new f.names (changed (letters_in mid) (with_bytes (change f.content)) f.names tree) id (change f.content) there);
+            };
+        refused = tt;
+        rests = tt;
+        seen = (seen.0 ∙ r.letters, seen.1 ∙ r.sound, seen.2 ∙ r.validation);
+      }
+
+      -- more bytes than an entry tells of are none of those that are put
+      pub fits_yet : (end : ℕ) → end ≤ stream_len_mask (version_of (allocator_of (mini_of old))) → stream_len_mask (version_of (allocator_of (mini_of mid))) < end → ⊥
+      fits_yet end fits past =
+          let v : stream_len_mask (version_of (allocator_of (mini_of mid))) ≡ stream_len_mask (version_of (allocator_of (mini_of old))) = ap stream_len_mask (keeps_rests (mini_of old) (mini_of mid) r.mini).allocator.sectors.version in
+          absurd (omega (arith, past, fits, v))
+
+  -- ---- errors and their causes
+
+  module _ (a m b : Allocator F g) (r : AllRests a m) where
+    -- where no stream was found
+    pub not_found_answers : {S : Type 0} (it : CompoundFile F g) (e : Error) → allocator_of (mini_of it) ≡ a → (has_failed_here a ≡ true → IsErrOf {T = S} (Err e) Failed) → IsWant it e ⊎ IsRefusedOpening e
+        → Answers {T = Unit {0}} IsRefusedRewriting (Err e) a m
+    not_found_answers it e same failed why = record {
+      live = tt;
+      failed = λ is. (err_as e Failed (failed is), r);
+      after = inr r;
+      cause = own_cause a m e (λ device. no_device device why) (λ is. was_failed is why);
+      fault = elim why [ inl want ↦ inl (want_is want) | inr rule ↦ inr (inl rule) ];
+    }
+      where
+        want_is : IsWant it e → IsFaultUnless ⊥ e
+        want_is want = elim want [ inl memory ↦ subst (IsFaultUnless ⊥) (sym memory) tt | inr failed ↦ subst (IsFaultUnless ⊥) (sym failed.0) tt ]
+
+        no_device : e ≡ Device → IsWant it e ⊎ IsRefusedOpening e → ⊥
+        no_device device why = elim why [
+          | inl want ↦ elim want [ inl memory ↦ absurd (cc) | inr failed ↦ let is = failed.0 in absurd (cc) ]
+          | inr rule ↦ elim rule [ inl broken ↦ absurd (cc) | inr rest ↦ elim rest [ inl input ↦ absurd (cc) | inr missing ↦ absurd (cc) ] ]
+        ]
+
+        was_failed : e ≡ Failed → IsWant it e ⊎ IsRefusedOpening e → has_failed_here a ≡ true
+        was_failed is why = elim why [
+          | inl want ↦ elim want [ inl memory ↦ absurd (cc) | inr failed ↦ subst (λ x. has_failed_here x ≡ true) same failed.1 ]
+          | inr rule ↦ elim rule [ inl broken ↦ absurd (cc) | inr rest ↦ elim rest [ inl input ↦ absurd (cc) | inr missing ↦ absurd (cc) ] ]
+        ]
+
+    -- where one was, and a call changed the file
+    pub found_answers : (Q R : Error → Type 0) (result : Result (Unit {0}) Error) → (has_failed_here a ≡ true → ⊥) → ((e : Error) → Q e → R e) → Answers Q result m b → Answers R result a b
+    found_answers Q R (Ok x) live more told = record {
+      live = (sym r.sectors.failed ∙ told.live.0, told.live.1);
+      failed = λ failed. absurd (live failed);
+      after = tt;
+      cause = tt;
+      fault = tt;
+    }
+    found_answers Q R (Err e) live more told = record {
+      live = tt;
+      failed = λ failed. absurd (live failed);
+      after = ⊎_elim (λ failed. inl failed) (λ k. inr (all_rest_then a m b r k)) told.after;
+      cause = rests_cause a m b e r told.cause;
+      fault = ⊎_elim (λ fault. inl fault) (λ rule. inr (more e rule)) told.fault;
+    }

@@ -1,0 +1,93 @@
+use Rattle.std.proofs.Common.{◌≡◌, ◌∙◌, ap, inl, inr, length, refl, sym, ⊎_elim, arith}
+use Rattle.std.specs.Prelude.{Err}
+use Rattle.cfb_chains.specs.ChainCalls.{IsInvalidPlace}
+use Rattle.cfb_mini.specs.Views.{allocator_of}
+use Rattle.cfb_entries.specs.Rules.{names_in}
+use Rattle.cfb_medium.specs.Bytes.{overwritten}
+use Rattle.cfb_owned.specs.Chains.{IsInvalidPlaceOrFull}
+use Rattle.cfb_owned.proofs.GoingOn.{goes_then, rests_go_on}
+use Rattle.cfb_live.proofs.Resting.{keeps_rests}
+use Rattle.cfb_writing.specs.Streams.{resized}
+use Rattle.cfb.specs.Putting.{IsRefusedRewriting}
+use Rattle.cfb.specs.Views.{mini_of}
+use Rattle.cfb.proofs.Rewriting.{fits_yet, found_answers, not_found, not_found_answers, not_written, overwritten_all, overwritten_whole, place_or_full, place_refused, was_written}
+use Rattle.cfb.proofs.compound_file.CompoundFile.rewrite_stream.Goals as goal
+
+pub returns-in-Err-clause-puts : goal.returns-in-Err-clause-puts
+returns-in-Err-clause-puts g c =
+    let told = c.in-Err.ensures in
+    not_found (names_in c.args.path.now) c.args.bytes.now c.args.self.now c.find_written.new.self c.find_written.new.self c.find_written.ensures.rests c.in-Err.error told.failed told.unsound told.refused
+
+pub returns-in-Err-clause-answers : goal.returns-in-Err-clause-answers
+returns-in-Err-clause-answers g c =
+    let m = allocator_of (mini_of c.find_written.new.self) in
+    not_found_answers (allocator_of (mini_of c.args.self.now)) m m (keeps_rests (mini_of c.args.self.now) (mini_of c.find_written.new.self) c.find_written.ensures.rests.mini).allocator
+    c.args.self.now c.in-Err.error refl c.in-Err.ensures.failed c.in-Err.ensures.error
+
+pub returns-in-Err-overwrite_bytes-clause-puts : goal.returns-in-Err-overwrite_bytes-clause-puts
+returns-in-Err-overwrite_bytes-clause-puts g c =
+    let found = c.in-Ok.ensures in
+    let told = c.in-Err-overwrite_bytes.ensures in
+    let same = c.if-len-bytes.true in
+    not_written (names_in c.args.path.now) c.args.bytes.now c.args.self.now c.find_written.new.self c.overwrite_bytes.new.self c.find_written.ensures.rests _ _
+    (λ failed. let never = found.failed failed in absurd (cc)) (λ alive unsound. let never = found.unsound alive unsound in absurd (cc))
+    found.found c.overwrite_bytes.ensures.seen c.in-Err-overwrite_bytes.error
+    (λ input names tree content w size. let past = told.past (ap Err input) names tree content w in absurd (omega (arith, past, size, same)))
+    (λ broken. told.refused (ap Err broken)) told.kept (⊎_elim (λ fault. inl fault) (λ place. inr (inl place)) told.answers.fault)
+
+pub returns-in-Err-overwrite_bytes-clause-goes_on : goal.returns-in-Err-overwrite_bytes-clause-goes_on
+returns-in-Err-overwrite_bytes-clause-goes_on g c =
+    goes_then _ _ _ (rests_go_on _ _ (keeps_rests (mini_of c.args.self.now) (mini_of c.find_written.new.self) c.find_written.ensures.rests.mini).allocator) c.overwrite_bytes.ensures.goes_on
+
+pub returns-in-Err-overwrite_bytes-clause-answers : goal.returns-in-Err-overwrite_bytes-clause-answers
+returns-in-Err-overwrite_bytes-clause-answers g c =
+    found_answers (allocator_of (mini_of c.args.self.now)) (allocator_of (mini_of c.find_written.new.self)) (allocator_of (mini_of c.overwrite_bytes.new.self))
+    (keeps_rests (mini_of c.args.self.now) (mini_of c.find_written.new.self) c.find_written.ensures.rests.mini).allocator IsInvalidPlace IsRefusedRewriting (Err c.in-Err-overwrite_bytes.error)
+    (λ failed. let never = c.in-Ok.ensures.failed failed in absurd (cc)) place_refused c.in-Err-overwrite_bytes.ensures.answers
+
+pub returns-then-len-bytes-clause-puts : goal.returns-then-len-bytes-clause-puts
+returns-then-len-bytes-clause-puts g c =
+    let found = c.in-Ok.ensures in
+    let same = c.if-len-bytes.true in
+    was_written (names_in c.args.path.now) c.args.bytes.now c.args.self.now c.find_written.new.self c.overwrite_bytes.new.self c.find_written.ensures.rests _ _
+    (λ failed. let never = found.failed failed in absurd (cc)) (λ alive unsound. let never = found.unsound alive unsound in absurd (cc))
+    found.found c.overwrite_bytes.ensures.seen
+    (λ content. overwritten content 0 c.args.bytes.now) (λ content size. overwritten_all content c.args.bytes.now (omega (arith, size, same))) c.in_default.ensures.written
+
+pub returns-then-len-bytes-clause-goes_on : goal.returns-then-len-bytes-clause-goes_on
+returns-then-len-bytes-clause-goes_on g c =
+    goes_then _ _ _ (rests_go_on _ _ (keeps_rests (mini_of c.args.self.now) (mini_of c.find_written.new.self) c.find_written.ensures.rests.mini).allocator) c.overwrite_bytes.ensures.goes_on
+
+pub returns-in-Err-extend_bytes-clause-puts : goal.returns-in-Err-extend_bytes-clause-puts
+returns-in-Err-extend_bytes-clause-puts g c =
+    let found = c.in-Ok.ensures in
+    let told = c.in-Err-extend_bytes.ensures in
+    not_written (names_in c.args.path.now) c.args.bytes.now c.args.self.now c.find_written.new.self c.extend_bytes.new.self c.find_written.ensures.rests _ _
+    (λ failed. let never = found.failed failed in absurd (cc)) (λ alive unsound. let never = found.unsound alive unsound in absurd (cc))
+    found.found c.extend_bytes.ensures.seen c.in-Err-extend_bytes.error
+    (λ input names tree content w size. fits_yet (names_in c.args.path.now) c.args.bytes.now c.args.self.now c.find_written.new.self c.extend_bytes.new.self c.find_written.ensures.rests _ _
+    (λ failed. let never = found.failed failed in absurd (cc)) (λ alive unsound. let never = found.unsound alive unsound in absurd (cc))
+    found.found c.extend_bytes.ensures.seen (length c.args.bytes.now) c.requires (told.large (ap Err input) names tree content w))
+    (λ broken. told.refused (ap Err broken)) told.kept told.answers.fault
+
+pub returns-in-Err-extend_bytes-clause-goes_on : goal.returns-in-Err-extend_bytes-clause-goes_on
+returns-in-Err-extend_bytes-clause-goes_on g c =
+    goes_then _ _ _ (rests_go_on _ _ (keeps_rests (mini_of c.args.self.now) (mini_of c.find_written.new.self) c.find_written.ensures.rests.mini).allocator) c.extend_bytes.ensures.goes_on
+
+pub returns-in-Err-extend_bytes-clause-answers : goal.returns-in-Err-extend_bytes-clause-answers
+returns-in-Err-extend_bytes-clause-answers g c =
+    found_answers (allocator_of (mini_of c.args.self.now)) (allocator_of (mini_of c.find_written.new.self)) (allocator_of (mini_of c.extend_bytes.new.self))
+    (keeps_rests (mini_of c.args.self.now) (mini_of c.find_written.new.self) c.find_written.ensures.rests.mini).allocator IsInvalidPlaceOrFull IsRefusedRewriting (Err c.in-Err-extend_bytes.error)
+    (λ failed. let never = c.in-Ok.ensures.failed failed in absurd (cc)) place_or_full c.in-Err-extend_bytes.ensures.answers
+
+pub returns-clause-puts : goal.returns-clause-puts
+returns-clause-puts g c =
+    let found = c.in-Ok.ensures in
+    was_written (names_in c.args.path.now) c.args.bytes.now c.args.self.now c.find_written.new.self c.extend_bytes.new.self c.find_written.ensures.rests _ _
+    (λ failed. let never = found.failed failed in absurd (cc)) (λ alive unsound. let never = found.unsound alive unsound in absurd (cc))
+    found.found c.extend_bytes.ensures.seen
+    (λ content. overwritten (resized (length c.args.bytes.now) content) 0 c.args.bytes.now) (λ content size. overwritten_whole content c.args.bytes.now) c.in_default-extend_bytes.ensures.written
+
+pub returns-clause-goes_on : goal.returns-clause-goes_on
+returns-clause-goes_on g c =
+    goes_then _ _ _ (rests_go_on _ _ (keeps_rests (mini_of c.args.self.now) (mini_of c.find_written.new.self) c.find_written.ensures.rests.mini).allocator) c.extend_bytes.ensures.goes_on
