@@ -3,7 +3,9 @@
 
 mod cells;
 mod column;
+mod index;
 mod laws;
 
 pub use column::column_from_rows;
+pub use index::rows_by_key;
 pub use laws::columns_are_read_by_their_rows;
