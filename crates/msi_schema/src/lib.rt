@@ -5,7 +5,11 @@ mod cells;
 mod column;
 mod index;
 mod laws;
+mod tables;
+mod values;
 
 pub use column::column_from_rows;
 pub use index::rows_by_key;
 pub use laws::columns_are_read_by_their_rows;
+pub use tables::columns_of_table;
+pub use values::values_of_rows;
