@@ -198,9 +198,10 @@ module _ (letters : Letters) where
           let whole : changed letters (with_bytes bytes) path later ≡ added letters (a_stream (last_of path) 0 bytes) path tree =
           ap (changed letters (with_bytes bytes) path) there
           ∙ subst (λ p. changed letters (with_bytes bytes) p (added letters empty path tree) ≡ added letters (a_stream (last_of path) 0 bytes) path tree) up
-          (put_at (last_of path) bytes (parent_of path) tree (ap (object_at letters tree) up ∙ new.0)) in
-          (ap (λ o. on_stream later (λ b. (changed letters (with_bytes bytes) path later, done)) o) found,
-          ap (λ o. put_over bytes letters tree path o) new.0 ∙ made_done empty (a_stream (last_of path) 0 bytes) accepted ∙ ap (λ t. (t, done)) (sym whole))
+          (put_at (last_of path) bytes (parent_of path) tree (ap (object_at letters tree) up ∙ new.0)) in (
+            ap (λ o. on_stream later (λ b. (changed letters (with_bytes bytes) path later, done)) o) found,
+            ap (λ o. put_over bytes letters tree path o) new.0 ∙ made_done empty (a_stream (last_of path) 0 bytes) accepted ∙ ap (λ t. (t, done)) (sym whole),
+          )
 
       -- LAW: where no stream is at the path, one is put there just where one is made
       pub put_refused : (e : Error) → is_stream_found (object_at letters tree path) ≡ false → (tree_step letters tree (create_new_stream path)).1 ≡ refused e → (putting bytes letters tree path).1 ≡ refused e
