@@ -1,7 +1,7 @@
 //! A command file, and the run of its commands.
+use crate::files;
 use crate::progress::Progress;
 use cfb_medium::Error;
-use file_device::FileDevice;
 use installer::{Answer, Command, Session, answer_text};
 use staged::Device;
 use std::alloc::Global;
@@ -22,12 +22,23 @@ pub enum Ending {
     Refused,
 }
 
-// The text of a command file. `InvalidData` where it can't be read, `Memory` where there is no room.
+// The text of a command file. `InvalidData` where it is no regular file or can't be read, `Memory` where there is no room.
 pub fn text_in<R: Files<File = File> + AllocGlobal>(rt: &R, path: &str) -> Result<String, Error> {
+    if !is_regular(rt, path) {
+        return Err(Error::InvalidData);
+    }
     match fs::read_to_string(rt, path) {
         Ok(text) => Ok(text),
         Err(error) if error.kind() == io::ErrorKind::OutOfMemory => Err(Error::Memory),
         Err(_) => Err(Error::InvalidData),
+    }
+}
+
+// Whether it is a regular file. A pipe isn't opened, since that may wait, nor a device node, which may have no end.
+fn is_regular<R: Files<File = File>>(rt: &R, path: &str) -> bool {
+    match fs::metadata(rt, path) {
+        Ok(metadata) => metadata.is_file(),
+        Err(_) => false,
     }
 }
 
@@ -40,7 +51,7 @@ pub fn run<R: Files<File = File> + AllocGlobal + Clock, O: Write, E: Write>(
     out: &mut O,
     progress: &mut Progress<'_, R, E>,
 ) -> Result<Ending, Error> {
-    let device = FileDevice::open(rt, home, log)?;
+    let device = files::open(rt, home, log)?;
     let mut session = match Session::open(rt.alloc(), device) {
         Ok(session) => session,
         Err((_, error)) => return Err(error),

@@ -2,6 +2,7 @@
 #![tactic(auto)]
 
 mod commands;
+mod files;
 mod line;
 mod progress;
 mod run;

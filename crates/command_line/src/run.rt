@@ -3,13 +3,12 @@ ghost use Rattle.std.specs.Prelude.{◌≤◌};
 
 use crate::commands::{Ending, run, text_in};
 use crate::progress::Progress;
-use crate::{Line, read_words};
+use crate::{Line, files, read_words};
 use cfb_medium::Error;
 use clap::error::ErrorKind;
 use command_file::{Command, read_commands, refusal_in};
-use file_device::FileDevice;
 use installer::Session;
-use staged::{Recovered, Which, recover};
+use staged::{Recovered, recover};
 use std::alloc::Global;
 use std::fs::File;
 use std::io::Write;
@@ -19,7 +18,8 @@ use std::time::Clock;
 /// Does what the words after the program's name ask for. Answers go to `out`, what went wrong goes to `err`. The status is 0 where all
 /// was done, or help was asked for; 1 where a command was refused by a rule; 2 where the words or the command file can't be read, and
 /// then no package was opened; 3 for a fault, where home file or log were refused, and where nothing more can be written. A fault comes
-/// before a refusal. Commands are run to the end of their list, also where their answers can't be written.
+/// before a refusal. A file that is named as the log and is none is refused before anything is written. Commands are run to the end of
+/// their list, also where their answers can't be written.
 pub fn msidb<R: Files<File = File> + AllocGlobal + Clock, O: Write, E: Write>(
     rt: &R,
     words: &[String],
@@ -85,9 +85,7 @@ fn done<R: Files<File = File> + AllocGlobal + Clock, O: Write, E: Write>(
         Ok(Ending::Refused) => 1,
         Err(error) => {
             let _ = writeln!(err, "msidb: {error}");
-            if error == Error::Device {
-                tell_user(rt, home, log, err);
-            }
+            files::tell_cause(rt, home, log, error, err);
             3
         }
     }
@@ -115,16 +113,6 @@ fn commands_in<R: Files<File = File> + AllocGlobal, E: Write>(
     Err(error)
 }
 
-// Says which file another program has.
-fn tell_user<R: Files<File = File>, E: Write>(rt: &R, home: &str, log: &str, err: &mut E) {
-    let path = match FileDevice::in_use(rt, home, log) {
-        Some(Which::Home) => home,
-        Some(Which::Log) => log,
-        None => return,
-    };
-    let _ = writeln!(err, "msidb: another program has {path}");
-}
-
 // Makes a package and commits it.
 fn create<R: Files<File = File> + AllocGlobal, O: Write>(
     rt: &R,
@@ -132,7 +120,7 @@ fn create<R: Files<File = File> + AllocGlobal, O: Write>(
     log: &str,
     out: &mut O,
 ) -> Result<Ending, Error> {
-    let device = FileDevice::create(rt, home, log)?;
+    let device = files::create(rt, home, log)?;
     let mut session = match Session::create(rt.alloc(), device) {
         Ok(session) => session,
         Err((_, error)) => return Err(error),
@@ -151,7 +139,7 @@ fn finish<R: Files<File = File>, O: Write>(
     log: &str,
     out: &mut O,
 ) -> Result<Ending, Error> {
-    let mut device = FileDevice::open(rt, home, log)?;
+    let mut device = files::open(rt, home, log)?;
     let written = match recover(&mut device)? {
         Recovered::Closed => writeln!(out, "closed"),
         Recovered::Applied(pages) => writeln!(out, "applied {pages}"),
