@@ -7,6 +7,7 @@ mod failing;
 mod faults;
 mod files;
 mod names;
+mod stores;
 mod streams;
 mod told;
 
@@ -15,6 +16,7 @@ use creating::Creations;
 use files::Files;
 use row_data::print_rows;
 use std::{env, fs};
+use stores::Stores;
 
 fn main(rt: HostRuntime) -> Result<()> {
     for path in env::args(&rt)?.skip(1) {
@@ -29,6 +31,7 @@ fn print_file(rt: &HostRuntime, path: &str) -> Result<()> {
     println!(rt; "== {path}")?;
     match path {
         "creating.rows" => print_rows(rt, text.as_str(), Creations::new(rt.alloc())),
+        "stores.rows" => print_rows(rt, text.as_str(), Stores::new(rt.alloc())),
         _ => print_rows(rt, text.as_str(), Files::new()),
     }
 }

@@ -10,6 +10,7 @@ use cfb_sectors::SectorInit;
 use cfb_streams::StreamLinks;
 use cfb_tree::CaseMapper;
 use cfb_writing::resize_stream;
+use staged::{MemoryDevice, Staged};
 use std::alloc::Global;
 
 // The bytes of more sectors than the FAT's first sector has entries for.
@@ -112,4 +113,32 @@ pub fn move_stream(alloc: Global) -> Result<bool, Error> {
         }
     }
     Ok(true)
+}
+
+/// Makes a stream so long that it moves, over a store. Where that has failed the file, it goes back to the last commit, and the
+/// same is done.
+pub fn go_back(alloc: Global) -> Result<bool, Error> {
+    let device = MemoryDevice::new(Vec::new(alloc), Vec::new(alloc));
+    let store = Staged::new(alloc, device).map_err(|refused| refused.1)?;
+    let letters = CaseMapper::ascii(alloc)?;
+    let mut file = CompoundFile::create(alloc, store, letters).map_err(|refused| refused.1)?;
+    file.create_new_stream("/a")?;
+    lengthen(&mut file, LENGTHS[0])?;
+    file.commit()?;
+    if lengthen(&mut file, LENGTHS[1]).is_ok() {
+        return Ok(true);
+    }
+    if file.has_failed() && file.roll_back().is_err() {
+        return Ok(false);
+    }
+    Ok(lengthen(&mut file, LENGTHS[1]).is_ok())
+}
+
+// Gives the stream so many bytes.
+fn lengthen(file: &mut CompoundFile<Staged<MemoryDevice>>, len: u64) -> Result<(), Error> {
+    let mut stream = file.open_stream("/a")?;
+    let done = stream.set_len(len);
+    let closed = stream.close();
+    done?;
+    closed
 }

@@ -37,5 +37,8 @@ fn all_are_done(alloc: Global) -> Result<bool, Error> {
     if !calls::empty_root(alloc)? {
         return Ok(false);
     }
+    if !calls::go_back(alloc)? {
+        return Ok(false);
+    }
     calls::make_storages(alloc)
 }
