@@ -38,21 +38,6 @@ yes_of it other = other
 said_so : (letters : Letters) (tree : Tree) (names : Path) (b : Bool) → yes b ≡ said_at letters tree is_stream (Some names) → is_stream_found (object_at letters tree names) ≡ b
 said_so letters tree names b is = sym (ap (λ (a : Answer). yes_of a b) is)
 
-pub rewriting_put : (e : Error) → IsRefusedRewriting e → IsRefusedPut e
-rewriting_put e is = inl is
-
-pub made_put : (e : Error) → IsRefusedMade e → IsRefusedPut e
-made_put e is = elim is [
-  | inl there ↦ inr there
-  | inr rest ↦ elim rest [
-    | inl missing ↦ inl (inl (inr (inr missing)))
-    | inr more ↦ elim more [
-      | inl input ↦ inl (inl (inr (inl input)))
-      | inr last ↦ elim last [ inl full ↦ inl (inr full) | inr broken ↦ inl (inl (inl broken)) ]
-    ]
-  ]
-]
-
 module _ (letters : Letters) (tree : Tree) (bytes : List ℕ) where
   answer_there : (path : Option Path) → yes true ≡ said_at letters tree is_stream path → answer_by (putting bytes) letters tree path ≡ answer_by (rewriting bytes) letters tree path
   answer_there None is = refl
@@ -156,10 +141,6 @@ module _ {F : Type 0} {g : Ghosts F} where
 
   -- ---- errors and their causes
 
-  pub answers_more : {T : Type 0} (Q R : Error → Type 0) (r : Result T Error) (a b : Allocator F g) → ((e : Error) → Q e → R e) → Answers Q r a b → Answers R r a b
-  answers_more Q R (Ok x) a b more told = record { live = told.live; failed = told.failed; after = tt; cause = tt; fault = tt }
-  answers_more Q R (Err e) a b more told = record { live = tt; failed = told.failed; after = told.after; cause = told.cause; fault = ⊎_elim (λ fault. inl fault) (λ rule. inr (more e rule)) told.fault }
-
   module _ (a m b : Allocator F g) (x : Unit {0}) (made : Answers {T = Unit {0}} IsRefusedMade (Ok x) a m) where
     pub put_failed_answers : (c : Allocator F g) (e : Error) → GoesOn a m → Answers {T = Unit {0}} IsRefusedRewriting (Err e) m b → AllFails b c → Answers {T = Unit {0}} IsRefusedPut (Err e) a c
     put_failed_answers c e goes told fails = record {
@@ -168,13 +149,4 @@ module _ {F : Type 0} {g : Ghosts F} where
       after = inl fails.sectors.failed;
       cause = fails_cause a b c e (goes_cause a m b e goes made.live.1 told.cause) fails;
       fault = ⊎_elim (λ fault. inl fault) (λ rule. inr (inl rule)) told.fault;
-    }
-
-    pub put_done_answers : Answers {T = Unit {0}} IsRefusedRewriting (Ok tt) m b → Answers {T = Unit {0}} IsRefusedPut (Ok tt) a b
-    put_done_answers told = record {
-      live = (made.live.0, told.live.1);
-      failed = λ failed. let before = made.live.0 in absurd (cc);
-      after = tt;
-      cause = tt;
-      fault = tt;
     }
