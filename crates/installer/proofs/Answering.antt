@@ -1,7 +1,7 @@
 -- How one command goes.
 use Rattle.std.proofs.Common.{arith, ◌≤◌, ◌≡◌, ◌⊎◌, inl, inr, ⊎_elim, Bool, true, false, List, [], refl, sym, ap, ◌∙◌}
 use Rattle.std.specs.Prelude.{Result, Ok, Err, OnOk, IfErr}
-use Rattle.msi.specs.Package.{Package}
+use Rattle.msi_meaning.specs.Package.{Package}
 use Rattle.one_table.specs.Answers.{Meets}
 use Rattle.command_file.specs.Request.{Request, is_commit, is_reading}
 use Rattle.command_file.specs.Request as command

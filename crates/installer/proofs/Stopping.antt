@@ -3,7 +3,7 @@ use Rattle.std.proofs.Common.{◌≡◌, ◌⊎◌, inl, inr, ⊎_elim, ◌≤�
 use Rattle.std.specs.Prelude.{Result, Ok, Err, IfErr}
 use Rattle.cfb_tree.specs.Names.{ascii_letters}
 use Rattle.cfb_medium.specs.Stops.{LeavesOnly}
-use Rattle.msi.specs.Package.{MeansPackage}
+use Rattle.msi_meaning.specs.Package.{MeansPackage}
 use Rattle.staged.specs.Files.{Files}
 use Rattle.staged.specs.Log.{recovered}
 use Rattle.staged.specs.Steps.{GivenBy, GivesAlike}

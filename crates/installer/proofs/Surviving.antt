@@ -2,7 +2,7 @@
 use Rattle.std.proofs.Common.{◌≡◌, ◌⊎◌, ◌≤◌, inl, inr, ⊎_elim, ℕ, List, [], ◌∷◌, ◌++◌, false, true, Some, refl, sym, ap, subst, ◌∙◌, arith}
 use Rattle.std.specs.Prelude.{IsTrue, Result, Ok, Err, OnOk, OnErr, IfErr}
 use Rattle.cfb_tree.specs.Names.{ascii_letters}
-use Rattle.msi.specs.Package.{MeansPackage}
+use Rattle.msi_meaning.specs.Package.{MeansPackage}
 use Rattle.staged.specs.Log.{recovered, IsPublished}
 use Rattle.staged.specs.Settled.{IsSettled}
 use Rattle.staged.specs.declared.device.Device.{Ghosts}

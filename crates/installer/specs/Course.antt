@@ -1,6 +1,6 @@
 -- How a session goes along a list of commands.
 use Rattle.std.specs.Prelude.{◌≡◌, ◌⊎◌, ◌<◌, ◌≤◌, ◌-◌, ◌^◌, ℕ, Bool, true, false, List, [], ◌∷◌, ◌++◌, Option, Some, Result, Ok, Err}
-use Rattle.msi.specs.Package.{Package}
+use Rattle.msi_meaning.specs.Package.{Package}
 use Rattle.command_file.specs.Request.{Request, is_reading}
 use Rattle.command_file.specs.Request as command
 use Rattle.installer.specs.Reply.{Reply}

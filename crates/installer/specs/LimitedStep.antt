@@ -2,9 +2,9 @@
 use Rattle.std.specs.Prelude.{Ok, Err}
 use Rattle.msi_texts.specs.Results.{◌>>=◌}
 use Rattle.cfb_tree.specs.Names.{ascii_letters}
-use Rattle.msi.specs.Package.{Package}
-use Rattle.msi.specs.Calls.{table_names}
-use Rattle.msi.specs.Streams.{stream_names}
+use Rattle.msi_meaning.specs.Package.{Package}
+use Rattle.msi_meaning.specs.Calls.{table_names}
+use Rattle.msi_meaning.specs.Streams.{stream_names}
 use Rattle.cfb_medium.specs.declared.error.Error.TheVariants.{InvalidInput}
 use Rattle.one_table.specs.Limits.{CreatesBare, InsertsFew, selected_whole}
 use Rattle.command_file.specs.Request.{Request}

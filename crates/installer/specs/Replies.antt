@@ -1,6 +1,6 @@
 -- What a command is answered that begins no commit.
 use Rattle.std.specs.Prelude.{◌≡◌, ◌⊎◌}
-use Rattle.msi.specs.Package.{Package}
+use Rattle.msi_meaning.specs.Package.{Package}
 use Rattle.command_file.specs.Request.{Request}
 use Rattle.installer.specs.LimitedStep.{LimitedStep}
 use Rattle.installer.specs.Reply.{Reply}

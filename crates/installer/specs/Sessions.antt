@@ -1,6 +1,6 @@
 -- A session as what is seen of it.
 use Rattle.std.specs.Prelude.{◌≡◌, ◌⊎◌, ◌<◌, ◌-◌, ◌^◌, Bool, true, false, Option}
-use Rattle.msi.specs.Package.{Package}
+use Rattle.msi_meaning.specs.Package.{Package}
 use Rattle.staged.specs.Staged.{device_of, is_failed}
 use Rattle.staged.specs.declared.device.Device.{Ghosts}
 use Rattle.one_table.specs.Held.{package_in}

@@ -2,7 +2,7 @@
 use Rattle.std.specs.Prelude.{◌≡◌, ◌⊎◌, ◌≤◌, ℕ, false, List, [], ◌∷◌, map, Option, Some, IsTrue}
 use Rattle.cfb_medium.specs.Stops.{LeavesOnly}
 use Rattle.cfb_tree.specs.Names.{ascii_letters}
-use Rattle.msi.specs.Package.{MeansPackage}
+use Rattle.msi_meaning.specs.Package.{MeansPackage}
 use Rattle.staged.specs.Files.{Files}
 use Rattle.staged.specs.Log.{recovered}
 use Rattle.staged.specs.Steps.{GivenBy}

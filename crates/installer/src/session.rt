@@ -4,7 +4,7 @@ ghost use Rattle.cfb_medium.specs.Calls.{Extends};
 ghost use Rattle.cfb_medium.specs.Stops.{LeavesOnly};
 ghost use Rattle.cfb_medium.specs.declared.error.Error.TheVariants as error;
 ghost use Rattle.cfb_tree.specs.Names.{ascii_letters};
-ghost use Rattle.msi.specs.Package.{Package, MeansPackage};
+ghost use Rattle.msi_meaning.specs.Package.{Package, MeansPackage};
 ghost use Rattle.staged.specs.Device.{Rests, IsDeviceFault, IsMemoryOrFault};
 ghost use Rattle.staged.specs.Log.{recovered, logged, MalformedLog, IsPublished};
 ghost use Rattle.staged.specs.Steps.{GivesAlike};

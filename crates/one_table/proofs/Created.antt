@@ -19,8 +19,8 @@ use Rattle.msi_columns.specs.declared.column.ColumnType.{ColumnType}
 use Rattle.msi_columns.specs.declared.column.ColumnType.TheVariants as kind
 use Rattle.msi_changes.specs.Changes.{rows_counted}
 use Rattle.cfb_tree.specs.Names.{ascii_letters}
-use Rattle.msi.specs.Package.{Package, table_name_cmp}
-use Rattle.msi.specs.Calls.{table_put, with_rows, rows_put, new_table, has_table, names_distinct, is_system, is_kept}
+use Rattle.msi_meaning.specs.Package.{Package, table_name_cmp}
+use Rattle.msi_meaning.specs.Calls.{table_put, with_rows, rows_put, new_table, has_table, names_distinct, is_system, is_kept}
 use Rattle.one_table.proofs.Identifiers.{name_chars, short_is_valid}
 use Rattle.one_table.specs.declared.contents.OnlyTable.{OnlyTable}
 use Rattle.one_table.specs.Contents.{only_seen, only_of, Only, IsKept, AreKept, package_of, only_table, key_column, columns_row, tables_row, places_of, own_tables, all_tables, new_only, IsFirst, pool_with, columns_table, tables_table}

@@ -6,8 +6,8 @@ use Rattle.std.specs.Ordering.{is_lt}
 use Rattle.std.proofs.lemmas.Slice.Eq.{bytes_eq-Decides}
 use Rattle.msi_tables.specs.Table.{Table, table_named}
 use Rattle.msi_tables.specs.Schema.{columns_name, tables_name, validation_name}
-use Rattle.msi.specs.Package.{table_name_cmp, pool_name, data_name}
-use Rattle.msi.specs.Calls.{table_put}
+use Rattle.msi_meaning.specs.Package.{table_name_cmp, pool_name, data_name}
+use Rattle.msi_meaning.specs.Calls.{table_put}
 use Rattle.one_table.specs.Limits.{is_taken}
 use Rattle.one_table.specs.Contents.{Only, IsKept, AreKept, package_of, columns_table, tables_table, only_table, own_tables, places_of, pool_with}
 use Rattle.one_table.specs.Sheets.{IsSheet}

@@ -9,7 +9,7 @@ use Rattle.cfb_tree.specs.Names.{ascii_letters, name_cmp}
 use Rattle.plain.specs.WholeImage.{NamedStream, parts, counts, sum_of, AreFewShort}
 use Rattle.plain.proofs.ImageLength.{short_images_grow, short_image_bound}
 use Rattle.msi_pool.specs.Pool.{pool_stream, data_stream, head_bytes}
-use Rattle.msi.specs.Package.{stream_name, summary_name, pool_name, data_name}
+use Rattle.msi_meaning.specs.Package.{stream_name, summary_name, pool_name, data_name}
 use Rattle.msi_props.specs.Props.{props_bytes}
 use Rattle.one_table.specs.Contents.{Only, IsKept, AreKept, package_of, pool_with, new_only}
 use Rattle.one_table.specs.Streams.{named, streams_of, own_streams, put_by, keys_bytes, columns_bytes, tables_bytes, image_of, root_facts}

@@ -10,7 +10,7 @@ use Rattle.std.specs.Str.{IsAscii}
 use Rattle.std.specs.Prelude.{encode_utf8_all}
 use Rattle.std.proofs.lemmas.Str.{chars-encodes}
 use lib.Utf8.{scalars, scalar}
-use Rattle.msi.specs.Package.{stream_name}
+use Rattle.msi_meaning.specs.Package.{stream_name}
 use Rattle.msi_texts.specs.Category.{is_identifier, begins_name, is_name_byte}
 use Rattle.msi_texts.specs.StreamName.{is_valid_name, is_between, spelled, letter_value, table_prefix}
 

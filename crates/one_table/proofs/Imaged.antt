@@ -9,7 +9,7 @@ use Rattle.cfb_tree.specs.Names.{ascii_letters, name_cmp, name_units}
 use Rattle.cfb_meaning.specs.Means.{Means}
 use Rattle.msi_texts.specs.Category.{is_identifier}
 use Rattle.msi_tables.specs.Schema.{columns_name, tables_name}
-use Rattle.msi.specs.Package.{MeansPackage, stream_name, pool_name, data_name}
+use Rattle.msi_meaning.specs.Package.{MeansPackage, stream_name, pool_name, data_name}
 use Rattle.one_table.specs.Contents.{Only, AreKept, package_of}
 use Rattle.one_table.specs.Streams.{named, streams_of, own_streams, keys_bytes, tree_of}
 use Rattle.one_table.proofs.Identifiers.{name_bytes, name_chars, spelled_half, letter_units}

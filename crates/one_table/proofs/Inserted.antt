@@ -10,8 +10,8 @@ use Rattle.std.proofs.Common.{length-append}
 use Rattle.std.specs.Prelude.{IsPermutation}
 use Rattle.std.specs.Ordering.{is_lt, int_cmp}
 use Rattle.msi_tables.specs.Rows.{IsArranged, Row, max_rows}
-use Rattle.msi.specs.Package.{table_name_cmp}
-use Rattle.msi.specs.Calls.{table_put, with_rows, rows_put}
+use Rattle.msi_meaning.specs.Package.{table_name_cmp}
+use Rattle.msi_meaning.specs.Calls.{table_put, with_rows, rows_put}
 use Rattle.std.specs.Prelude.{bytes_eq, Option}
 use Rattle.std.proofs.Common.{◌<◌}
 use Rattle.msi_tables.specs.Schema.{validation_name, columns_name, tables_name}
@@ -32,8 +32,8 @@ use Rattle.msi_values.specs.Datum.{Datum, null, number, text, binary}
 use Rattle.msi_pool.specs.Pool.{Pool}
 use Rattle.msi_columns.specs.Column.{Column, is_valid, are_valid}
 use Rattle.msi_changes.specs.Changes.{inserted, new_keys, rows_counted}
-use Rattle.msi.specs.Package.{Package}
-use Rattle.msi.specs.Calls.{may_insert}
+use Rattle.msi_meaning.specs.Package.{Package}
+use Rattle.msi_meaning.specs.Calls.{may_insert}
 use Rattle.one_table.specs.Contents.{key_column, key_row, key_data, is_key, keys_said, key_said}
 use Rattle.one_table.specs.Limits.{inserted_few, most_rows}
 use Rattle.one_table.specs.Rules.{judged, keys_by}

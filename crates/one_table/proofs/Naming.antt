@@ -4,7 +4,7 @@ use Rattle.std.specs.Prelude.{◌&&◌, ◌==◌, not, bytes_eq, nat_le}
 use Rattle.std.specs.List.{list_all, list_any}
 use Rattle.std.proofs.lemmas.List.{length-map}
 use Rattle.msi_texts.specs.Category.{is_identifier}
-use Rattle.msi.specs.Calls.{names_distinct}
+use Rattle.msi_meaning.specs.Calls.{names_distinct}
 use Rattle.msi_columns.specs.declared.column.Column.{Column}
 use Rattle.msi_columns.specs.Held.{column_of, columns_of}
 use Rattle.one_table.specs.Naming.{are_named}

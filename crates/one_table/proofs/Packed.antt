@@ -20,8 +20,8 @@ use Rattle.msi_tables.specs.Rows.{rows_of, kinds_of}
 use Rattle.msi_tables.specs.Table.{Table, row_data}
 use Rattle.msi_tables.specs.Schema.{columns_name, tables_name, validation_name, validation_columns, columns_columns, tables_columns, columns_in, is_schema, begins_with}
 use Rattle.msi_props.specs.Props.{props_bytes, props_read}
-use Rattle.msi.specs.Package.{Packs, objects, stream_at, table_stream, stream_name, summary_name, pool_name, data_name, is_table_name, rows_named, table_name_cmp, is_own, is_stream}
-use Rattle.msi.specs.Calls.{table_put}
+use Rattle.msi_meaning.specs.Package.{Packs, objects, stream_at, table_stream, stream_name, summary_name, pool_name, data_name, is_table_name, rows_named, table_name_cmp, is_own, is_stream}
+use Rattle.msi_meaning.specs.Calls.{table_put}
 use Rattle.one_table.specs.Contents.{Only, IsKept, AreKept, package_of, places_of, own_places, pool_with, only_table, columns_table, tables_table, own_tables, all_tables, key_column, columns_rows, tables_rows, column_place}
 use Rattle.one_table.specs.Streams.{named, own_streams, streams_of, put_by, columns_bytes, tables_bytes, keys_bytes, tree_of}
 use Rattle.one_table.proofs.Found.{IsFree, is_free, bytes_swap, bytes_same, same_bytes, found_columns, found_tables}

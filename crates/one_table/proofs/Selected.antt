@@ -10,8 +10,8 @@ use Rattle.cfb_medium.specs.declared.error.Error.TheVariants.{InvalidInput, NotF
 use Rattle.msi_tables.specs.Table.{Table, table_named, row_data}
 use Rattle.msi_query.specs.Query.{Query, query, table, inner_join, left_join, filtered, projected}
 use Rattle.msi_query.specs.Said.{table_in}
-use Rattle.msi.specs.Package.{Package}
-use Rattle.msi.specs.Calls.{Shown}
+use Rattle.msi_meaning.specs.Package.{Package}
+use Rattle.msi_meaning.specs.Calls.{Shown}
 use Rattle.one_table.specs.Limits.{is_whole, selected_whole}
 use Rattle.one_table.specs.Answers.{shown}
 use Rattle.one_table.specs.Sheets.{IsSheet}

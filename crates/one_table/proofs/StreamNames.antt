@@ -14,7 +14,7 @@ use Rattle.msi_texts.proofs.NamesReadBack.{spelled_names_differ}
 use Rattle.cfb_tree.specs.Names.{Letters, letter, name_key, name_cmp, ascii_letters}
 use Rattle.cfb_tree.proofs.NameOrder.{name_cmp_equal}
 use Rattle.cfb_meaning.specs.TreeRules.{is_same_name}
-use Rattle.msi.specs.Package.{stream_name, summary_name}
+use Rattle.msi_meaning.specs.Package.{stream_name, summary_name}
 use Rattle.one_table.proofs.Found.{same_bytes, bytes_same}
 use Rattle.one_table.proofs.Identifiers.{name_bytes, name_byte_ascii, name_chars, spelled_half, letter_units}
 

@@ -8,7 +8,7 @@ use Rattle.msi_texts.specs.Category.{is_identifier}
 use Rattle.msi_pool.specs.Pool.{pool_stream, data_stream}
 use Rattle.msi_tables.specs.Schema.{columns_name, tables_name}
 use Rattle.msi_props.specs.Props.{props_bytes}
-use Rattle.msi.specs.Package.{objects, at_name, stream_at, object_bytes, stream_name, summary_name, pool_name, data_name}
+use Rattle.msi_meaning.specs.Package.{objects, at_name, stream_at, object_bytes, stream_name, summary_name, pool_name, data_name}
 use Rattle.one_table.specs.Contents.{Only, package_of}
 use Rattle.one_table.specs.Streams.{named, own_streams, columns_bytes, tables_bytes}
 use Rattle.one_table.proofs.StreamNames.{same_stream, not_summary, summary_not, same_itself}

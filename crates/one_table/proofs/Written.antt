@@ -7,7 +7,7 @@ use Rattle.std.specs.Ordering.{is_lt}
 use Rattle.cfb_tree.specs.Names.{ascii_letters, name_cmp}
 use Rattle.plain.specs.declared.image.NamedStream.{NamedStream as HeldStream}
 use Rattle.plain.specs.Views.{stream_view, stream_views}
-use Rattle.msi.specs.Package.{summary_name}
+use Rattle.msi_meaning.specs.Package.{summary_name}
 use Rattle.one_table.specs.Streams.{named, put_by, place_of}
 
 -- a stream by its name and bytes

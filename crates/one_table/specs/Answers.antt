@@ -6,8 +6,8 @@ use Rattle.cfb_medium.specs.declared.error.Error.TheVariants.{Memory}
 use Rattle.msi_values.specs.declared.value.Value.{Value}
 use Rattle.msi_values.specs.Datum.{data_of}
 use Rattle.msi_query.specs.Query.{Query}
-use Rattle.msi.specs.Package.{Package}
-use Rattle.msi.specs.Calls.{Shown}
+use Rattle.msi_meaning.specs.Package.{Package}
+use Rattle.msi_meaning.specs.Calls.{Shown}
 use Rattle.one_table.specs.Limits.{selected_whole}
 
 -- a changing call meets its rule, or finds no memory and leaves the package

@@ -11,9 +11,9 @@ use Rattle.msi_tables.specs.Rows.{Row}
 use Rattle.msi_tables.specs.Schema.{columns_name, tables_name, columns_columns, tables_columns}
 use Rattle.msi_tables.specs.Table.{Table, is_valid_table_name, are_distinct}
 use Rattle.msi_columns.specs.declared.column.ColumnType.TheVariants as kind
-use Rattle.msi.specs.Package.{Package}
-use Rattle.msi.specs.Calls.{table_put, title_of}
-use Rattle.msi.specs.declared.kind.PackageType.TheVariants.{Installer}
+use Rattle.msi_meaning.specs.Package.{Package}
+use Rattle.msi_meaning.specs.Calls.{table_put, title_of}
+use Rattle.msi_meaning.specs.declared.kind.PackageType.TheVariants.{Installer}
 use Rattle.msi_summary.specs.Summary.{edited, set_text, new_summary}
 use denote.Ref.{Bor}
 use Rattle.one_table.specs.Limits.{is_taken, InsertsFew, CreatesBare}

@@ -1,6 +1,6 @@
 -- The package that is held.
 use Rattle.std.specs.Prelude.{ℕ, List}
-use Rattle.msi.specs.Package.{Package}
+use Rattle.msi_meaning.specs.Package.{Package}
 use Rattle.one_table.specs.Contents.{package_of, only_seen}
 use Rattle.one_table.specs.Streams.{image_of}
 use Rattle.one_table.specs.declared.contents.Contents.{Contents}

@@ -17,8 +17,8 @@ use Rattle.msi_query.specs.Printed.{is_bare as is_bare_select}
 use Rattle.msi_query.specs.Said.{table_in}
 use Rattle.msi_changes.specs.Changes.{inserted, rows_counted}
 use Rattle.cfb_tree.specs.Names.{Letters}
-use Rattle.msi.specs.Package.{Package, at_name, stream_name, pool_name, data_name}
-use Rattle.msi.specs.Calls.{Ends, Change, change, Puts, Shown, is_system, may_insert, has_table, stored_rows, rows_put, table_put, new_table, names_distinct, is_kept, selected_in}
+use Rattle.msi_meaning.specs.Package.{Package, at_name, stream_name, pool_name, data_name}
+use Rattle.msi_meaning.specs.Calls.{Ends, Change, change, Puts, Shown, is_system, may_insert, has_table, stored_rows, rows_put, table_put, new_table, names_distinct, is_kept, selected_in}
 use Rattle.cfb_medium.specs.declared.error.Error.{Error}
 use Rattle.cfb_medium.specs.declared.error.Error.TheVariants.{InvalidInput, AlreadyExists}
 

@@ -1,7 +1,7 @@
 -- Names in the order of their bytes.
 use Rattle.std.specs.Prelude.{ℕ, List, [], ◌∷◌, if◌then◌else◌}
 use Rattle.std.specs.Ordering.{is_lt}
-use Rattle.msi.specs.Package.{table_name_cmp}
+use Rattle.msi_meaning.specs.Package.{table_name_cmp}
 
 -- a name before the first that comes after it
 abbrev pub names_put : List ℕ → List (List ℕ) → List (List ℕ)

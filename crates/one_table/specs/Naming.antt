@@ -3,7 +3,7 @@ use Rattle.std.specs.Prelude.{ℕ, Bool, ◌&&◌, ◌==◌, not, List, length, 
 use Rattle.std.specs.List.{list_all, list_any}
 use Rattle.msi_texts.specs.Category.{is_identifier}
 use Rattle.msi_columns.specs.Column.{Column}
-use Rattle.msi.specs.Calls.{names_distinct}
+use Rattle.msi_meaning.specs.Calls.{names_distinct}
 
 -- the names are identifiers, and there are one to 32 columns of different names, of which one belongs to the key
 abbrev pub are_named : List ℕ → List Column → Bool

@@ -10,8 +10,8 @@ use Rattle.msi_props.specs.Props.{props_bytes}
 use Rattle.cfb_tree.specs.Names.{ascii_letters, name_cmp}
 use Rattle.cfb_tree.specs.Tree.{Facts, Tree}
 use Rattle.plain.specs.WholeImage.{NamedStream, image, content_of_streams}
-use Rattle.msi.specs.Package.{stream_name, pool_name, data_name, summary_name, class_of}
-use Rattle.msi.specs.declared.kind.PackageType.TheVariants.{Installer}
+use Rattle.msi_meaning.specs.Package.{stream_name, pool_name, data_name, summary_name, class_of}
+use Rattle.msi_meaning.specs.declared.kind.PackageType.TheVariants.{Installer}
 use Rattle.one_table.specs.Contents.{Only, package_of, column_place}
 
 -- a cell of 16 bits: the number with its top bit flipped

@@ -2,11 +2,11 @@
 ghost use Rattle.std.specs.Prelude.{◌≡◌, ◌⊎◌, ◌||◌, Ok, map, ◌∷◌, ◌≤◌, ◌<◌, ◌^◌, [], ℕ, List, length, nat_lt, true, Err, string_bytes, IfOk, IfErr, MatchOption, Some, None, bytes_eq};
 ghost use Rattle.msi_tables.specs.Schema.{columns_name, tables_name};
 ghost use Rattle.cfb_medium.specs.declared.error.Error.TheVariants.{Memory, InvalidData};
-ghost use Rattle.msi.specs.Package.{MeansPackage};
+ghost use Rattle.msi_meaning.specs.Package.{MeansPackage};
 ghost use Rattle.cfb_tree.specs.Names.{ascii_letters};
 ghost use Rattle.one_table.specs.Contents.{package_of, AreKept, IsKept, IsFirst, Adds, new_only, key_column, only_of, only_seen};
 ghost use Rattle.one_table.specs.Limits.{CreatesBare, InsertsFew, created_bare, inserted_few, is_taken};
-ghost use Rattle.msi.specs.Calls.{has_table, table_names};
+ghost use Rattle.msi_meaning.specs.Calls.{has_table, table_names};
 ghost use Rattle.msi_texts.specs.Results.{Answers};
 ghost use Rattle.one_table.specs.Rules.{rows_said};
 ghost use Rattle.msi_columns.specs.Held.{columns_of};

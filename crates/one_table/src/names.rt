@@ -2,7 +2,7 @@
 ghost use Rattle.std.specs.Prelude.{◌≡◌, ◌==◌, ◌&&◌, not, length, nat_le, bytes_eq};
 ghost use Rattle.std.specs.List.{list_all, list_any};
 ghost use Rattle.msi_texts.specs.Category.{is_identifier};
-ghost use Rattle.msi.specs.Calls.{names_distinct};
+ghost use Rattle.msi_meaning.specs.Calls.{names_distinct};
 ghost use Rattle.one_table.specs.Limits.{is_bare_column, is_int16, is_number_key};
 ghost use Rattle.msi_columns.specs.Held.{column_of, columns_of};
 ghost use Rattle.one_table.specs.Naming.{are_named};

@@ -1,6 +1,6 @@
 use Rattle.one_table.proofs.Written.{view_is, summary_chars}
 use Rattle.std.proofs.Common.{string_bytes}
-use Rattle.msi.specs.Package.{summary_name}
+use Rattle.msi_meaning.specs.Package.{summary_name}
 use Rattle.msi_props.specs.Props.{props_bytes}
 use Rattle.one_table.specs.Contents.{package_of}
 use Rattle.std.specs.Prelude.{None}

@@ -2,7 +2,7 @@ use Rattle.std.proofs.Common.{◌≡◌, List, ℕ, Bool, true, false, inl, inr,
 use Rattle.std.specs.Prelude.{IsTrue, Ok, Err}
 use Rattle.cfb_tree.specs.Names.{ascii_letters}
 use Rattle.cfb_medium.specs.declared.error.Error.TheVariants.{Failed}
-use Rattle.msi.specs.Package.{MeansPackage}
+use Rattle.msi_meaning.specs.Package.{MeansPackage}
 use Rattle.installer.specs.Course.{commit_marks}
 use Rattle.installer.specs.Survival.{Survives}
 use Rattle.installer.specs.Sessions.{device_below, has_failed, package_of}

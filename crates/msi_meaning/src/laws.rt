@@ -1,0 +1,145 @@
+//! Laws of the definitions, each the contract of a function.
+ghost use Rattle.std.specs.Prelude.{◌≡◌, ◌↔◌, ◌<◌, ◌^◌, ℕ, All, Bool, true, IsTrue, List, None, Ok, Option, Some, filter, length, slice_get};
+ghost use Rattle.std.specs.List.{remove};
+ghost use Rattle.std.specs.List.Sorted.{IsStrictlySortedBy};
+ghost use Rattle.std.specs.Str.{is_utf8};
+ghost use Rattle.cfb_tree.specs.Changes.{with_bytes, with_changed, with_child};
+ghost use Rattle.cfb_tree.specs.Names.{Letters, name_cmp, name_key};
+ghost use Rattle.cfb_tree.specs.Objects.{a_stream, child, is_same_name, Object};
+ghost use Rattle.cfb_tree.specs.Tree.{child_names, Content, Tree};
+ghost use Rattle.msi_changes.specs.Laws.{uses_in, AreUses};
+ghost use Rattle.msi_columns.specs.Column.{Column};
+ghost use Rattle.msi_columns.specs.declared.column.ColumnType.{ColumnType};
+ghost use Rattle.msi_expr.specs.Formula.{Formula};
+ghost use Rattle.msi_pool.specs.Pool.{Pool};
+ghost use Rattle.msi_pool.specs.PoolKept.{AreFreeEmpty, IsWritable};
+ghost use Rattle.msi_props.specs.Props.{Props};
+ghost use Rattle.msi_tables.specs.Rows.{rows_of, IsStored, Row};
+ghost use Rattle.msi_tables.specs.Table.{IsStoredByKeys, Table};
+ghost use Rattle.msi_meaning.specs.Back.{CanBeStored, ComeBack};
+ghost use Rattle.msi_values.specs.Datum.{Datum};
+ghost use Rattle.msi_meaning.specs.Calls.{Creates, Deletes, Drops, Inserts, HasOneAnswer, Updates};
+ghost use Rattle.msi_meaning.specs.Fit.{is_fit_pool};
+ghost use Rattle.msi_meaning.specs.Known.{HaveColumns, HaveRows, package_with, Parts};
+ghost use Rattle.msi_meaning.specs.Opening.{may_use, opened};
+ghost use Rattle.msi_meaning.specs.Package.{at_name, is_stream, objects, stream_at, Package, Packs};
+ghost use Rattle.msi_meaning.specs.Sound.{uses_of, IsSoundPackage};
+ghost use Rattle.msi_meaning.specs.SoundParts.{IsSound};
+ghost use Rattle.msi_meaning.specs.Split.{HasPool, HasSummary, Stores};
+ghost use Rattle.msi_meaning.specs.Streams.{may_name, plain_stream_name, stream_put, AreOneStream, IsDropped};
+ghost use Rattle.msi_meaning.specs.Uses.{AreCounted, CountsDown};
+ghost use Rattle.msi_meaning.specs.declared.kind.PackageType.{PackageType};
+
+/// Under any letter table two names that streams may have are of one stream exactly where their encoded
+/// names have one key.
+pub fn streams_are_told_by_keys()
+    ensures { (letters : Letters) (one other : List ℕ) → may_name letters one ≡ Ok tt
+        → may_name letters other ≡ Ok tt → AreOneStream letters one other
+        ↔ (name_key letters (plain_stream_name one) ≡ name_key letters (plain_stream_name other)) }
+{}
+
+/// In a sound package each table has what the laws of changed tables ask for: its cells make the uses that the pool counts,
+/// beside those of the other tables.
+pub fn sound_packages_count_their_texts()
+    ensures { (letters : Letters) (tree : Tree) (P : Package) (packs : Packs letters tree P)
+        → IsSoundPackage letters tree P packs → (k : ℕ) (t : Table) → slice_get P.tables k ≡ Some t
+        → AreUses t.columns (uses_of (remove P.tables k)) P.pool t.rows }
+{}
+
+/// A tree packs at most one package, whatever the letter table.
+pub fn trees_pack_one_package()
+    ensures { (letters : Letters) (tree : Tree) (P Q : Package) → Packs letters tree P
+        → Packs letters tree Q → P ≡ Q }
+{}
+
+/// A tree packs a package exactly where it holds the pool and the summary in their streams, and stores all else.
+pub fn packages_are_packed_in_three_parts()
+    ensures { (letters : Letters) (tree : Tree) (P : Package) → Packs letters tree P
+        ↔ (Stores letters tree P × HasPool letters tree P.pool × HasSummary letters tree P.summary) }
+{}
+
+/// A tree that packs a package is opened, with its kind, summary and pool, where the letter table leaves encoded names alone.
+pub fn packed_trees_are_opened()
+    ensures { (letters : Letters) (tree : Tree) (P : Package) → Packs letters tree P
+        → may_use letters ≡ true → opened letters tree ≡ Ok (P.kind, (P.summary, P.pool)) }
+{}
+
+/// Of the parts that opening finds, the tables with names and columns that the system tables tell, and all their rows, the tree
+/// packs a package.
+pub fn read_parts_pack_their_package()
+    ensures { (letters : Letters) (tree : Tree) (kind : PackageType) (summary : Props)
+        (pool : Pool) (parts : Parts letters tree kind summary pool) (tables : List Table)
+        → HaveColumns letters tree pool parts.tables parts.columns parts.validation tables
+        → HaveRows letters tree pool tables
+        → Packs letters tree (package_with letters tree kind summary pool tables) }
+{}
+
+/// Each call that changes tables has one answer, and makes one package.
+pub fn answers_are_one()
+    ensures insert { (P : Package) (name : List ℕ) (new_rows : List (List Datum))
+        → HasOneAnswer (Inserts P name new_rows) }
+    ensures update { (P : Package) (name : List ℕ) (sets : List (List ℕ × Datum))
+        (condition : Option Formula) → HasOneAnswer (Updates P name sets condition) }
+    ensures delete { (P : Package) (name : List ℕ) (condition : Option Formula)
+        → HasOneAnswer (Deletes P name condition) }
+    ensures create { (letters : Letters) (P : Package) (name : List ℕ) (columns : List Column)
+        → HasOneAnswer (Creates letters P name columns) }
+    ensures drop { (P : Package) (name : List ℕ) → HasOneAnswer (Drops P name) }
+{}
+
+/// The uses of all tables, taken from a pool's counts, leave nothing exactly where each reference has a use and the counts are
+/// those of the cells, given that no cell names place 0.
+pub fn counted_down_uses_are_counted()
+    ensures { (pool : Pool) (tables : List Table) (result : Bool) → uses_of tables 0 ≡ 0
+        → CountsDown pool tables result → IsTrue result ↔ AreCounted pool tables }
+{}
+
+/// A package is sound exactly where its parts say so, whichever way the tree packs it.
+pub fn sound_packages_are_sound_in_parts()
+    ensures { (letters : Letters) (tree : Tree) (P : Package) (packs : Packs letters tree P)
+        → IsSoundPackage letters tree P packs ↔ IsSound letters tree P }
+{}
+
+/// What the tree rules make of the root where a stream is put into it, as the list of the root's objects: a new one, and one
+/// that is there in other bytes. It is found under its name, and a filter that drops the name sees no change.
+#[tactic(auto, using(crate::proofs::Roots::put_new, crate::proofs::Roots::put_there, crate::proofs::Roots::put_found, crate::proofs::Roots::put_dropped))]
+pub fn streams_are_put_among_the_objects()
+    ensures new { (letters : Letters) (name bytes : List ℕ) (c : Content)
+        → child letters c name ≡ None → objects (with_child letters (a_stream name 0 bytes) c)
+        ≡ stream_put letters name bytes (objects c) }
+    ensures there { (letters : Letters) (name bytes : List ℕ) (c : Content) (o : Object)
+        → IsStrictlySortedBy (name_cmp letters) (child_names c) → child letters c name ≡ Some o
+        → objects (with_changed letters name (with_bytes bytes) c)
+        ≡ stream_put letters name bytes (objects c) }
+    ensures found { (letters : Letters) (name bytes : List ℕ) (os : List Object)
+        → ((o : Object) → at_name letters os name ≡ Some o → is_stream o ≡ true)
+        → is_same_name letters name name ≡ true
+        → stream_at letters (stream_put letters name bytes os) name ≡ Some bytes }
+    ensures dropped { (letters : Letters) (name bytes : List ℕ) (keep : Object → Bool)
+        → IsDropped letters keep name → (os : List Object)
+        → filter keep (stream_put letters name bytes os) ≡ filter keep os }
+{}
+
+/// No cell of rows that were read names place 0.
+pub fn read_rows_name_no_place_0()
+    ensures { (long : Bool) (kinds : List ColumnType) (bytes : List ℕ) (rows : List Row)
+        → rows_of long kinds bytes ≡ Some rows → uses_in rows 0 ≡ 0 }
+{}
+
+/// Rows that a table can store come back from their bytes in the order in which they are stored, after an update or a delete and
+/// after an insert.
+pub fn stored_rows_come_back()
+    ensures stored { (long : Bool) (columns : List Column) (rows stored : List Row)
+        → IsStored columns rows stored → CanBeStored long columns rows
+        → ComeBack long columns stored }
+    ensures by_keys { (long : Bool) (pool : Pool) (columns : List Column) (rows stored : List Row)
+        → IsStoredByKeys pool columns rows stored → CanBeStored long columns rows
+        → ComeBack long columns stored }
+{}
+
+/// A pool in memory that is fit has streams that are read as that pool, where no text stands at a free place.
+pub fn fit_pools_can_be_written()
+    ensures { (pool : Pool) → IsTrue (is_fit_pool pool)
+        → All (λ p. IsTrue (is_utf8 p.text) × (p.count < 2 ^ 16)) pool.places
+        → length pool.places < 2 ^ 32 → AreFreeEmpty pool.places → IsWritable pool }
+{}
