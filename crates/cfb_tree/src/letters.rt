@@ -1,6 +1,6 @@
 //! The letter table.
 ghost use Rattle.cfb_medium.specs.declared.error.Error.TheVariants.{InvalidInput, Memory};
-ghost use Rattle.cfb_tree.specs.Names.{ascii_letters, letter, AreLetters};
+ghost use Rattle.cfb_tree.specs.Names.{ascii_letters, is_between, letter, touches, AreLetters};
 ghost use Rattle.std.specs.Char.{IsScalar};
 ghost use Rattle.std.specs.Prelude.{IfErr, IfOk, OnOk, ℕ, ◌≡◌, ◌⊎◌};
 
@@ -45,6 +45,13 @@ pub struct CaseMapper {
     ghost scalars: { (c : ℕ) → IsScalar c → IsScalar (letter letters.entries c) },
 }
 
+// Whether a character stands between two others, or is one of them.
+fn is_between(low: char, high: char, ch: char) -> bool
+    ensures { result ≡ is_between low high ch }
+{
+    low <= ch && ch <= high
+}
+
 impl CaseMapper {
     ghost use Rattle.cfb_tree.specs.LetterViews.{letters_of, ReplaceAlike};
 
@@ -75,6 +82,15 @@ impl CaseMapper {
         ensures error { IfErr result (λ e. e ≡ Memory) }
     {
         CaseMapper::new(alloc, &ASCII_LETTERS)
+    }
+
+    /// Whether the table names a character of a range: some pair has either side between `low` and `high`, both included. It takes
+    /// no memory ([MS-CFB] 2.6.4).
+    pub fn touches(&self, low: char, high: char) -> bool
+        ensures { result ≡ touches (letters_of self.now) low high }
+    {
+        self.letters.iter().any(|(from, to)| is_between(low, high, *from)
+            || is_between(low, high, *to))
     }
 
     // The character that one counts as.
