@@ -5,7 +5,7 @@ use Rattle.std.proofs.lemmas.Bool.Decides.{nat_tests}
 use Rattle.msi_texts.specs.StreamName.{table_prefix, is_between, letter_value, letter_of, lone, lone_of, pair, pair_of, joined_or, spelled, spelled_name, letters_of, read_back, is_marked, unmarked, name_of, is_plain, is_plain_name}
 
 -- a letter's value is below 64, and stands for that letter
-letter_value-back : (c v : ℕ) → letter_value c ≡ Some v → (v < 64) × (letter_of v ≡ c)
+pub letter_value-back : (c v : ℕ) → letter_value c ≡ Some v → (v < 64) × (letter_of v ≡ c)
 letter_value-back c v h = go (is_between 48 57 c) (is_between 65 90 c) (is_between 97 122 c) (c == 46) (c == 95) refl refl refl refl refl h
   where
     go : (a b d e f : Bool) → is_between 48 57 c ≡ a → is_between 65 90 c ≡ b → is_between 97 122 c ≡ d → (c == 46) ≡ e → (c == 95) ≡ f →
