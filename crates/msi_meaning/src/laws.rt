@@ -1,12 +1,16 @@
 //! Laws of the definitions, each the contract of a function.
-ghost use Rattle.std.specs.Prelude.{◌≡◌, ◌↔◌, ◌<◌, ◌^◌, ℕ, All, Bool, true, IsTrue, List, None, Ok, Option, Some, filter, length, slice_get};
-ghost use Rattle.std.specs.List.{remove};
+ghost use Rattle.std.specs.Prelude.{◌≡◌, ◌↔◌, ◌<◌, ◌^◌, ◌==◌, ◌∷◌, [], ℕ, All, Bool, true, false, IsTrue, List, None, Ok, Option, Some, chars, encode_utf8_all, filter, length, map, not, option_map, slice_get, IsUtf8};
+ghost use Rattle.std.specs.List.{list_all, remove};
 ghost use Rattle.std.specs.List.Sorted.{IsStrictlySortedBy};
 ghost use Rattle.std.specs.Str.{is_utf8};
 ghost use Rattle.cfb_tree.specs.Changes.{with_bytes, with_changed, with_child};
 ghost use Rattle.cfb_tree.specs.Names.{Letters, name_cmp, name_key};
 ghost use Rattle.cfb_tree.specs.Objects.{a_stream, child, is_same_name, Object};
+ghost use Rattle.cfb_tree.specs.Paths.{path_names};
 ghost use Rattle.cfb_tree.specs.Tree.{child_names, Content, Tree};
+ghost use Rattle.cfb_meaning.specs.TreeRules.{has_bytes, is_stream as is_stream_there, object_at, open_read_stream, tree_step, yes};
+ghost use Rattle.msi_texts.specs.Category.{is_identifier};
+ghost use Rattle.msi_texts.specs.StreamName.{spelled_name};
 ghost use Rattle.msi_changes.specs.Laws.{uses_in, AreUses};
 ghost use Rattle.msi_columns.specs.Column.{Column};
 ghost use Rattle.msi_columns.specs.declared.column.ColumnType.{ColumnType};
@@ -21,12 +25,12 @@ ghost use Rattle.msi_values.specs.Datum.{Datum};
 ghost use Rattle.msi_meaning.specs.Calls.{Creates, Deletes, Drops, Inserts, HasOneAnswer, Updates};
 ghost use Rattle.msi_meaning.specs.Fit.{is_fit_pool};
 ghost use Rattle.msi_meaning.specs.Known.{HaveColumns, HaveRows, package_with, Parts};
-ghost use Rattle.msi_meaning.specs.Opening.{may_use, opened};
-ghost use Rattle.msi_meaning.specs.Package.{at_name, is_stream, objects, stream_at, Package, Packs};
+ghost use Rattle.msi_meaning.specs.Opening.{is_encoded, may_use, opened};
+ghost use Rattle.msi_meaning.specs.Package.{at_name, is_stream, objects, stream_at, stream_name, Package, Packs};
 ghost use Rattle.msi_meaning.specs.Sound.{uses_of, IsSoundPackage};
 ghost use Rattle.msi_meaning.specs.SoundParts.{IsSound};
 ghost use Rattle.msi_meaning.specs.Split.{HasPool, HasSummary, Stores};
-ghost use Rattle.msi_meaning.specs.Streams.{may_name, plain_stream_name, stream_put, AreOneStream, IsDropped};
+ghost use Rattle.msi_meaning.specs.Streams.{may_name, plain_stream_name, special_names, stream_put, AreOneStream, IsDropped};
 ghost use Rattle.msi_meaning.specs.Uses.{AreCounted, CountsDown};
 ghost use Rattle.msi_meaning.specs.declared.kind.PackageType.{PackageType};
 
@@ -142,4 +146,39 @@ pub fn fit_pools_can_be_written()
     ensures { (pool : Pool) → IsTrue (is_fit_pool pool)
         → All (λ p. IsTrue (is_utf8 p.text) × (p.count < 2 ^ 16)) pool.places
         → length pool.places < 2 ^ 32 → AreFreeEmpty pool.places → IsWritable pool }
+{}
+
+/// The text of an encoded name without a slash is the path of that one name under the root, and so is that of each special name.
+pub fn encoded_names_are_paths()
+    ensures encoded { (table : Bool) (name : List ℕ) → IsUtf8 name → 0 < length name
+        → list_all (λ b. not (b == 47)) name ≡ true
+        → option_map (map chars) (path_names (encode_utf8_all (spelled_name table (chars name))))
+        ≡ Some (spelled_name table (chars name) ∷ []) }
+    ensures special { All (λ name. option_map (map chars) (path_names name) ≡ Some (name ∷ []))
+        special_names }
+{}
+
+/// What the tree rules find at a path of one name is what stands at the name among the root's objects: a stream's bytes where
+/// they answer with bytes, and no stream where they say that there is none.
+pub fn names_lead_to_objects()
+    ensures object { (letters : Letters) (tree : Tree) (name : List ℕ)
+        → object_at letters tree (name ∷ []) ≡ at_name letters (objects tree.content) name }
+    ensures bytes { (letters : Letters) (tree : Tree) (name bytes : List ℕ)
+        → (tree_step letters tree (open_read_stream (name ∷ []))).1 ≡ has_bytes bytes
+        → stream_at letters (objects tree.content) name ≡ Some bytes }
+    ensures none { (letters : Letters) (tree : Tree) (name : List ℕ)
+        → yes false ≡ (tree_step letters tree (is_stream_there (name ∷ []))).1
+        → stream_at letters (objects tree.content) name ≡ None }
+{}
+
+/// Under a letter table that leaves encoded characters alone, a name of such characters is the one name of its key. The names of
+/// tables' streams are such, and are told apart as the tables' names are.
+pub fn encoded_names_are_told_by_their_characters()
+    ensures key { (letters : Letters) (one other : List ℕ) → may_use letters ≡ true
+        → list_all is_encoded one ≡ true → name_key letters one ≡ name_key letters other
+        → one ≡ other }
+    ensures tables { (name : List ℕ) → is_identifier name ≡ true
+        → list_all is_encoded (stream_name name) ≡ true }
+    ensures apart { (one other : List ℕ) → is_identifier one ≡ true → is_identifier other ≡ true
+        → stream_name one ≡ stream_name other → one ≡ other }
 {}

@@ -1,5 +1,5 @@
 -- Rows of _Columns and _Validation, found by their first two values.
-use Rattle.std.proofs.Common.{◌≡◌, ◌∙◌, ℕ, suc, ◌-◌, Bool, true, false, cond, List, [], ◌∷◌, ◌++◌, get_or, append-nil, append_assoc, refl, subst, sym, ap, ap₂, arith, Option, Some, None, Result, Ok, Err}
+use Rattle.std.proofs.Common.{◌≡◌, ◌∙◌, ℕ, suc, ◌-◌, Bool, true, false, cond, List, [], ◌∷◌, ◌++◌, get_or, append-nil, append_assoc, refl, subst, sym, ap, ap₂, arith, Option, Some, None, Result, Ok, Err, Vec}
 use Rattle.std.specs.Prelude.{◌&&◌, ◌==◌, bytes_eq, filter, find, option_and_then, option_map, ℤ, pos, negsuc}
 use Rattle.std.specs.Ordering.{int_cmp, is_eq, nat_cmp, ordering_then}
 use Rattle.std.specs.Cmp.Lexicographic.{slice_cmp}
@@ -14,7 +14,8 @@ use Rattle.cfb_medium.specs.declared.error.Error.TheVariants.{InvalidData}
 use Rattle.std.specs.Int.{w32, cast_unsigned}
 use Rattle.std.proofs.lemmas.Slice.Eq.{bytes_eq-Decides}
 use Rattle.msi_texts.specs.Results.{Answers, or_refused}
-use Rattle.msi_columns.specs.Held.{column_of}
+use Rattle.msi_columns.specs.Held.{column_of, columns_of}
+use Rattle.std.specs.declared.alloc.Global.{Global}
 use Rattle.msi_columns.specs.declared.column.Column.{Column as HeldColumn}
 use Rattle.msi_tables.specs.Schema.{begins_with, column_of_bits, column_read, columns_read, described_by, is_for, is_number}
 use Rattle.msi_schema.specs.Columns.{column_by, head_in, number_in, text_in}
@@ -240,3 +241,6 @@ module _ (others own : List (List Datum)) where
 
   pub all_read : (done : List Column) (n : ℕ) (all : Option (List Column)) → rest_of done 0 n ≡ all → or_refused all InvalidData ≡ Ok done
   all_read done n all is = ap (λ o. or_refused o InvalidData) (sym is) ∙ ap (λ cs. Ok cs) (append-nil done)
+
+pub all_answers_so : (r : Result (Vec HeldColumn Global) Error) (e f : Result (List Column) Error) → e ≡ f → Answers (λ cs. columns_of cs.items) r f → Answers (λ cs. columns_of cs.items) r e
+all_answers_so r e f same told = subst (Answers (λ (cs : Vec HeldColumn Global). columns_of cs.items) r) (sym same) told
