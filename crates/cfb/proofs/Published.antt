@@ -1,6 +1,7 @@
 -- A file whose bytes were published means what it meant.
-use Rattle.std.proofs.Common.{◌≡◌, ℕ, ◌++◌, List, false, ap, sym, subst, ◌∙◌, IsTrue}
+use Rattle.std.proofs.Common.{◌≡◌, ◌⊎◌, inl, inr, ℕ, ◌++◌, List, false, ap, sym, subst, ◌∙◌, ⊎_elim, IsTrue}
 use Rattle.std.specs.Prelude.{slice_get, Some, Result, Ok, Err, OnOk}
+use Rattle.cfb_medium.specs.Stops.{LeavesOnly}
 use Rattle.cfb_medium.specs.declared.medium.ReadMedium.{Ghosts}
 use Rattle.cfb_chains.specs.Owned.{Owned}
 use Rattle.cfb_directory.specs.Entries.{SizesFit}
@@ -123,3 +124,12 @@ module _ {F : Type 0} {g : Ghosts F} (has_published : F → List ℕ → Type 0)
     shows = shown_published old new k (same alive) letters;
   }
   published_so (Err e) k letters sound published same alive = tt
+
+-- what leaves nothing more leaves what one might have left before, or the bytes
+pub left_before : {M X : Type 0} {moment : M → ℕ} {left_since : M → ℕ → X → Type 0} {old new : M} {P Q : X → Type 0}
+    → LeavesOnly moment left_since old new P → LeavesOnly moment left_since old new (λ x. P x ⊎ Q x)
+left_before h = record {
+  later = h.later;
+  each = λ x left. inl (h.each x left);
+  before = λ t x past left. ⊎_elim (λ was. inl was) (λ now. inr (inl now)) (h.before t x past left);
+}

@@ -5,9 +5,9 @@ use Rattle.std.specs.Prelude.{Err, Ok, IsErrOf, None, Option, Result, Some}
 use Rattle.cfb_chains.specs.ChainCalls.{IsInvalidPlace}
 use Rattle.cfb_entries.specs.Rules.{answer_at}
 use Rattle.cfb_fat.specs.Calls.{Answers}
-use Rattle.cfb_fat.specs.Keeping.{own_cause, rests_cause}
+use Rattle.cfb_fat.specs.Keeping.{rests_cause}
 use Rattle.cfb_fat.specs.Resting.{all_rest_then}
-use Rattle.cfb_fat.specs.Tables.{has_failed_here, version_of, AllRests}
+use Rattle.cfb_fat.specs.Tables.{has_failed_here, version_of, AllRests, HasCauseBelow}
 use Rattle.cfb_fat.specs.declared.allocator.Allocator.{Allocator}
 use Rattle.cfb_live.specs.Doing.{IsFault}
 use Rattle.cfb_live.specs.Live as live
@@ -35,6 +35,7 @@ use Rattle.cfb.specs.Views.{letters_in, mini_of, sound_of, validation_of, Rests}
 use Rattle.cfb.specs.Writing.{FindsWritten, IsLostAt, IsWritten, KeepsAt, RewritesAt}
 use Rattle.cfb.specs.declared.compound_file.CompoundFile.{CompoundFile}
 use Rattle.cfb.proofs.Standing.{err_as}
+use Rattle.cfb.proofs.Wants.{want_cause, want_fault as why_fault}
 use Rattle.cfb.proofs.Written.{means_written}
 
 none_of : (l : List ℕ) → length l ≡ 0 → l ≡ []
@@ -170,24 +171,9 @@ module _ {F : Type 0} {g : Ghosts F} where
       live = tt;
       failed = λ is. (err_as e Failed (failed is), r);
       after = inr r;
-      cause = own_cause a m e (λ device. no_device device why) (λ is. was_failed is why);
-      fault = elim why [ inl want ↦ inl (want_is want) | inr rule ↦ inr (inl rule) ];
+      cause = subst (λ x. HasCauseBelow x m e) same (want_cause it e m why);
+      fault = ⊎_elim (λ fault. inl fault) (λ rule. inr (inl rule)) (why_fault it e why);
     }
-      where
-        want_is : IsWant it e → IsFaultUnless ⊥ e
-        want_is want = elim want [ inl memory ↦ subst (IsFaultUnless ⊥) (sym memory) tt | inr failed ↦ subst (IsFaultUnless ⊥) (sym failed.0) tt ]
-
-        no_device : e ≡ Device → IsWant it e ⊎ IsRefusedOpening e → ⊥
-        no_device device why = elim why [
-          | inl want ↦ elim want [ inl memory ↦ absurd (cc) | inr failed ↦ let is = failed.0 in absurd (cc) ]
-          | inr rule ↦ elim rule [ inl broken ↦ absurd (cc) | inr rest ↦ elim rest [ inl input ↦ absurd (cc) | inr missing ↦ absurd (cc) ] ]
-        ]
-
-        was_failed : e ≡ Failed → IsWant it e ⊎ IsRefusedOpening e → has_failed_here a ≡ true
-        was_failed is why = elim why [
-          | inl want ↦ elim want [ inl memory ↦ absurd (cc) | inr failed ↦ subst (λ x. has_failed_here x ≡ true) same failed.1 ]
-          | inr rule ↦ elim rule [ inl broken ↦ absurd (cc) | inr rest ↦ elim rest [ inl input ↦ absurd (cc) | inr missing ↦ absurd (cc) ] ]
-        ]
 
     -- where one was, and a call changed the file
     pub found_answers : (Q R : Error → Type 0) (result : Result (Unit {0}) Error) → (has_failed_here a ≡ true → ⊥) → ((e : Error) → Q e → R e) → Answers Q result m b → Answers R result a b

@@ -51,6 +51,16 @@ content_len it (Long links) len content has =
     let room = has.room in
     ap length has.bytes ∙ omega (arith, length-take len (joined (version_of (allocator_of it)) (bytes_of (allocator_of it)) (ids_of links)), size, room)
 
+-- the sectors in which a stream lies are there, and have room for it
+pub sectors_found : {F : Type 0} {g : Ghosts F} (it : MiniAllocator F g) → IsMini it → (start size : ℕ) (links : StreamLinks) → LiesIn it start size (sectors_of links)
+    → IsOfLevel it size links → IsTrue (is_honest (allocator_of it)) → HasSectorsOf it links × (size ≤ len_in links)
+sectors_found it memory start size (Short minis) lies level is = ((memory, (lies.short level).1), (lies.short level).2)
+sectors_found it memory start size (Long links) lies level is =
+    let at = lies.long level.0 in (
+      record { honest = is; version = level.1; linked = linked_of (fat_of (allocator_of it)) start (ids_of links) at.0 },
+      subst (λ v. size ≤ length (ids_of links) * sector_len v) (sym level.1) at.1,
+    )
+
 module _ {F : Type 0} {g : Ghosts F} (it : MiniAllocator F g) (l : Layout) (shows : Shows it (bytes_of (allocator_of it)) l) (memory : IsMini it) (e : Entry) where
   abbrev bytes : List ℕ
   bytes = bytes_of (allocator_of it)
@@ -72,16 +82,8 @@ module _ {F : Type 0} {g : Ghosts F} (it : MiniAllocator F g) (l : Layout) (show
   sectors_are ids = ap (λ v. joined v bytes ids) shows.version
 
   module _ (links : StreamLinks) (lies : LiesIn it e.start e.size (sectors_of links)) (level : IsOfLevel it e.size links) where
-    pub sectors_held : IsTrue (is_honest (allocator_of it)) → HasSectorsOf it links × (e.size ≤ len_in links)
-    sectors_held is = by_level links lies level
-      where
-        by_level : (links : StreamLinks) → LiesIn it e.start e.size (sectors_of links) → IsOfLevel it e.size links → HasSectorsOf it links × (e.size ≤ len_in links)
-        by_level (Short minis) lies level = ((memory, (lies.short level).1), (lies.short level).2)
-        by_level (Long links) lies level =
-            let at = lies.long level.0 in (
-              record { honest = is; version = level.1; linked = linked_of (fat_of (allocator_of it)) e.start (ids_of links) at.0 },
-              subst (λ v. e.size ≤ length (ids_of links) * sector_len v) (sym level.1) at.1,
-            )
+    sectors_held : IsTrue (is_honest (allocator_of it)) → HasSectorsOf it links × (e.size ≤ len_in links)
+    sectors_held = sectors_found it memory e.start e.size links lies level
 
     -- the first bytes of its sectors are the stream's
     pub bytes_are : HasBytes bytes l e (take e.size (joined_in it links))

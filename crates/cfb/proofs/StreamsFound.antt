@@ -1,6 +1,6 @@
 -- A stream that is found by its path, and the bytes that it has in the tree that a file holds.
 use Rattle.std.proofs.Common.{◌≡◌, ◌∙◌, ◌⊎◌, inl, inr, List, [], ℕ, length, take, drop, true, Ok, Err, ap, subst, sym}
-use Rattle.std.specs.Prelude.{IfErr, Result, ◌||◌}
+use Rattle.std.specs.Prelude.{IfErr, IfOk, Result, ◌||◌}
 use Rattle.cfb_medium.specs.Calls.{HasCause}
 use Rattle.cfb_medium.specs.declared.error.Error.{Error}
 use Rattle.cfb_medium.specs.declared.error.Error.TheVariants.{Failed, InvalidData, Memory}
@@ -94,6 +94,11 @@ module _ {F : Type 0} {g : Ghosts F} (it : CompoundFile F g) (text : List ℕ) (
 pub for_error : {T E : Type 0} (P Q : E → Type 0) (r : Result T E) → ((e : E) → P e → Q e) → IfErr r P → IfErr r Q
 for_error P Q (Ok x) so h = h
 for_error P Q (Err e) so h = so e h
+
+-- and of an answer
+pub for_ok : {T E : Type 0} (P Q : T → Type 0) (r : Result T E) → ((x : T) → P x → Q x) → IfOk r P → IfOk r Q
+for_ok P Q (Ok x) so h = so x h
+for_ok P Q (Err e) so h = h
 
 -- what holds of a file and a number holds of the same ones
 pub carried : {A : Type 0} (P : A → ℕ → Type 0) (a b : A) (m n : ℕ) → b ≡ a → n ≡ m → P a m → P b n

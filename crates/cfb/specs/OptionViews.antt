@@ -1,8 +1,11 @@
 -- What `OpenOptions` ask for.
-use Rattle.std.specs.Prelude.{ℕ, max}
+use Rattle.std.specs.Prelude.{◌≡◌, ℕ, max}
+use Rattle.cfb_medium.specs.declared.medium.ReadMedium.{Ghosts}
 use Rattle.cfb_sectors.specs.declared.validation.Validation.{Validation}
 use Rattle.cfb_tree.specs.LetterViews.{letters_of}
 use Rattle.cfb_tree.specs.Names.{Letters}
+use Rattle.cfb.specs.Views.{letters_in, most_ahead_of, validation_of}
+use Rattle.cfb.specs.declared.compound_file.CompoundFile.{CompoundFile}
 use Rattle.cfb.specs.declared.options.OpenOptions.{OpenOptions}
 
 -- as which reader
@@ -16,3 +19,9 @@ letters_asked it = letters_of it.letters
 -- how many bytes of a stream are read ahead at most
 abbrev pub most_asked : OpenOptions → ℕ
 most_asked it = max it.limit 1024
+
+-- the file is read as they ask
+pub record IsReadAsAsked {F : Type 0} {g : Ghosts F} (asked : OpenOptions) (it : CompoundFile F g) : Type 0 where
+  pub letters : letters_in it ≡ letters_asked asked
+  pub validation : validation_of it ≡ validation_asked asked
+  pub most : most_ahead_of it ≡ most_asked asked

@@ -1,5 +1,5 @@
 -- Streams of a file that are read, by their paths.
-use Rattle.std.specs.Prelude.{◌≡◌, ◌⊎◌, ℕ, ◌-◌, min, false, true, List, length, IfErr, IfOk, IsTrue, Result}
+use Rattle.std.specs.Prelude.{◌≡◌, ◌⊎◌, ℕ, ◌-◌, min, false, take, true, List, length, IfErr, IfOk, IsTrue, Result}
 use Rattle.std.specs.Borrow.{Bor}
 use Rattle.cfb_chains.specs.ChainCalls.{IsInvalidPlace}
 use Rattle.cfb_directory.specs.Views.{entries_held}
@@ -14,7 +14,7 @@ use Rattle.cfb_medium.specs.declared.medium.ReadMedium.{Ghosts}
 use Rattle.cfb_mini.specs.Views.{allocator_of, directory_of, IsMini}
 use Rattle.cfb_opening.specs.Opened as opening
 use Rattle.cfb_streams.specs.Content as lower
-use Rattle.cfb_streams.specs.Streams.{sectors_in, IsOfLevel, LiesIn}
+use Rattle.cfb_streams.specs.Streams.{joined_in, sectors_in, IsOfLevel, LiesIn}
 use Rattle.cfb_tree.specs.Directory.{kind_stream, Entry}
 use Rattle.cfb_tree.specs.Paths.{Path}
 use Rattle.cfb_tree.specs.Tree.{Tree}
@@ -93,6 +93,14 @@ module _ {F : Type 0} {g : Ghosts F} where
     pub level : IsOfLevel (mini_of old) entry.size (links_held new)
     pub has_size : size ≡ entry.size
 
+  -- so many bytes stand first in the sectors from which the file reads
+  abbrev pub bytes_found : CompoundFile F g → ℕ → List ℕ
+  bytes_found it len = take len (joined_in (mini_of it) (links_held it))
+
+  -- an honest file whose memory is that of its bytes
+  abbrev pub IsTrueToBytes : CompoundFile F g → Type 0
+  IsTrueToBytes it = IsTrue (is_honest (allocator_of (mini_of it))) × IsMini (mini_of it)
+
   -- the chain of the stream at the path breaks: it lies in no sectors
   pub record IsBroken (it : CompoundFile F g) (text : List ℕ) : Type 0 where
     pub entry : Entry
@@ -114,3 +122,13 @@ module _ {F : Type 0} {g : Ghosts F} where
   TellsBytes {A} it file len answer result =
       IfOk result (λ s. (bytes : List ℕ) × (answer ≡ has_bytes bytes) × HasStream (file s) (len s) bytes)
       × IfErr result (λ e. IsWant it e ⊎ (answer ≡ refused e))
+
+  -- why a stream that is there isn't read: its chain breaks; or memory isn't that of the bytes
+  abbrev pub IsUnread : CompoundFile F g → List ℕ → Error → Type 0
+  IsUnread it text e = ((e ≡ InvalidData) × IsBroken it text) ⊎ (IsInvalidPlace e × (IsTrueToBytes it → ⊥))
+
+  -- the answer is a stream of as many bytes, which the second file has read, or this refusal; or it can't be read, or there was a fault
+  abbrev pub TellsRead : {A : Type 0} → CompoundFile F g → CompoundFile F g → List ℕ → (A → List ℕ) → Answer → Result A Error → Type 0
+  TellsRead {A} old new text read answer result =
+      IfOk result (λ s. FindsStream old new text (length (read s)) × (bytes : List ℕ) × (answer ≡ has_bytes bytes) × (length (read s) ≡ length bytes))
+      × IfErr result (λ e. IsFaultUnless ⊥ e ⊎ (answer ≡ refused e) ⊎ IsUnread old text e)

@@ -9,7 +9,7 @@ ghost use Rattle.cfb_medium.specs.declared.error.Error.TheVariants.{Failed};
 ghost use Rattle.cfb_mini.specs.Views.{allocator_of, directory_of};
 ghost use Rattle.cfb_tree.specs.LetterViews.{letters_of};
 ghost use Rattle.cfb_tree.specs.Tree.{Tree};
-ghost use Rattle.std.specs.Prelude.{true, IsErrOf, ◌≡◌};
+ghost use Rattle.std.specs.Prelude.{true, IfErr, IsErrOf, ◌≡◌, ◌⊎◌};
 
 use cfb_entries::{Entries, Entry, children_at, entry_at, is_stream_at, walk_at};
 use cfb_medium::{Error, Medium, ReadMedium, Version};
@@ -32,6 +32,8 @@ pub struct CompoundFile<F: ReadMedium> {
 }
 
 impl<F: ReadMedium> CompoundFile<F> {
+    ghost use Rattle.cfb.specs.Putting.{IsRefusedOpening};
+    ghost use Rattle.cfb.specs.Streams.{IsWant};
     ghost use Rattle.cfb.specs.Views.{letters_in, mini_of, said_at, sound_of, IsLive, Shows};
 
     /// The version.
@@ -93,6 +95,7 @@ impl<F: ReadMedium> CompoundFile<F> {
             → TellsEntry (tree_step (letters_in self.now) tree root_entry).1 result }
         ensures failed { has_failed_here (allocator_of (mini_of self.now)) ≡ true
             → IsErrOf result Failed }
+        ensures cause { IfErr result (λ e. IsWant self.now e ⊎ IsRefusedOpening e) }
     {
         if self.is_failed() {
             return Err(Error::Failed);
@@ -107,6 +110,7 @@ impl<F: ReadMedium> CompoundFile<F> {
             (answer_at (letters_in self.now) tree entry (names_in path.now)) result }
         ensures failed { has_failed_here (allocator_of (mini_of self.now)) ≡ true
             → IsErrOf result Failed }
+        ensures cause { IfErr result (λ e. IsWant self.now e ⊎ IsRefusedOpening e) }
     {
         if self.is_failed() {
             return Err(Error::Failed);
@@ -148,6 +152,7 @@ impl<F: ReadMedium> CompoundFile<F> {
             → TellsEntries (tree_step (letters_in self.now) tree read_root_storage).1 result }
         ensures failed { has_failed_here (allocator_of (mini_of self.now)) ≡ true
             → IsErrOf result Failed }
+        ensures cause { IfErr result (λ e. IsWant self.now e ⊎ IsRefusedOpening e) }
     {
         if self.is_failed() {
             return Err(Error::Failed);
@@ -163,6 +168,7 @@ impl<F: ReadMedium> CompoundFile<F> {
             (answer_at (letters_in self.now) tree read_storage (names_in path.now)) result }
         ensures failed { has_failed_here (allocator_of (mini_of self.now)) ≡ true
             → IsErrOf result Failed }
+        ensures cause { IfErr result (λ e. IsWant self.now e ⊎ IsRefusedOpening e) }
     {
         if self.is_failed() {
             return Err(Error::Failed);
@@ -177,6 +183,7 @@ impl<F: ReadMedium> CompoundFile<F> {
             → TellsEntries (tree_step (letters_in self.now) tree walk).1 result }
         ensures failed { has_failed_here (allocator_of (mini_of self.now)) ≡ true
             → IsErrOf result Failed }
+        ensures cause { IfErr result (λ e. IsWant self.now e ⊎ IsRefusedOpening e) }
     {
         if self.is_failed() {
             return Err(Error::Failed);
@@ -192,6 +199,7 @@ impl<F: ReadMedium> CompoundFile<F> {
             (answer_at (letters_in self.now) tree walk_storage (names_in path.now)) result }
         ensures failed { has_failed_here (allocator_of (mini_of self.now)) ≡ true
             → IsErrOf result Failed }
+        ensures cause { IfErr result (λ e. IsWant self.now e ⊎ IsRefusedOpening e) }
     {
         if self.is_failed() {
             return Err(Error::Failed);

@@ -1,7 +1,9 @@
 //! Files on disk, by their paths.
-ghost use Rattle.cfb.specs.OptionViews.{letters_asked};
-ghost use Rattle.cfb.specs.Paths.{ComparesAsAscii, IsPathRefusal};
-ghost use Rattle.cfb.specs.Views.{letters_in};
+ghost use Rattle.cfb.specs.OptionViews.{letters_asked, most_asked, IsReadAsAsked};
+ghost use Rattle.cfb.specs.Paths.{ComparesAsAscii, IsMadeOnDisk, IsOpenedOnDisk, IsPathRefusal};
+ghost use Rattle.cfb.specs.Views.{letters_in, mini_of, most_ahead_of, validation_of};
+ghost use Rattle.cfb_opening.specs.Opened.{OpensAt};
+ghost use Rattle.cfb_sectors.specs.declared.validation.Validation.TheVariants.{Permissive};
 ghost use Rattle.std.specs.Prelude.{IfErr, IfOk, ◌≡◌};
 
 use crate::{CompoundFile, OpenOptions};
@@ -21,7 +23,8 @@ impl OpenOptions {
         alloc: Global,
         path: &str,
     ) -> Result<CompoundFile<FileMedium>, Error>
-        ensures letters { IfOk result (λ it. letters_in it ≡ letters_asked self) }
+        ensures asked { IfOk result (IsReadAsAsked self) }
+        ensures opened { IfOk result IsOpenedOnDisk }
         ensures error { IfErr result IsPathRefusal }
     {
         match FileMedium::open(rt, path) {
@@ -38,7 +41,8 @@ impl OpenOptions {
         alloc: Global,
         path: &str,
     ) -> Result<CompoundFile<FileMedium>, Error>
-        ensures letters { IfOk result (λ it. letters_in it ≡ letters_asked self) }
+        ensures asked { IfOk result (IsReadAsAsked self) }
+        ensures opened { IfOk result IsOpenedOnDisk }
         ensures error { IfErr result IsPathRefusal }
     {
         match FileMedium::open_rw(rt, path) {
@@ -56,7 +60,8 @@ impl OpenOptions {
         alloc: Global,
         path: &str,
     ) -> Result<CompoundFile<FileMedium>, Error>
-        ensures letters { IfOk result (λ it. letters_in it ≡ letters_asked self) }
+        ensures made { IfOk result (IsMadeOnDisk (letters_asked self)) }
+        ensures most { IfOk result (λ it. most_ahead_of it ≡ most_asked self) }
         ensures error { IfErr result IsPathRefusal }
     {
         let medium = match FileMedium::create(rt, path) {
@@ -75,7 +80,8 @@ impl OpenOptions {
         alloc: Global,
         medium: FileMedium,
     ) -> Result<CompoundFile<FileMedium>, Error>
-        ensures letters { IfOk result (λ it. letters_in it ≡ letters_asked self) }
+        ensures asked { IfOk result (IsReadAsAsked self) }
+        ensures opens { IfOk result (λ it. OpensAt medium (mini_of it)) }
         ensures error { IfErr result IsPathRefusal }
     {
         match self.open_with(alloc, medium) {
@@ -93,6 +99,9 @@ pub fn open<R: Files<File = File>>(
     path: &str,
 ) -> Result<CompoundFile<FileMedium>, Error>
     ensures letters { IfOk result (λ it. ComparesAsAscii (letters_in it)) }
+    ensures lenient { IfOk result (λ it. validation_of it ≡ Permissive) }
+    ensures most { IfOk result (λ it. most_ahead_of it ≡ 65536) }
+    ensures opened { IfOk result IsOpenedOnDisk }
     ensures error { IfErr result IsPathRefusal }
 {
     match OpenOptions::new(alloc) {
@@ -109,6 +118,9 @@ pub fn open_rw<R: Files<File = File>>(
     path: &str,
 ) -> Result<CompoundFile<FileMedium>, Error>
     ensures letters { IfOk result (λ it. ComparesAsAscii (letters_in it)) }
+    ensures lenient { IfOk result (λ it. validation_of it ≡ Permissive) }
+    ensures most { IfOk result (λ it. most_ahead_of it ≡ 65536) }
+    ensures opened { IfOk result IsOpenedOnDisk }
     ensures error { IfErr result IsPathRefusal }
 {
     match OpenOptions::new(alloc) {
@@ -125,6 +137,8 @@ pub fn create<R: Files<File = File>>(
     path: &str,
 ) -> Result<CompoundFile<FileMedium>, Error>
     ensures letters { IfOk result (λ it. ComparesAsAscii (letters_in it)) }
+    ensures made { IfOk result (λ it. IsMadeOnDisk (letters_in it) it) }
+    ensures most { IfOk result (λ it. most_ahead_of it ≡ 65536) }
     ensures error { IfErr result IsPathRefusal }
 {
     match OpenOptions::new(alloc) {

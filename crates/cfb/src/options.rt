@@ -1,7 +1,7 @@
 //! How a file is opened.
 ghost use Rattle.cfb.specs.Creating.{IsCreated, IsCreateFault, LeavesNew};
 ghost use Rattle.cfb.specs.Opened.{IsOpenedAs};
-ghost use Rattle.cfb.specs.Views.{letters_in, mini_of, most_ahead_of};
+ghost use Rattle.cfb.specs.Views.{letters_in, mini_of, most_ahead_of, validation_of};
 ghost use Rattle.cfb_medium.specs.Calls.{HasCauseSince, IsFaultUnless};
 ghost use Rattle.cfb_medium.specs.declared.error.Error.TheVariants.{InvalidData, Memory};
 ghost use Rattle.cfb_medium.specs.declared.version.Version.TheVariants.{V4};
@@ -112,6 +112,7 @@ impl OpenOptions {
         ensures opens { IfOk result (λ it. OpensAt medium (mini_of it)) }
         ensures letters { IfOk result (λ it. letters_in it ≡ letters_asked self) }
         ensures most { IfOk result (λ it. most_ahead_of it ≡ most_asked self) }
+        ensures reader { IfOk result (λ it. validation_of it ≡ validation_asked self) }
         ensures opened { IfOk result (λ it. IsTrue (F.honest medium)
             → IsOpenedAs (validation_asked self) (letters_asked self) (F.bytes medium) it) }
         ensures refused { IfErr result (λ e. e.1 ≡ InvalidData → IsTrue (F.honest medium)

@@ -1,55 +1,72 @@
 //! Files that are flushed and committed.
-ghost use Rattle.cfb_fat.specs.Tables.{has_failed_here, is_honest, medium_of, sectors_of, HasCauseBelow};
+ghost use Rattle.cfb_fat.specs.Tables.{has_failed_here, is_honest, sectors_of, HasCauseBelow};
 ghost use Rattle.cfb_medium.specs.Calls.{IsFaultUnless};
 ghost use Rattle.cfb_medium.specs.declared.error.Error.TheVariants.{Failed};
 ghost use Rattle.cfb_mini.specs.Views.{allocator_of, KeepsMemory};
 ghost use Rattle.cfb_sectors.specs.Held.{LeavesOldOrBytes};
-ghost use Rattle.std.specs.Prelude.{true, IfErr, IsErrOf, IsTrue, OnErr, OnOk, ◌≡◌, ◌≤◌};
+ghost use Rattle.std.specs.Prelude.{false, true, IfErr, IsErrOf, IsOk, IsTrue, OnErr, OnOk, ◌≡◌, ◌≤◌};
 
 use crate::CompoundFile;
 use cfb_medium::{Error, Medium};
 
 impl<F: Medium> CompoundFile<F> {
-    ghost use Rattle.cfb.specs.Publishing.{Publishes};
-    ghost use Rattle.cfb.specs.Views.{letters_in, mini_of, sound_of, validation_of, Rests};
+    ghost use Rattle.cfb.specs.Publishing.{medium_in, IsUntouched, Publishes};
+    ghost use Rattle.cfb.specs.Views.{letters_in, mini_of, most_ahead_of, sound_of, validation_of, IsLive, Rests};
 
     /// Passes on what the medium keeps back, and publishes nothing: the file is as it was, also after an error. `Failed` after an
-    /// earlier fault, before all else; the other errors are `Memory` and `Device`.
+    /// earlier fault, before all else; the other errors are `Memory` and `Device`. Of a file that isn't sound nothing is passed on.
     pub fn flush(&mut self) -> Result<(), Error>
         ensures rests { Rests self.old self.new }
         ensures failed { has_failed_here (allocator_of (mini_of self.old)) ≡ true
             → IsErrOf result Failed }
+        ensures unsound { IsLive self.old → sound_of self.old ≡ false
+            → IsOk result × IsUntouched self.old self.new }
         ensures cause { IfErr result (HasCauseBelow (allocator_of (mini_of self.old))
             (allocator_of (mini_of self.new))) }
         ensures fault { IfErr result (IsFaultUnless ⊥) }
     {
-        self.mini.flush()
+        if self.is_failed() {
+            return Err(Error::Failed);
+        }
+        if self.is_sound {
+            self.mini.flush()
+        } else {
+            Ok(())
+        }
     }
 
     /// Publishes the bytes, by a commit of the medium: after `Ok` a stop leaves these alone, and the file means what it meant. A
     /// stop during the call, or after an error, leaves what one might have left before it, or the bytes. `Failed` after an
     /// earlier fault, before all else, and then nothing is done; the other errors are `Memory` and `Device`, and after them it
-    /// has failed. No other call of a file adds to what a stop may leave.
+    /// has failed. No other call of a file adds to what a stop may leave. A file that isn't sound publishes nothing.
     pub fn commit(&mut self) -> Result<(), Error>
-        ensures publishes { OnOk result (Publishes F.has_published self.old self.new) }
+        ensures publishes { OnOk result (sound_of self.old ≡ true
+            → Publishes F.has_published self.old self.new) }
+        ensures unsound { IsLive self.old → sound_of self.old ≡ false
+            → IsOk result × IsUntouched self.old self.new }
         ensures left { IsTrue (is_honest (allocator_of (mini_of self.old)))
             → LeavesOldOrBytes (sectors_of (allocator_of (mini_of self.old)))
             (sectors_of (allocator_of (mini_of self.new))) }
         ensures memory { KeepsMemory (mini_of self.old) (mini_of self.new) }
         ensures seen { (letters_in self.new ≡ letters_in self.old)
             × (sound_of self.new ≡ sound_of self.old)
-            × (validation_of self.new ≡ validation_of self.old) }
+            × (validation_of self.new ≡ validation_of self.old)
+            × (most_ahead_of self.new ≡ most_ahead_of self.old) }
         ensures err { OnErr result (has_failed_here (allocator_of (mini_of self.new)) ≡ true) }
         ensures failed { has_failed_here (allocator_of (mini_of self.old)) ≡ true
             → IsErrOf result Failed × Rests self.old self.new }
         ensures cause { IfErr result (HasCauseBelow (allocator_of (mini_of self.old))
             (allocator_of (mini_of self.new))) }
-        ensures medium { (F.failures (medium_of (allocator_of (mini_of self.old)))
-            ≤ F.failures (medium_of (allocator_of (mini_of self.new))))
-            × OnOk result (F.failed (medium_of (allocator_of (mini_of self.new)))
-            ≡ F.failed (medium_of (allocator_of (mini_of self.old)))) }
+        ensures medium { (F.failures (medium_in self.old) ≤ F.failures (medium_in self.new))
+            × OnOk result (F.failed (medium_in self.new) ≡ F.failed (medium_in self.old)) }
         ensures fault { IfErr result (IsFaultUnless ⊥) }
     {
+        if self.is_failed() {
+            return Err(Error::Failed);
+        }
+        if !self.is_sound {
+            return Ok(());
+        }
         self.mini.commit()
     }
 }

@@ -1,5 +1,6 @@
 //! Streams of a file, opened by their paths and read.
-ghost use Rattle.cfb.specs.Streams.{file_of, len_of, position_of, HasStream, Holds, IsStreamAt, IsWant, KeepsStream, TellsBytes, TellsStream};
+ghost use Rattle.cfb.specs.Putting.{IsRefusedOpening};
+ghost use Rattle.cfb.specs.Streams.{bytes_found, file_of, len_of, position_of, HasContent, HasStream, Holds, IsStreamAt, IsTrueToBytes, IsWant, KeepsStream, TellsBytes, TellsRead, TellsStream};
 ghost use Rattle.cfb.specs.Views.{ahead_held, letters_in, mini_of, most_ahead_of, Rests, Shows};
 ghost use Rattle.cfb.specs.contracts.compound_file.CompoundFile.{the_row};
 ghost use Rattle.cfb_entries.specs.Rules.{answer_at, names_in};
@@ -50,6 +51,7 @@ impl<F: ReadMedium> CompoundFile<F> {
         ensures refused { (tree : Tree) → Shows self.now tree → IfErr result (λ e. (e ≡ Memory)
             ⊎ (answer_at (letters_in self.now) tree open_read_stream (names_in path.now)
             ≡ refused e)) }
+        ensures error { IfErr result (λ e. (e ≡ Memory) ⊎ IsRefusedOpening e) }
     {
         let entry = match stream_at(self.alloc, &self.letters, self.entries(), path) {
             Ok(entry) => entry,
@@ -68,8 +70,11 @@ impl<F: ReadMedium> CompoundFile<F> {
         ensures bytes { (tree : Tree) → Holds self.old tree
             → TellsBytes self.old (λ len. self.new) (λ len. len)
             (answer_at (letters_in self.old) tree open_read_stream (names_in path.now)) result }
+        ensures found { IfOk result (λ len. IsTrueToBytes self.old
+            → HasStream self.new len (bytes_found self.new len)) }
         ensures failed { has_failed_here (allocator_of (mini_of self.old)) ≡ true
             → IsErrOf result Failed }
+        ensures cause { IfErr result (λ e. IsWant self.old e ⊎ IsRefusedOpening e) }
     {
         match self.check_live() {
             Ok(()) => {}
@@ -90,7 +95,7 @@ impl<F: ReadMedium> CompoundFile<F> {
 
     /// The stream at a path, to be read. `InvalidInput` where the path leads above the root, `NotFound` where no object is
     /// there, `InvalidInput` where it is a storage, `InvalidData` where the stream's chain breaks or is too short. The other
-    /// errors are `Memory`, and `Failed` after an earlier fault. The file is only read.
+    /// errors are `Memory`, and `Failed` after an earlier fault, before all else. The file is only read.
     pub fn open_read_stream(&mut self, path: &str) -> Result<ReadStream<'_, F>, Error>
         ensures* refused { sem 𝓛 (RestsIfErr (the_row F.row F.ReadMedium) self.entry
             (λ s. s.file.ghost_name) result (Rests self.old)) }
@@ -102,13 +107,67 @@ impl<F: ReadMedium> CompoundFile<F> {
             (answer_at (letters_in self.old) tree open_read_stream (names_in path.now)) result }
         ensures bytes { (tree : Tree) → Holds self.old tree → TellsBytes self.old file_of len_of
             (answer_at (letters_in self.old) tree open_read_stream (names_in path.now)) result }
+        ensures found { IfOk result (λ s. IsTrueToBytes self.old
+            → HasContent s (bytes_found (file_of s) (len_of s))) }
         ensures failed { has_failed_here (allocator_of (mini_of self.old)) ≡ true
             → IsErrOf result Failed }
+        ensures cause { IfErr result (λ e. IsWant self.old e ⊎ IsRefusedOpening e) }
     {
         match self.find_stream(path) {
             Ok(len) => Ok(ReadStream::new(self, len)),
             Err(error) => Err(error),
         }
+    }
+
+    /// All bytes of the stream at a path. `Failed` after an earlier fault, before all else; `InvalidInput` where the path leads above
+    /// the root, `NotFound` where no object is there, `InvalidInput` where it is a storage, `InvalidData` where the stream's chain
+    /// breaks or is too short. The other errors are `Memory` and `Device`. The file is only read ([MS-CFB] 2.6.3).
+    pub fn read_stream(&mut self, path: &str) -> Result<Vec<u8>, Error>
+        ensures rests { Rests self.old self.new }
+        ensures told { (tree : Tree) → Shows self.old tree
+            → TellsRead self.old self.new path.now (λ bytes. bytes.items)
+            (answer_at (letters_in self.old) tree open_read_stream (names_in path.now)) result }
+        ensures bytes { (tree : Tree) → Holds self.old tree → IfOk result (λ bytes.
+            answer_at (letters_in self.old) tree open_read_stream (names_in path.now)
+            ≡ has_bytes bytes.items) }
+        ensures refused { (tree : Tree) → Holds self.old tree
+            → IfErr result (λ e. IsFaultUnless ⊥ e
+            ⊎ (answer_at (letters_in self.old) tree open_read_stream (names_in path.now)
+            ≡ refused e)) }
+        ensures found { IfOk result (λ bytes. IsTrueToBytes self.old
+            → bytes.items ≡ bytes_found self.new (length bytes.items)) }
+        ensures failed { has_failed_here (allocator_of (mini_of self.old)) ≡ true
+            → IsErrOf result Failed }
+        ensures cause { IfErr result (λ e. HasCauseBelow (allocator_of (mini_of self.old))
+            (allocator_of (mini_of self.new)) e × (IsFaultUnless ⊥ e ⊎ IsRefusedOpening e)) }
+    {
+        let len = match self.find_stream(path) {
+            Ok(len) => len,
+            Err(error) => return Err(error),
+        };
+        match self.read_all(len) {
+            Ok(bytes) => Ok(bytes),
+            Err(error) => Err(error),
+        }
+    }
+
+    // All bytes of the stream of so many bytes that is read.
+    fn read_all(&mut self, len: u64) -> Result<Vec<u8>, Error>
+        requires { len < 2 ^ 63 }
+        ensures read { IfOk result (λ bytes. (content : List ℕ) → HasStream self.old len content
+            → bytes.items ≡ take len content) }
+        ensures size { IfOk result (λ bytes. length bytes.items ≡ len) }
+        ensures lost { IfErr result (λ e. (content : List ℕ) → HasStream self.old len content
+            → IsFaultUnless ⊥ e) }
+        ensures keeps { KeepsStream len self.old self.new }
+        ensures cause { IfErr result (HasCauseBelow (allocator_of (mini_of self.old))
+            (allocator_of (mini_of self.new))) }
+        ensures fault { IfErr result (λ e. IsFaultUnless ⊥ e ⊎ IsInvalidPlace e) }
+    {
+        let mut bytes = Vec::new(self.alloc);
+        bytes.resize(len as usize, 0)?;
+        self.read_bytes(0, len, &mut bytes)?;
+        Ok(bytes)
     }
 
     // Fills the buffer with bytes of the stream of so many bytes that is read, from a place on: with what was read ahead, where

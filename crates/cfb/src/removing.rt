@@ -5,13 +5,16 @@ ghost use Rattle.cfb_live.specs.Removing.{IsRefusedRemoval};
 ghost use Rattle.cfb_meaning.specs.TreeRules.{remove_storage, remove_storage_all, remove_stream};
 ghost use Rattle.cfb_mini.specs.Views.{allocator_of};
 ghost use Rattle.cfb_owned.specs.Chains.{GoesOn};
+ghost use Rattle.cfb_tree.specs.Tree.{Tree};
+ghost use Rattle.std.specs.Prelude.{OnOk};
 
 use crate::CompoundFile;
 use cfb_medium::{Error, Medium};
 use cfb_sectors::HasSectors;
 
 impl<F: Medium> CompoundFile<F> {
-    ghost use Rattle.cfb.specs.Doing.{Does};
+    ghost use Rattle.cfb.specs.Doing.{Does, Means};
+    ghost use Rattle.cfb.specs.Removing.{GivesUpStream};
     ghost use Rattle.cfb.specs.Views.{mini_of};
 
     /// Removes the stream at a path; its sectors and its entry are free then. `Failed` after an earlier fault, `InvalidData` where
@@ -21,6 +24,8 @@ impl<F: Medium> CompoundFile<F> {
     pub fn remove_stream(&mut self, path: &str) -> Result<(), Error>
         ensures does { Does (names_in path.now) (λ names. remove_stream names) result self.old
             self.new }
+        ensures freed { OnOk result ((tree : Tree) → Means self.old tree
+            → GivesUpStream self.old self.new path.now) }
         ensures goes_on { GoesOn (allocator_of (mini_of self.old))
             (allocator_of (mini_of self.new)) }
         ensures answers { Answers IsRefusedRemoval result (allocator_of (mini_of self.old))

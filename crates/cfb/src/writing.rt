@@ -19,7 +19,7 @@ ghost use Rattle.cfb_mini.specs.Views.{allocator_of, directory_of};
 ghost use Rattle.cfb_owned.specs.Chains.{GoesOn, IsInvalidPlaceOrFull};
 ghost use Rattle.cfb_tree.specs.Paths.{Path};
 ghost use Rattle.cfb_tree.specs.Tree.{Tree};
-ghost use Rattle.cfb_writing.specs.Streams.{resized};
+ghost use Rattle.cfb_writing.specs.Streams.{resized, IsPastNumbers};
 ghost use Rattle.std.specs.Borrow.{sem, RestsIfErr};
 ghost use Rattle.std.specs.Prelude.{false, length, true, IfErr, IfOk, IsErrOf, List, OnErr, OnOk, ℕ, ◌+◌, ◌<◌, ◌^◌, ◌≡◌, ◌⊎◌};
 
@@ -171,6 +171,8 @@ impl<F: Medium> CompoundFile<F> {
         ensures full { IsErrOf result Full
             → has_failed_here (allocator_of (mini_of self.new)) ≡ false
             → LacksRoomAt id len self.old }
+        ensures spared { IsPastNumbers (version_of (allocator_of (mini_of self.old))) len
+            → OnOk result ⊥ × KeepsAt id self.old self.new }
         ensures goes_on { GoesOn (allocator_of (mini_of self.old))
             (allocator_of (mini_of self.new)) }
         ensures answers { Answers IsInvalidPlaceOrFull result (allocator_of (mini_of self.old))

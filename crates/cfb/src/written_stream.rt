@@ -11,7 +11,7 @@ ghost use Rattle.cfb_owned.specs.Chains.{GoesOn, IsInvalidPlaceOrFull};
 ghost use Rattle.cfb_sectors.specs.Seeking.{Finds};
 ghost use Rattle.cfb_tree.specs.Paths.{Path};
 ghost use Rattle.cfb_tree.specs.Tree.{Tree};
-ghost use Rattle.cfb_writing.specs.Streams.{resized};
+ghost use Rattle.cfb_writing.specs.Streams.{resized, IsPastNumbers};
 ghost use Rattle.std.specs.Borrow.{sem};
 ghost use Rattle.std.specs.Prelude.{drop, false, length, min, take, true, IfErr, IfOk, IsErrOf, List, OnErr, OnOk, ℕ, ◌+◌, ◌++◌, ◌-◌, ◌<◌, ◌==◌, ◌^◌, ◌≡◌, ◌≤◌, ◌⊎◌, []};
 ghost use mir.Syntax.{named};
@@ -351,7 +351,7 @@ impl<'a, F: Medium> Stream<'a, F> {
     }
 
     /// Makes the stream so many bytes long: it keeps its first bytes, and has zeros behind them. A position behind its end moves to
-    /// the end. Errors are those of `write` ([MS-CFB] 2.6.3).
+    /// the end. Errors are those of `write`; a size for which no file has numbers of sectors changes nothing ([MS-CFB] 2.2, 2.6.3).
     pub fn set_len(&mut self, len: u64) -> Result<(), Error>
         ensures resized { OnOk result (Rewrites (resized len) self.old self.new) }
         ensures moved { OnOk result (place_of self.new ≡ min len (place_of self.old)) }
@@ -364,6 +364,8 @@ impl<'a, F: Medium> Stream<'a, F> {
             ⊎ Keeps self.old self.new) }
         ensures full { IsErrOf result Full → has_failed_here (allocator_under self.new) ≡ false
             → IsFullFor self.old len }
+        ensures spared { IsPastNumbers (version_of (allocator_under self.old)) len
+            → OnOk result ⊥ × Keeps self.old self.new }
         ensures changes { Changes IsInvalidPlaceOrFull result self.old self.new }
     {
         if self.file.is_failed() {
@@ -391,6 +393,8 @@ impl<'a, F: Medium> Stream<'a, F> {
             ⊎ Keeps self.old self.new) }
         ensures full { IsErrOf result Full → has_failed_here (allocator_under self.new) ≡ false
             → IsFullFor self.old len }
+        ensures spared { IsPastNumbers (version_of (allocator_under self.old)) len
+            → OnOk result ⊥ × Keeps self.old self.new }
         ensures changes { Changes IsInvalidPlaceOrFull result self.old self.new }
     {
         let id = self.id;

@@ -3,7 +3,7 @@ use Rattle.std.specs.Prelude.{◌≡◌, ℕ, Bool, true, false, List, map, char
 use Rattle.std.specs.Option.{option_map}
 use Rattle.cfb_meaning.specs.TreeRules.{Answer, an_entry, refused, Call, Shown, tree_step}
 use Rattle.cfb_medium.specs.declared.error.Error.{Error}
-use Rattle.cfb_medium.specs.declared.error.Error.TheVariants.{InvalidInput, Memory}
+use Rattle.cfb_medium.specs.declared.error.Error.TheVariants.{InvalidData, InvalidInput, Memory, NotFound}
 use Rattle.cfb_siblings.specs.Places.{LeadsTo}
 use Rattle.cfb_tree.specs.Directory.{Entry}
 use Rattle.cfb_tree.specs.Names.{Letters}
@@ -36,6 +36,10 @@ IsFoundAt letters directory text path e =
 abbrev pub TellsEntry : Answer → Result ShownEntry Error → Type 0
 TellsEntry answer result =
     IfOk result (λ e. (s : Shown) × (answer ≡ an_entry s) × (listed_in e ≡ listed s)) × IfErr result (λ e. (e ≡ Memory) ⊎ (answer ≡ refused e))
+
+-- of any entries: memory is missing, or the rules refuse, or the entries hold no tree
+abbrev pub IsEntryError : Error → Type 0
+IsEntryError e = (e ≡ Memory) ⊎ (e ≡ InvalidData) ⊎ (e ≡ InvalidInput) ⊎ (e ≡ NotFound)
 
 -- the object is a stream
 abbrev pub is_stream_object : Object → Bool

@@ -1,5 +1,5 @@
 //! Entries by the text of a path.
-ghost use Rattle.cfb_entries.specs.Rules.{names_in, HoldsSizes, IsFoundAt};
+ghost use Rattle.cfb_entries.specs.Rules.{names_in, HoldsSizes, IsEntryError, IsFoundAt};
 ghost use Rattle.cfb_medium.specs.declared.error.Error.TheVariants.{InvalidInput, Memory, NotFound};
 ghost use Rattle.cfb_siblings.specs.Places.{path_of};
 ghost use Rattle.cfb_tree.specs.EntryViews.{entry_in};
@@ -31,6 +31,7 @@ pub fn find_by_path<'a, 'b>(
         → IfErr result (λ e. (e ≡ Memory) ⊎ ((e ≡ InvalidInput) × (names_in path.now ≡ None))
         ⊎ ((e ≡ NotFound) × (names : Path) × (names_in path.now ≡ Some names)
         × (object_at (letters_of letters.now) tree names ≡ None))) }
+    ensures error { IfErr result IsEntryError }
 {
     let names = match name_chain_from_path(alloc, path) {
         Ok(names) => names,

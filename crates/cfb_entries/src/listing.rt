@@ -2,7 +2,7 @@
 #![tactic(auto, unfolding(crate::specs::Lists::entries_left))]
 
 ghost use Rattle.cfb_entries.specs.Listed.{listed_at, listed_in, prefix_text, root_listed};
-ghost use Rattle.cfb_entries.specs.Rules.{answer_at, names_in, HoldsSizes, TellsEntry};
+ghost use Rattle.cfb_entries.specs.Rules.{answer_at, names_in, HoldsSizes, IsEntryError, TellsEntry};
 ghost use Rattle.cfb_entries.specs.Lists.{entries_left, TellsEntries};
 ghost use Rattle.cfb_meaning.specs.TreeRules.{entry, parent_of, read_storage, walk_storage};
 ghost use Rattle.cfb_medium.specs.declared.error.Error.TheVariants.{Memory};
@@ -89,6 +89,7 @@ fn top_of(alloc: Global, entry: &DirEntry, names: &[&str]) -> Result<Entry, Erro
         name)) }
     ensures error { IfErr result (λ e. (e ≡ Memory) ⊎ ((0 < length names.now)
         × ((name : List ℕ) → HasName (entry_in entry.now) name → ⊥))) }
+    ensures kind { IfErr result IsEntryError }
 {
     let count = names.len();
     if count == 0 {
@@ -99,16 +100,17 @@ fn top_of(alloc: Global, entry: &DirEntry, names: &[&str]) -> Result<Entry, Erro
 }
 
 /// The object at a path. `InvalidInput` where the path leads above the root, `NotFound` where no object is there. The one other
-/// error is `Memory`.
+/// error is `Memory`; of entries that hold no tree also `InvalidData`.
 pub fn entry_at(
     alloc: Global,
     letters: &CaseMapper,
     entries: &[DirEntry],
     path: &str,
 ) -> Result<Entry, Error>
-    ensures { (tree : Tree)
+    ensures told { (tree : Tree)
         → HoldsSizes (letters_of letters.now) (map entry_in entries.now) tree
         → TellsEntry (answer_at (letters_of letters.now) tree entry (names_in path.now)) result }
+    ensures error { IfErr result IsEntryError }
 {
     let (names, entry) = match find_by_path(alloc, letters, entries, path) {
         Ok(found) => found,
@@ -122,17 +124,19 @@ pub fn entry_at(
 }
 
 /// The children of the storage at a path, in their order. `InvalidInput` where the path leads above the root, `NotFound` where
-/// no object is there, `InvalidInput` where it is a stream. The one other error is `Memory`.
+/// no object is there, `InvalidInput` where it is a stream. The one other error is `Memory`; of entries that hold no tree also
+/// `InvalidData`.
 pub fn children_at(
     alloc: Global,
     letters: &CaseMapper,
     entries: &[DirEntry],
     path: &str,
 ) -> Result<Entries, Error>
-    ensures { (tree : Tree)
+    ensures told { (tree : Tree)
         → HoldsSizes (letters_of letters.now) (map entry_in entries.now) tree
         → TellsEntries (answer_at (letters_of letters.now) tree read_storage (names_in path.now))
         result }
+    ensures error { IfErr result IsEntryError }
 {
     let (names, entry) = match find_by_path(alloc, letters, entries, path) {
         Ok(found) => found,
@@ -149,17 +153,19 @@ pub fn children_at(
 }
 
 /// The storage at a path and all objects in it, each storage before what it holds. `InvalidInput` where the path leads above
-/// the root, `NotFound` where no object is there, `InvalidInput` where it is a stream. The one other error is `Memory`.
+/// the root, `NotFound` where no object is there, `InvalidInput` where it is a stream. The one other error is `Memory`; of
+/// entries that hold no tree also `InvalidData`.
 pub fn walk_at(
     alloc: Global,
     letters: &CaseMapper,
     entries: &[DirEntry],
     path: &str,
 ) -> Result<Entries, Error>
-    ensures { (tree : Tree)
+    ensures told { (tree : Tree)
         → HoldsSizes (letters_of letters.now) (map entry_in entries.now) tree
         → TellsEntries (answer_at (letters_of letters.now) tree walk_storage (names_in path.now))
         result }
+    ensures error { IfErr result IsEntryError }
 {
     let (names, entry) = match find_by_path(alloc, letters, entries, path) {
         Ok(found) => found,

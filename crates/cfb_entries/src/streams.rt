@@ -1,5 +1,5 @@
 //! Streams by the text of a path.
-ghost use Rattle.cfb_entries.specs.Rules.{answer_at, names_in, HoldsSizes, IsFoundAt};
+ghost use Rattle.cfb_entries.specs.Rules.{answer_at, names_in, HoldsSizes, IsEntryError, IsFoundAt};
 ghost use Rattle.cfb_meaning.specs.TreeRules.{has_bytes, open_read_stream, refused};
 ghost use Rattle.cfb_medium.specs.declared.error.Error.TheVariants.{Memory};
 ghost use Rattle.cfb_tree.specs.Directory.{kind_stream};
@@ -37,6 +37,7 @@ pub fn stream_at<'a>(
         → HoldsSizes (letters_of letters.now) (map entry_in entries.now) tree
         → IfErr result (λ e. (e ≡ Memory) ⊎ (answer_at (letters_of letters.now) tree
         open_read_stream (names_in path.now) ≡ refused e)) }
+    ensures error { IfErr result IsEntryError }
 {
     let (_names, entry) = match find_by_path(alloc, letters, entries, path) {
         Ok(found) => found,

@@ -1,5 +1,6 @@
 //! Objects of a tree in the order of a listing, without recursion.
 ghost use Rattle.cfb_entries.specs.Listed.{listed, listed_in, prefix_of_listed, prefix_text};
+ghost use Rattle.cfb_entries.specs.Rules.{IsEntryError};
 ghost use Rattle.cfb_entries.specs.Holding.{children_link, HasSize, IsHeldAt};
 ghost use Rattle.cfb_entries.specs.Walk.{pending_at};
 ghost use Rattle.cfb_meaning.specs.TreeRules.{all_shown, children_shown};
@@ -54,12 +55,13 @@ pub(crate) fn walk(
     top: Entry,
     link: u32,
 ) -> Result<Vec<Entry>, Error>
-    ensures { (front : Path) (content : Content)
+    ensures told { (front : Path) (content : Content)
         → IsHeldAt (map entry_in entries.now) link content
         → prefix_of_listed (listed_in top) ≡ prefix_text front
         → IfOk result (λ list. map listed_in list.items
         ≡ listed_in top ∷ map listed (all_shown front content))
         × IfErr result (λ e. e ≡ Memory) }
+    ensures error { IfErr result IsEntryError }
 {
     let mut list = Vec::new(alloc);
     list.push(top)?;
@@ -99,12 +101,13 @@ pub(crate) fn children(
     prefix: &str,
     link: u32,
 ) -> Result<Vec<Entry>, Error>
-    ensures { (front : Path) (content : Content)
+    ensures told { (front : Path) (content : Content)
         → IsHeldAt (map entry_in entries.now) link content
         → chars prefix.now ≡ prefix_text front
         → IfOk result (λ list. map listed_in list.items
         ≡ map listed (children_shown front content))
         × IfErr result (λ e. e ≡ Memory) }
+    ensures error { IfErr result IsEntryError }
 {
     let mut list = Vec::new(alloc);
     let ids = match siblings(alloc, entries, link) {

@@ -14,12 +14,15 @@ use Rattle.cfb_tree.specs.Paths.{Path}
 use Rattle.cfb_tree.specs.Tree.{nothing, storage, stream, Content, Facts, Tree}
 use Rattle.cfb_tree.proofs.OneContent.{Some_same}
 use Rattle.cfb_directory.specs.Views.{entries_held}
-use Rattle.cfb_mini.specs.Views.{directory_of}
+use Rattle.cfb_mini.specs.Views.{allocator_of, directory_of, mini_fat_of}
+use Rattle.cfb_fat.specs.Tables.{fat_of}
+use Rattle.cfb_sectors.specs.Sectors.{free}
 use Rattle.cfb_mini.specs.declared.mini_allocator.MiniAllocator.{MiniAllocator}
 use Rattle.cfb_owners.specs.LiveFile.{LiveFile}
-use Rattle.cfb_owners.specs.Owners.{stream_owner, Owners}
+use Rattle.cfb_owners.specs.Owners.{stream_owner, Owners, OwnsNothing}
 use Rattle.cfb_live.specs.Freeing.{CarriesBut, FreesStream}
 use Rattle.cfb_live.specs.Live.{live_of, Means}
+use Rattle.cfb_live.proofs.Freed.{none_have}
 use Rattle.cfb_live.proofs.Standing.{stands_of}
 
 -- a storage without a child holds nothing
@@ -72,10 +75,12 @@ module _ {F : Type 0} {g : Ghosts F} where
   -- the entry of a storage owns nothing as it is
   pub owns_nothing : (letters : Letters) (it : MiniAllocator F g) (tree : Tree) (m : Means letters it tree) (id : ℕ) (e : Entry) → slice_get (entries_held (directory_of it)) id ≡ Some e → (e.kind ≡ kind_stream → ⊥) → FreesStream id it it m.who
   unfolding live_of
-  owns_nothing letters it tree m id e found never = record {
-    now = m.who;
-    stands = stands_of letters it tree m;
-    carries = carries_all (stream_owner id) (live_of it) m.who;
-    nothing = m.held.unused id (λ among. never (subst (λ (o : Option Entry). IfSome o (λ x. x.kind ≡ kind_stream)) found among.1));
-    entries = refl;
-  }
+  owns_nothing letters it tree m id e found never =
+      let none : OwnsNothing m.who (stream_owner id) = m.held.unused id (λ among. never (subst (λ (o : Option Entry). IfSome o (λ x. x.kind ≡ kind_stream)) found among.1)) in record {
+        now = m.who;
+        stands = stands_of letters it tree m;
+        carries = carries_all (stream_owner id) (live_of it) m.who;
+        nothing = none;
+        freed = record { in_fat = none_have free (fat_of (allocator_of it)) _ none.0; in_mini_fat = none_have free (mini_fat_of it) _ none.1 };
+        entries = refl;
+      }

@@ -7,13 +7,14 @@ use Rattle.std.proofs.lemmas.Option.{slice_get_within}
 use Rattle.cfb_medium.specs.Versions.{sector_len}
 use Rattle.cfb_medium.specs.declared.medium.ReadMedium.{Ghosts}
 use Rattle.cfb_sectors.specs.Header.{mini_cutoff, IsHeader}
-use Rattle.cfb_sectors.specs.Sectors.{sector, Chain}
+use Rattle.cfb_sectors.specs.Sectors.{free, sector, Chain}
+use Rattle.cfb_chains.specs.Changes.{HaveEntry}
 use Rattle.cfb_sectors.proofs.Chains.{chain_short}
 use Rattle.cfb_chains.specs.Owned.{Becomes, Moves, Owned, Stays}
 use Rattle.cfb_chains.proofs.Owners.{other_left, owned_changed}
 use Rattle.cfb_fat.specs.Orderly.{AreBelow}
 use Rattle.cfb_fat.specs.Seeing.{seen_of}
-use Rattle.cfb_fat.specs.Tables.{bytes_of, has_failed_here, version_of}
+use Rattle.cfb_fat.specs.Tables.{bytes_of, fat_of, has_failed_here, version_of}
 use Rattle.cfb_owned.specs.Chains.{GoesOn}
 use Rattle.cfb_directory.specs.Entries.{SizesFit}
 use Rattle.cfb_directory.specs.Views.{entries_held}
@@ -52,6 +53,10 @@ inside_all len (x ∷ ids) (here, rest) = by_place (inside_all len ids rest)
     by_place : AreInside len ids → (k : ℕ) → k < length (x ∷ ids) → 64 * slice_index (x ∷ ids) k + 64 ≤ len
     by_place later zero below = here
     by_place later (suc k) below = later k (omega (arith, below))
+
+-- no sectors have whatever entry
+pub none_have : (entry : ℕ) (table xs : List ℕ) → xs ≡ [] → HaveEntry entry table xs
+none_have entry table xs none k below = let size = ap length none in absurd (omega (arith, size, below))
 
 -- what an owner has that gave up what it had
 given_up : (P : List ℕ → Type 0) (own : ℕ → List ℕ) (key : ℕ) → P [] → ((k : ℕ) → P (own k)) → (k : ℕ) → P (pick own key [] k)
@@ -126,6 +131,7 @@ module _ {F : Type 0} {g : Ghosts F} (old new : MiniAllocator F g) (who : Owners
           joined = λ k past other. (stays old new who now m goes live key [] did.becomes mine others k other).bytes;
         };
         nothing = (mine, none);
+        freed = record { in_fat = did.freed; in_mini_fat = none_have free (mini_fat_of new) (who.minis key) none };
         entries = did.entries;
       }
 
@@ -153,6 +159,7 @@ module _ {F : Type 0} {g : Ghosts F} (old new : MiniAllocator F g) (who : Owners
           joined = λ k past other. (stays old new who now m goes live 1 (who.sectors 1) did.becomes refl same k (λ is. omega (arith, is, past))).bytes;
         };
         nothing = (none, mine);
+        freed = record { in_fat = none_have free (fat_of (allocator_of new)) (who.sectors key) none; in_mini_fat = did.freed };
         entries = did.entries;
       }
 

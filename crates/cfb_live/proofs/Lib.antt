@@ -10,6 +10,7 @@ pub mod Emptied
 pub mod EmptyStorages
 pub mod FactRules
 pub mod Freed
+pub mod GivenUp
 pub mod KeptNow
 pub mod Made
 pub mod NewPlaces

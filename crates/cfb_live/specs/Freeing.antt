@@ -1,14 +1,19 @@
 -- What a live file is while one of its streams is in change, and a stream that gave up its sectors.
-use Rattle.std.specs.Prelude.{◌≡◌, ℕ, ◌≤◌, false, length, IsTrue}
+use Rattle.std.specs.Prelude.{◌≡◌, ◌⊎◌, ℕ, ◌<◌, ◌≤◌, false, length, slice_get, slice_index, IsTrue, List, Option, Some}
 use Rattle.cfb_medium.specs.declared.medium.ReadMedium.{Ghosts}
-use Rattle.cfb_sectors.specs.Sectors.{joined}
-use Rattle.cfb_fat.specs.Tables.{has_failed_here, orderly_of, version_of}
-use Rattle.cfb_tree.specs.Directory.{Entry}
+use Rattle.cfb_sectors.specs.Sectors.{free, joined}
+use Rattle.cfb_chains.specs.Changes.{HaveEntry, IsNoneOf}
+use Rattle.cfb_fat.specs.Tables.{fat_of, has_failed_here, orderly_of, version_of}
+use Rattle.cfb_siblings.specs.Places.{LeadsTo}
+use Rattle.cfb_tree.specs.Directory.{kind_stream, Entry}
+use Rattle.cfb_tree.specs.Names.{Letters}
+use Rattle.cfb_tree.specs.Paths.{Path}
 use Rattle.cfb_directory.specs.Entries.{SizesFit}
-use Rattle.cfb_directory.specs.Views.{entries_held}
+use Rattle.cfb_directory.specs.Views.{directory_ids, entries_held}
 use Rattle.cfb_mini.specs.Changing.{HasOwners}
-use Rattle.cfb_mini.specs.Views.{allocator_of, directory_of}
+use Rattle.cfb_mini.specs.Views.{allocator_of, directory_of, mini_fat_of}
 use Rattle.cfb_mini.specs.declared.mini_allocator.MiniAllocator.{MiniAllocator}
+use Rattle.cfb_owners.specs.Held.{HasStream}
 use Rattle.cfb_owners.specs.Kept.{Kept}
 use Rattle.cfb_owners.specs.LiveFile.{LiveFile}
 use Rattle.cfb_owners.specs.Owners.{mini_stream_owner, stream_owner, Owners, OwnsNothing}
@@ -34,11 +39,40 @@ module _ {F : Type 0} {g : Ghosts F} where
     pub root : Entry
     pub kept : Kept (live_of it) who root
 
-  -- the stream of entry `id` owns nothing any more, and the file stands; all others own what they owned, with its bytes, and the
-  -- entries are those that they were
+  -- these sectors and these mini sectors are free ([MS-CFB] 2.3, 2.4)
+  pub record AreFree (sectors minis : List ℕ) (it : MiniAllocator F g) : Type 0 where
+    pub in_fat : HaveEntry free (fat_of (allocator_of it)) sectors
+    pub in_mini_fat : HaveEntry free (mini_fat_of it) minis
+
+  -- none of these sectors is in use, but where the directory has it
+  abbrev pub AreGivenUp : List ℕ → MiniAllocator F g → Type 0
+  AreGivenUp sectors it = (k : ℕ) → k < length sectors
+      → (slice_index (fat_of (allocator_of it)) (slice_index sectors k) ≡ free) ⊎ (IsNoneOf (directory_ids (directory_of it)) (slice_index sectors k) → ⊥)
+
+  -- nor is one of these mini sectors
+  pub record GivesUp (sectors minis : List ℕ) (it : MiniAllocator F g) : Type 0 where
+    pub in_fat : AreGivenUp sectors it
+    pub in_mini_fat : HaveEntry free (mini_fat_of it) minis
+
+  -- the path led to a stream, and what its entry owned was given up
+  pub record FreesAt (letters : Letters) (path : Option Path) (old new : MiniAllocator F g) (who : Owners) : Type 0 where
+    pub names : Path
+    pub at_path : path ≡ Some names
+    pub id : ℕ
+    pub entry : Entry
+    pub leads : LeadsTo letters (entries_held (directory_of old)) 0 names id
+    pub found : slice_get (entries_held (directory_of old)) id ≡ Some entry
+    pub of_kind : entry.kind ≡ kind_stream
+    pub content : List ℕ
+    pub has : HasStream (live_of old) who id entry content
+    pub gives : GivesUp (who.sectors (stream_owner id)) (who.minis (stream_owner id)) new
+
+  -- The stream of entry `id` owns nothing any more, and what it owned is free; the file stands. All others own what they owned, with
+  -- its bytes, and the entries are those that they were.
   pub record FreesStream (id : ℕ) (old new : MiniAllocator F g) (who : Owners) : Type 0 where
     pub now : Owners
     pub stands : Stands new now
     pub carries : CarriesBut (stream_owner id) (live_of old) (live_of new) who now
     pub nothing : OwnsNothing now (stream_owner id)
+    pub freed : AreFree (who.sectors (stream_owner id)) (who.minis (stream_owner id)) new
     pub entries : entries_held (directory_of new) ≡ entries_held (directory_of old)

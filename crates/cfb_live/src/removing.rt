@@ -2,11 +2,15 @@
 ghost use Rattle.cfb_entries.specs.Rules.{names_in};
 ghost use Rattle.cfb_fat.specs.Calls.{Answers};
 ghost use Rattle.cfb_live.specs.Doing.{Does};
+ghost use Rattle.cfb_live.specs.Freeing.{FreesAt};
+ghost use Rattle.cfb_live.specs.Live.{Means};
 ghost use Rattle.cfb_live.specs.Removing.{IsRefusedRemoval};
 ghost use Rattle.cfb_meaning.specs.TreeRules.{remove_stream};
 ghost use Rattle.cfb_mini.specs.Views.{allocator_of};
 ghost use Rattle.cfb_owned.specs.Chains.{GoesOn};
 ghost use Rattle.cfb_tree.specs.LetterViews.{letters_of};
+ghost use Rattle.cfb_tree.specs.Tree.{Tree};
+ghost use Rattle.std.specs.Prelude.{OnOk};
 
 use crate::facts::is_stream;
 use crate::finding::find_child;
@@ -29,6 +33,8 @@ pub fn remove_stream<F: Medium>(
 ) -> Result<(), Error>
     ensures does { Does (letters_of letters.now) (names_in path.now) (λ names. remove_stream names)
         result mini.old mini.new }
+    ensures freed { OnOk result ((tree : Tree) → (m : Means (letters_of letters.now) mini.old tree)
+        → FreesAt (letters_of letters.now) (names_in path.now) mini.old mini.new m.who) }
     ensures goes_on { GoesOn (allocator_of mini.old) (allocator_of mini.new) }
     ensures answers { Answers IsRefusedRemoval result (allocator_of mini.old)
         (allocator_of mini.new) }

@@ -4,11 +4,13 @@ ghost use Rattle.cfb_directory.specs.Views.{entries_held};
 ghost use Rattle.cfb_fat.specs.Calls.{Answers};
 ghost use Rattle.cfb_fat.specs.Tables.{has_failed_here};
 ghost use Rattle.cfb_live.specs.Emptying.{IsLeafAt, KeepsWay};
+ghost use Rattle.cfb_live.specs.Freeing.{GivesUp};
 ghost use Rattle.cfb_live.specs.Live.{Means};
 ghost use Rattle.cfb_medium.specs.declared.error.Error.TheVariants.{InvalidData};
 ghost use Rattle.cfb_mini.specs.Changing.{KeepsOwners};
 ghost use Rattle.cfb_mini.specs.Views.{allocator_of, directory_of};
 ghost use Rattle.cfb_owned.specs.Chains.{GoesOn};
+ghost use Rattle.cfb_owners.specs.Owners.{stream_owner};
 ghost use Rattle.cfb_siblings.specs.Places.{path_to};
 ghost use Rattle.cfb_tree.specs.Changes.{removed};
 ghost use Rattle.cfb_tree.specs.Names.{Letters};
@@ -41,6 +43,10 @@ pub(crate) fn take_out<F: Medium>(
         → IsLeafAt letters (entries_held (directory_of mini.old)) path name link id
         → KeepsWay letters (entries_held (directory_of mini.old))
         (entries_held (directory_of mini.new)) path id) }
+    ensures freed { OnOk result ((letters : Letters) (tree : Tree) (path : Path) (name : List ℕ)
+        → (m : Means letters mini.old tree)
+        → IsLeafAt letters (entries_held (directory_of mini.old)) path name link id
+        → GivesUp (m.who.sectors (stream_owner id)) (m.who.minis (stream_owner id)) mini.new) }
     ensures refused { IsErrOf result InvalidData
         → (letters : Letters) (tree : Tree) (path : Path) (name : List ℕ)
         → Means letters mini.old tree

@@ -24,7 +24,7 @@ use Rattle.cfb_sectors.specs.Copies.{copies}
 use Rattle.cfb_sectors.specs.Initial.{initial}
 use Rattle.cfb_sectors.specs.Sectors.{greatest_regular}
 use Rattle.cfb_sectors.specs.declared.initial.SectorInit.TheVariants.{Zero}
-use Rattle.cfb_writing.specs.Streams.{LacksRoom}
+use Rattle.cfb_writing.specs.Streams.{IsPastNumbers, LacksRoom}
 use Rattle.cfb_writing.proofs.LongBytes.{copies_zero, get_grown, get_taken, get_zeros, joined_front, place_kept, place_new, zero_at, zeros}
 
 -- so many sectors hold so many bytes
@@ -231,3 +231,8 @@ module _ {F : Type 0} {g : Ghosts F} where
       let few = fewer_for (links_version links) (length (ids_of links)) size room in
       subst (λ v. LacksNumbers a (sectors_for v len - sectors_for v size) ⊎ (greatest_regular + 1 < sectors_for v len)) version
       (⊎_elim (λ lack. inl (few_more _ _ (sectors_for (links_version links) len - length (ids_of links)) _ lack (omega (arith, few)))) (λ long. inr long) lacks)
+
+  -- a size for which no file has numbers
+  pub past_lacks : (it : MiniAllocator F g) (size len : ℕ) → IsPastNumbers (version_of (allocator_of it)) len → LacksRoom it size len
+  unfolding LacksRoom
+  past_lacks it size len past = inr past

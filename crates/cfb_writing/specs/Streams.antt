@@ -7,6 +7,7 @@ use Rattle.cfb_fat.specs.Growing.{LacksNumbers}
 use Rattle.cfb_fat.specs.Tables.{version_of}
 use Rattle.cfb_live.specs.Live.{Means}
 use Rattle.cfb_medium.specs.declared.medium.ReadMedium.{Ghosts}
+use Rattle.cfb_medium.specs.declared.version.Version.{Version}
 use Rattle.cfb_mini.specs.LinkViews.{minis_of}
 use Rattle.cfb_mini.specs.Views.{allocator_of, directory_of}
 use Rattle.cfb_mini.specs.declared.mini_allocator.MiniAllocator.{MiniAllocator}
@@ -25,6 +26,10 @@ use Rattle.cfb_tree.specs.Tree.{Tree}
 -- so many bytes: the first of these, and then zeros
 abbrev pub resized : ℕ → List ℕ → List ℕ
 resized len content = take len content ++ replicate (len - length content) 0
+
+-- no file has numbers for the sectors of so many bytes ([MS-CFB] 2.2)
+abbrev pub IsPastNumbers : Version → ℕ → Type 0
+IsPastNumbers version len = greatest_regular + 1 < sectors_for version len
 
 -- mini sectors, of a stream below 4096 bytes
 abbrev pub IsShort : StreamLinks → Type 0

@@ -9,14 +9,14 @@ ghost use Rattle.cfb_mini.specs.Changing.{KeepsOwners};
 ghost use Rattle.cfb_mini.specs.Views.{allocator_of};
 ghost use Rattle.cfb_owned.specs.Chains.{GoesOn, IsInvalidPlaceOrFull};
 ghost use Rattle.cfb_streams.specs.declared.opening.StreamLinks.TheVariants.{Short};
-ghost use Rattle.cfb_writing.specs.Streams.{resized, AreAlike, HasNoLinks, IsPast, LacksRoomFor, RewritesIn};
-ghost use Rattle.std.specs.Prelude.{false, length, true, IsErrOf, OnErr, OnOk, ◌<◌, ◌≡◌, ◌⊎◌};
+ghost use Rattle.cfb_writing.specs.Streams.{resized, AreAlike, HasNoLinks, IsPast, IsPastNumbers, LacksRoomFor, RewritesIn};
+ghost use Rattle.std.specs.Prelude.{false, length, true, IsErrOf, IsTrue, OnErr, OnOk, ◌<◌, ◌≡◌, ◌⊎◌, ◌↔◌};
 
 use crate::moving::move_stream;
 use crate::writing::{lies_in, overwrite_long_stream, resize_long_stream};
-use cfb_medium::{Error, Medium};
+use cfb_medium::{Error, Medium, Version};
 use cfb_mini::{MiniAllocator, MiniLinks};
-use cfb_sectors::{HasSectors, MINI_STREAM_CUTOFF};
+use cfb_sectors::{HasSectors, MAX_REGULAR_SECTOR, MINI_STREAM_CUTOFF};
 use cfb_streams::StreamLinks;
 use std::alloc::Global;
 
@@ -83,13 +83,20 @@ pub fn overwrite_stream<F: Medium>(
     }
 }
 
+// Whether no file of the version has numbers for the sectors of so many bytes.
+fn is_past_numbers(version: Version, len: u64) -> bool
+    ensures { IsTrue result ↔ IsPastNumbers version len }
+{
+    len.div_ceil(version.sector_len() as u64) > u64::from(MAX_REGULAR_SECTOR) + 1
+}
+
 /// Makes the stream that has this entry and these sectors so many bytes long: it keeps its first bytes, and has zeros behind them.
 /// A stream whose size comes to 4096 moves from mini sectors to sectors, and one whose size falls below it to mini sectors; a
 /// short one gets other mini sectors. The links are the stream's afterwards. `InvalidInput` where the size doesn't fit into an
 /// entry (in version 3 past 2^32 - 1), and then nothing is changed; `InvalidData` where no such stream is there, or the file
-/// hasn't its sectors; `Full` where numbers are missing for the further sectors that it needs. The other errors are `Memory`,
-/// `Device`, and `Failed` after an earlier fault. After an error nothing is changed, or the file has failed ([MS-CFB] 2.3, 2.4,
-/// 2.6.3).
+/// hasn't its sectors; `Full` where numbers are missing for the further sectors that it needs: a size for which no file has
+/// numbers is refused before anything is changed. The other errors are `Memory`, `Device`, and `Failed` after an earlier fault.
+/// After an error nothing is changed, or the file has failed ([MS-CFB] 2.2 to 2.4, 2.6.3).
 pub fn resize_stream<F: Medium>(
     alloc: Global,
     mini: &mut MiniAllocator<F>,
@@ -108,10 +115,21 @@ pub fn resize_stream<F: Medium>(
         ⊎ KeepsOwners mini.old mini.new) }
     ensures full { IsErrOf result Full → has_failed_here (allocator_of mini.new) ≡ false
         → LacksRoomFor id links.old len mini.old }
+    ensures spared { IsPastNumbers (version_of (allocator_of mini.old)) len
+        → OnOk result ⊥ × KeepsOwners mini.old mini.new }
     ensures goes_on { GoesOn (allocator_of mini.old) (allocator_of mini.new) }
     ensures answers { Answers IsInvalidPlaceOrFull result (allocator_of mini.old)
         (allocator_of mini.new) }
 {
+    if mini.directory().allocator().is_failed() {
+        return Err(Error::Failed);
+    }
+    if len > mini.version().stream_len_mask() {
+        return Err(Error::InvalidInput);
+    }
+    if is_past_numbers(mini.version(), len) {
+        return Err(Error::Full);
+    }
     if len < u64::from(MINI_STREAM_CUTOFF) {
         return move_stream(alloc, mini, id, links, len);
     }

@@ -9,13 +9,13 @@ use Rattle.cfb_entries.proofs.Found.{found}
 use Rattle.cfb_entries.proofs.Telling.{both_cases, refusal, entry_lost, entry_answer, root_is, below_is, object_name, no_names, not_empty, some_names}
 use Rattle.cfb_entries.proofs.listing.entry_at.Goals as goal
 
-pub returns-in-Err : goal.returns-in-Err
-returns-in-Err c = λ tree h.
+pub returns-in-Err-clause-told : goal.returns-in-Err-clause-told
+returns-in-Err-clause-told c = λ tree h.
     let letters = letters_of c.args.letters.now in
     (tt, refusal letters tree (λ p. entry p) (entry_lost letters tree) c.args.path.now c.in-Err.error (c.in-Err.ensures.refused tree h))
 
-pub returns-then-is_empty : goal.returns-then-is_empty
-returns-then-is_empty c = λ tree h.
+pub returns-then-is_empty-clause-told : goal.returns-then-is_empty-clause-told
+returns-then-is_empty-clause-told c = λ tree h.
     let letters = letters_of c.args.letters.now in
     let directory = map entry_in c.args.entries.now in
     let names = c.in-Ok.found.0.items in
@@ -32,8 +32,8 @@ returns-then-is_empty c = λ tree h.
     ))
     (λ error memory. inl memory) c.root.ensures.listed c.root.ensures.error
 
-pub returns : goal.returns
-returns c = λ tree h.
+pub returns-clause-told : goal.returns-clause-told
+returns-clause-told c = λ tree h.
     let letters = letters_of c.args.letters.now in
     let directory = map entry_in c.args.entries.now in
     let names = c.in-Ok.found.0.items in

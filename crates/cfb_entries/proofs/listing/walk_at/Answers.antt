@@ -11,13 +11,13 @@ use Rattle.cfb_entries.proofs.Found.{found}
 use Rattle.cfb_entries.proofs.Telling.{refusal, walk_lost, walk_refused, walk_answer, top_prefix, object_name, some_names, top_told}
 use Rattle.cfb_entries.proofs.listing.walk_at.Goals as goal
 
-pub returns-in-Err : goal.returns-in-Err
-returns-in-Err c = λ tree h.
+pub returns-in-Err-clause-told : goal.returns-in-Err-clause-told
+returns-in-Err-clause-told c = λ tree h.
     let letters = letters_of c.args.letters.now in
     (tt, refusal letters tree (λ p. walk_storage p) (walk_lost letters tree) c.args.path.now c.in-Err.error (c.in-Err.ensures.refused tree h))
 
-pub returns-then-is_stream : goal.returns-then-is_stream
-returns-then-is_stream c = λ tree h.
+pub returns-then-is_stream-clause-told : goal.returns-then-is_stream-clause-told
+returns-then-is_stream-clause-told c = λ tree h.
     let letters = letters_of c.args.letters.now in
     let directory = map entry_in c.args.entries.now in
     let names = c.in-Ok.found.0.items in
@@ -26,8 +26,8 @@ returns-then-is_stream c = λ tree h.
     let it = found letters directory tree h (path_of names) id e leads at in
     (tt, inr (ap (answer_at letters tree (λ p. walk_storage p)) named ∙ walk_refused letters tree directory (path_of names) id e at it (sym c.is_stream.ensures ∙ c.if-is_stream.true)))
 
-pub returns-in-Err-top_of : goal.returns-in-Err-top_of
-returns-in-Err-top_of c = λ tree h.
+pub returns-in-Err-top_of-clause-told : goal.returns-in-Err-top_of-clause-told
+returns-in-Err-top_of-clause-told c = λ tree h.
     let letters = letters_of c.args.letters.now in
     let directory = map entry_in c.args.entries.now in
     let names = c.in-Ok.found.0.items in
@@ -41,8 +41,8 @@ returns-in-Err-top_of c = λ tree h.
       ]),
     )
 
-pub returns-in-Ok-walk : goal.returns-in-Ok-walk
-returns-in-Ok-walk c = λ tree h.
+pub returns-in-Ok-walk-clause-told : goal.returns-in-Ok-walk-clause-told
+returns-in-Ok-walk-clause-told c = λ tree h.
     let letters = letters_of c.args.letters.now in
     let directory = map entry_in c.args.entries.now in
     let names = c.in-Ok.found.0.items in
@@ -56,13 +56,13 @@ returns-in-Ok-walk c = λ tree h.
       (
         shown front it.object ∷ all_shown front (inside_of it.object),
         ap (answer_at letters tree (λ p. walk_storage p)) named ∙ walk_answer letters tree directory (path_of names) id e at it (sym c.is_stream.ensures ∙ c.if-is_stream.false),
-        ap (map listed_in) c.new.ensures ∙ (c.in-Ok-walk.ensures front (inside_of it.object) held prefix).0 ∙ ap (λ x. x ∷ map listed (all_shown front (inside_of it.object))) top,
+        ap (map listed_in) c.new.ensures ∙ (c.in-Ok-walk.ensures.told front (inside_of it.object) held prefix).0 ∙ ap (λ x. x ∷ map listed (all_shown front (inside_of it.object))) top,
       ),
       tt,
     )
 
-pub returns : goal.returns
-returns c = λ tree h.
+pub returns-clause-told : goal.returns-clause-told
+returns-clause-told c = λ tree h.
     let letters = letters_of c.args.letters.now in
     let directory = map entry_in c.args.entries.now in
     let names = c.in-Ok.found.0.items in
@@ -73,4 +73,4 @@ returns c = λ tree h.
     let front = stored_path (path_of names) it.object in
     let top = top_told letters tree directory names id e at it (listed_in c.in-Ok-top_of.top) c.deref.result.now c.deref.ensures.value c.in-Ok-top_of.ensures.root c.in-Ok-top_of.ensures.below in
     let prefix = ap prefix_of_listed top ∙ top_prefix letters tree directory (path_of names) id e at it in
-    (tt, inl ((c.in-Err-walk.ensures front (inside_of it.object) held prefix).1))
+    (tt, inl ((c.in-Err-walk.ensures.told front (inside_of it.object) held prefix).1))

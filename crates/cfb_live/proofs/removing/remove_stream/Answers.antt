@@ -20,7 +20,8 @@ use Rattle.cfb_live.proofs.Removals.{kind_of_object, step_missing, step_removed,
 use Rattle.cfb_live.proofs.Resting.{keeps_refl}
 use Rattle.cfb_live.proofs.SetFacts.{means_held}
 use Rattle.cfb_live.proofs.Streams.{reads}
-use Rattle.cfb_live.proofs.Taken.{leaf_at}
+use Rattle.cfb_live.proofs.Removed.{stream_held}
+use Rattle.cfb_live.proofs.Taken.{leaf_at, leaf_one}
 use Rattle.cfb_live.proofs.removing.remove_stream.Goals as goal
 
 pub returns-in-Err-find_child-clause-does : goal.returns-in-Err-find_child-clause-does
@@ -120,3 +121,33 @@ returns-clause-does g c = record {
   refused = tt;
   rests = tt;
 }
+
+pub returns-clause-freed : goal.returns-clause-freed
+returns-clause-freed g c = λ tree m.
+    let it = c.args.mini.now in
+    let l = letters_of c.args.letters.now in
+    let Reads = reads (live_of it) m.who in
+    let path = path_of c.deref.result.now in
+    let same : entries_in c.dir_entries.result.now ≡ entries_held (directory_of it) = c.dir_entries.ensures ∙ ap entries_held c.directory-2.ensures in
+    let held = means_held l it tree m in
+    let link = c.in-Ok-find_child.child.0 in
+    let id = c.in-Ok-find_child.child.1 in
+    let at = subst (λ es. IsChildAt l Reads es tree path link id) same (c.in-Ok-find_child.ensures.found Reads tree (subst (λ es. HoldsTree l (ReadBy Reads) es tree) (sym same) held)) in
+    let e = entry_in c.dir_entry.result.now in
+    let found : slice_get (entries_held (directory_of it)) id ≡ Some e = ap (λ d. slice_get (entries_held d) id) (sym c.directory-3.ensures) ∙ c.dir_entry.ensures in
+    let kind : e.kind ≡ kind_stream = c.is_stream.ensures.0 c.if-not-is_stream.false in
+    let some : 0 < length path = subst (λ n. 0 < n) (sym (length-path c.deref.result.now)) c.in-Ok-find_child.ensures.some in
+    let leaf = leaf_at l Reads (entries_held (directory_of it)) tree path link id some at e found (λ never. absurd (never kind)) in
+    let has = stream_held l it tree m id e (leaf_one l it tree m (parent_of path) (last_of path) link id leaf) found kind in
+    record {
+      names = path;
+      at_path = names_are c.args.path.now c.in-Ok.names.items c.in-Ok.ensures.names ∙ ap (λ ns. Some (path_of ns)) (sym c.deref.ensures.value);
+      id = id;
+      entry = e;
+      leads = at.leads;
+      found = found;
+      of_kind = kind;
+      content = has.0;
+      has = has.1;
+      gives = c.in_default.ensures.freed l tree (parent_of path) (last_of path) m leaf;
+    }

@@ -9,6 +9,7 @@ use Rattle.cfb_directory.specs.Views.{entries_held}
 use Rattle.cfb_mini.specs.Views.{allocator_of, directory_of}
 use Rattle.cfb_live.specs.Live.{live_of}
 use Rattle.cfb_live.proofs.EmptyStorages.{owns_nothing}
+use Rattle.cfb_live.proofs.GivenUp.{given_up}
 use Rattle.cfb_live.proofs.Removed.{root_there, stream_held}
 use Rattle.cfb_live.proofs.Standing.{stands_of}
 use Rattle.cfb_live.proofs.Streams.{reads}
@@ -106,3 +107,27 @@ returns-clause-ways g c = λ l tree path name m leaf.
     let has = stream_held l it tree m id e (leaf_one l it tree m path name c.args.link id leaf) found kind in
     let frees = c.in_default-free_stream.ensures.freed m.who e has.0 (stands_of l it tree m) found has.1 in
     keeps_way l it tree m path name c.args.link id leaf (entries_held (directory_of mid)) (entries_held (directory_of c.unlink_dir_entry-2.new.self)) frees.entries did.removed did.entry
+
+pub returns-then-not-is_stream-clause-freed : goal.returns-then-not-is_stream-clause-freed
+returns-then-not-is_stream-clause-freed g c = λ l tree path name m leaf.
+    let it = c.args.mini.now in
+    let id = c.args.id in
+    let e = entry_in c.dir_entry.result.now in
+    let found : slice_get (entries_held (directory_of it)) id ≡ Some e = ap (λ d. slice_get (entries_held d) id) (sym c.directory-2.ensures) ∙ c.dir_entry.ensures in
+    let never : e.kind ≡ kind_stream → ⊥ = λ kind. let wrong = c.is_stream.ensures.1 kind in let not = c.if-not-is_stream.true in absurd (cc) in
+    let frees = owns_nothing l it tree m id e found never in
+    given_up it c.unlink_dir_entry.new.self _ _ _ frees.now.sectors frees.freed frees.stands.owners
+    (c.in_default.ensures.changes frees.now.sectors frees.stands.owners (root_there it frees.now frees.stands) (leaf_below l it tree m path name c.args.link id leaf))
+
+pub returns-clause-freed : goal.returns-clause-freed
+returns-clause-freed g c = λ l tree path name m leaf.
+    let it = c.args.mini.now in
+    let mid = c.free_stream.new.mini in
+    let id = c.args.id in
+    let e = entry_in c.dir_entry.result.now in
+    let found : slice_get (entries_held (directory_of it)) id ≡ Some e = ap (λ d. slice_get (entries_held d) id) (sym c.directory-2.ensures) ∙ c.dir_entry.ensures in
+    let kind : e.kind ≡ kind_stream = c.is_stream.ensures.0 c.if-not-is_stream.false in
+    let has = stream_held l it tree m id e (leaf_one l it tree m path name c.args.link id leaf) found kind in
+    let frees = c.in_default-free_stream.ensures.freed m.who e has.0 (stands_of l it tree m) found has.1 in
+    given_up mid c.unlink_dir_entry-2.new.self _ _ _ frees.now.sectors frees.freed frees.stands.owners
+    (c.in_default-unlink_dir_entry.ensures.changes frees.now.sectors frees.stands.owners (root_there mid frees.now frees.stands) (leaf_below l it tree m path name c.args.link id leaf))

@@ -1,8 +1,10 @@
-use Rattle.std.proofs.Common.{sym, subst}
+use Rattle.std.proofs.Common.{length, sym, subst}
 use Rattle.cfb_sectors.proofs.Appending.{on_ok}
 use Rattle.cfb_streams.specs.declared.opening.StreamLinks.{StreamLinks}
 use Rattle.cfb_streams.specs.declared.opening.StreamLinks.TheVariants.{Long}
-use Rattle.cfb_writing.specs.Streams.{resized, HasNoLinks, LacksRoomFor, RewritesIn}
+use Rattle.cfb_writing.specs.Streams.{resized, HasNoLinks, IsPastNumbers, LacksRoomFor, RewritesIn}
+use Rattle.cfb_writing.proofs.ShortAt.{alike_refl}
+use Rattle.cfb_writing.proofs.Stretching.{past_lacks}
 use Rattle.cfb_writing.proofs.streams.resize_stream.Goals as goal
 
 pub returns-in-Long-clause-resized : goal.returns-in-Long-clause-resized
@@ -15,3 +17,36 @@ returns-in-Long-clause-refused g c = λ wrong. subst (λ (l : StreamLinks). HasN
 
 pub returns-in-Long-clause-full : goal.returns-in-Long-clause-full
 returns-in-Long-clause-full g c = λ wrong live. subst (λ (l : StreamLinks). LacksRoomFor c.args.id l c.args.len c.args.mini.now) (sym c.in-Long.is) (c.resize_long_stream.ensures.full wrong live)
+
+pub returns-then-is_past_numbers-clause-kept : goal.returns-then-is_past_numbers-clause-kept
+returns-then-is_past_numbers-clause-kept g c = λ live. alike_refl c.args.links.now
+
+pub returns-then-is_past_numbers-clause-full : goal.returns-then-is_past_numbers-clause-full
+returns-then-is_past_numbers-clause-full g c = λ full live letters tree path content at are.
+    let version = c.version-2.ensures in
+    let past = c.is_past_numbers.ensures.0 c.if-is_past_numbers.true in
+    past_lacks c.args.mini.now (length content) c.args.len (subst (λ v. IsPastNumbers v c.args.len) version past)
+
+pub returns-then-len-from-clause-spared : goal.returns-then-len-from-clause-spared
+returns-then-len-from-clause-spared g c = λ past.
+    let wrong = c.is_past_numbers.ensures.1 (subst (λ v. IsPastNumbers v c.args.len) (sym c.version-2.ensures) past) in
+    let not = c.if-is_past_numbers.false in
+    absurd (cc)
+
+pub returns-in-Long-clause-spared : goal.returns-in-Long-clause-spared
+returns-in-Long-clause-spared g c = λ past.
+    let wrong = c.is_past_numbers.ensures.1 (subst (λ v. IsPastNumbers v c.args.len) (sym c.version-2.ensures) past) in
+    let not = c.if-is_past_numbers.false in
+    absurd (cc)
+
+pub returns-in-Short-clause-spared : goal.returns-in-Short-clause-spared
+returns-in-Short-clause-spared g c = λ past.
+    let wrong = c.is_past_numbers.ensures.1 (subst (λ v. IsPastNumbers v c.args.len) (sym c.version-2.ensures) past) in
+    let not = c.if-is_past_numbers.false in
+    absurd (cc)
+
+pub returns-then-len-from-clause-full : goal.returns-then-len-from-clause-full
+returns-then-len-from-clause-full g c = λ wrong live. let failed = c.move_stream.ensures.full wrong in absurd (cc)
+
+pub returns-in-Short-clause-full : goal.returns-in-Short-clause-full
+returns-in-Short-clause-full g c = λ wrong live. let failed = c.move_stream-in-Short.ensures.full wrong in absurd (cc)

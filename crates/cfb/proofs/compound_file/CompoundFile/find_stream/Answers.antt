@@ -1,8 +1,10 @@
-use Rattle.std.proofs.Common.{Err, ap, subst, sym}
+use Rattle.std.proofs.Common.{Err, ap, refl, subst, sym}
 use Rattle.cfb_streams.specs.Content as lower
 use Rattle.cfb_streams.specs.Streams.{sectors_in, IsOfLevel}
 use Rattle.cfb.specs.Views.{mini_of}
 use Rattle.cfb.proofs.Holding.{holds_shown}
+use Rattle.cfb.proofs.StreamBytes.{sectors_found}
+use Rattle.cfb.proofs.Wants.{entry_cause}
 use Rattle.cfb.proofs.StreamsFound.{broken_so, bytes_found, lies_at, never_broken, none_ahead, refused_first, refused_so}
 use Rattle.cfb.proofs.compound_file.CompoundFile.find_stream.Goals as goal
 
@@ -64,3 +66,13 @@ returns-clause-bytes g c = λ tree h.
     (lies_at it c.args.path.now tree _ _ e.start e.size (sectors_in links) start size c.in-Ok-open_stream.ensures.sectors)
     (subst (λ n. IsOfLevel (mini_of it) n links) size c.in-Ok-open_stream.ensures.level) in
     ((bytes, answer, record { lies = subst (λ n. lower.HasContent (mini_of it) links n bytes) (sym size) has; ahead = none_ahead c.clear.new.self bytes c.clear.ensures.none }), tt)
+
+pub returns-in-Err-stream_place-clause-cause : goal.returns-in-Err-stream_place-clause-cause
+returns-in-Err-stream_place-clause-cause g c = entry_cause c.args.self.now c.in-Err-stream_place.error c.in-Err-stream_place.ensures.error
+
+pub returns-clause-found : goal.returns-clause-found
+returns-clause-found g c = λ (honest, memory).
+    let links = c.in-Ok-open_stream.links in
+    let told = c.in-Ok-open_stream.ensures in
+    let there = sectors_found (mini_of c.args.self.now) memory _ _ links told.sectors told.level honest in
+    record { lies = record { honest = honest; sectors = there.0; room = there.1; bytes = refl }; ahead = none_ahead c.clear.new.self _ c.clear.ensures.none }

@@ -1,7 +1,7 @@
 use mathlib.Core.Option.{some}
 use Rattle.std.proofs.Common.{◌≡◌, ◌∙◌, Ok, Err, ap, refl, subst, sym}
 use Rattle.cfb_medium.specs.declared.error.Error.TheVariants.{Failed}
-use Rattle.cfb.specs.Streams.{FindsStream, HasStream}
+use Rattle.cfb.specs.Streams.{bytes_found, FindsStream, HasStream}
 use Rattle.cfb.specs.Views.{Rests}
 use Rattle.cfb.proofs.StreamsFound.{carried}
 use Rattle.cfb.proofs.compound_file.CompoundFile.open_read_stream.Goals as goal
@@ -26,7 +26,10 @@ returns-in-Ok g c =
                 λ tree h.
                     let ((bytes, answer, has), done) = told.bytes tree h in
                     ((bytes, answer, carried (λ f n. HasStream f n bytes) _ _ _ _ file len has), tt),
-                λ failed. let never : Ok c.in-Ok.len ≡ Err Failed = told.failed failed in absurd (cc),
+                (
+                  λ true. carried (λ f n. HasStream f n (bytes_found f n)) _ _ _ _ file len (told.found true),
+                  (λ failed. let never : Ok c.in-Ok.len ≡ Err Failed = told.failed failed in absurd (cc), tt),
+                ),
               ),
             ),
           ),

@@ -19,3 +19,9 @@ returns-clause-resized g c = λ path tree content w. written_so c.args.self.now 
 
 pub returns-in-Err-clause-full : goal.returns-in-Err-clause-full
 returns-in-Err-clause-full g c = λ wrong live path tree content w. c.in-Err.ensures.full wrong live (letters_in c.args.self.now) tree path content w.at w.links
+
+pub returns-in-Err-clause-spared : goal.returns-in-Err-clause-spared
+returns-in-Err-clause-spared g c = λ past. (tt, λ path tree content w. written_kept c.args.self.now _ path tree c.args.id content w (c.in-Err.ensures.spared past).1 refl refl c.in-Err.ensures.kept w.ahead)
+
+pub returns-clause-spared : goal.returns-clause-spared
+returns-clause-spared g c = λ past. absurd (c.in_default.ensures.spared past).0

@@ -19,3 +19,9 @@ pub returns-in-Err-clause-full : goal.returns-in-Err-clause-full
 returns-in-Err-clause-full g c = λ wrong live.
     let it = c.args.self.now in
     inr (λ path tree content s. subst (λ n. LacksRoom (mini_of (file_under it)) n c.args.len) (sym s.len) (c.in-Err.ensures.full wrong live path tree content s.written))
+
+pub returns-in-Err-clause-spared : goal.returns-in-Err-clause-spared
+returns-in-Err-clause-spared g c = λ past. (tt, keeps_so c.args.self.now _ (c.in-Err.ensures.spared past).1 refl refl)
+
+pub returns-clause-spared : goal.returns-clause-spared
+returns-clause-spared g c = λ past. absurd (c.in_default.ensures.spared past).0

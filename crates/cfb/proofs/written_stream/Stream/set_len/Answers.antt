@@ -31,3 +31,17 @@ returns-clause-unchanged g c = λ wrong path tree content s. let past : stream_l
 pub returns-clause-full : goal.returns-clause-full
 returns-clause-full g c = λ wrong live.
     ⊎_elim (λ many. inl many) (λ lacks. inr (λ path tree content s. lacks path tree content (stands_as c.args.self.now _ refl refl refl path tree content s))) (c.resize.ensures.full wrong live)
+
+pub returns-then-is_failed-clause-spared : goal.returns-then-is_failed-clause-spared
+returns-then-is_failed-clause-spared g c = λ past. (tt, λ path tree content s. stands_as c.args.self.now _ refl refl refl path tree content s)
+
+pub returns-then-len-stream_len_mask-clause-spared : goal.returns-then-len-stream_len_mask-clause-spared
+returns-then-len-stream_len_mask-clause-spared g c = λ past. (tt, λ path tree content s. stands_as c.args.self.now _ refl refl refl path tree content s)
+
+pub returns-then-len-ge-TOO_MANY-clause-spared : goal.returns-then-len-ge-TOO_MANY-clause-spared
+returns-then-len-ge-TOO_MANY-clause-spared g c = λ past. (tt, λ path tree content s. stands_as c.args.self.now _ refl refl refl path tree content s)
+
+pub returns-clause-spared : goal.returns-clause-spared
+returns-clause-spared g c = λ past.
+    let spared = c.resize.ensures.spared past in
+    (spared.0, λ path tree content s. spared.1 path tree content (stands_as c.args.self.now _ refl refl refl path tree content s))

@@ -1,0 +1,49 @@
+-- The sectors in which a stream lay that was removed are given up.
+use Rattle.std.proofs.Common.{◌≡◌, ℕ, ◌<◌, ◌≤◌, List, sym, subst}
+use Rattle.cfb_chains.specs.Changes.{HaveEntry}
+use Rattle.cfb_entries.specs.Rules.{names_in}
+use Rattle.cfb_fat.specs.Tables.{fat_of}
+use Rattle.cfb_live.proofs.Freed.{is_long, is_short, one_chain, own_minis}
+use Rattle.cfb_live.proofs.Standing.{stands_of}
+use Rattle.cfb_live.specs.Freeing.{AreGivenUp, FreesAt}
+use Rattle.cfb_live.specs.Live as live
+use Rattle.cfb_live.specs.Live.{live_of}
+use Rattle.cfb_medium.specs.declared.medium.ReadMedium.{Ghosts}
+use Rattle.cfb_mini.specs.Views.{allocator_of, mini_fat_of}
+use Rattle.cfb_mini.specs.declared.mini_allocator.MiniAllocator.{MiniAllocator}
+use Rattle.cfb_owners.specs.Held.{HasStream}
+use Rattle.cfb_owners.specs.Owners.{stream_owner}
+use Rattle.cfb_sectors.specs.Header.{mini_cutoff}
+use Rattle.cfb_sectors.specs.Sectors.{free, Chain}
+use Rattle.cfb_streams.specs.Streams.{LiesIn}
+use Rattle.cfb_tree.specs.Directory.{Entry}
+use Rattle.cfb_tree.specs.Names.{Letters}
+use Rattle.cfb_tree.specs.Tree.{Tree}
+use Rattle.cfb.specs.Doing.{Means}
+use Rattle.cfb.specs.Removing.{GivesUpStream}
+use Rattle.cfb.specs.Views.{letters_in, mini_of}
+use Rattle.cfb.specs.declared.compound_file.CompoundFile.{CompoundFile}
+
+-- the sectors in which a stream lies are those that it owns
+module _ {F : Type 0} {g : Ghosts F} (letters : Letters) (it : MiniAllocator F g) (tree : Tree) (m : live.Means letters it tree) (id : ℕ) (e : Entry) (content : List ℕ) (has : HasStream (live_of it) m.who id e content) where
+  own_short : (minis : List ℕ) → LiesIn it e.start e.size minis → e.size < mini_cutoff → m.who.minis (stream_owner id) ≡ minis
+  own_short minis lies below =
+      let s = stands_of letters it tree m in
+      let at = is_short it m.who s id e content has below in
+      one_chain (mini_fat_of it) e.start (m.who.minis (stream_owner id)) minis
+      (subst (λ n. Chain (mini_fat_of it) n (m.who.minis (stream_owner id))) (sym at.1) (own_minis it m.who s (stream_owner id)).linked) (lies.short below).0
+
+  own_long : (sectors : List ℕ) → LiesIn it e.start e.size sectors → mini_cutoff ≤ e.size → m.who.sectors (stream_owner id) ≡ sectors
+  own_long sectors lies up =
+      let table = fat_of (allocator_of it) in
+      let at = is_long it m.who (stands_of letters it tree m) id e content has up in
+      one_chain table e.start (m.who.sectors (stream_owner id)) sectors
+      (subst (λ n. Chain table n (m.who.sectors (stream_owner id))) (sym at.1) (m.owners.owned.linked (stream_owner id))) (lies.long up).0
+
+pub given_up_so : {F : Type 0} {g : Ghosts F} (old new : CompoundFile F g) (text : List ℕ) (tree : Tree) (m : Means old tree) → FreesAt (letters_in old) (names_in text) (mini_of old) (mini_of new) m.live.who → GivesUpStream old new text
+given_up_so old new text tree m f = record {
+  entry = f.entry;
+  at_path = record { names = f.names; found = (f.at_path, f.id, f.leads, f.found); of_kind = f.of_kind };
+  short = λ minis lies below. subst (HaveEntry free (mini_fat_of (mini_of new))) (own_short (letters_in old) (mini_of old) tree m.live f.id f.entry f.content f.has minis lies below) f.gives.in_mini_fat;
+  long = λ sectors lies up. subst (λ l. AreGivenUp l (mini_of new)) (own_long (letters_in old) (mini_of old) tree m.live f.id f.entry f.content f.has sectors lies up) f.gives.in_fat;
+}

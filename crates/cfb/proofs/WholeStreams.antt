@@ -1,0 +1,66 @@
+-- A stream whose bytes are all read in one call.
+use Rattle.std.proofs.Common.{◌≡◌, ◌∙◌, ◌⊎◌, inl, inr, ℕ, List, length, take, ap, arith, subst, sym, ⊎_elim}
+use Rattle.std.proofs.lemmas.List.{take_all}
+use Rattle.cfb_chains.specs.ChainCalls.{IsInvalidPlace}
+use Rattle.cfb_meaning.specs.TreeRules.{refused, Answer}
+use Rattle.cfb_medium.specs.Calls.{IsFaultUnless}
+use Rattle.cfb_medium.specs.declared.error.Error.{Error}
+use Rattle.cfb_medium.specs.declared.error.Error.TheVariants.{InvalidData}
+use Rattle.cfb_medium.specs.declared.medium.ReadMedium.{Ghosts}
+use Rattle.cfb_mini.proofs.Longer.{mini_rests_then}
+use Rattle.cfb_streams.specs.Streams.{sectors_in, IsOfLevel, LiesIn}
+use Rattle.cfb.specs.Putting.{IsRefusedOpening}
+use Rattle.cfb.specs.Streams.{bytes_found, FindsStream, HasStream, IsBroken, IsTrueToBytes, IsUnread, IsWant, KeepsStream}
+use Rattle.cfb.specs.Views.{links_held, mini_of, Rests}
+use Rattle.cfb.specs.declared.compound_file.CompoundFile.{CompoundFile}
+use Rattle.cfb.proofs.StreamBytes.{content_len}
+use Rattle.cfb.proofs.Wants.{want_is}
+
+never_both : (e : Error) → IsInvalidPlace e → IsFaultUnless ⊥ e → ⊥
+never_both e place fault = elim place [ inl broken ↦ subst (IsFaultUnless ⊥) broken fault | inr input ↦ subst (IsFaultUnless ⊥) input fault ]
+
+pub place_is : (e : Error) → IsInvalidPlace e → IsRefusedOpening e
+place_is e = ⊎_elim (λ broken. inl broken) (λ input. inr (inl input))
+
+module _ {F : Type 0} {g : Ghosts F} (old : CompoundFile F g) (text : List ℕ) (answer : Answer) (e : Error) where
+  -- why it wasn't found
+  pub unfound : IsWant old e ⊎ (answer ≡ refused e) ⊎ ((e ≡ InvalidData) × IsBroken old text) → IsFaultUnless ⊥ e ⊎ (answer ≡ refused e) ⊎ IsUnread old text e
+  unfound = ⊎_elim (λ want. inl (want_is old e want)) (λ why. inr (⊎_elim (λ rule. inl rule) (λ broken. inr (inl broken)) why))
+
+  pub unfound_held : IsWant old e ⊎ (answer ≡ refused e) → IsFaultUnless ⊥ e ⊎ (answer ≡ refused e)
+  unfound_held = ⊎_elim (λ want. inl (want_is old e want)) (λ rule. inr rule)
+
+  -- why it wasn't read
+  pub unread : IsFaultUnless ⊥ e ⊎ IsInvalidPlace e → (IsTrueToBytes old → IsFaultUnless ⊥ e) → IsFaultUnless ⊥ e ⊎ (answer ≡ refused e) ⊎ IsUnread old text e
+  unread why read = ⊎_elim (λ fault. inl fault) (λ place. inr (inr (inr (place, λ true. never_both e place (read true))))) why
+
+-- all bytes that were read are the whole content
+pub all_read : {F : Type 0} {g : Ghosts F} (it : CompoundFile F g) (len : ℕ) (content now : List ℕ) → HasStream it len content → now ≡ take len content → now ≡ content
+all_read it len content now has is =
+    let size = content_len (mini_of it) (links_held it) len content has.lies in
+    is ∙ take_all len content (omega (arith, size))
+
+-- it was only read twice
+pub rests_twice : {F : Type 0} {g : Ghosts F} (a b c : CompoundFile F g) → Rests a b → Rests b c → Rests a c
+rests_twice a b c first second = record {
+  mini = mini_rests_then (mini_of a) (mini_of b) (mini_of c) first.mini second.mini;
+  letters = second.letters ∙ first.letters;
+  validation = second.validation ∙ first.validation;
+  sound = second.sound ∙ first.sound;
+  most = second.most ∙ first.most;
+}
+
+module _ {F : Type 0} {g : Ghosts F} (old mid new : CompoundFile F g) (text : List ℕ) (len : ℕ) (k : KeepsStream len mid new) (now : List ℕ) (long : length now ≡ len) where
+  -- it was found, and the file reads it yet
+  pub found_yet : FindsStream old mid text len → FindsStream old new text (length now)
+  found_yet f = record {
+    entry = f.entry;
+    at_path = f.at_path;
+    lies = subst (λ l. LiesIn (mini_of old) f.entry.start f.entry.size (sectors_in l)) (sym k.links) f.lies;
+    level = subst (λ l. IsOfLevel (mini_of old) f.entry.size l) (sym k.links) f.level;
+    has_size = long ∙ f.has_size;
+  }
+
+  -- its bytes are those of its sectors
+  pub bytes_yet : HasStream mid len (bytes_found mid len) → now ≡ bytes_found mid len → now ≡ bytes_found new (length now)
+  bytes_yet has is = is ∙ (k.content (bytes_found mid len) has).lies.bytes ∙ ap (bytes_found new) (sym long)
