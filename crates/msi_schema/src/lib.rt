@@ -16,7 +16,7 @@ mod values;
 
 pub use column::column_from_rows;
 pub use filled::are_filled;
-pub use fixed::{columns_columns, tables_columns};
+pub use fixed::{columns_columns, tables_columns, validation_columns};
 pub use index::rows_by_key;
 pub use laws::columns_are_read_by_their_rows;
 pub use schema::schema_tables;
