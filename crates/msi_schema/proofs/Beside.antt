@@ -213,16 +213,20 @@ in_alike columns validation columns' validation' table alike =
 
 -- ---- in another order
 
-pub moved : (columns columns' validation validation' : List (List Datum)) → IsPermutation columns columns' → IsPermutation validation validation'
-    → are_distinct (map (take 2) columns) ≡ true → are_distinct (map (take 2) validation) ≡ true → (table : List ℕ) → columns_in columns' validation' table ≡ columns_in columns validation table
-moved columns columns' validation validation' moves also once alone table =
+pub schema_moved : (columns columns' validation validation' : List (List Datum)) → IsPermutation columns columns' → IsPermutation validation validation'
+    → are_distinct (map (take 2) columns) ≡ true → are_distinct (map (take 2) validation) ≡ true → (table : List ℕ) → schema_of columns' validation' table ≡ schema_of columns validation table
+schema_moved columns columns' validation validation' moves also once alone table =
     let found : (name : List ℕ) → find (is_for table name) validation' ≡ find (is_for table name) validation = λ name.
     others_found table name validation' ∙ find_permuted (has_first 2 (text table ∷ text name ∷ [])) validation validation' also (single_first _ validation alone) ∙ sym (others_found table name validation) in
     let numbered : (n : ℕ) → find (is_number n) (filter (begins_with table) columns') ≡ find (is_number n) (filter (begins_with table) columns) = λ n.
     own_found table n columns' ∙ find_permuted (has_first 2 (text table ∷ number (pos n) ∷ [])) columns columns' moves (single_first _ columns once) ∙ sym (own_found table n columns) in
-    in_alike columns validation columns' validation' table
-    (schema_alike columns validation columns' validation' table (length_permuted (begins_with table) columns columns' moves)
-    (λ n. ap (option_and_then (column_read validation')) (numbered n) ∙ next_alike validation validation' columns table found n))
+    schema_alike columns validation columns' validation' table (length_permuted (begins_with table) columns columns' moves)
+    (λ n. ap (option_and_then (column_read validation')) (numbered n) ∙ next_alike validation validation' columns table found n)
+
+pub moved : (columns columns' validation validation' : List (List Datum)) → IsPermutation columns columns' → IsPermutation validation validation'
+    → are_distinct (map (take 2) columns) ≡ true → are_distinct (map (take 2) validation) ≡ true → (table : List ℕ) → columns_in columns' validation' table ≡ columns_in columns validation table
+moved columns columns' validation validation' moves also once alone table =
+    in_alike columns validation columns' validation' table (schema_moved columns columns' validation validation' moves also once alone table)
 
 -- ---- beside others
 
@@ -248,20 +252,23 @@ for_none table name (x ∷ xs) e = go (begins_with table x) refl e (for_none tab
     go true is e later = absurd (cc)
     go false is e later = ap (λ b. cond b (Some x) (find (is_for table name) xs)) (not_for x is) ∙ later e
 
-pub added : (columns more validation also : List (List Datum)) (table : List ℕ) → list_any (begins_with table) more ≡ false → list_any (begins_with table) also ≡ false
-    → columns_in (columns ++ more) (validation ++ also) table ≡ columns_in columns validation table
-added columns more validation also table none nor =
+pub schema_added : (columns more validation also : List (List Datum)) (table : List ℕ) → list_any (begins_with table) more ≡ false → list_any (begins_with table) also ≡ false
+    → schema_of (columns ++ more) (validation ++ also) table ≡ schema_of columns validation table
+schema_added columns more validation also table none nor =
     let own : filter (begins_with table) (columns ++ more) ≡ filter (begins_with table) columns =
     filter-append (begins_with table) columns more ∙ ap (λ xs. filter (begins_with table) columns ++ xs) (none_pass (begins_with table) more none) ∙ append-nil (filter (begins_with table) columns) in
     let found : (name : List ℕ) → find (is_for table name) (validation ++ also) ≡ find (is_for table name) validation = λ name.
     find-append (is_for table name) validation also ∙ ap (option_or (find (is_for table name) validation)) (for_none table name also nor) ∙ or_none (find (is_for table name) validation) in
-    in_alike columns validation (columns ++ more) (validation ++ also) table
-    (schema_alike columns validation (columns ++ more) (validation ++ also) table (ap length own)
-    (λ n. ap (λ rows. next (validation ++ also) rows n) own ∙ next_alike validation (validation ++ also) columns table found n))
+    schema_alike columns validation (columns ++ more) (validation ++ also) table (ap length own)
+    (λ n. ap (λ rows. next (validation ++ also) rows n) own ∙ next_alike validation (validation ++ also) columns table found n)
   where
     or_none : {A : Type 0} (o : Option A) → option_or o None ≡ o
     or_none None = refl
     or_none (Some x) = refl
+
+pub added : (columns more validation also : List (List Datum)) (table : List ℕ) → list_any (begins_with table) more ≡ false → list_any (begins_with table) also ≡ false
+    → columns_in (columns ++ more) (validation ++ also) table ≡ columns_in columns validation table
+added columns more validation also table none nor = in_alike columns validation (columns ++ more) (validation ++ also) table (schema_added columns more validation also table none nor)
 
 -- ---- without others
 
@@ -269,7 +276,7 @@ abbrev without : List ℕ → List (List Datum) → List (List Datum)
 without other rows = filter (λ row. not (begins_with other row)) rows
 
 -- a row begins with one name alone
-begins_once : (table other : List ℕ) → bytes_eq table other ≡ false → (row : List Datum) → begins_with other row ≡ true → begins_with table row ≡ false
+pub begins_once : (table other : List ℕ) → bytes_eq table other ≡ false → (row : List Datum) → begins_with other row ≡ true → begins_with table row ≡ false
 begins_once table other apart [] e = refl
 begins_once table other apart (null ∷ ds) e = refl
 begins_once table other apart (number z ∷ ds) e = refl
@@ -306,10 +313,14 @@ for_without table other name apart (x ∷ xs) = go (begins_with other x) refl (f
     go true is later = later ∙ ap (λ b. cond b (Some x) (find (is_for table name) xs)) (sym (not_for x (begins_once table other apart x is)))
     go false is later = ap (cond (is_for table name x) (Some x)) later
 
+pub schema_taken : (columns validation : List (List Datum)) (table other : List ℕ) → bytes_eq table other ≡ false
+    → schema_of (without other columns) (without other validation) table ≡ schema_of columns validation table
+schema_taken columns validation table other apart =
+    let own = own_without table other apart columns in
+    schema_alike columns validation (without other columns) (without other validation) table (ap length own)
+    (λ n. ap (λ rows. next (without other validation) rows n) own ∙ next_alike validation (without other validation) columns table (λ name. for_without table other name apart validation) n)
+
 pub taken : (columns validation : List (List Datum)) (table other : List ℕ) → bytes_eq table other ≡ false
     → columns_in (without other columns) (without other validation) table ≡ columns_in columns validation table
 taken columns validation table other apart =
-    let own = own_without table other apart columns in
-    in_alike columns validation (without other columns) (without other validation) table
-    (schema_alike columns validation (without other columns) (without other validation) table (ap length own)
-    (λ n. ap (λ rows. next (without other validation) rows n) own ∙ next_alike validation (without other validation) columns table (λ name. for_without table other name apart validation) n))
+    in_alike columns validation (without other columns) (without other validation) table (schema_taken columns validation table other apart)
