@@ -1,6 +1,6 @@
 //! Laws of the definitions, each the contract of a function.
-ghost use Rattle.std.specs.Prelude.{◌≡◌, ◌↔◌, ◌<◌, ◌^◌, ◌==◌, ◌∷◌, [], ℕ, All, Bool, true, false, IsTrue, List, None, Ok, Option, Some, chars, encode_utf8_all, filter, length, map, not, option_map, slice_get, IsUtf8};
-ghost use Rattle.std.specs.List.{list_all, remove};
+ghost use Rattle.std.specs.Prelude.{◌≡◌, ◌↔◌, ◌<◌, ◌^◌, ◌==◌, ◌∷◌, ◌++◌, [], ℕ, All, Bool, true, false, IsTrue, List, None, Ok, Option, Some, chars, encode_utf8_all, filter, find, is_none, length, map, not, option_map, slice_get, take, IsUtf8};
+ghost use Rattle.std.specs.List.{list_all, list_any, remove};
 ghost use Rattle.std.specs.List.Sorted.{IsStrictlySortedBy};
 ghost use Rattle.std.specs.Str.{is_utf8};
 ghost use Rattle.cfb_tree.specs.Changes.{with_bytes, with_changed, with_child};
@@ -19,10 +19,11 @@ ghost use Rattle.msi_pool.specs.Pool.{Pool};
 ghost use Rattle.msi_pool.specs.PoolKept.{AreFreeEmpty, IsWritable};
 ghost use Rattle.msi_props.specs.Props.{Props};
 ghost use Rattle.msi_tables.specs.Rows.{rows_of, IsStored, Row};
-ghost use Rattle.msi_tables.specs.Table.{IsStoredByKeys, Table};
+ghost use Rattle.msi_tables.specs.Schema.{are_keys, begins_with, columns_rows, is_filled, is_for, schema_of, validation_row};
+ghost use Rattle.msi_tables.specs.Table.{has_key, IsStoredByKeys, Table};
 ghost use Rattle.msi_meaning.specs.Back.{CanBeStored, ComeBack};
 ghost use Rattle.msi_values.specs.Datum.{Datum};
-ghost use Rattle.msi_meaning.specs.Calls.{Creates, Deletes, Drops, Inserts, HasOneAnswer, Updates};
+ghost use Rattle.msi_meaning.specs.Calls.{is_kept, names_distinct, Creates, Deletes, Drops, Inserts, HasOneAnswer, Updates};
 ghost use Rattle.msi_meaning.specs.Fit.{is_fit_pool};
 ghost use Rattle.msi_meaning.specs.Known.{HaveColumns, HaveRows, package_with, Parts};
 ghost use Rattle.msi_meaning.specs.Opening.{is_encoded, may_use, opened};
@@ -181,4 +182,31 @@ pub fn encoded_names_are_told_by_their_characters()
         → list_all is_encoded (stream_name name) ≡ true }
     ensures apart { (one other : List ℕ) → is_identifier one ≡ true → is_identifier other ≡ true
         → stream_name one ≡ stream_name other → one ≡ other }
+{}
+
+/// The rows that describe the columns of a new table, put behind others, are read as these columns: where no row of _Columns speaks
+/// of the table yet, none of _Validation of its columns, their names differ and each can be stored.
+pub fn new_columns_are_read()
+    ensures { (columns validation : List (List Datum)) (table : List ℕ) (cs : List Column)
+        → not (length cs == 0) ≡ true → list_any (begins_with table) columns ≡ false
+        → list_all (λ c. is_none (find (is_for table c.name) validation)) cs ≡ true
+        → list_all is_kept cs ≡ true → names_distinct cs ≡ true
+        → schema_of (columns ++ columns_rows table 1 cs)
+        (validation ++ map (validation_row table) cs) table ≡ Some cs }
+{}
+
+/// The rows that describe the columns of a new table speak of it, with keys of their own: those of _Columns have no null, and those
+/// of _Validation are apart from rows that say nothing of these columns.
+pub fn new_rows_have_keys()
+    ensures columns { (table : List ℕ) (n : ℕ) (cs : List Column)
+        → (are_keys (map (take 2) (columns_rows table n cs)) ≡ true)
+        × (list_all (list_all is_filled) (columns_rows table n cs) ≡ true)
+        × (list_all (begins_with table) (columns_rows table n cs) ≡ true) }
+    ensures validation { (table : List ℕ) (cs : List Column) → names_distinct cs ≡ true
+        → (are_keys (map (take 2) (map (validation_row table) cs)) ≡ true)
+        × (list_all (begins_with table) (map (validation_row table) cs) ≡ true) }
+    ensures apart { (table : List ℕ) (rows : List (List Datum)) (cs : List Column)
+        → list_all (λ c. is_none (find (is_for table c.name) rows)) cs ≡ true
+        → list_all (λ key. not (has_key (map (take 2) (map (validation_row table) cs)) key))
+        (map (take 2) rows) ≡ true }
 {}

@@ -19,7 +19,7 @@ use Rattle.msi_schema.specs.Index.{Index, IsIndex, Key, has_first, held_cmp, row
 
 -- ---- keys of a list with one more behind
 
-one_key : (x y : List Datum) → is_eq (key_cmp x y) ≡ is_eq (key_cmp y x)
+pub one_key : (x y : List Datum) → is_eq (key_cmp x y) ≡ is_eq (key_cmp y x)
 one_key x y = ap is_eq ((lists_total datum_cmp_total).antisymm x y) ∙ turned_equal (key_cmp y x)
 
 has_behind : (xs : List (List Datum)) (k q : List Datum) → has_key (xs ++ k ∷ []) q ≡ (has_key xs q || is_eq (key_cmp k q))

@@ -22,7 +22,7 @@ use Rattle.msi_schema.specs.Columns.{column_by, head_in, number_in, text_in}
 use Rattle.msi_schema.specs.Index.{has_first}
 use Rattle.msi_schema.proofs.Rows.{headless}
 
-less_then : (o : Ordering) (p : Ordering) → is_eq (ordering_then o p) ≡ (is_eq o && is_eq p)
+pub less_then : (o : Ordering) (p : Ordering) → is_eq (ordering_then o p) ≡ (is_eq o && is_eq p)
 less_then Less p = refl
 less_then Equal p = refl
 less_then Greater p = refl
@@ -38,7 +38,7 @@ and_true false = refl
 same_number : (m n : ℕ) → is_eq (int_cmp (pos m) (pos n)) ≡ (m == n)
 same_number m n = grind (arith, nat_tests)
 
-same_text : (s t : List ℕ) → is_eq (slice_cmp nat_cmp s t) ≡ bytes_eq s t
+pub same_text : (s t : List ℕ) → is_eq (slice_cmp nat_cmp s t) ≡ bytes_eq s t
 same_text = is_eq-slice_cmp
 
 -- what stands behind a text
