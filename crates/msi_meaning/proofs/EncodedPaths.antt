@@ -159,17 +159,21 @@ spelled_name_some : (table : Bool) (cs : List ℕ) → 0 < length cs → 0 < len
 spelled_name_some true cs some = omega arith
 spelled_name_some false cs some = spelled_some cs some
 
+pub path_filled : (table : Bool) (name : List ℕ) → IsUtf8 name → 0 < length (spelled_name table (chars name)) → list_all is_no_slash name ≡ true
+    → option_map (map chars) (path_names (encode_utf8_all (spelled_name table (chars name)))) ≡ Some (spelled_name table (chars name) ∷ [])
+path_filled table name utf8 some no_slash =
+    let cs = chars name in
+    let fit : list_all is_no_slash cs ≡ true = chars_fit cs (ap (list_all is_no_slash) (encodes-chars name utf8) ∙ no_slash) in
+    let text = encode_utf8_all (spelled_name table cs) in
+    let long : 0 < length text = omega (arith, some, length-le-encodes (spelled_name table cs)) in
+    ap (option_map (map chars)) (one_name text long (bytes_fit (spelled_name table cs) (spelled_name_fit table cs fit)))
+    ∙ ap (λ (cs : List ℕ). Some (cs ∷ [])) (chars-encodes (spelled_name table cs) (scalars-spelled_name table cs (scalars-chars name utf8)))
+
 pub path_is : (table : Bool) (name : List ℕ) → IsUtf8 name → 0 < length name → list_all is_no_slash name ≡ true
     → option_map (map chars) (path_names (encode_utf8_all (spelled_name table (chars name)))) ≡ Some (spelled_name table (chars name) ∷ [])
 path_is table name utf8 some no_slash =
     let cs = chars name in
-    let bytes : encode_utf8_all cs ≡ name = encodes-chars name utf8 in
-    let fit : list_all is_no_slash cs ≡ true = chars_fit cs (ap (list_all is_no_slash) bytes ∙ no_slash) in
-    let filled : 0 < length cs = some_chars cs (omega (arith, some, ap length bytes)) in
-    let text = encode_utf8_all (spelled_name table cs) in
-    let long : 0 < length text = omega (arith, spelled_name_some table cs filled, length-le-encodes (spelled_name table cs)) in
-    ap (option_map (map chars)) (one_name text long (bytes_fit (spelled_name table cs) (spelled_name_fit table cs fit)))
-    ∙ ap (λ (cs : List ℕ). Some (cs ∷ [])) (chars-encodes (spelled_name table cs) (scalars-spelled_name table cs (scalars-chars name utf8)))
+    path_filled table name utf8 (spelled_name_some table cs (some_chars cs (omega (arith, some, ap length (encodes-chars name utf8))))) no_slash
 
 abbrev IsPath : List ℕ → Type 0
 IsPath name = option_map (map chars) (path_names name) ≡ Some (name ∷ [])

@@ -33,7 +33,7 @@ kind_back Installer = refl
 kind_back Patch = refl
 kind_back Transform = refl
 
-summary_back : (bytes : List ℕ) (s : Props) → props_read bytes ≡ Ok s → s.format ≡ summary_format → summary_read bytes ≡ Ok s
+pub summary_back : (bytes : List ℕ) (s : Props) → props_read bytes ≡ Ok s → s.format ≡ summary_format → summary_read bytes ≡ Ok s
 summary_back bytes s read format =
     then_ok (props_read bytes) s (λ s. unless_not (bytes_eq s.format summary_format) InvalidData >>= λ _. Ok s) read
     ∙ ap (λ b. unless_not b InvalidData >>= λ _. Ok s) (ap (λ f. bytes_eq f summary_format) format ∙ bytes_same summary_format)

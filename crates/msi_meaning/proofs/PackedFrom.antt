@@ -33,7 +33,7 @@ abbrev good : {A : Type 0} → A → Result A Error → Option A
 good d (Ok z) = Some z
 good d (Err _) = Some d
 
-found : {A : Type 0} (o : Option A) (e : Error) (x : A) → or_refused o e ≡ Ok x → o ≡ Some x
+pub found : {A : Type 0} (o : Option A) (e : Error) (x : A) → or_refused o e ≡ Ok x → o ≡ Some x
 found None e x h = absurd (cc)
 found (Some y) e x h = ap (good y) h
 
@@ -42,7 +42,7 @@ props_in d (Ok x) = x
 props_in d (Err _) = d
 
 -- what a summary that was read is
-summary_parts : (bytes : List ℕ) (s : Props) → summary_read bytes ≡ Ok s → (props_read bytes ≡ Ok s) × (s.format ≡ summary_format)
+pub summary_parts : (bytes : List ℕ) (s : Props) → summary_read bytes ≡ Ok s → (props_read bytes ≡ Ok s) × (s.format ≡ summary_format)
 summary_parts bytes s e =
     let p = parts (props_read bytes) (λ s. unless_not (bytes_eq s.format summary_format) InvalidData >>= λ _. Ok s) s e in
     let q = parts (unless_not (bytes_eq p.0.format summary_format) InvalidData) (λ _. Ok p.0) s p.2 in
@@ -51,7 +51,7 @@ summary_parts bytes s e =
       subst (λ (x : Props). x.format ≡ summary_format) same (same_bytes p.0.format summary_format (passed (bytes_eq p.0.format summary_format) InvalidData q.0 q.1)),
     )
 
-some_rows : (r s : List Row) → Some r ≡ Some s → r ≡ s
+pub some_rows : (r s : List Row) → Some r ≡ Some s → r ≡ s
 some_rows r s e = ap (λ o. unwrap_or o []) e
 
 module _ (letters : Letters) (tree : Tree) where

@@ -1,5 +1,5 @@
 -- A package: what the streams of a container stand for.
-use Rattle.std.specs.Prelude.{◌≡◌, ℕ, Bool, true, false, not, ◌&&◌, ◌||◌, List, [], ◌∷◌, map, filter, Option, Some, None, ◌↔◌, option_and_then, unwrap_or, Ok, bytes_eq, find, codes, All, Contains, IsTrue, chars}
+use Rattle.std.specs.Prelude.{◌≡◌, ◌==◌, if◌then◌else◌, ℕ, Bool, true, false, not, ◌&&◌, ◌||◌, List, [], ◌∷◌, map, filter, Option, Some, None, ◌↔◌, option_and_then, unwrap_or, Ok, bytes_eq, find, codes, All, Contains, IsTrue, chars}
 use Rattle.std.specs.List.{list_any}
 use Rattle.std.specs.List.Sorted.{IsStrictlySortedBy}
 use Rattle.std.specs.Cmp.Lexicographic.{slice_cmp}
@@ -80,6 +80,10 @@ data_name = codes "_StringData"
 abbrev pub stream_name : List ℕ → List ℕ
 stream_name name = spelled_name true (chars name)
 
+-- a slash, as a byte of the name
+abbrev pub has_slash : List ℕ → Bool
+has_slash name = list_any (λ b. b == 47) name
+
 -- the rows of a table as values
 abbrev pub rows_named : Package → List ℕ → List (List Datum)
 rows_named P name = data_rows P.pool (table_named P.tables name)
@@ -97,9 +101,9 @@ module _ (letters : Letters) where
   abbrev pub stream_at : List Object → List ℕ → Option (List ℕ)
   stream_at objects name = option_and_then object_bytes (at_name objects name)
 
-  -- the stream of a table
+  -- the stream of a table; a name with a slash has none, since a path of it leads elsewhere
   abbrev pub table_stream : List Object → List ℕ → Option (List ℕ)
-  table_stream objects name = stream_at objects (stream_name name)
+  table_stream objects name = if has_slash name then None else stream_at objects (stream_name name)
 
   -- the streams of the database itself
   abbrev pub is_own : Package → Object → Bool

@@ -10,7 +10,7 @@ use Rattle.std.specs.Str.{IsAscii}
 use Rattle.std.specs.Prelude.{encode_utf8_all}
 use Rattle.std.proofs.lemmas.Str.{chars-encodes}
 use lib.Utf8.{scalars, scalar}
-use Rattle.msi_meaning.specs.Package.{stream_name}
+use Rattle.msi_meaning.specs.Package.{has_slash, stream_name}
 use Rattle.msi_texts.specs.Category.{is_identifier, begins_name, is_name_byte}
 use Rattle.msi_texts.specs.StreamName.{is_valid_name, is_between, spelled, letter_value, table_prefix}
 
@@ -33,6 +33,19 @@ ascii_bytes (b ∷ bs) e =
     below : b < 128 → IsAscii bs → IsAscii (b ∷ bs)
     below first later zero = first
     below first later (suc i) = later i
+
+-- none of its bytes is a slash
+pub no_slash : (name : List ℕ) → is_identifier name ≡ true → has_slash name ≡ false
+no_slash name e = of_bytes name (name_bytes name e)
+  where
+    no_byte : (b : ℕ) → is_name_byte b ≡ true → (b == 47) ≡ false
+    no_byte b e = grind (arith, nat_tests, e)
+
+    of_bytes : (bs : List ℕ) → list_all is_name_byte bs ≡ true → has_slash bs ≡ false
+    of_bytes [] e = refl
+    of_bytes (b ∷ bs) e =
+        let both = and_parts (is_name_byte b) (list_all is_name_byte bs) e in
+        rw (no_byte b both.0, of_bytes bs both.1) refl
 
 -- its characters are its bytes
 pub name_chars : (name : List ℕ) → is_identifier name ≡ true → chars name ≡ name

@@ -45,7 +45,7 @@ use lib.Utf8.{encode}
 use Rattle.cfb_tree.specs.Names.{name_key, letter}
 use Rattle.std.proofs.lemmas.Str.{IsUtf8-from_ascii, is_utf8-from_IsUtf8}
 use Rattle.msi_texts.specs.declared.codepage.CodePage.TheVariants as page
-use Rattle.one_table.proofs.Identifiers.{ascii_bytes, name_bytes}
+use Rattle.one_table.proofs.Identifiers.{no_slash, ascii_bytes, name_bytes}
 use Rattle.msi_columns.specs.declared.column.ColumnType.TheVariants as kind
 use Rattle.one_table.specs.Contents.{key_row}
 use Rattle.one_table.proofs.KeyRows.{key_rows, columns_read, tables_read}
@@ -115,7 +115,7 @@ at_only t kept =
     own_found (Some t) t.name id ∙ rw (free.columns, free.tables, free.strings, free.pool) refl in
     let new = find_new (name_cmp ascii_letters) (λ s. s.name) (has_name (stream_name t.name)) (named (stream_name t.name) (keys_bytes t.keys)) (own_streams (Some t))
     (same_itself ascii_letters (stream_name t.name)) none in
-    rw (stream_found (stream_name t.name) (streams_of (Some t)), new) refl
+    rw (no_slash t.name id, stream_found (stream_name t.name) (streams_of (Some t)), new) refl
 
 -- ---- all tables, also with the one among them
 

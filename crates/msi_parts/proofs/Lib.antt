@@ -1,0 +1,9 @@
+pub mod Shapes
+pub mod Memory
+pub mod Marked
+pub mod Judging
+pub mod OpenedParts
+pub mod Collected
+pub mod Columns
+pub mod Touching
+pub mod Listed

@@ -1,0 +1,4 @@
+pub mod Held
+pub mod Judged
+pub mod Parts
+pub mod Whole

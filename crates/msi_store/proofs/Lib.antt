@@ -1,0 +1,4 @@
+pub mod Faults
+pub mod Told
+pub mod Keys
+pub mod Placed

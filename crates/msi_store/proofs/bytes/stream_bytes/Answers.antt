@@ -1,0 +1,31 @@
+use Rattle.std.proofs.Common.{inl, inr}
+use Rattle.std.specs.Prelude.{chars}
+use Rattle.cfb.proofs.Holding.{holds_shown}
+use Rattle.cfb.specs.Views.{letters_in, mini_of}
+use Rattle.cfb_mini.specs.Views.{allocator_of}
+use Rattle.msi_stored.proofs.Children.{none_of, refused_of, some_of}
+use Rattle.msi_store.proofs.Faults.{cause_as, fault_as, kind_as}
+use Rattle.msi_store.proofs.bytes.stream_bytes.Goals as goal
+
+pub returns-then-not-is_stream-clause-told : goal.returns-then-not-is_stream-clause-told
+returns-then-not-is_stream-clause-told g c tree held =
+    none_of (letters_in c.args.file.now) tree c.args.name.now (chars c.args.name.now) c.requires c.is_stream.result c.if-not-is_stream.true
+    (c.is_stream.ensures tree (holds_shown c.args.file.now tree held))
+
+pub returns-in-Ok-clause-told : goal.returns-in-Ok-clause-told
+returns-in-Ok-clause-told g c tree held =
+    some_of (letters_in c.args.file.now) tree c.args.name.now (chars c.args.name.now) c.requires c.in-Ok.bytes.items (c.in-Ok.ensures.bytes tree held)
+
+pub returns-in-Err-clause-told : goal.returns-in-Err-clause-told
+returns-in-Err-clause-told g c tree held = fault_as c.in-Err.error c.as_broken.result c.as_broken.ensures (elim (c.in-Err.ensures.refused tree held) [
+  | inl fault ↦ fault
+  | inr answer ↦ absurd (refused_of (letters_in c.args.file.now) tree c.args.name.now (chars c.args.name.now) c.requires c.is_stream.result c.in-Err.error c.if-not-is_stream.false
+      (c.is_stream.ensures tree (holds_shown c.args.file.now tree held)) answer)
+])
+
+pub returns-in-Err-clause-cause : goal.returns-in-Err-clause-cause
+returns-in-Err-clause-cause g c =
+    cause_as c.in-Err.error c.as_broken.result c.as_broken.ensures (allocator_of (mini_of c.args.file.now)) (allocator_of (mini_of c.read_stream.new.self)) c.in-Err.ensures.cause.0
+
+pub returns-in-Err-clause-error : goal.returns-in-Err-clause-error
+returns-in-Err-clause-error g c = kind_as c.in-Err.error c.as_broken.result c.as_broken.ensures

@@ -1,0 +1,46 @@
+use Rattle.std.proofs.Common.{◌∙◌, [], ap, sym, subst, inl, Some, None, option_map}
+use Rattle.cfb.specs.Views.{letters_in, mini_of}
+use Rattle.cfb_mini.specs.Views.{allocator_of}
+use Rattle.msi_meaning.specs.Package.{objects, table_stream}
+use Rattle.msi_tables.specs.Held.{heading_of}
+use Rattle.msi_tables.specs.Rows.{IsRead, kinds_of}
+use Rattle.msi_store.proofs.Told.{few_rows, read_cause, rows_told}
+use Rattle.msi_store.proofs.rows.rows_of_table.Goals as goal
+
+pub returns-in-Ok-Some-clause-told : goal.returns-in-Ok-Some-clause-told
+returns-in-Ok-Some-clause-told g c tree held =
+    let letters = letters_in c.args.file.now in
+    let h = heading_of c.args.table.now in
+    rows_told letters tree h (Some c.in-Ok-Some.bytes.items) c.read_rows.result
+    (ap (table_stream letters (objects tree.content)) (sym c.name.ensures) ∙ c.in-Ok-Some.ensures.told tree held ∙ ap (option_map (λ bytes. bytes.items)) c.in-Ok-Some.field-0-is)
+    (subst (λ bytes. IsRead h.long (kinds_of h.columns) bytes c.read_rows.result) c.deref.ensures.value c.read_rows.ensures.read)
+
+pub returns-in-Ok-Some-clause-few : goal.returns-in-Ok-Some-clause-few
+returns-in-Ok-Some-clause-few g c =
+    let h = heading_of c.args.table.now in
+    few_rows h.long (kinds_of h.columns) c.deref.result.now c.read_rows.result c.read_rows.ensures.read
+
+pub returns-in-Ok-Some-clause-cause : goal.returns-in-Ok-Some-clause-cause
+returns-in-Ok-Some-clause-cause g c =
+    let h = heading_of c.args.table.now in
+    read_cause (allocator_of (mini_of c.args.file.now)) (allocator_of (mini_of c.table_bytes.new.file)) h.long (kinds_of h.columns) c.deref.result.now c.read_rows.result c.read_rows.ensures.read
+
+pub returns-in-Ok-None-clause-told : goal.returns-in-Ok-None-clause-told
+returns-in-Ok-None-clause-told g c tree held =
+    let letters = letters_in c.args.file.now in
+    rows_told letters tree (heading_of c.args.table.now) None c.read_rows-in-Ok-None.result
+    (ap (table_stream letters (objects tree.content)) (sym c.name.ensures) ∙ c.in-Ok-None.ensures.told tree held ∙ ap (option_map (λ bytes. bytes.items)) c.in-Ok-None.field-0-is)
+    c.read_rows-in-Ok-None.ensures.read
+
+pub returns-in-Ok-None-clause-few : goal.returns-in-Ok-None-clause-few
+returns-in-Ok-None-clause-few g c =
+    let h = heading_of c.args.table.now in
+    few_rows h.long (kinds_of h.columns) [] c.read_rows-in-Ok-None.result c.read_rows-in-Ok-None.ensures.read
+
+pub returns-in-Ok-None-clause-cause : goal.returns-in-Ok-None-clause-cause
+returns-in-Ok-None-clause-cause g c =
+    let h = heading_of c.args.table.now in
+    read_cause (allocator_of (mini_of c.args.file.now)) (allocator_of (mini_of c.table_bytes.new.file)) h.long (kinds_of h.columns) [] c.read_rows-in-Ok-None.result c.read_rows-in-Ok-None.ensures.read
+
+pub returns-in-Err-clause-told : goal.returns-in-Err-clause-told
+returns-in-Err-clause-told g c tree held = inl (c.in-Err.ensures.told tree held)

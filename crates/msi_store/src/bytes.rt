@@ -1,0 +1,85 @@
+//! The bytes of streams under the root, by their names.
+ghost use Rattle.std.specs.Prelude.{◌≡◌, ◌⊎◌, ◌∷◌, [], chars, option_map, unwrap_or, IfErr, MatchResult, Some};
+ghost use Rattle.cfb.specs.Streams.{Holds};
+ghost use Rattle.cfb.specs.Views.{letters_in, mini_of, Rests};
+ghost use Rattle.cfb_entries.specs.Rules.{names_in};
+ghost use Rattle.cfb_fat.specs.Tables.{HasCauseBelow};
+ghost use Rattle.cfb_medium.specs.Calls.{IsFaultUnless};
+ghost use Rattle.cfb_medium.specs.declared.error.Error.TheVariants.{InvalidData};
+ghost use Rattle.cfb_mini.specs.Views.{allocator_of};
+ghost use Rattle.cfb_tree.specs.Tree.{Tree};
+ghost use Rattle.msi_meaning.specs.Package.{has_slash, objects, stream_at, table_stream};
+ghost use Rattle.msi_store.specs.Broken.{IsAsBroken};
+
+use cfb::CompoundFile;
+use cfb_medium::{Error, ReadMedium};
+use msi_texts::encode;
+use std::alloc::Global;
+
+/// All bytes of the stream under the root that has this name in the container; none where no stream is there. `InvalidData`
+/// where its chain breaks; the other errors are faults. The file is only read.
+pub fn stream_bytes<F: ReadMedium>(
+    file: &mut CompoundFile<F>,
+    name: &str,
+) -> Result<Option<Vec<u8>>, Error>
+    requires { names_in name.now ≡ Some (chars name.now ∷ []) }
+    ensures told { (tree : Tree) → Holds file.old tree → MatchResult result (λ found.
+        stream_at (letters_in file.old) (objects tree.content) (chars name.now)
+        ≡ option_map (λ bytes. bytes.items) found) (IsFaultUnless ⊥) }
+    ensures rests { Rests file.old file.new }
+    ensures cause { IfErr result (HasCauseBelow (allocator_of (mini_of file.old))
+        (allocator_of (mini_of file.new))) }
+    ensures error { IfErr result (λ e. IsFaultUnless ⊥ e ⊎ (e ≡ InvalidData)) }
+{
+    if !file.is_stream(name) {
+        return Ok(None);
+    }
+    match file.read_stream(name) {
+        Ok(bytes) => Ok(Some(bytes)),
+        Err(error) => Err(as_broken(error)),
+    }
+}
+
+// What isn't a fault, as the refusal of a stream whose chain breaks.
+fn as_broken(error: Error) -> Error
+    ensures { IsAsBroken error result }
+{
+    match error {
+        Error::Memory | Error::Device | Error::Failed => error,
+        Error::InvalidData
+        | Error::InvalidInput
+        | Error::NotFound
+        | Error::AlreadyExists
+        | Error::UnexpectedEof
+        | Error::Full => Error::InvalidData,
+    }
+}
+
+/// All bytes of a table's stream; none where it has no stream, as a name with a slash never has. Errors are those of
+/// `stream_bytes`. The file is only read.
+pub fn table_bytes<F: ReadMedium>(
+    alloc: Global,
+    file: &mut CompoundFile<F>,
+    name: &str,
+) -> Result<Option<Vec<u8>>, Error>
+    ensures told { (tree : Tree) → Holds file.old tree → MatchResult result (λ found.
+        table_stream (letters_in file.old) (objects tree.content) name.now
+        ≡ option_map (λ bytes. bytes.items) found) (IsFaultUnless ⊥) }
+    ensures rests { Rests file.old file.new }
+    ensures cause { IfErr result (HasCauseBelow (allocator_of (mini_of file.old))
+        (allocator_of (mini_of file.new))) }
+    ensures error { IfErr result (λ e. IsFaultUnless ⊥ e ⊎ (e ≡ InvalidData)) }
+{
+    if has_slash(name) {
+        return Ok(None);
+    }
+    let path = encode(alloc, name, true)?;
+    stream_bytes(file, &path)
+}
+
+// Whether a slash stands in the name.
+fn has_slash(name: &str) -> bool
+    ensures { result ≡ has_slash name.now }
+{
+    name.as_bytes().contains(&b'/')
+}

@@ -1,0 +1,42 @@
+//! The rows of tables, read from the file.
+ghost use Rattle.std.specs.Prelude.{◌≡◌, ◌⊎◌, ◌≤◌, length, IfErr, IfOk, MatchResult, None, Some};
+ghost use Rattle.cfb.specs.Streams.{Holds};
+ghost use Rattle.cfb.specs.Views.{letters_in, mini_of, Rests};
+ghost use Rattle.cfb_fat.specs.Tables.{HasCauseBelow};
+ghost use Rattle.cfb_medium.specs.Calls.{IsFaultUnless};
+ghost use Rattle.cfb_medium.specs.declared.error.Error.TheVariants.{InvalidData};
+ghost use Rattle.cfb_mini.specs.Views.{allocator_of};
+ghost use Rattle.cfb_tree.specs.Tree.{Tree};
+ghost use Rattle.msi_stored.specs.Stored.{rows_in};
+ghost use Rattle.msi_tables.specs.Held.{heading_of, rows_held};
+
+use crate::bytes::table_bytes;
+use cfb::CompoundFile;
+use cfb_medium::{Error, ReadMedium};
+use msi_pool::ValueRef;
+use msi_tables::Table;
+use std::alloc::Global;
+
+/// The rows of a table, from its stream; none where it has no stream. `InvalidData` where it has too many, or its stream's chain
+/// breaks; the other errors are faults. The file is only read.
+pub fn rows_of_table<F: ReadMedium>(
+    alloc: Global,
+    file: &mut CompoundFile<F>,
+    table: &Table,
+) -> Result<Vec<Vec<ValueRef>>, Error>
+    ensures told { (tree : Tree) → Holds file.old tree → MatchResult result (λ rows.
+        rows_in (letters_in file.old) tree (heading_of table.now) ≡ Some (rows_held rows.items))
+        (λ e. IsFaultUnless ⊥ e ⊎ ((e ≡ InvalidData)
+        × (rows_in (letters_in file.old) tree (heading_of table.now) ≡ None))) }
+    ensures few { IfOk result (λ rows. length rows.items ≤ 65536) }
+    ensures rests { Rests file.old file.new }
+    ensures cause { IfErr result (HasCauseBelow (allocator_of (mini_of file.old))
+        (allocator_of (mini_of file.new))) }
+    ensures error { IfErr result (λ e. IsFaultUnless ⊥ e ⊎ (e ≡ InvalidData)) }
+{
+    match table_bytes(alloc, file, table.name()) {
+        Ok(Some(bytes)) => table.read_rows(alloc, &bytes),
+        Ok(None) => table.read_rows(alloc, &[]),
+        Err(error) => Err(error),
+    }
+}
