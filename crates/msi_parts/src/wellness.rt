@@ -68,7 +68,8 @@ fn are_free_names(tables: &[Rc<Table>]) -> bool
 
 // The same, told by the tables where they stand.
 fn have_free_names(tables: &[Rc<Table>]) -> bool
-    ensures { result ≡ list_all (λ t. is_free_table_name (heading_of (rc_value t)).name) tables.now }
+    ensures { result ≡ list_all (λ t. is_free_table_name (heading_of (rc_value t)).name)
+        tables.now }
 {
     tables.iter().all(|table| is_free_name(table.name()))
 }
