@@ -1,4 +1,7 @@
 pub mod Faults
-pub mod Told
+pub mod Found
 pub mod Keys
+pub mod PartsRead
 pub mod Placed
+pub mod Refusals
+pub mod Told
