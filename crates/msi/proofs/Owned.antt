@@ -56,6 +56,10 @@ passed here keep x xs e = by (keep x)
 apart : (letters : Letters) (name key other : List ℕ) → is_same_name letters name key ≡ true → name_cmp letters key other ≡ Less → is_same_name letters name other ≡ false
 apart letters name key other same below = ap (λ k. is_eq (key_cmp k (name_key letters other))) (key_of_same letters name key same) ∙ ap is_eq below
 
+-- the streams that are listed
+abbrev pub is_listed : Letters → Object → Bool
+is_listed letters o = is_stream o && (not (is_special letters (object_name o)) && not (is_marked (object_name o)))
+
 module _ (letters : Letters) (may : may_use letters ≡ true) where
   -- the names of tables' streams are marked
   marked_any : {X : Type 0} (name : X → List ℕ) (xs : List X) (other : List ℕ) → list_any (λ n. is_same_name letters n other) (map (λ x. stream_name (name x)) xs) ≡ true → is_marked other ≡ true
@@ -100,10 +104,6 @@ module _ (letters : Letters) (may : may_use letters ≡ true) where
       | inr marked ↦ behind (is_special letters (object_name o)) (is_marked (object_name o)) marked
     ]
 
-    -- the streams that are listed
-    abbrev pub is_listed : Object → Bool
-    is_listed o = is_stream o && (not (is_special letters (object_name o)) && not (is_marked (object_name o)))
-
     kept_so : (stream own special marked : Bool) → (own ≡ true → special || marked ≡ true) → (stream && not own) && (not special && not marked) ≡ stream && (not special && not marked)
     kept_so false own special marked h = refl
     kept_so true false special marked h = refl
@@ -111,10 +111,10 @@ module _ (letters : Letters) (may : may_use letters ≡ true) where
     kept_so true true false true h = refl
     kept_so true true false false h = let no : false ≡ true = h refl in absurd (cc)
 
-    pub names_listed : (tree : Tree) → Packs letters tree P → stream_names letters P ≡ map (λ o. encode_utf8_all (decoded_name (object_name o))) (filter is_listed (objects tree.content))
+    pub names_listed : (tree : Tree) → Packs letters tree P → stream_names letters P ≡ map (λ o. encode_utf8_all (decoded_name (object_name o))) (filter (is_listed letters) (objects tree.content))
     names_listed tree packs = ap (map (λ o. encode_utf8_all (decoded_name (object_name o))))
         (ap (filter (λ o. not (is_special letters (object_name o)) && not (is_marked (object_name o)))) packs.streams
-        ∙ filter_twice (λ o. is_stream o && not (is_own letters P o)) (λ o. not (is_special letters (object_name o)) && not (is_marked (object_name o))) is_listed
+        ∙ filter_twice (λ o. is_stream o && not (is_own letters P o)) (λ o. not (is_special letters (object_name o)) && not (is_marked (object_name o))) (is_listed letters)
         (λ o. kept_so (is_stream o) (is_own letters P o) (is_special letters (object_name o)) (is_marked (object_name o)) (own_told o)) (objects tree.content))
 
   -- ---- what stands at a name
