@@ -1,9 +1,9 @@
 -- The streams of the root as they are listed.
-use Rattle.std.proofs.Common.{◌≡◌, ◌∙◌, ℕ, Bool, true, false, cond, List, [], ◌∷◌, ◌++◌, map, refl, ap}
+use Rattle.std.proofs.Common.{◌≡◌, ℕ, Bool, true, false, cond, List, [], ◌∷◌, ◌++◌, map, refl, ap}
 use Rattle.std.specs.Prelude.{◌&&◌, ◌||◌, encode_utf8_all, filter, not}
 use Rattle.std.specs.List.{flat_map}
 use Rattle.cfb_entries.specs.Listed.{listed}
-use Rattle.cfb_meaning.specs.TreeRules.{Object, a_storage, a_stream, children_shown}
+use Rattle.cfb_meaning.specs.TreeRules.{Object, a_stream, children_shown}
 use Rattle.cfb_meaning.specs.TreeRules.{name_of as object_name}
 use Rattle.cfb_tree.specs.Names.{Letters}
 use Rattle.cfb_tree.specs.Tree.{Content, nothing, storage, stream}

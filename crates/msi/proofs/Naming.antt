@@ -1,5 +1,5 @@
 -- Names that calls take or refuse.
-use Rattle.std.proofs.Common.{◌≡◌, ◌∙◌, ℕ, Bool, true, false, List, ap, refl, encode_utf8_all}
+use Rattle.std.proofs.Common.{◌≡◌, ◌∙◌, ℕ, Bool, false, List, ap, refl, encode_utf8_all}
 use Rattle.std.specs.Prelude.{◌&&◌, not, IsUtf8}
 use Rattle.std.specs.List.{list_any}
 use Rattle.std.specs.Str.{chars}

@@ -1,5 +1,5 @@
 -- Names that are told one after the other.
-use Rattle.std.specs.Prelude.{ℕ, Bool, not, ◌&&◌, ◌||◌, List, [], ◌∷◌, encode_utf8_all, if◌then◌else◌, String}
+use Rattle.std.specs.Prelude.{ℕ, ◌||◌, List, [], ◌∷◌, encode_utf8_all, if◌then◌else◌, String}
 use Rattle.std.specs.Vec.Iter.{into_iter_items}
 use Rattle.std.specs.declared.alloc.Global.{Global}
 use Rattle.cfb_entries.specs.Listed.{Listed}

@@ -84,8 +84,7 @@ impl StreamReader {
         ensures unmoved { OnErr result (self.new.position ≡ self.old.position) }
         ensures bytes { self.new.bytes ≡ self.old.bytes }
     {
-        let len = self.bytes.len() as u64;
-        let Some(place) = place_found(from, len, self.position as u64) else {
+        let Some(place) = place_found(from, self.len(), self.position as u64) else {
             return Err(Error::InvalidInput);
         };
         self.position = place as usize;

@@ -29,8 +29,10 @@ pub fn rows_of_cells(
         ≡ map (value_row (heading_of (rc_value table)).columns pool.now.pool)
         (rows_held rows.items)) }
     ensures shown { IfOk result (λ it. rows_shown it
-        ≡ (map (λ c. c.name) (heading_of (rc_value table)).columns,
-        map (row_data pool.now.pool) (rows_held rows.items))) }
+        ≡ (
+          map (λ c. c.name) (heading_of (rc_value table)).columns,
+          map (row_data pool.now.pool) (rows_held rows.items),
+        )) }
     ensures err { IfErr result (λ e. e ≡ Memory) }
 {
     let mut told = Vec::new(alloc);

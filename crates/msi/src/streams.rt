@@ -61,11 +61,7 @@ impl Streams {
 }
 
 // The names of those among objects that were listed.
-fn names_of(
-    alloc: Global,
-    letters: &CaseMapper,
-    entries: Entries,
-) -> Result<Vec<String>, Error>
+fn names_of(alloc: Global, letters: &CaseMapper, entries: Entries) -> Result<Vec<String>, Error>
     ensures ok { IfOk result (λ names. map string_bytes names.items
         ≡ flat_map (name_listed (letters_of letters.now)) (map listed_in (entries_left entries))) }
     ensures err { IfErr result (λ e. e ≡ Memory) }

@@ -1,4 +1,4 @@
-use Rattle.std.proofs.Common.{◌≡◌, ◌∙◌, List, Vec, ap, ap₂, length, map, subst, sym, take, take_all}
+use Rattle.std.proofs.Common.{◌≡◌, ◌∙◌, List, ap, ap₂, length, map, subst, sym, take_all}
 use Rattle.std.specs.Prelude.{All}
 use Rattle.std.specs.Rc.{rc_value}
 use Rattle.msi_tables.specs.Held.{heading_of, rows_held}

@@ -1,4 +1,4 @@
-use Rattle.std.proofs.Common.{◌≡◌, ◌∙◌, ◌++◌, [], map, ap, sym, append_assoc, append-nil}
+use Rattle.std.proofs.Common.{◌∙◌, ◌++◌, map, ap, sym, append_assoc, append-nil}
 use Rattle.std.specs.List.{flat_map}
 use Rattle.std.specs.Prelude.{string_bytes}
 use Rattle.cfb_entries.specs.Listed.{listed_in}
