@@ -1,0 +1,113 @@
+-- Marked names, under a letter table that leaves encoded names alone.
+use Rattle.std.proofs.Common.{◌≡◌, ◌∙◌, ℕ, ◌+◌, ◌-◌, ◌/◌, ◌%◌, Bool, true, false, cond, List, [], ◌∷◌, ◌++◌, Option, Some, None, refl, sym, ap, arith, ltb, eqb, eqb-true}
+use Rattle.std.specs.Prelude.{◌==◌, ◌&&◌, not}
+use Rattle.std.specs.Char.Escape.{encode_utf16}
+use Rattle.std.specs.List.{flat_map}
+use Rattle.std.proofs.lemmas.Bool.{and_parts}
+use Rattle.std.proofs.lemmas.Bool.Decides.{nat_tests}
+use Rattle.cfb_tree.proofs.NameOrder.{name_cmp_equal}
+use Rattle.cfb_tree.specs.Names.{Letters, letter, name_key}
+use Rattle.cfb_tree.specs.Objects.{is_same_name}
+use Rattle.msi_meaning.specs.Opening.{is_encoded, may_use}
+use Rattle.msi_texts.specs.StreamName.{is_marked, joined_or, letter_value, lone, lone_of, pair, pair_of, spelled, table_prefix}
+use Rattle.msi_texts.proofs.NamesReadBack.{letter_value-back}
+use Rattle.std.specs.Ordering.{is_eq}
+use Rattle.std.specs.declared.cmp.Ordering.{Ordering}
+use Rattle.std.specs.declared.cmp.Ordering.TheVariants.{Equal, Greater, Less}
+
+pub equal_of : (o : Ordering) → is_eq o ≡ true → o ≡ Equal
+equal_of Equal e = refl
+equal_of Less e = absurd (cc)
+equal_of Greater e = absurd (cc)
+
+-- names are one where their keys are
+module _ (letters : Letters) (a b : List ℕ) where
+  pub key_of_same : is_same_name letters a b ≡ true → name_key letters a ≡ name_key letters b
+  key_of_same e = (name_cmp_equal letters a b).0 (equal_of _ e)
+
+  pub same_of_key : name_key letters a ≡ name_key letters b → is_same_name letters a b ≡ true
+  same_of_key e = ap is_eq ((name_cmp_equal letters a b).1 e)
+
+-- ---- letters
+
+-- an encoded character counts as itself
+letter_kept : (letters : Letters) → may_use letters ≡ true → (c : ℕ) → is_encoded c ≡ true → letter letters c ≡ c
+unfolding letter
+letter_kept [] may c is = refl
+letter_kept (pair ∷ pairs) may c is =
+    let both = and_parts (not (is_encoded pair.0) && not (is_encoded pair.1)) (may_use pairs) may in
+    let first = and_parts (not (is_encoded pair.0)) (not (is_encoded pair.1)) both.0 in
+    by (eqb c pair.0) refl first.0 (letter_kept pairs both.1 c is)
+  where
+    by : (b : Bool) → eqb c pair.0 ≡ b → not (is_encoded pair.0) ≡ true → letter pairs c ≡ c → cond b pair.1 (letter pairs c) ≡ c
+    by true e out later = let same : c ≡ pair.0 = eqb-true c pair.0 e in let known : not true ≡ true = ap not (sym is ∙ ap is_encoded same) ∙ out in absurd (cc)
+    by false e out later = later
+
+-- and no other character counts as it
+letter_back : (letters : Letters) → may_use letters ≡ true → (c : ℕ) → is_encoded (letter letters c) ≡ true → letter letters c ≡ c
+unfolding letter
+letter_back [] may c is = refl
+letter_back (pair ∷ pairs) may c is =
+    let both = and_parts (not (is_encoded pair.0) && not (is_encoded pair.1)) (may_use pairs) may in
+    let first = and_parts (not (is_encoded pair.0)) (not (is_encoded pair.1)) both.0 in
+    by (eqb c pair.0) first.1 (letter_back pairs both.1 c) is
+  where
+    by : (b : Bool) → not (is_encoded pair.1) ≡ true → (is_encoded (letter pairs c) ≡ true → letter pairs c ≡ c) → is_encoded (cond b pair.1 (letter pairs c)) ≡ true → cond b pair.1 (letter pairs c) ≡ c
+    by true out later is = let known : not true ≡ true = ap not (sym is) ∙ out in absurd (cc)
+    by false out later is = later is
+
+-- ---- the mark
+
+abbrev first_unit : List ℕ → ℕ
+first_unit [] = 0
+first_unit (u ∷ us) = u
+
+-- the mark is its own first unit, and that of no other character
+unit_of_mark : (c : ℕ) (rest : List ℕ) → c ≡ table_prefix → first_unit (encode_utf16 c ++ rest) ≡ table_prefix
+unit_of_mark c rest e = ap (λ c. first_unit (encode_utf16 c ++ rest)) e
+
+mark_of_unit : (c : ℕ) (rest : List ℕ) → first_unit (encode_utf16 c ++ rest) ≡ table_prefix → c ≡ table_prefix
+mark_of_unit c rest e = by (ltb c 0x1_0000) e
+  where
+    by : (b : Bool) → first_unit (cond b (c ∷ []) ((0xD800 + (c - 0x1_0000) / 0x400) ∷ (0xDC00 + (c - 0x1_0000) % 0x400) ∷ []) ++ rest) ≡ table_prefix → c ≡ table_prefix
+    by true e = e
+    by false e = absurd (omega (arith, e))
+
+-- a name that is one with a marked one is marked
+pub marked_alike : (letters : Letters) → may_use letters ≡ true → (a b : List ℕ) → is_marked a ≡ true → is_same_name letters a b ≡ true → is_marked b ≡ true
+unfolding name_key
+marked_alike letters may [] b marked same = absurd (cc)
+marked_alike letters may (c ∷ cs) b marked same = by b (sym unit ∙ ap first_unit (key_of_same letters (c ∷ cs) b same))
+  where
+    mark : c ≡ table_prefix
+    mark = eqb-true c table_prefix marked
+
+    unit : first_unit (name_key letters (c ∷ cs)) ≡ table_prefix
+    unit = unit_of_mark (letter letters c) (flat_map (λ x. encode_utf16 (letter letters x)) cs) (letter_kept letters may c (ap is_encoded mark) ∙ mark)
+
+    by : (b : List ℕ) → table_prefix ≡ first_unit (name_key letters b) → is_marked b ≡ true
+    by [] e = absurd (omega (arith, e))
+    by (d ∷ ds) e =
+        let counts : letter letters d ≡ table_prefix = mark_of_unit (letter letters d) (flat_map (λ x. encode_utf16 (letter letters x)) ds) (sym e) in
+        let is : d ≡ table_prefix = sym (letter_back letters may d (ap is_encoded counts)) ∙ counts in
+        ap (λ x. x == table_prefix) is
+
+-- ---- names of streams
+
+lone_unmarked : (c : ℕ) → (c == table_prefix) ≡ false → (lone c == table_prefix) ≡ false
+lone_unmarked c e = by (letter_value c) refl
+  where
+    by : (o : Option ℕ) → letter_value c ≡ o → (lone_of o c == table_prefix) ≡ false
+    by None is = e
+    by (Some v) is = let back = letter_value-back c v is in grind (arith, nat_tests, back.0)
+
+-- a name that isn't marked is spelled by one that isn't
+pub spelled_unmarked : (cs : List ℕ) → is_marked cs ≡ false → is_marked (spelled cs) ≡ false
+spelled_unmarked [] e = refl
+spelled_unmarked (c ∷ []) e = lone_unmarked c e
+spelled_unmarked (c ∷ d ∷ rest) e = by (letter_value c) (letter_value d) refl refl
+  where
+    by : (o q : Option ℕ) → letter_value c ≡ o → letter_value d ≡ q → is_marked (joined_or (pair_of o q) c (spelled rest) (spelled (d ∷ rest))) ≡ false
+    by None q is at = lone_unmarked c e
+    by (Some v) None is at = lone_unmarked c e
+    by (Some v) (Some w) is at = let first = letter_value-back c v is in let second = letter_value-back d w at in grind (arith, nat_tests, first.0, second.0)

@@ -1,0 +1,45 @@
+use Rattle.std.proofs.Common.{◌≡◌, ◌∙◌, [], ◌∷◌, ap, sym, inr, Some, None}
+use Rattle.std.specs.Prelude.{Ok, option_map}
+use Rattle.std.specs.Str.{chars}
+use Rattle.cfb.proofs.Holding.{holds_shown}
+use Rattle.cfb.specs.Views.{letters_in}
+use Rattle.cfb_entries.specs.Rules.{names_in}
+use Rattle.cfb_medium.specs.declared.error.Error.TheVariants.{NotFound}
+use Rattle.cfb_tree.specs.LetterViews.{letters_of}
+use Rattle.msi_meaning.specs.Package.{objects, stream_at}
+use Rattle.msi_meaning.specs.Streams.{may_name, plain_stream_name}
+use Rattle.msi_texts.specs.Results.{or_refused}
+use Rattle.msi.proofs.Found.{found_taken}
+use Rattle.msi.proofs.Naming.{plain_chars}
+use Rattle.msi.proofs.Taken.{read_taken, taken_path}
+use Rattle.msi.proofs.reading.read_stream.Goals as goal
+
+pub stream_bytes-requires : goal.stream_bytes-requires
+stream_bytes-requires g c =
+    let name = c.args.name.now in
+    let text = c.as_str.ensures ∙ c.in-Ok.ensures.told.1 in
+    ap names_in text ∙ taken_path (letters_of c.letters.result.now) name c.in-Ok.ensures.told.0 c.utf8.name
+    ∙ ap (λ n. Some (n ∷ [])) (sym (ap chars text ∙ plain_chars name c.utf8.name))
+
+pub returns-in-Ok-Some-clause-told : goal.returns-in-Ok-Some-clause-told
+returns-in-Ok-Some-clause-told g c tree held P packs may =
+    let letters = letters_in c.args.file.now in
+    let name = c.args.name.now in
+    let plain : chars c.as_str.result.now ≡ plain_stream_name name = ap chars (c.as_str.ensures ∙ c.in-Ok.ensures.told.1) ∙ plain_chars name c.utf8.name in
+    let taken : may_name letters name ≡ Ok tt = ap (λ l. may_name l name) (sym c.letters.ensures) ∙ c.in-Ok.ensures.told.0 in
+    let there : stream_at letters (objects tree.content) (plain_stream_name name) ≡ Some c.in-Ok-Some.bytes.items =
+    ap (stream_at letters (objects tree.content)) (sym plain) ∙ c.in-Ok-Some.ensures.told tree held ∙ ap (option_map (λ bytes. bytes.items)) c.in-Ok-Some.field-0-is in
+    read_taken letters P name taken
+    ∙ ap (λ o. or_refused o NotFound) (found_taken letters may tree P packs (holds_shown c.args.file.now tree held).ordered.0 name taken ∙ there)
+    ∙ ap (λ it. Ok it.bytes) (sym c.new.ensures)
+
+pub returns-in-Ok-None-clause-told : goal.returns-in-Ok-None-clause-told
+returns-in-Ok-None-clause-told g c tree held P packs may =
+    let letters = letters_in c.args.file.now in
+    let name = c.args.name.now in
+    let plain : chars c.as_str.result.now ≡ plain_stream_name name = ap chars (c.as_str.ensures ∙ c.in-Ok.ensures.told.1) ∙ plain_chars name c.utf8.name in
+    let taken : may_name letters name ≡ Ok tt = ap (λ l. may_name l name) (sym c.letters.ensures) ∙ c.in-Ok.ensures.told.0 in
+    let there : stream_at letters (objects tree.content) (plain_stream_name name) ≡ None =
+    ap (stream_at letters (objects tree.content)) (sym plain) ∙ c.in-Ok-None.ensures.told tree held ∙ ap (option_map (λ bytes. bytes.items)) c.in-Ok-None.field-0-is in
+    inr (read_taken letters P name taken
+    ∙ ap (λ o. or_refused o NotFound) (found_taken letters may tree P packs (holds_shown c.args.file.now tree held).ordered.0 name taken ∙ there))

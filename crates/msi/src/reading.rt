@@ -1,0 +1,77 @@
+//! Streams of a package's file by their names.
+ghost use Rattle.std.specs.Prelude.{◌≡◌, ◌⊎◌, true, Err, IfErr, IfOk, IsErrOf};
+ghost use Rattle.cfb.specs.Streams.{Holds};
+ghost use Rattle.cfb.specs.Views.{letters_in, mini_of, Rests};
+ghost use Rattle.cfb_fat.specs.Tables.{HasCauseBelow};
+ghost use Rattle.cfb_medium.specs.Calls.{IsFaultUnless};
+ghost use Rattle.cfb_medium.specs.declared.error.Error.TheVariants.{InvalidData, InvalidInput, NotFound};
+ghost use Rattle.cfb_mini.specs.Views.{allocator_of};
+ghost use Rattle.cfb_tree.specs.Tree.{Tree};
+ghost use Rattle.msi_meaning.specs.Opening.{may_use};
+ghost use Rattle.msi_meaning.specs.Package.{Package as Packed, Packs};
+ghost use Rattle.msi_meaning.specs.Streams.{has_stream, is_signed, may_name, stream_read};
+ghost use Rattle.msi_stored.specs.Reading.{TellsOrFault};
+
+use crate::names::{encoded_stream_name, is_same_name};
+use crate::reader::StreamReader;
+use cfb::CompoundFile;
+use cfb_medium::{Error, ReadMedium};
+use msi_store::stream_bytes;
+use msi_texts::{DIGITAL_SIGNATURE_STREAM_NAME, SUMMARY_INFO_STREAM_NAME};
+
+/// Whether there is a stream of this name; none where reading refuses the name. It takes no memory.
+pub(crate) fn has_stream<F: ReadMedium>(file: &CompoundFile<F>, name: &str) -> bool
+    ensures { (tree : Tree) → Holds file.now tree → (P : Packed)
+        → Packs (letters_in file.now) tree P → may_use (letters_in file.now) ≡ true
+        → result ≡ has_stream (letters_in file.now) P name.now }
+{
+    match encoded_stream_name(file.letters(), name) {
+        Ok(path) => file.is_stream(path.as_str()),
+        Err(_) => false,
+    }
+}
+
+/// The stream of this name, at its first byte. `InvalidInput` where no stream can have the name, `NotFound` where no stream is
+/// there. The other errors are faults; of a file that holds no tree also `InvalidData`. The file is only read.
+pub(crate) fn read_stream<F: ReadMedium>(
+    file: &mut CompoundFile<F>,
+    name: &str,
+) -> Result<StreamReader, Error>
+    ensures told { (tree : Tree) → Holds file.old tree → (P : Packed)
+        → Packs (letters_in file.old) tree P → may_use (letters_in file.old) ≡ true
+        → TellsOrFault (λ it. it.bytes) (stream_read (letters_in file.old) P name.now) result }
+    ensures at_start { IfOk result (λ it. it.position ≡ 0) }
+    ensures refused { may_name (letters_in file.old) name.now ≡ Err InvalidInput
+        → IsErrOf result InvalidInput }
+    ensures rests { Rests file.old file.new }
+    ensures cause { IfErr result (HasCauseBelow (allocator_of (mini_of file.old))
+        (allocator_of (mini_of file.new))) }
+    ensures error { IfErr result (λ e. IsFaultUnless ⊥ e ⊎ (e ≡ InvalidData)
+        ⊎ (e ≡ InvalidInput) ⊎ (e ≡ NotFound)) }
+{
+    let path = match encoded_stream_name(file.letters(), name) {
+        Ok(path) => path,
+        Err(error) => return Err(error),
+    };
+    match stream_bytes(file, path.as_str()) {
+        Ok(Some(bytes)) => Ok(StreamReader::new(bytes)),
+        Ok(None) => Err(Error::NotFound),
+        Err(error) => Err(error),
+    }
+}
+
+/// Whether there is a digital signature. A letter table under which its name is the summary's leaves it none. It takes no memory.
+pub(crate) fn has_digital_signature<F: ReadMedium>(file: &CompoundFile<F>) -> bool
+    ensures { (tree : Tree) → Holds file.now tree → (P : Packed)
+        → Packs (letters_in file.now) tree P → may_use (letters_in file.now) ≡ true
+        → result ≡ is_signed (letters_in file.now) P }
+{
+    if is_same_name(
+        file.letters(),
+        SUMMARY_INFO_STREAM_NAME,
+        DIGITAL_SIGNATURE_STREAM_NAME,
+    ) {
+        return false;
+    }
+    file.is_stream(DIGITAL_SIGNATURE_STREAM_NAME)
+}
