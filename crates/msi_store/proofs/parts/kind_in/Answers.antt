@@ -11,7 +11,7 @@ pub returns-in-Ok-clause-told : goal.returns-in-Ok-clause-told
 returns-in-Ok-clause-told g c tree held =
     let told = (c.in-Ok.ensures.told held.live tree (holds_shown c.args.file.now tree held)).0 in
     finds_of c.kind_of.result (kind_of tree.root.clsid)
-    (c.kind_of.ensures ∙ ap kind_of (c.clsid.ensures ∙ root_class tree (listed_in c.in-Ok.root) told.0 told.1.0 told.1.1))
+    (c.kind_of.ensures ∙ ap kind_of (c.clsid.ensures ∙ root_class tree (listed_in c.in-Ok.root) told.0 told.1 told.2))
 
 pub returns-in-Err-clause-told : goal.returns-in-Err-clause-told
 returns-in-Err-clause-told g c tree held = elim (c.in-Err.ensures.told held.live tree (holds_shown c.args.file.now tree held)).1 [

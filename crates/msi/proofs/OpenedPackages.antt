@@ -1,0 +1,165 @@
+-- A package that was opened is that of its bytes, and a refusal is theirs.
+use Rattle.std.proofs.Common.{◌≡◌, ◌∙◌, ◌⊎◌, ℕ, Bool, true, false, List, refl, sym, ap, subst, inl, inr}
+use Rattle.std.specs.Prelude.{◌↔◌, ◌||◌, Err, IfErr, IfOk, IsTrue, Ok, Result}
+use Rattle.cfb.proofs.Holding.{holds_opened, holds_yet}
+use Rattle.cfb.specs.Opened.{IsOpenedAs}
+use Rattle.cfb.specs.Streams.{Holds}
+use Rattle.cfb.specs.Views.{letters_in, mini_of, sound_of, Rests}
+use Rattle.cfb.specs.declared.compound_file.CompoundFile.{CompoundFile}
+use Rattle.cfb_directory.specs.Views.{entries_held}
+use Rattle.cfb_fat.specs.Tables.{has_failed_here, medium_of, version_of, HasCauseBelow}
+use Rattle.cfb_meaning.specs.Means.{Means}
+use Rattle.cfb_meaning.specs.Sound.{IsSound}
+use Rattle.cfb_medium.specs.Calls.{HasCauseSince, IsFaultUnless}
+use Rattle.cfb_medium.specs.declared.error.Error.{Error}
+use Rattle.cfb_medium.specs.declared.error.Error.TheVariants.{AlreadyExists, Device, Failed, Full, InvalidData, InvalidInput, Memory, NotFound, UnexpectedEof}
+use Rattle.cfb_medium.specs.declared.medium.ReadMedium.{Ghosts}
+use Rattle.cfb_mini.specs.Views.{allocator_of, directory_of}
+use Rattle.cfb_opening.specs.Opened.{OpensAt}
+use Rattle.cfb_opening.specs.Tables.{OnlyReads}
+use Rattle.cfb.proofs.OpenedFiles.{left_since}
+use Rattle.cfb_sectors.specs.declared.validation.Validation.TheVariants.{Permissive}
+use Rattle.cfb_tree.specs.Names.{Letters}
+use Rattle.cfb_tree.specs.Tree.{Tree}
+use Rattle.msi_meaning.specs.Opening.{may_use, opened}
+use Rattle.msi_meaning.specs.Package.{Package as Packed, Packs}
+use Rattle.msi_parts.proofs.Collected.{opened_is, schema_of}
+use Rattle.msi_parts.proofs.Memory.{memory_is}
+use Rattle.msi_parts.specs.Parts.{AreParts, IsSoundIn}
+use Rattle.msi.specs.Opened.{Holds as HoldsPackage, IsOpenedPackage, IsRefused, IsSoundFile, file_in, kind_in, pool_in, sound_in, summary_in, tables_in}
+use Rattle.msi.specs.Steps.{IsFound, IsGivenUp}
+use Rattle.msi.specs.declared.package.Package.{Package}
+
+module _ {F : Type 0} {g : Ghosts F} (medium : F) (a : CompoundFile F g) (opens : OpensAt medium (mini_of a)) where
+  -- a file that was only read since it was opened was opened so
+  pub opens_yet : (b : CompoundFile F g) → Rests a b → OpensAt medium (mini_of b)
+  opens_yet b rests =
+      let sectors = rests.mini.directory.allocator.sectors in
+      record {
+        honest = sectors.honest ∙ opens.honest;
+        continues = λ start since. sectors.continues start (opens.continues start since);
+        bytes = λ is. sectors.bytes (opens.honest ∙ is) ∙ opens.bytes is;
+        live = sectors.failed ∙ opens.live;
+        memory = rests.mini.kept opens.memory;
+        sizes = subst (λ v. _) sectors.version opens.sizes;
+      }
+
+  -- errors have their cause since then
+  pub cause_since : (b : CompoundFile F g) (e : Error) → HasCauseBelow (allocator_of (mini_of a)) (allocator_of (mini_of b)) e
+      → HasCauseSince g.continues g.failures g.failed medium (medium_of (allocator_of (mini_of b))) e
+  cause_since b e cause = λ start since.
+      let here = cause start (opens.continues start since) in
+      record { device = here.device; earlier = λ is. subst (λ f. IsTrue (f || g.failed start)) opens.live (here.earlier is) }
+
+  module _ (letters : Letters) (named : letters_in a ≡ letters) (may : may_use letters ≡ true) (honest : IsTrue (g.honest medium)) (as_opened : IsOpenedAs Permissive letters (g.bytes medium) a) where
+    held : (tree : Tree) → Means letters (g.bytes medium) tree → Holds a tree
+    held tree means = holds_opened Permissive letters medium a tree honest opens named as_opened means
+
+    may_here : may_use (letters_in a) ≡ true
+    may_here = ap may_use named ∙ may
+
+    module _ (it : Package F g) (found : IsFound a it) where
+      parts : (tree : Tree) → Means letters (g.bytes medium) tree → (gives_back : Bool) × AreParts letters tree (kind_in it) (summary_in it) (pool_in it).pool gives_back (tables_in it)
+      parts tree means = subst (λ l. (gives_back : Bool) × AreParts l tree (kind_in it) (summary_in it) (pool_in it).pool gives_back (tables_in it)) named (found.parts tree (held tree means) may_here)
+
+      named_here : letters_in (file_in it) ≡ letters
+      named_here = found.rests.letters ∙ named
+
+      yet : (tree : Tree) (P : Packed) → Means letters (g.bytes medium) tree → Packs letters tree P → HoldsPackage it P
+      yet tree P means packs =
+          let here = parts tree means in
+          record {
+            tree = tree;
+            file = holds_yet a (file_in it) tree found.rests (held tree means);
+            packs = subst (λ l. Packs l tree P) (sym named_here) packs;
+            usable = ap may_use named_here ∙ may;
+            memory = memory_is letters tree (kind_in it) (summary_in it) (pool_in it).pool here.0 (tables_in it) here.1 P packs;
+          }
+
+      -- it was judged exactly
+      judged : (tree : Tree) → Means letters (g.bytes medium) tree → IsTrue (sound_in it) ↔ IsSoundIn letters tree (sound_of a)
+      judged tree means = subst (λ l. IsTrue (sound_in it) ↔ IsSoundIn l tree (sound_of a)) named (found.judged tree (held tree means) may_here)
+
+      sound_to : (b : Bool) → sound_of a ≡ b → IsTrue (sound_in it) → IsSoundFile letters (g.bytes medium)
+      sound_to false e is = let no : true ≡ false = sym is ∙ found.unsound e in absurd (cc)
+      sound_to true e is =
+          let sound = as_opened.sound.0 e in
+          let tree = sound.1 in
+          let means : Means letters (g.bytes medium) tree = (sound.0, sound.2.means) in
+          let so = (judged tree means).0 is in
+          (sound, tree, means, so.1, so.2, so.3)
+
+      sound_from : IsSoundFile letters (g.bytes medium) → IsTrue (sound_in it)
+      sound_from is = (judged is.1 is.2).1 (as_opened.sound.1 is.0, is.3, is.4, is.5)
+
+      pub found_opened : IsOpenedPackage letters (g.bytes medium) it
+      found_opened = record {
+        compared = named_here;
+        told = λ tree means. let here = parts tree means in opened_is letters tree may (kind_in it) (summary_in it) (pool_in it).pool here.0 (tables_in it) here.1;
+        schema = λ tree means. let here = parts tree means in schema_of letters tree (kind_in it) (summary_in it) (pool_in it).pool here.0 (tables_in it) here.1;
+        holds = yet;
+        sound = (sound_to (sound_of a) refl, sound_from);
+      }
+
+    -- a refusal is that of each tree
+    pub given_refused : (m : F) (e : Error) → IsGivenUp a m e → IsFaultUnless ⊥ e ⊎ IsRefused letters (g.bytes medium) e
+    given_refused m e given = by e (λ tree means. subst (λ l. IsFaultUnless ⊥ e ⊎ (opened l tree ≡ Err e)) named (given.told tree (held tree means) may_here))
+      where
+        abbrev Told : Error → Type 0
+        Told e = (tree : Tree) → Means letters (g.bytes medium) tree → IsFaultUnless ⊥ e ⊎ (opened letters tree ≡ Err e)
+
+        each : (e : Error) → (IsFaultUnless ⊥ e → ⊥) → Told e → IsFaultUnless ⊥ e ⊎ IsRefused letters (g.bytes medium) e
+        each e no told = inr (inr (inr (λ tree means. elim (told tree means) [ inl fault ↦ absurd (no fault) | inr is ↦ is ])))
+
+        by : (e : Error) → Told e → IsFaultUnless ⊥ e ⊎ IsRefused letters (g.bytes medium) e
+        by Memory told = inl tt
+        by Device told = inl tt
+        by Failed told = inl tt
+        by InvalidData told = each InvalidData (λ no. no) told
+        by InvalidInput told = each InvalidInput (λ no. no) told
+        by NotFound told = each NotFound (λ no. no) told
+        by AlreadyExists told = each AlreadyExists (λ no. no) told
+        by UnexpectedEof told = each UnexpectedEof (λ no. no) told
+        by Full told = each Full (λ no. no) told
+
+-- ---- what opening answers, by what was found in the file
+
+abbrev Answer : (F : Type 0) → Ghosts F → Type 0
+Answer F g = Result (Package F g) (F × Error)
+
+module _ {F : Type 0} {g : Ghosts F} (medium : F) (a : CompoundFile F g) (opens : OpensAt medium (mini_of a)) (r : Answer F g) (ok : IfOk r (IsFound a)) (err : IfErr r (λ e. IsGivenUp a e.0 e.1)) where
+  pub answer_opens : IfOk r (λ it. OpensAt medium (mini_of (file_in it)))
+  answer_opens = by r ok
+    where
+      by : (r : Answer F g) → IfOk r (IsFound a) → IfOk r (λ it. OpensAt medium (mini_of (file_in it)))
+      by (Ok it) found = opens_yet medium a opens (file_in it) found.rests
+      by (Err e) found = tt
+
+  pub answer_cause : IfErr r (λ e. HasCauseSince g.continues g.failures g.failed medium e.0 e.1)
+  answer_cause = by r err
+    where
+      by : (r : Answer F g) → IfErr r (λ e. IsGivenUp a e.0 e.1) → IfErr r (λ e. HasCauseSince g.continues g.failures g.failed medium e.0 e.1)
+      by (Ok it) given = tt
+      by (Err e) given = subst (λ m. HasCauseSince g.continues g.failures g.failed medium m e.1) (sym given.medium_is) (cause_since medium a opens given.new e.1 given.cause)
+
+  pub answer_left : IfErr r (λ e. OnlyReads g.honest g.bytes g.continues medium e.0)
+  answer_left = by r err
+    where
+      by : (r : Answer F g) → IfErr r (λ e. IsGivenUp a e.0 e.1) → IfErr r (λ e. OnlyReads g.honest g.bytes g.continues medium e.0)
+      by (Ok it) given = tt
+      by (Err e) given = subst (λ m. OnlyReads g.honest g.bytes g.continues medium m) (sym given.medium_is) (left_since medium (mini_of given.new) (opens_yet medium a opens given.new given.rests))
+
+  module _ (letters : Letters) (named : letters_in a ≡ letters) (may : may_use letters ≡ true) (honest : IsTrue (g.honest medium)) (as_opened : IsOpenedAs Permissive letters (g.bytes medium) a) where
+    pub answer_opened : IfOk r (IsOpenedPackage letters (g.bytes medium))
+    answer_opened = by r ok
+      where
+        by : (r : Answer F g) → IfOk r (IsFound a) → IfOk r (IsOpenedPackage letters (g.bytes medium))
+        by (Ok it) found = found_opened medium a opens letters named may honest as_opened it found
+        by (Err e) found = tt
+
+    pub answer_refused : IfErr r (λ e. IsFaultUnless ⊥ e.1 ⊎ IsRefused letters (g.bytes medium) e.1)
+    answer_refused = by r err
+      where
+        by : (r : Answer F g) → IfErr r (λ e. IsGivenUp a e.0 e.1) → IfErr r (λ e. IsFaultUnless ⊥ e.1 ⊎ IsRefused letters (g.bytes medium) e.1)
+        by (Ok it) given = tt
+        by (Err e) given = given_refused medium a opens letters named may honest as_opened e.0 e.1 given

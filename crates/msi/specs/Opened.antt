@@ -1,0 +1,86 @@
+-- A package in memory, whose rows and streams lie in its file, and what opening tells.
+use Rattle.std.specs.Prelude.{◌≡◌, ◌⊎◌, ◌↔◌, ℕ, false, true, Bool, List, Ok, Err, IsTrue}
+use Rattle.cfb.specs.Streams as file
+use Rattle.cfb.specs.Views.{letters_in}
+use Rattle.cfb.specs.Views as read
+use Rattle.cfb.specs.declared.compound_file.CompoundFile.{CompoundFile}
+use Rattle.cfb_meaning.specs.Means.{IsOpenable, Means}
+use Rattle.cfb_meaning.specs.Sound.{IsSound}
+use Rattle.cfb_medium.specs.declared.error.Error.{Error}
+use Rattle.cfb_medium.specs.declared.error.Error.TheVariants.{InvalidData, InvalidInput}
+use Rattle.cfb_medium.specs.declared.medium.ReadMedium.{Ghosts}
+use Rattle.cfb_tree.specs.Names.{Letters}
+use Rattle.cfb_tree.specs.Tree.{Tree}
+use Rattle.msi_meaning.specs.Opening.{may_use, opened}
+use Rattle.msi_meaning.specs.Package.{Package as Packed, Packs}
+use Rattle.msi_meaning.specs.Sound.{IsSoundPackage}
+use Rattle.msi_meaning.specs.declared.kind.PackageType.{PackageType}
+use Rattle.msi_parts.specs.Parts.{HasSchema, IsMemoryOf}
+use Rattle.msi_pool.specs.PoolState.{PoolState}
+use Rattle.msi_props.specs.Held.{SetState}
+use Rattle.msi_store.specs.Stores as store
+use Rattle.msi_store.specs.declared.store.Store.{Store}
+use Rattle.msi_tables.specs.Table.{Heading}
+use Rattle.msi.specs.declared.package.Package.{Package}
+
+-- THE BYTES HOLD A SOUND PACKAGE: their container is sound, and the tree that it means packs a package that is
+abbrev pub IsSoundFile : Letters → List ℕ → Type 0
+IsSoundFile letters bytes = IsSound letters bytes
+    × (tree : Tree) × Means letters bytes tree × (P : Packed) × (packs : Packs letters tree P) × IsSoundPackage letters tree P packs
+
+-- WHY BYTES ARE REFUSED: the letter table touches encoded names; the container can't be opened; or each tree that they mean is
+-- refused so
+abbrev pub IsRefused : Letters → List ℕ → Error → Type 0
+IsRefused letters bytes e =
+    ((e ≡ InvalidInput) × (may_use letters ≡ false))
+    ⊎ ((e ≡ InvalidData) × (IsOpenable letters bytes → ⊥))
+    ⊎ ((tree : Tree) → Means letters bytes tree → opened letters tree ≡ Err e)
+
+module _ {F : Type 0} {g : Ghosts F} where
+  -- the tables and their file; the file; and the tables without their rows
+  abbrev pub store_in : Package F g → Store F g
+  store_in it = it.store
+
+  abbrev pub file_in : Package F g → CompoundFile F g
+  file_in it = store.file_in (store_in it)
+
+  abbrev pub tables_in : Package F g → List Heading
+  tables_in it = store.tables_in (store_in it)
+
+  abbrev pub kind_in : Package F g → PackageType
+  kind_in it = it.kind
+
+  abbrev pub pool_in : Package F g → PoolState
+  pool_in it = it.pool
+
+  abbrev pub summary_in : Package F g → SetState
+  summary_in it = it.summary
+
+  abbrev pub sound_in : Package F g → Bool
+  sound_in it = it.is_sound
+
+  -- it was only read
+  pub record Rests (old new : Package F g) : Type 0 where
+    pub file : read.Rests (file_in old) (file_in new)
+    pub tables : tables_in new ≡ tables_in old
+    pub kind : kind_in new ≡ kind_in old
+    pub pool : pool_in new ≡ pool_in old
+    pub summary : summary_in new ≡ summary_in old
+    pub sound : sound_in new ≡ sound_in old
+
+  -- THE PACKAGE IN MEMORY IS THIS ONE: a tree that its file holds packs it, and memory has its parts
+  pub record Holds (it : Package F g) (P : Packed) : Type 0 where
+    pub tree : Tree
+    pub file : file.Holds (file_in it) tree
+    pub packs : Packs (letters_in (file_in it)) tree P
+    pub usable : may_use (letters_in (file_in it)) ≡ true
+    pub memory : IsMemoryOf (kind_in it) (summary_in it).props (pool_in it).pool (tables_in it) P
+
+  -- Opened over these bytes under this letter table: kind, summary and pool are those that the tree tells, and so are the tables; each
+  -- package that it packs is held; and it was judged exactly whether they hold a sound package.
+  pub record IsOpenedPackage (letters : Letters) (bytes : List ℕ) (it : Package F g) : Type 0 where
+    pub compared : letters_in (file_in it) ≡ letters
+    pub told : (tree : Tree) → Means letters bytes tree → opened letters tree ≡ Ok (kind_in it, ((summary_in it).props, (pool_in it).pool))
+    pub schema : (tree : Tree) → Means letters bytes tree → HasSchema letters tree (pool_in it).pool (tables_in it)
+    pub holds : (tree : Tree) (P : Packed) → Means letters bytes tree → Packs letters tree P → Holds it P
+    pub sound : IsTrue (sound_in it) ↔ IsSoundFile letters bytes

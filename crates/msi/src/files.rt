@@ -1,0 +1,41 @@
+//! Packages by the paths of their files.
+ghost use Rattle.std.specs.Prelude.{◌≡◌, IfOk};
+ghost use Rattle.cfb.specs.Paths.{IsOpenedOnDisk};
+ghost use Rattle.msi.specs.Opened.{file_in};
+
+use crate::package::Package;
+use cfb::{CaseMapper, FileMedium};
+use cfb_medium::Error;
+use std::alloc::Global;
+use std::fs::File;
+use std::rt::Files;
+
+/// Opens the package at a path of the disk, to be read. `NotFound` where no file is there, `Device` where it can't be opened or
+/// another program changes it; the other errors are those of `Package::open`.
+pub fn open<R: Files<File = File>>(
+    rt: &R,
+    alloc: Global,
+    path: &str,
+    letters: CaseMapper,
+) -> Result<Package<FileMedium>, Error>
+    ensures opened { IfOk result (λ it. IsOpenedOnDisk (file_in it)) }
+{
+    match FileMedium::open(rt, path) {
+        Ok(medium) => opened(alloc, medium, letters),
+        Err(error) => Err(error),
+    }
+}
+
+// The package in a medium that is let go where it is refused.
+fn opened(
+    alloc: Global,
+    medium: FileMedium,
+    letters: CaseMapper,
+) -> Result<Package<FileMedium>, Error>
+    ensures opened { IfOk result (λ it. IsOpenedOnDisk (file_in it)) }
+{
+    match Package::open(alloc, medium, letters) {
+        Ok(package) => Ok(package),
+        Err((_, error)) => Err(error),
+    }
+}

@@ -1,0 +1,133 @@
+//! Packages that are opened.
+ghost use Rattle.std.specs.Prelude.{◌≡◌, ◌⊎◌, false, true, IfErr, IfOk, IsTrue, MatchResult};
+ghost use Rattle.cfb.specs.Streams.{Holds};
+ghost use Rattle.cfb.specs.Views.{letters_in, mini_of, sound_of, Rests};
+ghost use Rattle.cfb_fat.specs.Tables.{HasCauseBelow};
+ghost use Rattle.cfb_medium.specs.Calls.{HasCauseSince, IsFaultUnless};
+ghost use Rattle.cfb_mini.specs.Views.{allocator_of};
+ghost use Rattle.cfb_opening.specs.Opened.{OpensAt};
+ghost use Rattle.cfb_opening.specs.Tables.{OnlyReads};
+ghost use Rattle.cfb_tree.specs.LetterViews.{letters_of};
+ghost use Rattle.cfb_tree.specs.Tree.{Tree};
+ghost use Rattle.msi.specs.Opened.{file_in, kind_in, pool_in, sound_in, summary_in, tables_in, IsOpenedPackage, IsRefused};
+ghost use Rattle.msi.specs.Steps.{AreJudged, IsFound, IsGivenUp, IsRefusedTree};
+ghost use Rattle.msi_meaning.specs.Opening.{may_use};
+ghost use Rattle.msi_parts.specs.Held.{headings_in, AreHeld};
+
+use crate::package::Package;
+use cfb::{CaseMapper, CompoundFile};
+use cfb_medium::{Error, ReadMedium};
+use msi_judge::is_sound_package;
+use msi_parts::PackageParts;
+use msi_store::{Store, read_parts};
+use std::alloc::Global;
+
+// The first and the last character of encoded names.
+const FIRST_ENCODED: char = '\u{3800}';
+
+const LAST_ENCODED: char = '\u{4840}';
+
+impl<F: ReadMedium> Package<F> {
+    /// Opens a package, whose names are compared under the letter table. `InvalidInput` where the table has a pair with a character
+    /// from U+3800 to U+4840, which encoded names have; `InvalidData` where the container can't be opened; and then, one part after
+    /// the other: `InvalidData` for an unknown class identifier of the root, `NotFound`, `InvalidData` or `UnexpectedEof` of the
+    /// summary and of the pool's two streams, `InvalidData` where the system tables describe no tables. Other errors are faults. It
+    /// judges once whether the package is sound, one table's rows in memory at a time. The medium is only read, and a refusal gives
+    /// it back.
+    pub fn open(alloc: Global, medium: F, letters: CaseMapper) -> Result<Package<F>, (F, Error)>
+        ensures opens { IfOk result (λ it. OpensAt medium (mini_of (file_in it))) }
+        ensures opened { IfOk result (λ it. IsTrue (F.honest medium)
+            → IsOpenedPackage (letters_of letters) (F.bytes medium) it) }
+        ensures refused { IfErr result (λ e. IsTrue (F.honest medium) → IsFaultUnless ⊥ e.1
+            ⊎ IsRefused (letters_of letters) (F.bytes medium) e.1) }
+        ensures cause { IfErr result (λ e. HasCauseSince F.continues F.failures F.failed medium
+            e.0 e.1) }
+        ensures left { IfErr result (λ e. OnlyReads F.honest F.bytes F.continues medium e.0) }
+    {
+        if letters.touches(FIRST_ENCODED, LAST_ENCODED) {
+            return Err((medium, Error::InvalidInput));
+        }
+        match CompoundFile::open(alloc, medium, letters) {
+            Ok(file) => opened(alloc, file),
+            Err(refusal) => Err(refusal),
+        }
+    }
+}
+
+// The package of a file that was opened.
+fn opened<F: ReadMedium>(alloc: Global, mut file: CompoundFile<F>) -> Result<Package<F>, (F, Error)>
+    ensures ok { IfOk result (IsFound file) }
+    ensures err { IfErr result (λ e. IsGivenUp file e.0 e.1) }
+{
+    match judged_parts(alloc, &mut file) {
+        Ok((parts, is_sound)) => Ok(from_parts(alloc, file, parts, is_sound)),
+        Err(error) => Err((file.into_inner(), error)),
+    }
+}
+
+// The parts of the package of a file, and whether it is sound.
+fn judged_parts<F: ReadMedium>(
+    alloc: Global,
+    file: &mut CompoundFile<F>,
+) -> Result<(PackageParts, bool), Error>
+    ensures told { (tree : Tree) → Holds file.old tree → may_use (letters_in file.old) ≡ true
+        → MatchResult result (AreJudged file.old tree) (IsRefusedTree file.old tree) }
+    ensures unsound { IfOk result (λ found. sound_of file.old ≡ false → found.1 ≡ false) }
+    ensures rests { Rests file.old file.new }
+    ensures cause { IfErr result (HasCauseBelow (allocator_of (mini_of file.old))
+        (allocator_of (mini_of file.new))) }
+{
+    match read_parts(alloc, file) {
+        Ok(parts) => judged(alloc, file, parts),
+        Err(error) => Err(error),
+    }
+}
+
+// The parts, and whether they and their file are a sound package's.
+fn judged<F: ReadMedium>(
+    alloc: Global,
+    file: &mut CompoundFile<F>,
+    parts: PackageParts,
+) -> Result<(PackageParts, bool), Error>
+    ensures told { (tree : Tree) → Holds file.old tree → may_use (letters_in file.old) ≡ true
+        → AreHeld (letters_in file.old) tree parts → MatchResult result (AreJudged file.old tree)
+        (IsFaultUnless ⊥) }
+    ensures unsound { IfOk result (λ found. sound_of file.old ≡ false → found.1 ≡ false) }
+    ensures rests { Rests file.old file.new }
+    ensures cause { IfErr result (HasCauseBelow (allocator_of (mini_of file.old))
+        (allocator_of (mini_of file.new))) }
+{
+    match is_sound_package(alloc, file, &parts) {
+        Ok(is_sound) => Ok((parts, is_sound)),
+        Err(error) => Err(error),
+    }
+}
+
+// The package of these parts.
+fn from_parts<F: ReadMedium>(
+    alloc: Global,
+    file: CompoundFile<F>,
+    parts: PackageParts,
+    is_sound: bool,
+) -> Package<F>
+    ensures file { file_in result ≡ file }
+    ensures parts { (kind_in result ≡ parts.kind) × (summary_in result ≡ parts.summary)
+        × (pool_in result ≡ parts.pool) × (tables_in result ≡ headings_in parts) }
+    ensures sound { sound_in result ≡ is_sound }
+{
+    let PackageParts {
+        kind,
+        summary,
+        pool,
+        gives_back: _,
+        tables,
+    } = parts;
+    Package {
+        alloc,
+        store: Store { file, tables },
+        kind,
+        pool,
+        summary,
+        is_sound,
+    }
+}

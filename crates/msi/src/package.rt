@@ -1,0 +1,152 @@
+//! Packages, and what is told of them.
+ghost use Rattle.std.specs.Prelude.{◌≡◌, map, option_map, string_bytes, Err, IfErr, IfOk, IsErrOf, MatchResult};
+ghost use Rattle.std.specs.Option.{is_some};
+ghost use Rattle.cfb.specs.Views.{letters_in, mini_of};
+ghost use Rattle.cfb_fat.specs.Tables.{has_failed, HasCauseBelow};
+ghost use Rattle.cfb_medium.specs.Calls.{IsFaultUnless};
+ghost use Rattle.cfb_medium.specs.declared.error.Error.TheVariants.{InvalidInput, Memory};
+ghost use Rattle.cfb_mini.specs.Views.{allocator_of};
+ghost use Rattle.msi.specs.Lists.{streams_left, tables_left};
+ghost use Rattle.msi.specs.Opened.{file_in, kind_in, pool_in, sound_in, summary_in, tables_in, Holds, Rests};
+ghost use Rattle.msi_meaning.specs.Calls.{table_names};
+ghost use Rattle.msi_meaning.specs.Package.{Package as Packed};
+ghost use Rattle.msi_meaning.specs.Streams.{has_stream, is_signed, may_name, stream_names, stream_read};
+ghost use Rattle.msi_parts.specs.Judged.{heading_named};
+ghost use Rattle.msi_stored.specs.Reading.{TellsOrFault};
+ghost use Rattle.msi_tables.specs.Held.{heading_of};
+
+use crate::reader::StreamReader;
+use crate::reading;
+use crate::streams::Streams;
+use crate::tables::Tables;
+use cfb_medium::{Error, Medium, ReadMedium};
+use msi_meaning::PackageType;
+use msi_parts::table_named;
+use msi_pool::StringPool;
+use msi_store::Store;
+use msi_summary::SummaryInfo;
+use msi_tables::Table;
+use msi_texts::CodePage;
+use std::alloc::Global;
+
+/// A package: a Windows Installer database in a compound file. Kind, summary, pool of texts and the tables without their rows are in
+/// memory; rows and streams are read from the file when they are asked for.
+#[derive(Drop)]
+pub struct Package<F: ReadMedium> {
+    pub(crate) alloc: Global,
+    pub(crate) store: Store<F>,
+    pub(crate) kind: PackageType,
+    pub(crate) pool: StringPool,
+    pub(crate) summary: SummaryInfo,
+    pub(crate) is_sound: bool,
+}
+
+impl<F: ReadMedium> Package<F> {
+    /// What the package is for.
+    pub fn package_type(&self) -> PackageType
+        ensures { result ≡ kind_in self.now }
+    {
+        self.kind
+    }
+
+    /// Its summary.
+    pub fn summary_info(&self) -> &SummaryInfo
+        ensures { result.now ≡ summary_in self.now }
+    {
+        &self.summary
+    }
+
+    /// The page under which its texts are written.
+    pub fn database_codepage(&self) -> CodePage
+        ensures { result ≡ (pool_in self.now).pool.page }
+    {
+        self.pool.codepage()
+    }
+
+    /// Whether it is sound, as it was judged when it was opened: its container is, each reference to a text has a use in the pool and
+    /// each count is that of the cells that name the text, free places are empty, texts give back their bytes, the summary has one
+    /// section, each stream that is named as a table's is one, and names and system tables are as they should be.
+    pub fn is_sound(&self) -> bool
+        ensures { result ≡ sound_in self.now }
+    {
+        self.is_sound
+    }
+
+    /// The table of a name, without its rows; the system tables are among them. It takes no memory.
+    pub fn get_table(&self, name: &str) -> Option<&Table>
+        ensures { option_map (λ t. heading_of t.now) result
+            ≡ heading_named (tables_in self.now) name.now }
+    {
+        table_named(&self.store.tables, name)
+    }
+
+    /// Whether there is a table of a name. It takes no memory.
+    pub fn has_table(&self, name: &str) -> bool
+        ensures { result ≡ is_some (heading_named (tables_in self.now) name.now) }
+    {
+        self.get_table(name).is_some()
+    }
+
+    /// The names of all tables, by their bytes; `_Tables` and `_Columns` are among them. The one error is `Memory`.
+    pub fn tables(&self) -> Result<Tables, Error>
+        ensures held { (P : Packed) → Holds self.now P → IfOk result (λ it.
+            map string_bytes (tables_left it) ≡ table_names P) }
+        ensures names { IfOk result (λ it. map string_bytes (tables_left it)
+            ≡ map (λ h. h.name) (tables_in self.now)) }
+        ensures err { IfErr result (λ e. e ≡ Memory) }
+    {
+        Tables::new(self.alloc, &self.store.tables)
+    }
+
+    /// The names of the streams that belong to no table and are neither a summary nor a signature, in the container's order. Errors
+    /// are faults, where a package is held. The package is only looked at.
+    pub fn streams(&self) -> Result<Streams, Error>
+        ensures told { (P : Packed) → Holds self.now P → MatchResult result (λ it.
+            map string_bytes (streams_left it) ≡ stream_names (letters_in (file_in self.now)) P)
+            (IsFaultUnless ⊥) }
+        ensures cause { IfErr result (HasCauseBelow (allocator_of (mini_of (file_in self.now)))
+            (allocator_of (mini_of (file_in self.now)))) }
+    {
+        Streams::new(self.alloc, &self.store.file)
+    }
+
+    /// Whether there is a stream of this name; none of a name that reading refuses. It takes no memory.
+    pub fn has_stream(&self, name: &str) -> bool
+        ensures { (P : Packed) → Holds self.now P
+            → result ≡ has_stream (letters_in (file_in self.now)) P name.now }
+    {
+        reading::has_stream(&self.store.file, name)
+    }
+
+    /// A stream that belongs to no table, at its first byte. `InvalidInput` where no stream can have the name, `NotFound` where none
+    /// has. Other errors are faults, where a package is held. The package is only read.
+    pub fn read_stream(&mut self, name: &str) -> Result<StreamReader, Error>
+        ensures told { (P : Packed) → Holds self.old P → TellsOrFault (λ it. it.bytes)
+            (stream_read (letters_in (file_in self.old)) P name.now) result }
+        ensures refused { may_name (letters_in (file_in self.old)) name.now ≡ Err InvalidInput
+            → IsErrOf result InvalidInput }
+        ensures rests { Rests self.old self.new }
+        ensures cause { IfErr result (HasCauseBelow (allocator_of (mini_of (file_in self.old)))
+            (allocator_of (mini_of (file_in self.new)))) }
+    {
+        reading::read_stream(&mut self.store.file, name)
+    }
+
+    /// Whether there is a digital signature. It takes no memory.
+    pub fn has_digital_signature(&self) -> bool
+        ensures { (P : Packed) → Holds self.now P
+            → result ≡ is_signed (letters_in (file_in self.now)) P }
+    {
+        reading::has_digital_signature(&self.store.file)
+    }
+}
+
+impl<F: Medium> Package<F> {
+    /// Whether a fault in a write or a commit has left the file, or its medium, in a state in which every call is refused.
+    pub fn has_failed(&self) -> bool
+        ensures { result ≡ has_failed (allocator_of (mini_of (file_in self.now))) }
+    {
+        self.store.file.has_failed()
+    }
+}
+

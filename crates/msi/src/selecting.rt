@@ -1,0 +1,57 @@
+//! Rows that a query asks of a package.
+ghost use Rattle.std.specs.Prelude.{◌≡◌, ◌↔◌, true, IfErr, IsErrOf, IsTrue};
+ghost use Rattle.cfb.specs.Views.{mini_of};
+ghost use Rattle.cfb_fat.specs.Tables.{has_failed_here, HasCauseBelow};
+ghost use Rattle.cfb_medium.specs.declared.error.Error.TheVariants.{Failed};
+ghost use Rattle.cfb_mini.specs.Views.{allocator_of};
+ghost use Rattle.msi.specs.Opened.{file_in, pool_in, store_in, Holds, Rests};
+ghost use Rattle.msi.specs.Rows.{rows_shown};
+ghost use Rattle.msi_meaning.specs.Calls.{selected_in};
+ghost use Rattle.msi_meaning.specs.Package.{Package as Packed};
+ghost use Rattle.msi_parts.specs.Whole.{Wide};
+ghost use Rattle.msi_query.specs.Said.{query_of};
+ghost use Rattle.msi_stored.specs.Reading.{TellsOrFault};
+ghost use Rattle.msi_tables.specs.Held.{rows_held};
+
+use crate::package::Package;
+use crate::rows::rows_of_cells;
+use cfb_medium::{Error, ReadMedium};
+use msi_pool::ValueRef;
+use msi_query::Select;
+use msi_tables::Rows;
+use std::rc::Rc;
+
+impl<F: ReadMedium> Package<F> {
+    /// The rows that a query asks for, all in memory. `Failed` after a fault in a write, before all else; `NotFound` where a table that it
+    /// names is missing, `InvalidInput` where a column is, the left side of a join before the right; `InvalidData` where a table that it
+    /// names has too many rows or its chain breaks. Other errors are faults. The package is only read.
+    pub fn select_rows(&mut self, query: &Select) -> Result<Rows, Error>
+        ensures answer { (P : Packed) → Holds self.old P → TellsOrFault rows_shown
+            (selected_in P (query_of query.now)) result }
+        ensures rests { Rests self.old self.new }
+        ensures failed { has_failed_here (allocator_of (mini_of (file_in self.old))) ≡ true
+            → IsErrOf result Failed }
+        ensures cause { IfErr result (HasCauseBelow (allocator_of (mini_of (file_in self.old)))
+            (allocator_of (mini_of (file_in self.new)))) }
+    {
+        if let Err(error) = self.store.file.root_entry() {
+            return Err(error);
+        }
+        match query.apply(self.alloc, &mut self.store, &self.pool) {
+            Ok((table, rows)) => {
+                if !are_wide(&rows, table.columns().len()) {
+                    return Err(Error::InvalidData);
+                }
+                rows_of_cells(self.alloc, &self.pool, Rc::new(self.alloc, table)?, rows)
+            }
+            Err(error) => Err(error),
+        }
+    }
+}
+
+// Whether each row has so many cells.
+fn are_wide(rows: &[Vec<ValueRef>], count: usize) -> bool
+    ensures { IsTrue result ↔ Wide count (rows_held rows.now) }
+{
+    rows.iter().all(|row| row.len() == count)
+}
