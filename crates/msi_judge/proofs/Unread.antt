@@ -1,11 +1,8 @@
 -- What is answered of parts that can't be read.
 use Rattle.std.proofs.Common.{Bool, false, sym, subst}
-use Rattle.std.specs.Prelude.{◌↔◌, Err, IfErr, IfOk, IsTrue, Ok, Result}
-use Rattle.cfb_fat.specs.Tables.{HasCauseBelow}
-use Rattle.cfb_fat.specs.declared.allocator.Allocator.{Allocator}
+use Rattle.std.specs.Prelude.{◌↔◌, Err, IfOk, IsTrue, Ok, Result}
 use Rattle.cfb_medium.specs.Calls.{IsFaultUnless}
 use Rattle.cfb_medium.specs.declared.error.Error.{Error}
-use Rattle.cfb_medium.specs.declared.medium.ReadMedium.{Ghosts}
 use Rattle.msi_judge.proofs.Told.{Answers, is_no}
 use Rattle.msi_judge.specs.Faults.{IsNoUnlessFault}
 
@@ -17,11 +14,3 @@ module _ (error : Error) where
 
   pub unread_answers : (P : Type 0) (r : Result Bool Error) → IsNoUnlessFault error r → ((IsFaultUnless ⊥ error → ⊥) → P → ⊥) → Answers P r
   unread_answers P r told none = unread_ok (λ is. IsTrue is ↔ P) r told (λ other. is_no P (none other))
-
-  pub passed_fault : (r : Result Bool Error) → IsNoUnlessFault error r → IfErr r (IsFaultUnless ⊥)
-  passed_fault (Ok is) told = tt
-  passed_fault (Err e) told = told.1
-
-  pub passed_cause : {F : Type 0} {g : Ghosts F} (a b : Allocator F g) (r : Result Bool Error) → IsNoUnlessFault error r → HasCauseBelow a b error → IfErr r (HasCauseBelow a b)
-  passed_cause a b (Ok is) told cause = tt
-  passed_cause a b (Err e) told cause = subst (HasCauseBelow a b) (sym told.0) cause

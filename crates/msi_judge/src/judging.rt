@@ -26,7 +26,7 @@ use std::alloc::Global;
 use std::rc::Rc;
 
 /// Whether the file holds a sound package, whose parts were read from it. It is judged whether the container is sound, then
-/// whether the parts in memory are as a sound package has them, then where the objects under the root stand, and at last the rows:
+/// whether the parts in memory are as a sound package has them, then where the objects under the root stand, and last the rows:
 /// those of `_Tables` list no system table, and the pool counts just the uses that the cells of all tables make. The first no ends
 /// it. The rows of one table are in memory at a time. A table whose rows can't be read is a no; each error is a fault. The file is
 /// only read.
