@@ -1,0 +1,5 @@
+pub mod Counted
+pub mod Taken
+pub mod Told
+pub mod Unread
+pub mod Steps
