@@ -1,6 +1,6 @@
 -- A package in memory, whose rows and streams lie in its file, and what opening tells.
 use Rattle.std.specs.Prelude.{◌≡◌, ◌⊎◌, ◌↔◌, ℕ, false, true, Bool, List, Ok, Err, IsTrue}
-use Rattle.cfb.specs.Streams as file
+use Rattle.cfb.specs.Streams.{Holds as HoldsTree}
 use Rattle.cfb.specs.Views.{letters_in}
 use Rattle.cfb.specs.Views as read
 use Rattle.cfb.specs.declared.compound_file.CompoundFile.{CompoundFile}
@@ -71,7 +71,7 @@ module _ {F : Type 0} {g : Ghosts F} where
   -- THE PACKAGE IN MEMORY IS THIS ONE: a tree that its file holds packs it, and memory has its parts
   pub record Holds (it : Package F g) (P : Packed) : Type 0 where
     pub tree : Tree
-    pub file : file.Holds (file_in it) tree
+    pub file : HoldsTree (file_in it) tree
     pub packs : Packs (letters_in (file_in it)) tree P
     pub usable : may_use (letters_in (file_in it)) ≡ true
     pub memory : IsMemoryOf (kind_in it) (summary_in it).props (pool_in it).pool (tables_in it) P

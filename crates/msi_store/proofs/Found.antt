@@ -29,20 +29,20 @@ found_is_one [] name h e = absurd (cc)
 found_is_one (k ∷ ks) name h e = by (bytes_eq k.name name) e (found_is_one ks name h)
   where
     by : (b : Bool) → cond b (Some k) (heading_named ks name) ≡ Some h → (heading_named ks name ≡ Some h → Contains ks h) → Contains (k ∷ ks) h
-    by true e later = (0, (omega arith, cc))
-    by false e later = let there = later e in (suc there.0, (omega (arith, there.1.0), there.1.1))
+    by true e later = (0, omega arith, cc)
+    by false e later = let there = later e in (suc there.0, omega (arith, there.1), there.2)
 
 module _ {F : Type 0} {g : Ghosts F} (it : Stored F g) (tables : Tables) (has : HasTables it tables) (name : List ℕ) where
   -- names and columns are those in memory
   pub named : {X : Type 0} (see : X → Heading) (o : Option X) → option_map see o ≡ heading_named it.1 name → option_map (λ x. (see x).name) o ≡ option_map (λ t. t.name) (tables name)
-  named see o e = option_then see (λ h. h.name) o ∙ ap (option_map (λ h. h.name)) e ∙ sym (has.2.2.names name)
+  named see o e = option_then see (λ h. h.name) o ∙ ap (option_map (λ h. h.name)) e ∙ sym (has.2.names name)
 
   pub columned : {X : Type 0} (see : X → Heading) (o : Option X) → option_map see o ≡ heading_named it.1 name → option_map (λ x. (see x).columns) o ≡ option_map (λ t. t.columns) (tables name)
-  columned see o e = option_then see (λ h. h.columns) o ∙ ap (option_map (λ h. h.columns)) e ∙ sym (has.2.2.columns name)
+  columned see o e = option_then see (λ h. h.columns) o ∙ ap (option_map (λ h. h.columns)) e ∙ sym (has.2.columns name)
 
   -- a table that isn't there has no rows to tell
   pub no_rows : (rows : List Row) → heading_named it.1 name ≡ None → IfSome (tables name) (λ t. t.rows ≡ rows)
-  no_rows rows none = by (tables name) (has.2.2.names name ∙ ap (option_map (λ h. h.name)) none)
+  no_rows rows none = by (tables name) (has.2.names name ∙ ap (option_map (λ h. h.name)) none)
     where
       by : (o : Option Table) → option_map (λ t. t.name) o ≡ None → IfSome o (λ t. t.rows ≡ rows)
       by None e = tt
@@ -56,7 +56,13 @@ module _ {F : Type 0} {g : Ghosts F} (it : Stored F g) (tables : Tables) (has : 
     where
       by : (o : Option Table) → tables name ≡ o → IfSome o (λ t. t.rows ≡ rows_held rows.items)
       by None e = tt
-      by (Some t) e = has.2.2.rows name t h (rows_held rows.items) e found (told has.0 has.2.1)
+      by (Some t) e = has.2.rows name t h (rows_held rows.items) e found (told has.0 has.1)
+
+-- they are so of all tables that it has
+pub rows_all : {F : Type 0} {g : Ghosts F} (it : Stored F g) (name : List ℕ) (h : Heading) (r : Read) → heading_named it.1 name ≡ Some h → ((tree : Tree) → file.Holds it.0 tree → ToldRows (letters_in it.0) tree h r)
+    → IfOk r (λ rows. (tables : Tables) → HasTables it tables → IfSome (tables name) (λ t. t.rows ≡ rows_held rows.items))
+rows_all it name h (Ok rows) found told = λ tables has. own_rows it tables has name h (Ok rows) found told
+rows_all it name h (Err e) found told = tt
 
 -- rows that can't be read are told by their cause
 pub own_cause : {F : Type 0} {g : Ghosts F} (old new : Stored F g) (name : List ℕ) (h : Heading) (r : Read) → heading_named old.1 name ≡ Some h
@@ -67,7 +73,7 @@ own_cause old new name h (Err e) found told cause error = record { below = cause
   where
     too_many : (tree : Tree) → e ≡ InvalidData → IsFaultUnless ⊥ e ⊎ ((e ≡ InvalidData) × (rows_in (letters_in old.0) tree h ≡ None)) → HasTooMany (letters_in old.0) tree old.1
     too_many tree broken (inl fault) = absurd (subst (IsFaultUnless ⊥) broken fault)
-    too_many tree broken (inr both) = (h, (found_is_one old.1 name h found, both.1))
+    too_many tree broken (inr both) = (h, found_is_one old.1 name h found, both.1)
 
     by : IsFaultUnless ⊥ e ⊎ (e ≡ InvalidData) → IsFaultUnless ⊥ e ⊎ IsUnread old e
     by (inl fault) = inl fault

@@ -12,9 +12,10 @@ use Rattle.msi_store.proofs.PartsRead.{err_at}
 use Rattle.msi_store.proofs.parts.read_parts.Goals as goal
 
 pub returns-in_err-builder-clause-told : goal.returns-in_err-builder-clause-told
-returns-in_err-builder-clause-told g c tree held may =
+returns-in_err-builder-clause-told g c =
     let e = c.in_err-builder.field-0.0 in
     let is : c.from_residual-in_err-builder.result ≡ Err e = search (rules, c.from_residual-in_err-builder.ensures) in
+    λ tree held may.
     let a = c.args.file.now in
     let first = c.summary_of.new.file in
     let letters = letters_in c.args.file.now in
@@ -27,9 +28,10 @@ pub returns-in_err-builder-clause-rests : goal.returns-in_err-builder-clause-res
 returns-in_err-builder-clause-rests g c = file_then c.args.file.now c.summary_of.new.file c.builder_of.new.file c.summary_of.ensures.rests c.builder_of.ensures.rests
 
 pub returns-in_err-pool-clause-told : goal.returns-in_err-pool-clause-told
-returns-in_err-pool-clause-told g c tree held may =
+returns-in_err-pool-clause-told g c =
     let e = c.in_err-pool.field-0.0 in
     let is : c.from_residual-in_err-pool.result ≡ Err e = search (rules, c.from_residual-in_err-pool.ensures) in
+    λ tree held may.
     let a = c.args.file.now in
     let first = c.summary_of.new.file in
     let second = c.builder_of.new.file in
@@ -59,9 +61,10 @@ returns-in_err-pool-clause-cause g c =
     (file_cause a second c.built_of.new.file e (file_then a first second c.summary_of.ensures.rests c.builder_of.ensures.rests) c.in_err-pool.ensures.cause)
 
 pub returns-in_err-tables-clause-told : goal.returns-in_err-tables-clause-told
-returns-in_err-tables-clause-told g c tree held may =
+returns-in_err-tables-clause-told g c =
     let e = c.in_err-tables.field-0.0 in
     let is : c.from_residual-in_err-tables.result ≡ Err e = search (rules, c.from_residual-in_err-tables.ensures) in
+    λ tree held may.
     let a = c.args.file.now in
     let first = c.summary_of.new.file in
     let second = c.builder_of.new.file in

@@ -13,13 +13,14 @@ use Rattle.msi_store.proofs.PartsRead.{Reads, Refused, columns_exit, err_at, sch
 use Rattle.msi_store.proofs.parts.schema_of.Goals as goal
 
 pub returns-in_err-tables-clause-told : goal.returns-in_err-tables-clause-told
-returns-in_err-tables-clause-told g c tree held =
+returns-in_err-tables-clause-told g c =
+    let e = c.in_err-tables.field-0.0 in
+    let is : c.from_residual-in_err-tables.result ≡ Err e = search (rules, c.from_residual-in_err-tables.ensures) in
+    λ tree held.
     let letters = letters_in c.args.file.now in
     let pool = c.args.pool.now.pool in
     let long = sym c.long_string_refs-long.ensures in
     let cs = columns_of c.in_ok-tables_columns.field-0.items in
-    let e = c.in_err-tables.field-0.0 in
-    let is : c.from_residual-in_err-tables.result ≡ Err e = search (rules, c.from_residual-in_err-tables.ensures) in
     tables_exit letters tree pool cs c.in_ok-tables_columns.ensures.ok c.from_residual-in_err-tables.result e is (c.in_err-tables.ensures.told tree held pool long)
 
 pub returns-in_err-columns_columns-clause-cause : goal.returns-in_err-columns_columns-clause-cause
@@ -31,15 +32,16 @@ returns-in_err-columns_columns-clause-cause g c =
     err_at (HasCauseBelow a b) c.from_residual-in_err-columns_columns.result e is (memory_cause a b e c.in_err-columns_columns.ensures.err)
 
 pub returns-in_err-columns-clause-told : goal.returns-in_err-columns-clause-told
-returns-in_err-columns-clause-told g c tree held =
+returns-in_err-columns-clause-told g c =
+    let e = c.in_err-columns.field-0.0 in
+    let is : c.from_residual-in_err-columns.result ≡ Err e = search (rules, c.from_residual-in_err-columns.ensures) in
+    λ tree held.
     let letters = letters_in c.args.file.now in
     let pool = c.args.pool.now.pool in
     let long = sym c.long_string_refs-long.ensures in
     let cs = columns_of c.in_ok-tables_columns.field-0.items in
     let is_t = c.in_ok-tables.ensures.told tree held pool long in
     let ds = columns_of c.in_ok-columns_columns.field-0.items in
-    let e = c.in_err-columns.field-0.0 in
-    let is : c.from_residual-in_err-columns.result ≡ Err e = search (rules, c.from_residual-in_err-columns.ensures) in
     columns_exit letters tree pool cs c.in_ok-tables_columns.ensures.ok (rows_held c.in_ok-tables.tables.items) is_t ds c.in_ok-columns_columns.ensures.ok c.from_residual-in_err-columns.result e is
     (later c.args.file.now c.rows_by_columns.new.file (λ l t. Refused l t pool columns_name ds e) c.rows_by_columns.ensures.rests (λ t h. c.in_err-columns.ensures.told t h pool long) tree held)
 
@@ -59,9 +61,10 @@ pub returns-in_err-columns_of_validation-clause-rests : goal.returns-in_err-colu
 returns-in_err-columns_of_validation-clause-rests g c = file_then c.args.file.now c.rows_by_columns.new.file c.rows_by_columns-2.new.file c.rows_by_columns.ensures.rests c.rows_by_columns-2.ensures.rests
 
 pub returns-in_err-validation-clause-told : goal.returns-in_err-validation-clause-told
-returns-in_err-validation-clause-told g c tree held =
+returns-in_err-validation-clause-told g c =
     let e = c.in_err-validation.field-0.0 in
     let is : c.from_residual-in_err-validation.result ≡ Err e = search (rules, c.from_residual-in_err-validation.ensures) in
+    λ tree held.
     let letters = letters_in c.args.file.now in
     let pool = c.args.pool.now.pool in
     let long = sym c.long_string_refs-long.ensures in
