@@ -16,7 +16,7 @@ use msi_texts::{
 
 /// A stream's name as the container has it. `InvalidInput` where no stream can have the name: it is empty or too long, or named as
 /// a table's; it has a `/`, `\`, `:` or `!`; or it is that of a summary or signature by its key. It takes no memory.
-pub fn encoded_stream_name(letters: &CaseMapper, name: &str) -> Result<EncodedName, Error>
+pub(crate) fn encoded_stream_name(letters: &CaseMapper, name: &str) -> Result<EncodedName, Error>
     ensures told { MatchResult result (λ encoded.
         (may_name (letters_of letters.now) name.now ≡ Ok tt)
         × (encoded_text encoded ≡ encode_utf8_all (plain_stream_name name.now)))
@@ -50,7 +50,7 @@ fn is_separator(byte: u8) -> bool
 }
 
 /// Whether a name in the container has the key of one of the two summaries' or the two signature streams' names. It takes no memory.
-pub fn is_special(letters: &CaseMapper, name: &str) -> bool
+pub(crate) fn is_special(letters: &CaseMapper, name: &str) -> bool
     ensures { result ≡ is_special (letters_of letters.now) (chars name.now) }
 {
     if is_same_name(letters, name, DOCUMENT_SUMMARY_INFO_STREAM_NAME) {
@@ -66,7 +66,7 @@ pub fn is_special(letters: &CaseMapper, name: &str) -> bool
 }
 
 /// Whether two names are one in the container: they have one key. It takes no memory.
-pub fn is_same_name(letters: &CaseMapper, one: &str, other: &str) -> bool
+pub(crate) fn is_same_name(letters: &CaseMapper, one: &str, other: &str) -> bool
     ensures { result ≡ is_same_name (letters_of letters.now) (chars one.now) (chars other.now) }
 {
     compare_names(letters, one, other).is_eq()

@@ -17,7 +17,7 @@ use std::alloc::Global;
 use std::rc::Rc;
 
 /// The rows of a table, with the values of their cells. The one error is `Memory`.
-pub fn rows_of_cells(
+pub(crate) fn rows_of_cells(
     alloc: Global,
     pool: &StringPool,
     table: Rc<Table>,
