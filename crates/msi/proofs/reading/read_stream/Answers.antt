@@ -1,4 +1,4 @@
-use Rattle.std.proofs.Common.{◌≡◌, ◌∙◌, [], ◌∷◌, ap, sym, inr, Some, None}
+use Rattle.std.proofs.Common.{◌≡◌, ◌∙◌, [], ◌∷◌, ap, sym, inl, inr, Some, None}
 use Rattle.std.specs.Prelude.{Ok, option_map}
 use Rattle.std.specs.Str.{chars}
 use Rattle.cfb.proofs.Holding.{holds_shown}
@@ -43,3 +43,6 @@ returns-in-Ok-None-clause-told g c tree held P packs may =
     ap (stream_at letters (objects tree.content)) (sym plain) ∙ c.in-Ok-None.ensures.told tree held ∙ ap (option_map (λ bytes. bytes.items)) c.in-Ok-None.field-0-is in
     inr (read_taken letters P name taken
     ∙ ap (λ o. or_refused o NotFound) (found_taken letters may tree P packs (holds_shown c.args.file.now tree held).ordered.0 name taken ∙ there))
+
+pub returns-in-Err-stream_bytes-clause-told : goal.returns-in-Err-stream_bytes-clause-told
+returns-in-Err-stream_bytes-clause-told g c tree held P packs may = inl (c.in-Err-stream_bytes.ensures.told tree held)

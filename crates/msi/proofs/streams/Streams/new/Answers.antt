@@ -1,15 +1,15 @@
-use Rattle.std.proofs.Common.{◌∙◌, ap, map}
+use Rattle.std.proofs.Common.{◌≡◌, ◌∙◌, ap, inl, inr, map, subst, sym}
 use Rattle.std.specs.List.{flat_map}
 use Rattle.std.specs.Prelude.{string_bytes}
 use Rattle.cfb.proofs.Holding.{holds_shown}
 use Rattle.cfb.specs.Views.{letters_in}
 use Rattle.cfb_entries.specs.Listed.{listed, listed_in}
 use Rattle.cfb_entries.specs.Lists.{entries_left}
+use Rattle.cfb_medium.specs.Calls.{IsFaultUnless}
 use Rattle.msi_store.proofs.Placed.{listed_same}
 use Rattle.msi.proofs.Listing.{listed_names}
 use Rattle.msi.proofs.Owned.{names_listed}
 use Rattle.msi.specs.Lists.{name_listed, streams_left}
-use Rattle.std.proofs.Common.{sym}
 use Rattle.msi.proofs.streams.Streams.new.Goals as goal
 
 pub returns-clause-told : goal.returns-clause-told
@@ -23,3 +23,9 @@ returns-clause-told g c tree held P packs may =
     ∙ ap (flat_map (name_listed letters)) (told.2 ∙ ap (map listed) (listed_same tree.content told.0 told.1))
     ∙ listed_names letters tree.content
     ∙ sym (names_listed letters may P tree packs)
+
+pub returns-in-Err-clause-told : goal.returns-in-Err-clause-told
+returns-in-Err-clause-told g c tree held P packs may = elim (c.in-Err.ensures.told held.live tree (holds_shown c.args.file.now tree held)).1 [
+  | inl memory ↦ subst (IsFaultUnless ⊥) (sym memory) tt
+  | inr answer ↦ absurd (cc)
+]
