@@ -1,10 +1,17 @@
 -- The tables of a package that is held, as a query finds them.
-use Rattle.std.proofs.Common.{◌≡◌, ◌∙◌, ℕ, suc, Bool, true, false, cond, List, [], ◌∷◌, length, map, refl, sym, ap, subst, arith, Some, None}
-use Rattle.std.specs.Prelude.{All, IfSome, Option, bytes_eq, nat_le, option_map, unwrap_or}
+use Rattle.std.proofs.Common.{◌≡◌, ◌∙◌, ◌+◌, ℕ, suc, Bool, true, false, cond, List, [], ◌∷◌, length, map, refl, sym, ap, subst, arith, Some, None}
+use Rattle.std.specs.Prelude.{◌==◌, ◌&&◌, All, IfSome, Option, Vec, bytes_eq, nat_le, option_map, unwrap_or}
+use Rattle.std.specs.List.{list_all}
+use Rattle.std.specs.declared.alloc.Global.{Global}
+use Rattle.std.proofs.lemmas.Bool.{and_parts}
+use Rattle.std.proofs.lemmas.Bool.Decides.{nat_tests}
+use Rattle.msi_pool.specs.declared.stringref.ValueRef.{ValueRef}
+use Rattle.msi_tables.specs.Held.{rows_held}
 use Rattle.std.proofs.lemmas.List.Elements.{All-head, All-tail}
 use Rattle.cfb_tree.specs.Names.{Letters}
 use Rattle.cfb_tree.specs.Tree.{Tree}
 use Rattle.msi_columns.specs.declared.column.ColumnType.{ColumnType}
+use Rattle.msi_columns.specs.Cell.{width_of}
 use Rattle.std.proofs.lemmas.List.{length-map}
 use Rattle.msi_meaning.specs.Package.{objects, table_stream}
 use Rattle.msi_parts.proofs.Judging.{named_heading}
@@ -48,7 +55,7 @@ module _ (letters : Letters) (tree : Tree) (long : Bool) (ts : List Table) (read
 -- rows that were read have a cell for each column
 cells : (long : Bool) (n : ℕ) (bytes : List ℕ) (before : ℕ) (ks : List ColumnType) (r : ℕ) → length (row_at long n bytes before ks r) ≡ length ks
 cells long n bytes before [] r = refl
-cells long n bytes before (k ∷ ks) r = ap suc (cells long n bytes _ ks r)
+cells long n bytes before (k ∷ ks) r = ap suc (cells long n bytes (before + width_of long k) ks r)
 
 wide_map : (n : ℕ) (f : ℕ → Row) → ((r : ℕ) → length (f r) ≡ n) → (rs : List ℕ) → Wide n (map f rs)
 wide_map n f all [] = tt
@@ -82,3 +89,17 @@ tables_whole letters tree long ts read name = by (table_named ts name) refl
 pub names_same : (long : Bool) (ts : List Table) → map (λ h. h.name) (map (heading long) ts) ≡ map (λ t. t.name) ts
 names_same long [] = refl
 names_same long (t ∷ ts) = ap (λ ns. t.name ∷ ns) (names_same long ts)
+
+-- each row has so many cells where a test of each says so
+pub rows_are_wide : (n : ℕ) (rows : List (Vec ValueRef Global)) → list_all (λ row. length row.items == n) rows ≡ true → Wide n (rows_held rows)
+rows_are_wide n [] e = tt
+rows_are_wide n (row ∷ rows) e =
+    let both = and_parts (length row.items == n) (list_all (λ row. length row.items == n) rows) e in
+    let here : length row.items ≡ n = grind (arith, nat_tests, both.0) in
+    (here, rows_are_wide n rows both.1)
+
+pub wide_rows_pass : (n : ℕ) (rows : List (Vec ValueRef Global)) → Wide n (rows_held rows) → list_all (λ row. length row.items == n) rows ≡ true
+wide_rows_pass n [] w = refl
+wide_rows_pass n (row ∷ rows) w =
+    let here : (length row.items == n) ≡ true = grind (arith, nat_tests, w.0) in
+    ap (λ b. b && list_all (λ row. length row.items == n) rows) here ∙ wide_rows_pass n rows w.1

@@ -1,11 +1,12 @@
 -- A package that was opened is that of its bytes, and a refusal is theirs.
 use Rattle.std.proofs.Common.{◌≡◌, ◌∙◌, ◌⊎◌, ℕ, Bool, true, false, List, refl, sym, ap, subst, inl, inr}
-use Rattle.std.specs.Prelude.{◌↔◌, ◌||◌, Err, IfErr, IfOk, IsTrue, Ok, Result}
+use Rattle.std.specs.Prelude.{◌↔◌, ◌||◌, Err, IfErr, IfOk, IsTrue, MatchResult, Ok, Result}
 use Rattle.cfb.proofs.Holding.{holds_opened, holds_yet}
 use Rattle.cfb.specs.Opened.{IsOpenedAs}
 use Rattle.cfb.specs.Streams.{Holds}
 use Rattle.cfb.specs.Views.{letters_in, mini_of, sound_of, Rests}
 use Rattle.cfb.specs.declared.compound_file.CompoundFile.{CompoundFile}
+use Rattle.cfb_directory.specs.Entries.{SizesFit}
 use Rattle.cfb_directory.specs.Views.{entries_held}
 use Rattle.cfb_fat.specs.Tables.{has_failed_here, medium_of, version_of, HasCauseBelow}
 use Rattle.cfb_meaning.specs.Means.{Means}
@@ -19,15 +20,18 @@ use Rattle.cfb_opening.specs.Opened.{OpensAt}
 use Rattle.cfb_opening.specs.Tables.{OnlyReads}
 use Rattle.cfb.proofs.OpenedFiles.{left_since}
 use Rattle.cfb_sectors.specs.declared.validation.Validation.TheVariants.{Permissive}
+use Rattle.cfb_tree.specs.Directory.{Entry}
 use Rattle.cfb_tree.specs.Names.{Letters}
 use Rattle.cfb_tree.specs.Tree.{Tree}
 use Rattle.msi_meaning.specs.Opening.{may_use, opened}
 use Rattle.msi_meaning.specs.Package.{Package as Packed, Packs}
 use Rattle.msi_parts.proofs.Collected.{opened_is, schema_of}
 use Rattle.msi_parts.proofs.Memory.{memory_is}
+use Rattle.msi_parts.specs.Held.{AreHeld}
 use Rattle.msi_parts.specs.Parts.{AreParts, IsSoundIn}
+use Rattle.msi_parts.specs.declared.parts.PackageParts.{PackageParts}
 use Rattle.msi.specs.Opened.{Holds as HoldsPackage, IsOpenedPackage, IsRefused, IsSoundFile, file_in, kind_in, pool_in, sound_in, summary_in, tables_in}
-use Rattle.msi.specs.Steps.{IsFound, IsGivenUp}
+use Rattle.msi.specs.Steps.{AreJudged, IsFound, IsGivenUp, IsRefusedTree}
 use Rattle.msi.specs.declared.package.Package.{Package}
 
 module _ {F : Type 0} {g : Ghosts F} (medium : F) (a : CompoundFile F g) (opens : OpensAt medium (mini_of a)) where
@@ -41,7 +45,8 @@ module _ {F : Type 0} {g : Ghosts F} (medium : F) (a : CompoundFile F g) (opens 
         bytes = λ is. sectors.bytes (opens.honest ∙ is) ∙ opens.bytes is;
         live = sectors.failed ∙ opens.live;
         memory = rests.mini.kept opens.memory;
-        sizes = subst (λ v. _) sectors.version opens.sizes;
+        sizes = subst (λ (es : List Entry). SizesFit (version_of (allocator_of (mini_of b))) es) (sym rests.mini.directory.entries)
+            (subst (λ v. SizesFit v (entries_held (directory_of (mini_of a)))) (sym sectors.version) opens.sizes);
       }
 
   -- errors have their cause since then
@@ -81,7 +86,7 @@ module _ {F : Type 0} {g : Ghosts F} (medium : F) (a : CompoundFile F g) (opens 
       judged tree means = subst (λ l. IsTrue (sound_in it) ↔ IsSoundIn l tree (sound_of a)) named (found.judged tree (held tree means) may_here)
 
       sound_to : (b : Bool) → sound_of a ≡ b → IsTrue (sound_in it) → IsSoundFile letters (g.bytes medium)
-      sound_to false e is = let no : true ≡ false = sym is ∙ found.unsound e in absurd (cc)
+      sound_to false e is = let both : true ≡ false = sym is ∙ found.unsound e in absurd (cc)
       sound_to true e is =
           let sound = as_opened.sound.0 e in
           let tree = sound.1 in
@@ -105,22 +110,19 @@ module _ {F : Type 0} {g : Ghosts F} (medium : F) (a : CompoundFile F g) (opens 
     pub given_refused : (m : F) (e : Error) → IsGivenUp a m e → IsFaultUnless ⊥ e ⊎ IsRefused letters (g.bytes medium) e
     given_refused m e given = by e (λ tree means. subst (λ l. IsFaultUnless ⊥ e ⊎ (opened l tree ≡ Err e)) named (given.told tree (held tree means) may_here))
       where
-        abbrev Told : Error → Type 0
-        Told e = (tree : Tree) → Means letters (g.bytes medium) tree → IsFaultUnless ⊥ e ⊎ (opened letters tree ≡ Err e)
+        each : (e : Error) → (IsFaultUnless ⊥ e → ⊥) → ((tree : Tree) → Means letters (g.bytes medium) tree → IsFaultUnless ⊥ e ⊎ (opened letters tree ≡ Err e)) → IsFaultUnless ⊥ e ⊎ IsRefused letters (g.bytes medium) e
+        each e none told = inr (inr (inr (λ tree means. elim (told tree means) [ inl fault ↦ absurd (none fault) | inr is ↦ is ])))
 
-        each : (e : Error) → (IsFaultUnless ⊥ e → ⊥) → Told e → IsFaultUnless ⊥ e ⊎ IsRefused letters (g.bytes medium) e
-        each e no told = inr (inr (inr (λ tree means. elim (told tree means) [ inl fault ↦ absurd (no fault) | inr is ↦ is ])))
-
-        by : (e : Error) → Told e → IsFaultUnless ⊥ e ⊎ IsRefused letters (g.bytes medium) e
+        by : (e : Error) → ((tree : Tree) → Means letters (g.bytes medium) tree → IsFaultUnless ⊥ e ⊎ (opened letters tree ≡ Err e)) → IsFaultUnless ⊥ e ⊎ IsRefused letters (g.bytes medium) e
         by Memory told = inl tt
         by Device told = inl tt
         by Failed told = inl tt
-        by InvalidData told = each InvalidData (λ no. no) told
-        by InvalidInput told = each InvalidInput (λ no. no) told
-        by NotFound told = each NotFound (λ no. no) told
-        by AlreadyExists told = each AlreadyExists (λ no. no) told
-        by UnexpectedEof told = each UnexpectedEof (λ no. no) told
-        by Full told = each Full (λ no. no) told
+        by InvalidData told = each InvalidData (λ f. f) told
+        by InvalidInput told = each InvalidInput (λ f. f) told
+        by NotFound told = each NotFound (λ f. f) told
+        by AlreadyExists told = each AlreadyExists (λ f. f) told
+        by UnexpectedEof told = each UnexpectedEof (λ f. f) told
+        by Full told = each Full (λ f. f) told
 
 -- ---- what opening answers, by what was found in the file
 
@@ -149,17 +151,35 @@ module _ {F : Type 0} {g : Ghosts F} (medium : F) (a : CompoundFile F g) (opens 
       by (Ok it) given = tt
       by (Err e) given = subst (λ m. OnlyReads g.honest g.bytes g.continues medium m) (sym given.medium_is) (left_since medium (mini_of given.new) (opens_yet medium a opens given.new given.rests))
 
-  module _ (letters : Letters) (named : letters_in a ≡ letters) (may : may_use letters ≡ true) (honest : IsTrue (g.honest medium)) (as_opened : IsOpenedAs Permissive letters (g.bytes medium) a) where
-    pub answer_opened : IfOk r (IsOpenedPackage letters (g.bytes medium))
+  module _ (letters : Letters) (named : letters_in a ≡ letters) (may : may_use letters ≡ true) (as_opened : IsTrue (g.honest medium) → IsOpenedAs Permissive letters (g.bytes medium) a) where
+    pub answer_opened : IfOk r (λ it. IsTrue (g.honest medium) → IsOpenedPackage letters (g.bytes medium) it)
     answer_opened = by r ok
       where
-        by : (r : Answer F g) → IfOk r (IsFound a) → IfOk r (IsOpenedPackage letters (g.bytes medium))
-        by (Ok it) found = found_opened medium a opens letters named may honest as_opened it found
+        by : (r : Answer F g) → IfOk r (IsFound a) → IfOk r (λ it. IsTrue (g.honest medium) → IsOpenedPackage letters (g.bytes medium) it)
+        by (Ok it) found = λ honest. found_opened medium a opens letters named may honest (as_opened honest) it found
         by (Err e) found = tt
 
-    pub answer_refused : IfErr r (λ e. IsFaultUnless ⊥ e.1 ⊎ IsRefused letters (g.bytes medium) e.1)
+    pub answer_refused : IfErr r (λ e. IsTrue (g.honest medium) → IsFaultUnless ⊥ e.1 ⊎ IsRefused letters (g.bytes medium) e.1)
     answer_refused = by r err
       where
-        by : (r : Answer F g) → IfErr r (λ e. IsGivenUp a e.0 e.1) → IfErr r (λ e. IsFaultUnless ⊥ e.1 ⊎ IsRefused letters (g.bytes medium) e.1)
+        by : (r : Answer F g) → IfErr r (λ e. IsGivenUp a e.0 e.1) → IfErr r (λ e. IsTrue (g.honest medium) → IsFaultUnless ⊥ e.1 ⊎ IsRefused letters (g.bytes medium) e.1)
         by (Ok it) given = tt
-        by (Err e) given = given_refused medium a opens letters named may honest as_opened e.0 e.1 given
+        by (Err e) given = λ honest. given_refused medium a opens letters named may honest (as_opened honest) e.0 e.1 given
+
+-- what was judged of the file after it was read is so of the file before
+pub judged_before : {F : Type 0} {g : Ghosts F} (a b : CompoundFile F g) → Rests a b → (tree : Tree) (r : Result (PackageParts × Bool) Error) → MatchResult r (AreJudged b tree) (IsFaultUnless ⊥)
+    → MatchResult r (AreJudged a tree) (IsRefusedTree a tree)
+judged_before a b rests tree (Ok found) told = record {
+  held = subst (λ l. AreHeld l tree found.0) rests.letters told.held;
+  judged = subst (λ s. IsTrue found.1 ↔ IsSoundIn (letters_in a) tree s) rests.sound (subst (λ l. IsTrue found.1 ↔ IsSoundIn l tree (sound_of b)) rests.letters told.judged);
+}
+judged_before a b rests tree (Err e) told = inl told
+
+-- another fact of the value, or of the error
+pub if_ok_then : {X E : Type 0} (P Q : X → Type 0) (r : Result X E) → IfOk r P → ((x : X) → P x → Q x) → IfOk r Q
+if_ok_then P Q (Ok x) h k = k x h
+if_ok_then P Q (Err e) h k = tt
+
+pub if_err_then : {X E : Type 0} (P Q : E → Type 0) (r : Result X E) → IfErr r P → ((e : E) → P e → Q e) → IfErr r Q
+if_err_then P Q (Ok x) h k = tt
+if_err_then P Q (Err e) h k = k e h

@@ -19,9 +19,9 @@ use Rattle.msi.specs.declared.package.Package.{Package}
 
 module _ {F : Type 0} {g : Ghosts F} where
   -- the parts are those of the tree, and it was judged exactly whether it packs a sound package
-  abbrev pub AreJudged : CompoundFile F g → Tree → PackageParts × Bool → Type 0
-  AreJudged file tree found =
-      AreHeld (letters_in file) tree found.0 × (IsTrue found.1 ↔ IsSoundIn (letters_in file) tree (sound_of file))
+  pub record AreJudged (file : CompoundFile F g) (tree : Tree) (found : PackageParts × Bool) : Type 0 where
+    pub held : AreHeld (letters_in file) tree found.0
+    pub judged : IsTrue found.1 ↔ IsSoundIn (letters_in file) tree (sound_of file)
 
   -- the tree is refused so, or there was a fault
   abbrev pub IsRefusedTree : CompoundFile F g → Tree → Error → Type 0

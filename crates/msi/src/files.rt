@@ -1,6 +1,8 @@
 //! Packages by the paths of their files.
-ghost use Rattle.std.specs.Prelude.{◌≡◌, IfOk};
+ghost use Rattle.std.specs.Prelude.{IfOk};
 ghost use Rattle.cfb.specs.Paths.{IsOpenedOnDisk};
+ghost use Rattle.cfb.specs.Views.{mini_of};
+ghost use Rattle.cfb_opening.specs.Opened.{OpensAt};
 ghost use Rattle.msi.specs.Opened.{file_in};
 
 use crate::package::Package;
@@ -32,7 +34,7 @@ fn opened(
     medium: FileMedium,
     letters: CaseMapper,
 ) -> Result<Package<FileMedium>, Error>
-    ensures opened { IfOk result (λ it. IsOpenedOnDisk (file_in it)) }
+    ensures opens { IfOk result (λ it. OpensAt medium (mini_of (file_in it))) }
 {
     match Package::open(alloc, medium, letters) {
         Ok(package) => Ok(package),

@@ -149,4 +149,3 @@ impl<F: Medium> Package<F> {
         self.store.file.has_failed()
     }
 }
-

@@ -1,24 +1,26 @@
 //! Rows that a query asks of a package.
-ghost use Rattle.std.specs.Prelude.{◌≡◌, ◌↔◌, true, IfErr, IsErrOf, IsTrue};
+ghost use Rattle.std.specs.Prelude.{◌≡◌, ◌==◌, ◌⊎◌, ◌↔◌, length, true, IfErr, IsErrOf, IsTrue};
 ghost use Rattle.cfb.specs.Views.{mini_of};
 ghost use Rattle.cfb_fat.specs.Tables.{has_failed_here, HasCauseBelow};
 ghost use Rattle.cfb_medium.specs.declared.error.Error.TheVariants.{Failed};
 ghost use Rattle.cfb_mini.specs.Views.{allocator_of};
-ghost use Rattle.msi.specs.Opened.{file_in, pool_in, store_in, Holds, Rests};
+ghost use Rattle.msi.specs.Opened.{file_in, Holds, Rests};
 ghost use Rattle.msi.specs.Rows.{rows_shown};
+ghost use Rattle.msi.specs.Selected.{IsRefusedQuery};
 ghost use Rattle.msi_meaning.specs.Calls.{selected_in};
 ghost use Rattle.msi_meaning.specs.Package.{Package as Packed};
 ghost use Rattle.msi_parts.specs.Whole.{Wide};
 ghost use Rattle.msi_query.specs.Said.{query_of};
 ghost use Rattle.msi_stored.specs.Reading.{TellsOrFault};
-ghost use Rattle.msi_tables.specs.Held.{rows_held};
+ghost use Rattle.msi_tables.specs.Held.{heading_of, rows_held};
+ghost use Rattle.std.specs.List.{list_all};
 
 use crate::package::Package;
 use crate::rows::rows_of_cells;
 use cfb_medium::{Error, ReadMedium};
 use msi_pool::ValueRef;
 use msi_query::Select;
-use msi_tables::Rows;
+use msi_tables::{Rows, Table};
 use std::rc::Rc;
 
 impl<F: ReadMedium> Package<F> {
@@ -31,15 +33,26 @@ impl<F: ReadMedium> Package<F> {
         ensures rests { Rests self.old self.new }
         ensures failed { has_failed_here (allocator_of (mini_of (file_in self.old))) ≡ true
             → IsErrOf result Failed }
-        ensures cause { IfErr result (HasCauseBelow (allocator_of (mini_of (file_in self.old)))
-            (allocator_of (mini_of (file_in self.new)))) }
+        ensures cause { IfErr result (λ e. HasCauseBelow (allocator_of (mini_of (file_in self.old)))
+            (allocator_of (mini_of (file_in self.new))) e ⊎ IsRefusedQuery self.old query.now e) }
     {
-        if let Err(error) = self.store.file.root_entry() {
-            return Err(error);
+        match self.store.file.root_entry() {
+            Ok(_root) => self.selected(query),
+            Err(error) => Err(error),
         }
+    }
+
+    // The same of a file that has met no fault in a write.
+    fn selected(&mut self, query: &Select) -> Result<Rows, Error>
+        ensures answer { (P : Packed) → Holds self.old P → TellsOrFault rows_shown
+            (selected_in P (query_of query.now)) result }
+        ensures rests { Rests self.old self.new }
+        ensures cause { IfErr result (λ e. HasCauseBelow (allocator_of (mini_of (file_in self.old)))
+            (allocator_of (mini_of (file_in self.new))) e ⊎ IsRefusedQuery self.old query.now e) }
+    {
         match query.apply(self.alloc, &mut self.store, &self.pool) {
             Ok((table, rows)) => {
-                if !are_wide(&rows, table.columns().len()) {
+                if !are_wide(&rows, &table) {
                     return Err(Error::InvalidData);
                 }
                 rows_of_cells(self.alloc, &self.pool, Rc::new(self.alloc, table)?, rows)
@@ -49,9 +62,17 @@ impl<F: ReadMedium> Package<F> {
     }
 }
 
+// Whether each row has a cell for each column of the table.
+fn are_wide(rows: &[Vec<ValueRef>], table: &Table) -> bool
+    ensures { IsTrue result
+        ↔ Wide (length (heading_of table.now).columns) (rows_held rows.now) }
+{
+    have_cells(rows, table.columns().len())
+}
+
 // Whether each row has so many cells.
-fn are_wide(rows: &[Vec<ValueRef>], count: usize) -> bool
-    ensures { IsTrue result ↔ Wide count (rows_held rows.now) }
+fn have_cells(rows: &[Vec<ValueRef>], count: usize) -> bool
+    ensures { result ≡ list_all (λ row. length row.items == count) rows.now }
 {
     rows.iter().all(|row| row.len() == count)
 }

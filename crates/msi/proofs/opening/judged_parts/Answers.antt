@@ -1,0 +1,29 @@
+use Rattle.std.proofs.Common.{◌∙◌, ap, subst, sym}
+use Rattle.cfb.proofs.Holding.{holds_yet}
+use Rattle.cfb.specs.Views.{mini_of}
+use Rattle.cfb_fat.specs.Tables.{HasCauseBelow}
+use Rattle.cfb_mini.specs.Views.{allocator_of}
+use Rattle.msi_meaning.specs.Opening.{may_use}
+use Rattle.msi_parts.specs.Held.{AreHeld}
+use Rattle.msi_stored.proofs.StoredLaws.{file_cause, file_then}
+use Rattle.msi.proofs.OpenedPackages.{if_err_then, judged_before}
+use Rattle.msi.proofs.opening.judged_parts.Goals as goal
+
+pub returns-in-Ok-clause-told : goal.returns-in-Ok-clause-told
+returns-in-Ok-clause-told g c tree held may =
+    let a = c.args.file.now in
+    let b = c.read_parts.new.file in
+    let rests = c.read_parts.ensures.rests in
+    judged_before a b rests tree c.judged.result
+    (c.judged.ensures.told tree (holds_yet a b tree rests held) (ap may_use rests.letters ∙ may) (subst (λ l. AreHeld l tree c.in-Ok.parts) (sym rests.letters) (c.in-Ok.ensures.told tree held may)))
+
+pub returns-in-Ok-clause-rests : goal.returns-in-Ok-clause-rests
+returns-in-Ok-clause-rests g c = file_then c.args.file.now c.read_parts.new.file c.judged.new.file c.read_parts.ensures.rests c.judged.ensures.rests
+
+pub returns-in-Ok-clause-cause : goal.returns-in-Ok-clause-cause
+returns-in-Ok-clause-cause g c =
+    let a = c.args.file.now in
+    let b = c.read_parts.new.file in
+    let d = c.judged.new.file in
+    if_err_then (HasCauseBelow (allocator_of (mini_of b)) (allocator_of (mini_of d))) (HasCauseBelow (allocator_of (mini_of a)) (allocator_of (mini_of d))) c.judged.result c.judged.ensures.cause
+    (λ e cause. file_cause a b d e c.read_parts.ensures.rests cause)

@@ -1,0 +1,11 @@
+use Rattle.std.proofs.Common.{inl, inr, subst, sym}
+use Rattle.cfb.proofs.Holding.{holds_shown}
+use Rattle.cfb_medium.specs.Calls.{IsFaultUnless}
+use Rattle.msi.specs.Opened.{file_in}
+use Rattle.msi.proofs.package.Package.select_rows.Goals as goal
+
+pub returns-in-Err-clause-answer : goal.returns-in-Err-clause-answer
+returns-in-Err-clause-answer g c P h = elim (c.in-Err.ensures.told h.file.live h.tree (holds_shown (file_in c.args.self.now) h.tree h.file)).1 [
+  | inl memory ↦ inl (subst (IsFaultUnless ⊥) (sym memory) tt)
+  | inr answer ↦ absurd (cc)
+]
