@@ -1,16 +1,15 @@
 //! Tables in memory, and commands on them.
 use crate::columns::columns_copied;
 use crate::pool::{of_pool, rows_text};
-use acceptance::shelf::Shelf;
 use cfb_medium::Error;
 use command_file::{Command, read_commands};
 use msi_pool::{StringPool, ValueRef};
 use msi_query::Select;
 use msi_tables::{Column, Table};
 use msi_texts::CodePage;
-use row_data::{Row, Subject, copied};
 use std::alloc::Global;
 use std::rc::Rc;
+use test_support::{Row, Shelf, Subject, copied};
 
 // A table with its rows.
 #[derive(Drop)]

@@ -4,8 +4,8 @@ use json_parts::value_of;
 use msi_pool::{StringPool, StringPoolBuilder, StringRef, ValueRef};
 use msi_texts::{CodePage, LanguageId};
 use msi_values::Value;
-use row_data::{Row, Subject, bytes_at, copied, shown, told};
 use std::alloc::Global;
+use test_support::{Row, Subject, bytes_at, copied, shown, told};
 use uuid::Uuid;
 
 /// Answers calls on values and on one pool.

@@ -13,9 +13,9 @@ use columns::Columns;
 use commands::Commands;
 use database::Database;
 use pool::Pools;
-use row_data::print_rows;
 use std::{env, fs};
 use summary::Properties;
+use test_support::print_rows;
 use texts::Texts;
 
 fn main(rt: HostRuntime) -> Result<()> {

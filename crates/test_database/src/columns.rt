@@ -12,9 +12,9 @@ use msi_pool::{StringRef, ValueRef};
 use msi_tables::{Column, ColumnType, Row as Record, Rows, Table};
 use msi_texts::Category;
 use msi_values::Value;
-use row_data::{Row, Subject, bytes_at, copied, shown, told};
 use std::alloc::Global;
 use std::rc::Rc;
+use test_support::{Row, Subject, bytes_at, copied, shown, told};
 
 /// Answers calls on columns, and on the table that was made last.
 #[derive(Drop)]

@@ -1,9 +1,10 @@
-//! Command files: what they are read as, and why they are refused.
+//! Command files: what they are read as, and why they are refused; which columns an expression names.
 use cfb_medium::Error;
 use command_file::{Command, SummaryEdit, read_commands, refusal_in};
+use msi_expr::Expr;
 use msi_tables::Column;
-use row_data::{Row, Subject, copied};
 use std::alloc::Global;
+use test_support::{Row, Subject, copied};
 
 /// Reads a row that is a command file, or a text.
 #[derive(Drop)]
@@ -15,6 +16,7 @@ impl Subject for Commands {
             "" => command_text(alloc, &read_commands(alloc, row.json(alloc)?.as_str())?),
             "read" => command_text(alloc, &read_commands(alloc, row.text(1))?),
             "refusal" => refusal_text(alloc, row.text(1)),
+            "column names" => column_names(alloc),
             _ => Err(Error::NotFound),
         }
     }
@@ -25,6 +27,15 @@ fn refusal_text(alloc: Global, text: &str) -> Result<String, Error> {
         Some(refusal) => Ok(format!(in alloc; "{refusal}")?),
         None => copied(alloc, "none"),
     }
+}
+
+// The columns that an expression names: the tenth part of Foo is at most Bar, or Baz is at least Foo.
+fn column_names(alloc: Global) -> Result<String, Error> {
+    let tenth = Expr::col(alloc, "Foo")?.div(alloc, Expr::integer(10))?;
+    let first = tenth.le(alloc, Expr::col(alloc, "Bar")?)?;
+    let second = Expr::col(alloc, "Baz")?.ge(alloc, Expr::col(alloc, "Foo")?)?;
+    let either = first.or(alloc, second)?;
+    Ok(format!(in alloc; "{:?}", either.column_names(alloc)?)?)
 }
 
 // The last command of a file.

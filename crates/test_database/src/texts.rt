@@ -1,8 +1,8 @@
 //! Names of streams, code pages, languages and categories.
 use cfb_medium::Error;
 use msi_texts::{Category, CodePage, LanguageId, decode, encode, is_valid};
-use row_data::{Row, Subject, bytes_at, copied, shown, told};
 use std::alloc::Global;
+use test_support::{Row, Subject, bytes_at, copied, shown, told};
 
 /// Answers calls of `msi_texts`.
 #[derive(Drop)]

@@ -3,8 +3,8 @@ use cfb_medium::{Error, Timestamp};
 use msi_props::{OperatingSystem, PropertySet, PropertyValue};
 use msi_summary::SummaryInfo;
 use msi_texts::{CodePage, LanguageId};
-use row_data::{Row, Subject, bytes_at, copied, shown, told};
 use std::alloc::Global;
+use test_support::{Row, Subject, bytes_at, copied, shown, told};
 use uuid::Uuid;
 
 /// Answers calls on one property set and one summary.
