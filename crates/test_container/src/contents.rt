@@ -1,13 +1,10 @@
-//! Prints what compound files hold: each object with its path, a stream with its length and the SHA-256 of its bytes.
-#![tactic(auto)]
-
+//! What compound files hold: each object with its path, a stream with its length and the SHA-256 of its bytes.
 use anyhow::{Result, bail};
 use cfb::{CompoundFile, Entry, OpenOptions};
 use cfb_medium::{Error, ReadMedium};
 use file_device::FileMedium;
 use sha2::{Digest, Sha256};
 use std::alloc::Global;
-use std::env;
 use std::io::SeekFrom;
 
 // How much of a stream is read at once.
@@ -16,15 +13,8 @@ const PIECE: usize = 100;
 // Paths at which no file has an object, the last above the root.
 const NOWHERE: [&str; 2] = ["/no such object", "/one/../../one"];
 
-fn main(rt: HostRuntime) -> Result<()> {
-    for path in env::args(&rt)?.skip(1) {
-        print_file(&rt, path.as_str())?;
-    }
-    Ok(())
-}
-
-// Prints the objects of a file, each storage before what it holds.
-fn print_file(rt: &HostRuntime, path: &str) -> Result<()> {
+/// Prints the objects of a file, each storage before what it holds.
+pub fn print(rt: &HostRuntime, path: &str) -> Result<()> {
     let mut medium = FileMedium::open(rt, path)?;
     let len = medium.len()?;
     let options = OpenOptions::new(rt.alloc())?;

@@ -5,8 +5,8 @@ use cfb_medium::{Error, MemoryMedium, Version};
 use cfb_opening::open_file;
 use cfb_sectors::{Header, Validation};
 use cfb_tree::CaseMapper;
-use row_data::{Row, Subject, bytes_at, runs};
 use std::alloc::Global;
+use test_support::{Row, Subject, bytes_at, runs};
 
 /// Opens bytes, with some of them changed.
 #[derive(Drop)]

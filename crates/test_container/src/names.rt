@@ -5,9 +5,9 @@ use cfb_tree::{
     CaseMapper, DirEntry, ObjType, compare_names, name_chain_from_path, name_key,
     path_from_name_chain, validate_name,
 };
-use row_data::{Row, Subject, bytes_at, copied, shown};
 use serde_json::Value;
 use std::alloc::Global;
+use test_support::{Row, Subject, bytes_at, copied, shown};
 
 /// Answers calls on names under one table of letters, and on one directory entry.
 #[derive(Drop)]

@@ -4,8 +4,8 @@ use cfb_medium::{Error, MemoryMedium};
 use cfb_mini::{MiniAllocator, MiniLinks};
 use cfb_soundness::is_sound;
 use cfb_tree::CaseMapper;
-use row_data::{Row, Subject, bytes_at, runs, told};
 use std::alloc::Global;
+use test_support::{Row, Subject, bytes_at, runs, told};
 
 /// Answers calls on the mini sectors of a file in memory.
 #[derive(Drop)]

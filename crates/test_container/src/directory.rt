@@ -5,8 +5,8 @@ use cfb_directory::{Directory, EntryChange};
 use cfb_medium::{Error, MemoryMedium, Timestamp};
 use cfb_sectors::{SectorInit, Validation};
 use cfb_tree::{CaseMapper, ObjType};
-use row_data::{Row, Subject, copied, part_of, told};
 use std::alloc::Global;
+use test_support::{Row, Subject, copied, part_of, told};
 use uuid::Uuid;
 
 /// Answers calls on the directory of a file in memory, under the letters of ASCII.

@@ -3,9 +3,9 @@ use crate::names::texts_at;
 use cfb_medium::{Error, Timestamp};
 use cfb_siblings::{Link, Place, find_entry, find_place, plan_removal, relink};
 use cfb_tree::{CaseMapper, Color, DirEntry, ObjType, validate_name};
-use row_data::{Row, Subject, copied};
 use serde_json::Value;
 use std::alloc::Global;
+use test_support::{Row, Subject, copied};
 
 /// Answers calls on the entries of a tree, under the letters of ASCII.
 #[derive(Drop)]

@@ -1,7 +1,9 @@
 //! Answers rows of data on compound files: a row names a call and what it is given; what is printed beneath it is the answer.
+//! Of any other file it prints what it holds as a compound file.
 #![tactic(auto)]
 
 mod chains;
+mod contents;
 mod directory;
 mod minis;
 mod names;
@@ -15,13 +17,17 @@ use directory::Directories;
 use minis::Minis;
 use names::Names;
 use opening::Openings;
-use row_data::print_rows;
 use siblings::Siblings;
 use std::{env, fs};
+use test_support::print_rows;
 
 fn main(rt: HostRuntime) -> Result<()> {
     for path in env::args(&rt)?.skip(1) {
-        print_file(&rt, path.as_str())?;
+        if path.as_str().ends_with(".rows") {
+            print_file(&rt, path.as_str())?;
+        } else {
+            contents::print(&rt, path.as_str())?;
+        }
     }
     Ok(())
 }

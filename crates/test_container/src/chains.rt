@@ -4,12 +4,14 @@ use cfb_chains::{Chain, Links};
 use cfb_fat::{Allocator, read_difat, use_a_chain};
 use cfb_medium::{Error, MemoryMedium, Version};
 use cfb_owned::{free_chain, overwrite_chain, read_chain, set_chain_len, write_chain, write_word};
-use cfb_sectors::{Header, Sector, SectorInit, Sectors, Validation};
+use cfb_sectors::{
+    END_OF_CHAIN, FREE_SECTOR, Header, Sector, SectorInit, Sectors, Validation, u32_at,
+};
 use plain::parts_of;
-use row_data::{Row, Subject, bytes_at, copied, part_of, runs, shown};
 use serde_json::Value;
 use std::alloc::Global;
 use std::io::SeekFrom;
+use test_support::{Row, Subject, bytes_at, copied, part_of, runs, shown};
 
 /// Answers calls on the sectors of a file in memory.
 #[derive(Drop)]
@@ -26,8 +28,10 @@ impl Chains {
 
 impl Subject for Chains {
     fn answer(&mut self, alloc: Global, row: &Row) -> Result<String, Error> {
-        if row.call() == "file" {
-            self.file = Some(opened(alloc, row)?);
+        match row.call() {
+            "new sectors" => return new_sectors(alloc),
+            "file" => self.file = Some(opened(alloc, row)?),
+            _ => {}
         }
         match &mut self.file {
             Some(file) => of_file(alloc, file, row),
@@ -53,6 +57,28 @@ pub fn opened(alloc: Global, row: &Row) -> Result<Allocator<MemoryMedium>, Error
     let mut sectors = Sectors::new(version_at(row, 1), len, medium);
     let difat = read_difat(alloc, &mut sectors)?;
     Allocator::new(alloc, sectors, difat.sectors, difat.fat_sectors).map_err(|refused| refused.1)
+}
+
+// Two sectors of a new file: their numbers, bytes on both sides of the border, the end of the first, and the file's length.
+fn new_sectors(alloc: Global) -> Result<String, Error> {
+    let mut sectors = Sectors::new(Version::V3, 0, MemoryMedium::new(alloc));
+    let (first, second) = (sectors.reserve_sector()?, sectors.reserve_sector()?);
+    let count = sectors.num_sectors();
+    sectors.init_sector(0, SectorInit::Difat)?;
+    let part = sectors.seek_to_sector(1)?;
+    Sector::new(&mut sectors, part).write(b"some")?;
+    let mut border = [0; 4];
+    sectors.read_contiguous(0, 510, &mut border)?;
+    let border = shown(alloc, &border)?;
+    let mut end = [0; 8];
+    sectors.read_contiguous(0, 504, &mut end)?;
+    let is_free = u32_at(&end, 0) == FREE_SECTOR;
+    let is_end = u32_at(&end, 4) == END_OF_CHAIN;
+    let strict = Validation::Permissive.is_strict();
+    let len = sectors.into_inner().into_bytes().len();
+    Ok(format!(in alloc;
+        "{first} and {second} of {count}, {border}, free {is_free}, end {is_end}, strict {strict}, {len} bytes"
+    )?)
 }
 
 // A number of a sector.
