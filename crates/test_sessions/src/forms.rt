@@ -2,8 +2,8 @@
 use cfb_medium::{Error, Timestamp};
 use command_file::{Command, SummaryEdit, read_commands};
 use msi_columns::Column;
-use row_data::{Row, Subject, copied};
 use std::alloc::Global;
+use test_support::{Row, Subject, copied};
 
 /// Reads a row that is a command file, a text, or so many brackets in one another.
 #[derive(Drop)]

@@ -13,8 +13,8 @@ use anyhow::{Result, bail};
 use forms::Forms;
 use logs::Logs;
 use programs::Programs;
-use row_data::print_rows;
 use std::{env, fs};
+use test_support::print_rows;
 
 fn main(rt: HostRuntime) -> Result<()> {
     for path in env::args(&rt)?.skip(1) {

@@ -6,8 +6,8 @@ use json_parts::rows_of;
 use msi_columns::Column;
 use msi_props::PropertyValue;
 use msi_texts::CodePage;
-use row_data::{Row, Subject, bytes_at, copied};
 use std::alloc::Global;
+use test_support::{Row, Subject, bytes_at, copied};
 
 /// Tells an answer, which a row describes.
 #[derive(Drop)]

@@ -1,8 +1,8 @@
 //! What a recovery makes of a log.
 use cfb_medium::Error;
-use row_data::{Row, Subject, bytes_at, runs};
 use staged::{MemoryDevice, Which, recover};
 use std::alloc::Global;
+use test_support::{Row, Subject, bytes_at, runs};
 
 /// Recovers a device in memory.
 #[derive(Drop)]

@@ -5,10 +5,10 @@ use command_line::msidb;
 use file_device::FileDevice;
 use msi_texts::decode;
 use plain::{Content, read_tree};
-use row_data::{Row, Subject, bytes_at, copied, runs, told};
 use std::alloc::Global;
 use std::io;
 use std::io::Write;
+use test_support::{Row, Subject, bytes_at, copied, runs, told};
 
 /// Runs the program in a folder, whose files rows name by their names alone.
 #[derive(Drop)]
