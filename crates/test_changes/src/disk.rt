@@ -1,19 +1,19 @@
-//! Makes a compound file on disk, changes it there, and reads it from there again.
-#![tactic(auto)]
-
+//! A compound file on disk: made, changed there, and read from there again.
 use anyhow::Result;
 use cfb::{CompoundFile, Error, FileMedium, ReadMedium, Timestamp, create, open, open_rw};
 
 const PATH: &str = "new.cfb";
 
-fn main(rt: HostRuntime) -> Result<()> {
-    make(&rt)?;
-    change(&rt)?;
-    print_objects(&rt)?;
-    change_what_may_only_be_read(&rt)?;
-    refuse(&rt)?;
-    make(&rt)?;
-    print_objects(&rt)
+/// Makes the file, changes it, and makes it anew; prints what it holds, and what is refused.
+pub fn print(rt: &HostRuntime) -> Result<()> {
+    println!(rt; "== disk")?;
+    make(rt)?;
+    change(rt)?;
+    print_objects(rt)?;
+    change_what_may_only_be_read(rt)?;
+    refuse(rt)?;
+    make(rt)?;
+    print_objects(rt)
 }
 
 // Makes the file anew.

@@ -1,12 +1,11 @@
 //! Calls over a medium that fails once, at each of its calls in turn.
-use crate::failing::FailingMedium;
 use crate::files::change;
 use crate::told::tree_of;
 use cfb::CompoundFile;
 use cfb_medium::{Error, MemoryMedium};
 use cfb_tree::CaseMapper;
-use row_data::{Row, copied};
 use std::alloc::Global;
+use test_support::{FailingMedium, Row, copied};
 
 // More calls of a medium than any row makes.
 const MANY: u64 = 100_000;
@@ -38,7 +37,8 @@ pub fn open_fails(alloc: Global, bytes: &[u8]) -> Result<String, Error> {
     for failing in 0..MANY {
         match opened(alloc, bytes, failing) {
             Ok(file) => return ended(alloc, file.into_inner().failures()),
-            Err((medium, Error::Device)) if medium.failures() == 1 && medium.bytes() == bytes => {}
+            Err((medium, Error::Device))
+                if medium.failures() == 1 && medium.inner().bytes() == bytes => {}
             Err((_, error)) => return Ok(format!(in alloc; "{error:?} at call {failing}")?),
         }
     }

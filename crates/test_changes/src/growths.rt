@@ -1,5 +1,5 @@
-//! The calls: whether each was done, or what it refused left no part changed.
-use crate::files::{bytes_now, image, opened, stays};
+//! Calls that take memory, on compound files in memory: whether each was done, or what it refused left no part changed.
+use crate::empty_file::{bytes_now, image, opened, stays};
 use cfb::CompoundFile;
 use cfb_chains::Links;
 use cfb_live::{NewObject, create_storage_all, make_object, remove_storage_all};
@@ -28,8 +28,31 @@ const DEEP: &str = "/a/b/c/d/e/f/g/h/i/j";
 // Lengths of a stream that lies in mini sectors, in sectors, in mini sectors again, and in none.
 const LENGTHS: [u64; 4] = [100, 5000, 4095, 0];
 
-/// Opens a file.
-pub fn open_file(alloc: Global) -> Result<bool, Error> {
+/// Makes the calls, each on a file of its own: whether none left a part of what it refused.
+pub fn all_are_done(alloc: Global) -> Result<bool, Error> {
+    if !open_file(alloc)? {
+        return Ok(false);
+    }
+    if !lengthen_chain(alloc)? {
+        return Ok(false);
+    }
+    if !lengthen_mini_chain(alloc)? {
+        return Ok(false);
+    }
+    if !move_stream(alloc)? {
+        return Ok(false);
+    }
+    if !empty_root(alloc)? {
+        return Ok(false);
+    }
+    if !go_back(alloc)? {
+        return Ok(false);
+    }
+    make_storages(alloc)
+}
+
+// Opens a file.
+fn open_file(alloc: Global) -> Result<bool, Error> {
     let bytes = image(alloc)?;
     let mut before = Vec::new(alloc);
     before.extend_from_slice(&bytes)?;
@@ -45,8 +68,8 @@ pub fn open_file(alloc: Global) -> Result<bool, Error> {
     Ok(false)
 }
 
-/// Makes a chain so long that the FAT grows.
-pub fn lengthen_chain(alloc: Global) -> Result<bool, Error> {
+// Makes a chain so long that the FAT grows.
+fn lengthen_chain(alloc: Global) -> Result<bool, Error> {
     let mut file = opened(alloc)?;
     let before = bytes_now(alloc, &file)?;
     let mut links = Links::new(file.version(), Vec::new(alloc))?;
@@ -57,8 +80,8 @@ pub fn lengthen_chain(alloc: Global) -> Result<bool, Error> {
     }
 }
 
-/// Makes a mini chain so long that mini FAT and mini stream grow.
-pub fn lengthen_mini_chain(alloc: Global) -> Result<bool, Error> {
+// Makes a mini chain so long that mini FAT and mini stream grow.
+fn lengthen_mini_chain(alloc: Global) -> Result<bool, Error> {
     let mut file = opened(alloc)?;
     let before = bytes_now(alloc, &file)?;
     let mut links = MiniLinks::new(alloc);
@@ -68,8 +91,8 @@ pub fn lengthen_mini_chain(alloc: Global) -> Result<bool, Error> {
     }
 }
 
-/// Makes so many storages, one within the other, that the directory grows.
-pub fn make_storages(alloc: Global) -> Result<bool, Error> {
+// Makes so many storages, one within the other, that the directory grows.
+fn make_storages(alloc: Global) -> Result<bool, Error> {
     let mut file = opened(alloc)?;
     let letters = CaseMapper::ascii(alloc)?;
     let mut path = String::new(alloc);
@@ -84,8 +107,8 @@ pub fn make_storages(alloc: Global) -> Result<bool, Error> {
     Ok(true)
 }
 
-/// Makes storages, one within the other, by one call, and takes all of them out by another.
-pub fn empty_root(alloc: Global) -> Result<bool, Error> {
+// Makes storages, one within the other, by one call, and takes all of them out by another.
+fn empty_root(alloc: Global) -> Result<bool, Error> {
     let mut file = opened(alloc)?;
     let letters = CaseMapper::ascii(alloc)?;
     let empty = bytes_now(alloc, &file)?;
@@ -100,8 +123,8 @@ pub fn empty_root(alloc: Global) -> Result<bool, Error> {
     }
 }
 
-/// Makes a stream longer and shorter, so that it moves from mini sectors to sectors and back.
-pub fn move_stream(alloc: Global) -> Result<bool, Error> {
+// Makes a stream longer and shorter, so that it moves from mini sectors to sectors and back.
+fn move_stream(alloc: Global) -> Result<bool, Error> {
     let mut file = opened(alloc)?;
     let letters = CaseMapper::ascii(alloc)?;
     make_object(alloc, &mut file, &letters, "/a", NewObject::Stream)?;
@@ -115,9 +138,9 @@ pub fn move_stream(alloc: Global) -> Result<bool, Error> {
     Ok(true)
 }
 
-/// Makes a stream so long that it moves, over a store. Where that has failed the file, it goes back to the last commit, and the
-/// same is done.
-pub fn go_back(alloc: Global) -> Result<bool, Error> {
+// Makes a stream so long that it moves, over a store. Where that has failed the file, it goes back to the last commit, and the
+// same is done.
+fn go_back(alloc: Global) -> Result<bool, Error> {
     let device = MemoryDevice::new(Vec::new(alloc), Vec::new(alloc));
     let store = Staged::new(alloc, device).map_err(|refused| refused.1)?;
     let letters = CaseMapper::ascii(alloc)?;

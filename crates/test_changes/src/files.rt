@@ -6,8 +6,8 @@ use crate::told::{bytes_of, count_of, tree_of};
 use cfb::CompoundFile;
 use cfb_medium::{Error, Medium, MemoryMedium, Timestamp};
 use cfb_tree::CaseMapper;
-use row_data::{Row, Subject, bytes_at, copied, part_of, told};
 use std::alloc::Global;
+use test_support::{Row, Subject, bytes_at, copied, part_of, told};
 use uuid::Uuid;
 
 /// A compound file in memory, under the letters of ASCII.

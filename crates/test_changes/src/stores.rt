@@ -4,9 +4,9 @@ use crate::told::tree_of;
 use cfb::CompoundFile;
 use cfb_medium::Error;
 use cfb_tree::CaseMapper;
-use row_data::{Row, Subject, bytes_at, copied, told};
 use staged::{FuseDevice, MemoryDevice, Staged, recover};
 use std::alloc::Global;
+use test_support::{Row, Subject, bytes_at, copied, told};
 
 // A store whose device fails one call.
 type Store = Staged<FuseDevice<MemoryDevice>>;

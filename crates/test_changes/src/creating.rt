@@ -2,8 +2,8 @@
 use cfb::{CompoundFile, OpenOptions};
 use cfb_medium::{Error, MemoryMedium, Timestamp, Version};
 use cfb_tree::CaseMapper;
-use row_data::{Row, Subject, bytes_at, part_of};
 use std::alloc::Global;
+use test_support::{Row, Subject, bytes_at, part_of};
 
 /// The bytes of a file that was made.
 #[derive(Drop)]

@@ -1,9 +1,9 @@
 //! Streams of a compound file in memory that are written and read.
 use cfb::{CompoundFile, OpenOptions, Stream};
 use cfb_medium::{Error, Medium, MemoryMedium, ReadMedium};
-use row_data::{Row, bytes_at, runs};
 use std::alloc::Global;
 use std::io::SeekFrom;
+use test_support::{Row, bytes_at, runs};
 
 /// Writes bytes into the stream at a path, from a place on.
 pub fn write_at<F: Medium>(

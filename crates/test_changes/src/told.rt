@@ -1,8 +1,8 @@
 //! What a compound file holds, as a text.
 use cfb::{CompoundFile, Entry};
 use cfb_medium::{Error, MemoryMedium, ReadMedium};
-use row_data::runs;
 use std::alloc::Global;
+use test_support::runs;
 
 /// Each object of the file, a storage before what it holds.
 pub fn tree_of<F: ReadMedium>(alloc: Global, file: &CompoundFile<F>) -> Result<String, Error> {

@@ -1,8 +1,8 @@
 //! Streams with many names in one storage, made and removed one by one.
 use cfb::CompoundFile;
 use cfb_medium::{Error, MemoryMedium};
-use row_data::Row;
 use std::alloc::Global;
+use test_support::Row;
 
 // Odd, so that no two numbers give one name; its multiples lie far apart.
 const STEP: u32 = 2_654_435_761;
