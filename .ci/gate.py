@@ -1,6 +1,6 @@
-"""The merge gate: proves every crate and its tests from nothing, looks at the layout, runs programs and tests, tries the
-wrong bodies of each crate whose line in must-fail.tried is missing or differs (many at a time, rt-many), ends runs of msidb by force, and refuses
-each request for memory of growths in turn. It works on a copy."""
+"""The merge gate: proves every crate from nothing, looks at the layout, runs the programs, tries the wrong bodies of each
+crate whose line in must-fail.tried is missing or differs (many at a time, rt-many), ends runs of msidb by force, and refuses
+each request for memory of test_changes in turn. It works on a copy."""
 import os
 import re
 import resource
@@ -41,16 +41,17 @@ def run(room):
     return last, ran.returncode
 
 
-# Scripts that try a program from outside, and the program.
-TRIALS = {"kill-runs": "msidb", "refuse-memory": "growths"}
+# Scripts that try a program from outside, and the program with its words.
+TRIALS = {"kill-runs": ["msidb"], "refuse-memory": ["test_changes", "memory"]}
 
 
 def is_well(room, script):
     """Whether a program stands its trial, where there is such a one; the script says what was seen."""
-    program = f"{room}/crates/{TRIALS[script]}/out/{TRIALS[script]}"
+    name, *words = TRIALS[script]
+    program = f"{room}/crates/{name}/out/{name}"
     if not os.path.isfile(program):
         return True
-    return subprocess.run([tried.ROOT / ".ci" / script, program], stdin=subprocess.DEVNULL).returncode == 0
+    return subprocess.run([tried.ROOT / ".ci" / script, program, *words], stdin=subprocess.DEVNULL).returncode == 0
 
 
 def main():

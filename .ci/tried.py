@@ -1,9 +1,13 @@
 """Which wrong bodies stand as tried. must-fail.tried has a line for each crate that has wrong bodies: its name, and a
-sum over all that decides whether they are refused: its own files, the code and definitions of the crates below it,
-its line of crates.txt, and the logic of the toolchain."""
+sum over all that decides whether they are refused: its own files, the contracts, types and definitions of the crates below
+it, its line of crates.txt, and the logic of the toolchain. A body or a comment that changes below takes no line away."""
 import hashlib
 import pathlib
 import subprocess
+import sys
+
+sys.dont_write_bytecode = True
+from functions import seen_above  # noqa: E402
 
 ROOT = pathlib.Path(__file__).resolve().parent.parent
 FILE = ROOT / "must-fail.tried"
@@ -47,6 +51,8 @@ def sum_of(crate, known, version):
         for file in sorted((ROOT / "crates" / name / part).rglob("*")):
             if file.is_file():
                 text = file.read_bytes()
+                if name != crate:
+                    text = seen_above(file.name, text.decode()).encode()
                 made.update(f"{file.relative_to(ROOT).as_posix()} {len(text)}\n".encode() + text)
     return made.hexdigest()
 

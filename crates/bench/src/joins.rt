@@ -1,6 +1,5 @@
 //! Tables in memory joined by equal numbers.
 use crate::print_time;
-use acceptance::shelf::Shelf;
 use anyhow::Result;
 use msi_columns::Column;
 use msi_expr::Expr;
@@ -10,6 +9,7 @@ use msi_tables::Table;
 use msi_texts::CodePage;
 use std::alloc::Global;
 use std::time::Instant;
+use test_support::Shelf;
 
 // Puts a table of one column on the shelf, which has the numbers from 0 to below count.
 fn add_numbers(

@@ -1,0 +1,198 @@
+//! Calls on a compound file in memory.
+use crate::faults::{call_fails, open_fails};
+use crate::names::names_sum;
+use crate::streams::{append, limited, pieces_of, set_len, sum_of, sums_of, write_at};
+use crate::told::{bytes_of, count_of, tree_of};
+use cfb::CompoundFile;
+use cfb_medium::{Error, Medium, MemoryMedium, Timestamp};
+use cfb_tree::CaseMapper;
+use std::alloc::Global;
+use test_support::{Row, Subject, bytes_at, copied, part_of, told};
+use uuid::Uuid;
+
+/// A compound file in memory, under the letters of ASCII.
+#[derive(Drop)]
+pub struct Files {
+    file: Option<CompoundFile<MemoryMedium>>,
+}
+
+impl Files {
+    /// Without a file.
+    pub fn new() -> Files {
+        Files { file: None }
+    }
+
+    // The file's bytes, which it gives up.
+    fn taken(&mut self) -> Result<MemoryMedium, Error> {
+        let file = self.file.take().ok_or(Error::NotFound)?;
+        Ok(file.into_inner())
+    }
+
+    // Copies the file, which then is the copy, and tells how many bytes that has.
+    fn copy(&mut self, alloc: Global) -> Result<String, Error> {
+        let mut target = MemoryMedium::new(alloc);
+        match &mut self.file {
+            Some(file) => file.copy_to(&mut target)?,
+            None => return Err(Error::NotFound),
+        }
+        let len = target.bytes().len();
+        self.file = Some(strict(alloc, target)?);
+        Ok(format!(in alloc; "{len} bytes")?)
+    }
+
+    // Some of the file's own bytes, or how many it has with their sum.
+    fn own_bytes(&mut self, alloc: Global, row: &Row) -> Result<String, Error> {
+        let bytes = self.taken()?.into_bytes();
+        let said = match row.call() {
+            "part" => part_of(alloc, &bytes, row)?,
+            _ => format!(in alloc; "{} bytes, {}", bytes.len(), sum_of(&bytes))?,
+        };
+        self.file = Some(lenient(alloc, MemoryMedium::from_bytes(alloc, bytes))?);
+        Ok(said)
+    }
+
+    // Opens the file, or makes a call on it, over media that fail.
+    fn failing(&mut self, alloc: Global, row: &Row) -> Result<String, Error> {
+        let bytes = self.taken()?.into_bytes();
+        let said = match row.cell(1) {
+            Some(call) => call_fails(alloc, &bytes, &Row::of(alloc, call)?)?,
+            None => open_fails(alloc, &bytes)?,
+        };
+        self.file = Some(lenient(alloc, MemoryMedium::from_bytes(alloc, bytes))?);
+        Ok(said)
+    }
+}
+
+impl Subject for Files {
+    fn answer(&mut self, alloc: Global, row: &Row) -> Result<String, Error> {
+        match row.call() {
+            "file" => {
+                let medium = MemoryMedium::from_bytes(alloc, bytes_at(alloc, row, 1)?);
+                self.file = Some(lenient(alloc, medium)?);
+            }
+            "again" => {
+                let medium = self.taken()?;
+                self.file = Some(strict(alloc, medium)?);
+            }
+            "at most" => {
+                let medium = self.taken()?;
+                self.file = Some(limited(alloc, medium, row.number(1))?);
+            }
+            "open fails" | "fails" => return self.failing(alloc, row),
+            "copy" => return self.copy(alloc),
+            "part" | "whole" => return self.own_bytes(alloc, row),
+            _ => {}
+        }
+        match &mut self.file {
+            Some(file) => answered(alloc, file, row),
+            None => Err(Error::NotFound),
+        }
+    }
+}
+
+fn lenient(alloc: Global, medium: MemoryMedium) -> Result<CompoundFile<MemoryMedium>, Error> {
+    let letters = CaseMapper::ascii(alloc)?;
+    CompoundFile::open(alloc, medium, letters).map_err(|refused| refused.1)
+}
+
+fn strict(alloc: Global, medium: MemoryMedium) -> Result<CompoundFile<MemoryMedium>, Error> {
+    let letters = CaseMapper::ascii(alloc)?;
+    CompoundFile::open_strict(alloc, medium, letters).map_err(|refused| refused.1)
+}
+
+// What a row's call answers; one that changes the file answers "done".
+fn answered(
+    alloc: Global,
+    file: &mut CompoundFile<MemoryMedium>,
+    row: &Row,
+) -> Result<String, Error> {
+    match row.call() {
+        "file" | "again" | "at most" => told(alloc, file.is_sound()),
+        "tree" => tree_of(alloc, file),
+        "count" => count_of(alloc, file),
+        "bytes" => bytes_of(alloc, file, row.text(1)),
+        "pieces" => pieces_of(alloc, file, row),
+        "sums" => sums_of(alloc, file),
+        "names" => names_sum(alloc, file, row),
+        "each" => each(alloc, file, row),
+        _ => {
+            change(alloc, file, row)?;
+            copied(alloc, "done")
+        }
+    }
+}
+
+// The answers to calls in a row, a word each.
+fn each(alloc: Global, file: &mut CompoundFile<MemoryMedium>, row: &Row) -> Result<String, Error> {
+    let mut words = String::new(alloc);
+    for call in row.list(1) {
+        let call = Row::of(alloc, call)?;
+        match change(alloc, file, &call) {
+            Ok(()) => words.push_str("done ")?,
+            Err(error) => words.push_str(format!(in alloc; "{error:?} ")?.as_str())?,
+        }
+    }
+    Ok(words)
+}
+
+/// Changes a file.
+pub fn change<F: Medium>(
+    alloc: Global,
+    file: &mut CompoundFile<F>,
+    row: &Row,
+) -> Result<(), Error> {
+    let path = row.text(1);
+    let moment = Timestamp::from_unix(row.number(2), 0);
+    match row.call() {
+        "storage" => file.create_storage(path, moment),
+        "storages" => file.create_storage_all(path, moment),
+        "nested" => nest(alloc, file, path, row.number(2)),
+        "beside" => make_beside(alloc, file, path, row.number(2)),
+        "stream" => file.create_new_stream(path),
+        "stream anew" => file.create_stream(path),
+        "write" => write_at(alloc, file, row),
+        "append" => append(alloc, file, row),
+        "set len" => set_len(file, row),
+        "remove" => file.remove_stream(path),
+        "remove storage" => file.remove_storage(path),
+        "remove all" => file.remove_storage_all(path),
+        "touch" => file.touch(path, moment),
+        "created" => file.set_created_time(path, moment),
+        "modified" => file.set_modified_time(path, moment),
+        "bits" => file.set_state_bits(path, u32::try_from(row.number(2)).unwrap_or(0)),
+        "class" => {
+            let clsid = Uuid::parse_str(row.text(2)).map_err(|_| Error::InvalidData)?;
+            file.set_storage_clsid(path, clsid)
+        }
+        _ => Err(Error::InvalidInput),
+    }
+}
+
+// Makes so many storages of a name, each in the one before.
+fn nest<F: Medium>(
+    alloc: Global,
+    file: &mut CompoundFile<F>,
+    name: &str,
+    count: i64,
+) -> Result<(), Error> {
+    let mut path = String::new(alloc);
+    for _ in 0..count {
+        path.push_str(name)?;
+        file.create_storage(&path, Timestamp::zero())?;
+    }
+    Ok(())
+}
+
+// Makes so many streams beside each other, whose names are one with a number.
+fn make_beside<F: Medium>(
+    alloc: Global,
+    file: &mut CompoundFile<F>,
+    name: &str,
+    count: i64,
+) -> Result<(), Error> {
+    for number in 0..count {
+        let path = format!(in alloc; "{name}{number}")?;
+        file.create_new_stream(&path)?;
+    }
+    Ok(())
+}

@@ -1,0 +1,100 @@
+//! Names of streams, code pages, languages and categories.
+use cfb_medium::Error;
+use msi_texts::{Category, CodePage, LanguageId, decode, encode, is_valid};
+use std::alloc::Global;
+use test_support::{Row, Subject, bytes_at, copied, shown, told};
+
+/// Answers calls of `msi_texts`.
+#[derive(Drop)]
+pub struct Texts;
+
+impl Subject for Texts {
+    fn answer(&mut self, alloc: Global, row: &Row) -> Result<String, Error> {
+        match row.call() {
+            "name" | "name in a file" | "is a name" => of_name(alloc, row),
+            "page" | "page's name" | "read" | "write" | "fits" | "default page" => of_page(
+                alloc, row,
+            ),
+            "language" | "tag" | "language of" | "printed" => of_language(alloc, row),
+            "category" | "categories" | "takes" => of_category(alloc, row),
+            _ => Err(Error::NotFound),
+        }
+    }
+}
+
+fn of_name(alloc: Global, row: &Row) -> Result<String, Error> {
+    let (name, is_table) = (row.text(1), row.flag(2));
+    match row.call() {
+        "is a name" => told(alloc, is_valid(name, is_table)),
+        "name in a file" => encode(alloc, name, is_table),
+        _ => {
+            let (decoded, is_table) = decode(alloc, name)?;
+            let kind = if is_table { "table" } else { "stream" };
+            Ok(format!(in alloc; "{kind} {decoded}")?)
+        }
+    }
+}
+
+// The page of a number.
+fn page_of(number: i64) -> Option<CodePage> {
+    match i32::try_from(number) {
+        Ok(id) => CodePage::from_id(id),
+        Err(_) => None,
+    }
+}
+
+fn of_page(alloc: Global, row: &Row) -> Result<String, Error> {
+    if row.call() == "default page" {
+        return Ok(format!(in alloc; "{}", CodePage::default().id())?);
+    }
+    let Some(page) = page_of(row.number(1)) else {
+        return Err(Error::NotFound);
+    };
+    match row.call() {
+        "read" => page.decode(alloc, &bytes_at(alloc, row, 2)?),
+        "write" => shown(alloc, &page.encode(alloc, row.text(2))?),
+        "fits" => told(alloc, page.fits(row.text(2))),
+        "page's name" => copied(alloc, page.name()),
+        _ => Ok(format!(in alloc; "{}", page.id())?),
+    }
+}
+
+fn language_of(row: &Row) -> LanguageId {
+    let short = |place| u16::try_from(row.number(place)).unwrap_or(0);
+    match row.call() {
+        "tag" => LanguageId::from_tag(row.text(1)),
+        "language" => LanguageId::new(short(1), short(2)),
+        "printed" => LanguageId::from_lcid(u32::try_from(row.number(1)).unwrap_or(0)),
+        _ => LanguageId::from_id(short(1)),
+    }
+}
+
+fn of_language(alloc: Global, row: &Row) -> Result<String, Error> {
+    let language = language_of(row);
+    Ok(match row.call() {
+        "printed" => format!(in alloc; "{language} {language:x} {language:#X}")?,
+        _ => format!(in alloc; "{} {}", language.id(), language.tag())?,
+    })
+}
+
+fn of_category(alloc: Global, row: &Row) -> Result<String, Error> {
+    if row.call() == "categories" {
+        return joined(alloc);
+    }
+    let category = row.text(1).parse::<Category>()?;
+    match row.call() {
+        "takes" => told(alloc, category.validate(row.text(2))),
+        _ => copied(alloc, category.as_str()),
+    }
+}
+
+fn joined(alloc: Global) -> Result<String, Error> {
+    let mut names = String::new(alloc);
+    for category in Category::all() {
+        if !names.is_empty() {
+            names.push(';')?;
+        }
+        names.push_str(category.as_str())?;
+    }
+    Ok(names)
+}

@@ -1,0 +1,186 @@
+//! The program `msidb` on files of a disk.
+use crate::folder::Folder;
+use cfb_medium::Error;
+use command_line::msidb;
+use file_device::FileDevice;
+use msi_texts::decode;
+use plain::{Content, read_tree};
+use std::alloc::Global;
+use std::io;
+use std::io::Write;
+use test_support::{Row, Subject, bytes_at, copied, runs, told};
+
+/// Runs the program in a folder, whose files rows name by their names alone.
+#[derive(Drop)]
+pub struct Programs<'a> {
+    rt: &'a HostRuntime,
+    folder: Folder,
+    device: Option<FileDevice>,
+    kept: Vec<u8>,
+}
+
+impl<'a> Programs<'a> {
+    /// In a new folder.
+    pub fn new(rt: &'a HostRuntime) -> io::Result<Programs<'a>> {
+        Ok(Programs {
+            rt,
+            folder: Folder::new(rt)?,
+            device: None,
+            kept: Vec::new(rt.alloc()),
+        })
+    }
+}
+
+impl Subject for Programs<'_> {
+    fn answer(&mut self, alloc: Global, row: &Row) -> Result<String, Error> {
+        match row.call() {
+            "msidb" => ran(self.rt, &self.folder, row),
+            "msidb unheard" => unheard(self.rt, &self.folder, row),
+            "keep" => {
+                self.kept = self.folder.read(self.rt, row.text(1))?;
+                copied(alloc, "done")
+            }
+            "is as kept" => told(alloc, self.folder.read(self.rt, row.text(1))? == self.kept),
+            "use" => {
+                let (device, used) = used(self.rt, &self.folder, row)?;
+                self.device = Some(device);
+                Ok(used)
+            }
+            "leave" => {
+                self.device = None;
+                copied(alloc, "done")
+            }
+            "run of" => run_of(self.rt, &self.folder, row.text(1)),
+            "streams" => streams(alloc, &self.folder.read(self.rt, row.text(1))?),
+            _ => of_files(self.rt, &self.folder, row),
+        }
+    }
+}
+
+// A device over two files, and what another program finds in use of them.
+fn used(rt: &HostRuntime, folder: &Folder, row: &Row) -> Result<(FileDevice, String), Error> {
+    let home = folder.path_of(rt, row.text(1))?;
+    let log = folder.path_of(rt, row.text(2))?;
+    let device = FileDevice::create(rt, home.as_str(), log.as_str())?;
+    let used = FileDevice::in_use(rt, home.as_str(), log.as_str());
+    Ok((device, format!(in rt.alloc(); "{used:?}")?))
+}
+
+// Files are written, shown and taken away.
+fn of_files(rt: &HostRuntime, folder: &Folder, row: &Row) -> Result<String, Error> {
+    let name = row.text(1);
+    match row.call() {
+        "text" => folder.write(rt, name, row.text(2).as_bytes())?,
+        "bytes" => folder.write(rt, name, &bytes_at(rt.alloc(), row, 2)?)?,
+        "remove" => folder.take(rt, name)?,
+        "end" => folder.remove(rt)?,
+        "show" => return runs(rt.alloc(), &folder.read(rt, name)?),
+        "length" => return Ok(format!(in rt.alloc(); "{}", folder.read(rt, name)?.len())?),
+        _ => return Err(Error::NotFound),
+    }
+    copied(rt.alloc(), "done")
+}
+
+// The words of a row: the first as it stands, the others as files of the folder.
+fn words_of(rt: &HostRuntime, folder: &Folder, row: &Row) -> Result<Vec<String>, Error> {
+    let mut words = Vec::new(rt.alloc());
+    words.push(copied(rt.alloc(), row.text(1))?)?;
+    for cell in row.list(2) {
+        let path = folder.path_of(rt, cell.as_str().unwrap_or(""))?;
+        words.push(copied(rt.alloc(), path.as_str())?)?;
+    }
+    Ok(words)
+}
+
+// The status of the program, what it answers, and what it says went wrong.
+fn ran(rt: &HostRuntime, folder: &Folder, row: &Row) -> Result<String, Error> {
+    let words = words_of(rt, folder, row)?;
+    let (mut out, mut err) = (Vec::new(rt.alloc()), Vec::new(rt.alloc()));
+    let status = msidb(rt, &words, &mut out, &mut err, false);
+    if row.flag(3) {
+        let (is_answer, is_said) = (!out.is_empty(), !err.is_empty());
+        return Ok(format!(in rt.alloc(); "{status}, answers {is_answer}, says {is_said}")?);
+    }
+    let said = said(rt, folder, &err)?;
+    let answered = str::from_utf8(&out).unwrap_or("no text");
+    Ok(format!(in rt.alloc(); "{status} {answered:?} {said:?}")?)
+}
+
+// What went wrong, with the names of files alone.
+fn said(rt: &HostRuntime, folder: &Folder, err: &[u8]) -> Result<String, Error> {
+    let text = str::from_utf8(err).unwrap_or("no text");
+    let front = folder.path_of(rt, "")?;
+    Ok(text.replace(rt.alloc(), front.as_str(), "")?)
+}
+
+// The program on a new package and the command file of this name beside the rows: its status, its answers, a line each, and what it says
+// went wrong.
+fn run_of(rt: &HostRuntime, folder: &Folder, name: &str) -> Result<String, Error> {
+    let (mut out, mut err) = (Vec::new(rt.alloc()), Vec::new(rt.alloc()));
+    let words = words_on(rt, folder, "create")?;
+    msidb(rt, &words, &mut out, &mut err, false);
+    out.clear();
+    let mut words = words_on(rt, folder, "run")?;
+    words.push(copied(rt.alloc(), name)?)?;
+    let status = msidb(rt, &words, &mut out, &mut err, false);
+    folder.take(rt, "new.msi")?;
+    folder.take(rt, "new.log")?;
+    let answered = str::from_utf8(&out).unwrap_or("no text");
+    let lines = answered.replace(rt.alloc(), "\n", " | ")?;
+    let said = str::from_utf8(&err).unwrap_or("no text");
+    Ok(format!(in rt.alloc(); "{status} {lines}{said:?}")?)
+}
+
+// A word with the paths of a package in the folder.
+fn words_on(rt: &HostRuntime, folder: &Folder, word: &str) -> Result<Vec<String>, Error> {
+    let mut words = Vec::new(rt.alloc());
+    words.push(copied(rt.alloc(), word)?)?;
+    for name in ["new.msi", "new.log"] {
+        words.push(copied(rt.alloc(), folder.path_of(rt, name)?.as_str())?)?;
+    }
+    Ok(words)
+}
+
+// A writer whose writes fail.
+#[derive(Drop)]
+struct Closed;
+
+impl Write for Closed {
+    fn write(&mut self, _: &[u8]) -> io::Result<usize> {
+        Err(io::ErrorKind::BrokenPipe.into())
+    }
+
+    fn flush(&mut self) -> io::Result<()> {
+        Ok(())
+    }
+}
+
+// The program, where no answer can be written.
+fn unheard(rt: &HostRuntime, folder: &Folder, row: &Row) -> Result<String, Error> {
+    let words = words_of(rt, folder, row)?;
+    let mut err = Vec::new(rt.alloc());
+    let status = msidb(rt, &words, &mut Closed, &mut err, false);
+    let said = said(rt, folder, &err)?;
+    Ok(format!(in rt.alloc(); "{status} {said:?}")?)
+}
+
+// The streams of a package, those of tables by their names.
+fn streams(alloc: Global, bytes: &[u8]) -> Result<String, Error> {
+    let Some(tree) = read_tree(alloc, bytes, &[])? else {
+        return Err(Error::InvalidData);
+    };
+    let mut text = copied(alloc, "streams:")?;
+    let mut at = &tree.content;
+    while let Content::Stream {
+        name,
+        bytes,
+        later,
+        ..
+    } = at
+    {
+        let (decoded, _) = decode(alloc, name)?;
+        text.push_str(format!(in alloc; " {decoded:?} {}", hex::encode(alloc, bytes)?)?.as_str())?;
+        at = later;
+    }
+    Ok(text)
+}

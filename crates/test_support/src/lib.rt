@@ -1,0 +1,16 @@
+//! What the test programs share: rows of data, tables on a shelf, a device and media that fail a call or survive stops.
+#![tactic(auto)]
+
+mod bytes;
+mod failing;
+mod printing;
+mod row;
+mod shelf;
+mod survivor;
+
+pub use bytes::{bytes_at, part_of, runs, shown};
+pub use failing::{Failing, FailingDevice, FailingMedium};
+pub use printing::{Subject, print_rows};
+pub use row::{Row, copied, told};
+pub use shelf::Shelf;
+pub use survivor::Survivor;
