@@ -22,7 +22,7 @@ use Rattle.msi_stored.specs.Stored.{AreTables, rows_in}
 use Rattle.msi_tables.specs.Rows.{Row, kinds_of, max_rows, numbers_from, row_at, row_count, rows_of}
 use Rattle.msi_tables.specs.Table.{Heading, Table, table_named}
 
-option_then : {A B C : Type 0} (f : A → B) (h : B → C) (o : Option A) → option_map (λ a. h (f a)) o ≡ option_map h (option_map f o)
+pub option_then : {A B C : Type 0} (f : A → B) (h : B → C) (o : Option A) → option_map (λ a. h (f a)) o ≡ option_map h (option_map f o)
 option_then f h None = refl
 option_then f h (Some a) = refl
 

@@ -1,6 +1,6 @@
 -- What a query answers of a package that is held.
-use Rattle.std.proofs.Common.{◌≡◌, ◌∙◌, ◌⊎◌, ℕ, Bool, true, false, List, [], ◌∷◌, map, refl, sym, ap, subst, arith, inl, inr, Some, None}
-use Rattle.std.specs.Prelude.{All, Contains, Err, IfErr, IfOk, IfSome, IsTrue, MatchResult, Ok, Option, Result}
+use Rattle.std.proofs.Common.{◌≡◌, ◌∙◌, ◌⊎◌, ℕ, Bool, true, false, List, [], ◌∷◌, length, map, refl, sym, ap, subst, arith, inl, inr, Some, None}
+use Rattle.std.specs.Prelude.{All, Contains, Err, IfErr, IfOk, IfSome, MatchResult, Ok, Option, Result, option_map, unwrap_or}
 use Rattle.std.proofs.lemmas.List.Elements.{All-cons, All-head, All-tail}
 use Rattle.cfb.specs.Views.{letters_in, mini_of}
 use Rattle.cfb_fat.specs.Tables.{HasCauseBelow}
@@ -11,7 +11,7 @@ use Rattle.cfb_medium.specs.declared.error.Error.TheVariants.{InvalidData, Memor
 use Rattle.cfb_medium.specs.declared.medium.ReadMedium.{Ghosts}
 use Rattle.cfb_tree.specs.Names.{Letters}
 use Rattle.cfb_tree.specs.Tree.{Tree}
-use Rattle.msi_meaning.specs.Calls.{Shown, selected_in}
+use Rattle.msi_meaning.specs.Calls.{selected_in}
 use Rattle.msi_meaning.specs.Package.{Package as Packed}
 use Rattle.msi_parts.proofs.Shapes.{wide_selected}
 use Rattle.msi_parts.specs.Parts.{heading}
@@ -22,11 +22,19 @@ use Rattle.msi_query.specs.Sources.{Tables}
 use Rattle.msi_store.specs.Stores.{stored_in}
 use Rattle.msi_stored.specs.Reading.{TellsOrFault}
 use Rattle.msi_stored.specs.Stored.{AreTables, HasCause, HasTables, HasTooMany, IsUnread, Stored, rows_in}
-use Rattle.msi_tables.specs.Table.{Heading, Table, row_data, table_named}
+use Rattle.msi_tables.specs.Table.{Heading, Table, table_named}
 use Rattle.msi_tables.specs.declared.rows.Rows.{Rows}
 use Rattle.msi_texts.specs.Results.{◌>>=◌}
 use Rattle.msi_store.proofs.Faults.{memory_cause}
-use Rattle.msi.proofs.HeldTables.{are_tables, tables_whole}
+use Rattle.msi_meaning.specs.Package.{objects, table_stream}
+use Rattle.msi_parts.specs.Judged.{heading_named}
+use Rattle.msi_query.specs.Said.{query_of}
+use Rattle.msi_query.specs.declared.select.Select.{Select}
+use Rattle.msi_tables.specs.Rows.{Row, kinds_of}
+use Rattle.std.proofs.lemmas.List.{length-map}
+use Rattle.cfb.specs.Streams.{Holds as HoldsTree}
+use Rattle.msi.specs.Selected.{AnswersAt, as_read, selected_by, shown_of, tables_at}
+use Rattle.msi.proofs.HeldTables.{are_tables, option_then, rows_whole, tables_whole}
 use Rattle.msi.specs.Opened.{Holds, file_in, pool_in, store_in, tables_in}
 use Rattle.msi.specs.Rows.{rows_shown}
 use Rattle.msi.specs.declared.package.Package.{Package}
@@ -43,6 +51,73 @@ all_headings letters tree long (t ∷ ts) all =
     (λ none. let unread : Some t.rows ≡ None = sym (All-head (λ t. rows_in letters tree (heading long t) ≡ Some t.rows) t ts all) ∙ none in absurd (cc))
     (all_headings letters tree long ts (All-tail (λ t. rows_in letters tree (heading long t) ≡ Some t.rows) t ts all))
 
+-- the tables of a tree are those that the file has, and their rows are whole
+module _ (letters : Letters) (tree : Tree) (headings : List Heading) where
+  at_rows : (name : List ℕ) (t : Table) (h : Heading) (rows : List Row) → tables_at letters tree headings name ≡ Some t → heading_named headings name ≡ Some h → rows_in letters tree h ≡ Some rows → t.rows ≡ rows
+  at_rows name t h rows is found read =
+      let same : as_read letters tree h ≡ t = cc (sym (ap (option_map (as_read letters tree)) found) ∙ is) in
+      ap (λ (t : Table). t.rows) (sym same) ∙ ap (λ o. unwrap_or o []) read
+
+  pub tables_read : AreTables letters tree headings (tables_at letters tree headings)
+  tables_read = record {
+    names = λ name. sym (option_then (as_read letters tree) (λ t. t.name) (heading_named headings name));
+    columns = λ name. sym (option_then (as_read letters tree) (λ t. t.columns) (heading_named headings name));
+    rows = at_rows;
+  }
+
+  pub tables_at_whole : (name : List ℕ) → IfSome (tables_at letters tree headings name) IsWhole
+  tables_at_whole name = by (heading_named headings name)
+    where
+      rows : (h : Heading) (o : Option (List Row)) → rows_in letters tree h ≡ o → Wide (length h.columns) (unwrap_or o [])
+      rows h None is = tt
+      rows h (Some rs) is = subst (λ n. Wide n rs) (length-map h.columns (λ c. c.kind)) (rows_whole h.long (kinds_of h.columns) (unwrap_or (table_stream letters (objects tree.content) h.name) []) rs is)
+
+      by : (o : Option Heading) → IfSome (option_map (as_read letters tree) o) IsWhole
+      by None = tt
+      by (Some h) = rows h (rows_in letters tree h) refl
+
+-- a query of tables that the package has, with whole rows
+module _ {F : Type 0} {g : Ghosts F} (it : Package F g) (tables : Tables) (has : HasTables (stored_in (store_in it)) tables) (whole : (name : List ℕ) → IfSome (tables name) IsWhole) (asked : Query) where
+  pub whole_answer : (t : Table) → selected tables (pool_in it).pool asked ≡ Ok t → IsWhole t
+  whole_answer t is = subst (λ r. IfOk r IsWhole) is (wide_selected tables (pool_in it).pool whole asked)
+
+  pub rows_by : (t : Table) → selected tables (pool_in it).pool asked ≡ Ok t → (r : Result Rows Error) → IfOk r (λ rows. rows_shown rows ≡ shown_of (pool_in it).pool t) → IfErr r (λ e. e ≡ Memory)
+      → MatchResult r (λ rows. selected_by tables (pool_in it).pool asked ≡ Ok (rows_shown rows)) (IsFaultUnless ⊥)
+  rows_by t is (Ok rows) ok err = ap (λ r. r >>= λ t. Ok (shown_of (pool_in it).pool t)) is ∙ ap (λ s. Ok s) (sym ok)
+  rows_by t is (Err e) ok err = subst (IsFaultUnless ⊥) (sym err) tt
+
+  pub refused_by : (new : Stored F g) (e : Error)
+      → (e ≡ Memory) ⊎ HasCause (stored_in (store_in it)) new e ⊎ ((tables : Tables) → HasTables (stored_in (store_in it)) tables → selected tables (pool_in it).pool asked ≡ Err e)
+      → IsFaultUnless ⊥ e ⊎ IsUnread (stored_in (store_in it)) e ⊎ (selected_by tables (pool_in it).pool asked ≡ Err e)
+  refused_by new e (inl memory) = inl (subst (IsFaultUnless ⊥) (sym memory) tt)
+  refused_by new e (inr (inl cause)) = by cause.either
+    where
+      by : IsFaultUnless ⊥ e ⊎ IsUnread (stored_in (store_in it)) e → IsFaultUnless ⊥ e ⊎ IsUnread (stored_in (store_in it)) e ⊎ (selected_by tables (pool_in it).pool asked ≡ Err e)
+      by (inl fault) = inl fault
+      by (inr unread) = inr (inl unread)
+  refused_by new e (inr (inr told)) = inr (inr (ap (λ r. r >>= λ t. Ok (shown_of (pool_in it).pool t)) (told tables has)))
+
+-- of a tree that the file holds
+module _ {F : Type 0} {g : Ghosts F} (it : Package F g) (tree : Tree) (held : HoldsTree (file_in it) tree) where
+  pub read_tables : HasTables (stored_in (store_in it)) (tables_at (letters_in (file_in it)) tree (tables_in it))
+  read_tables = (tree, held, tables_read (letters_in (file_in it)) tree (tables_in it))
+
+  pub read_whole : (name : List ℕ) → IfSome (tables_at (letters_in (file_in it)) tree (tables_in it) name) IsWhole
+  read_whole = tables_at_whole (letters_in (file_in it)) tree (tables_in it)
+
+  pub read_answer : (query : Select) (r : Result Rows Error)
+      → MatchResult r (λ rows. selected_by (tables_at (letters_in (file_in it)) tree (tables_in it)) (pool_in it).pool (query_of query) ≡ Ok (rows_shown rows)) (IsFaultUnless ⊥) → AnswersAt it tree query r
+  read_answer query (Ok rows) told = told
+  read_answer query (Err e) told = inl told
+
+  pub read_refused : (query : Select) (e : Error)
+      → IsFaultUnless ⊥ e ⊎ IsUnread (stored_in (store_in it)) e ⊎ (selected_by (tables_at (letters_in (file_in it)) tree (tables_in it)) (pool_in it).pool (query_of query) ≡ Err e)
+      → AnswersAt it tree query (Err e)
+  read_refused query e (inl fault) = inl fault
+  read_refused query e (inr (inl unread)) = inr (inl (unread.0, unread.1 tree held))
+  read_refused query e (inr (inr refuses)) = inr (inr refuses)
+
+-- of a package that is held
 module _ {F : Type 0} {g : Ghosts F} (it : Package F g) (P : Packed) (h : Holds it P) where
   abbrev long : Bool
   long = (pool_in it).pool.long
@@ -58,36 +133,29 @@ module _ {F : Type 0} {g : Ghosts F} (it : Package F g) (P : Packed) (h : Holds 
     subst (λ (hs : List Heading). AreTables (letters_in (file_in it)) h.tree hs (table_named P.tables)) (sym h.memory.tables) (are_tables (letters_in (file_in it)) h.tree long P.tables read),
   )
 
+  pub held_whole : (name : List ℕ) → IfSome (table_named P.tables name) IsWhole
+  held_whole = tables_whole (letters_in (file_in it)) h.tree long P.tables read
+
   not_unread : (e : Error) → IsUnread (stored_in (store_in it)) e → ⊥
   not_unread e unread =
       let many = unread.1 h.tree h.file in
       of_all (λ k. rows_in (letters_in (file_in it)) h.tree k ≡ None → ⊥) (map (heading long) P.tables) many.0 (all_headings (letters_in (file_in it)) h.tree long P.tables read)
       (subst (λ (hs : List Heading). Contains hs many.0) h.memory.tables many.1) many.2
 
-  module _ (asked : Query) where
-    -- what the rules answer, by the pool in memory
-    shown_by : selected_in P asked ≡ (selected (table_named P.tables) (pool_in it).pool asked >>= λ t. Ok (map (λ c. c.name) t.columns, map (row_data (pool_in it).pool) t.rows))
-    shown_by = ap (λ (p : Pool). selected (table_named P.tables) p asked >>= λ t. Ok (map (λ c. c.name) t.columns, map (row_data p) t.rows)) (sym h.memory.pool)
+  -- what the rules answer, by the pool in memory
+  shown_by : (asked : Query) → selected_in P asked ≡ selected_by (table_named P.tables) (pool_in it).pool asked
+  shown_by asked = ap (λ (p : Pool). selected_by (table_named P.tables) p asked) (sym h.memory.pool)
 
-    pub whole_answer : (t : Table) → selected (table_named P.tables) (pool_in it).pool asked ≡ Ok t → IsWhole t
-    whole_answer t is = subst (λ r. IfOk r IsWhole) is (wide_selected (table_named P.tables) (pool_in it).pool (tables_whole (letters_in (file_in it)) h.tree long P.tables read) asked)
+  pub rows_answer : (asked : Query) (r : Result Rows Error) → MatchResult r (λ rows. selected_by (table_named P.tables) (pool_in it).pool asked ≡ Ok (rows_shown rows)) (IsFaultUnless ⊥)
+      → TellsOrFault rows_shown (selected_in P asked) r
+  rows_answer asked (Ok rows) told = shown_by asked ∙ told
+  rows_answer asked (Err e) told = inl told
 
-    pub rows_answer : (t : Table) → selected (table_named P.tables) (pool_in it).pool asked ≡ Ok t → (r : Result Rows Error)
-        → IfOk r (λ rows. rows_shown rows ≡ (map (λ c. c.name) t.columns, map (row_data (pool_in it).pool) t.rows)) → IfErr r (λ e. e ≡ Memory) → TellsOrFault rows_shown (selected_in P asked) r
-    rows_answer t is (Ok rows) ok err = shown_by ∙ ap (λ r. r >>= λ t. Ok (map (λ c. c.name) t.columns, map (row_data (pool_in it).pool) t.rows)) is ∙ ap (λ s. Ok s) (sym ok)
-    rows_answer t is (Err e) ok err = inl (subst (IsFaultUnless ⊥) (sym err) tt)
-
-    pub refused_answer : (new : Stored F g) (e : Error)
-        → (e ≡ Memory) ⊎ HasCause (stored_in (store_in it)) new e ⊎ ((tables : Tables) → HasTables (stored_in (store_in it)) tables → selected tables (pool_in it).pool asked ≡ Err e)
-        → IsFaultUnless ⊥ e ⊎ (selected_in P asked ≡ Err e)
-    refused_answer new e (inl memory) = inl (subst (IsFaultUnless ⊥) (sym memory) tt)
-    refused_answer new e (inr (inl cause)) = by cause.either
-      where
-        by : IsFaultUnless ⊥ e ⊎ IsUnread (stored_in (store_in it)) e → IsFaultUnless ⊥ e ⊎ (selected_in P asked ≡ Err e)
-        by (inl fault) = inl fault
-        by (inr unread) = absurd (not_unread e unread)
-    refused_answer new e (inr (inr told)) =
-        inr (shown_by ∙ ap (λ r. r >>= λ t. Ok (map (λ c. c.name) t.columns, map (row_data (pool_in it).pool) t.rows)) (told (table_named P.tables) tables_held))
+  pub refused_answer : (asked : Query) (e : Error) → IsFaultUnless ⊥ e ⊎ IsUnread (stored_in (store_in it)) e ⊎ (selected_by (table_named P.tables) (pool_in it).pool asked ≡ Err e)
+      → IsFaultUnless ⊥ e ⊎ (selected_in P asked ≡ Err e)
+  refused_answer asked e (inl fault) = inl fault
+  refused_answer asked e (inr (inl unread)) = absurd (not_unread e unread)
+  refused_answer asked e (inr (inr refuses)) = inr (shown_by asked ∙ refuses)
 
 -- why a query is refused: by its cause, or by the definition
 pub query_cause : {F : Type 0} {g : Ghosts F} (it : Package F g) (new : Stored F g) (asked : Query) (e : Error)

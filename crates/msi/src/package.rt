@@ -2,7 +2,7 @@
 ghost use Rattle.std.specs.Prelude.{◌≡◌, map, option_map, string_bytes, Err, IfErr, IfOk, IsErrOf, MatchResult};
 ghost use Rattle.std.specs.Option.{is_some};
 ghost use Rattle.cfb.specs.Views.{letters_in, mini_of};
-ghost use Rattle.cfb_fat.specs.Tables.{has_failed, HasCauseBelow};
+ghost use Rattle.cfb_fat.specs.Tables.{has_failed, medium_of, HasCauseBelow};
 ghost use Rattle.cfb_medium.specs.Calls.{IsFaultUnless};
 ghost use Rattle.cfb_medium.specs.declared.error.Error.TheVariants.{InvalidInput, Memory};
 ghost use Rattle.cfb_mini.specs.Views.{allocator_of};
@@ -85,6 +85,21 @@ impl<F: ReadMedium> Package<F> {
         ensures { result ≡ is_some (heading_named (tables_in self.now) name.now) }
     {
         self.get_table(name).is_some()
+    }
+
+    /// The medium, without the package.
+    pub fn into_medium(self) -> F
+        ensures { result ≡ medium_of (allocator_of (mini_of (file_in self))) }
+    {
+        let Package {
+            alloc: _,
+            store,
+            kind: _,
+            pool: _,
+            summary: _,
+            is_sound: _,
+        } = self;
+        store.file.into_inner()
     }
 
     /// The names of all tables, by their bytes; `_Tables` and `_Columns` are among them. The one error is `Memory`.

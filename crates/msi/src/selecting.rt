@@ -1,12 +1,14 @@
 //! Rows that a query asks of a package.
 ghost use Rattle.std.specs.Prelude.{◌≡◌, ◌==◌, ◌⊎◌, ◌↔◌, length, true, IfErr, IsErrOf, IsTrue};
+ghost use Rattle.cfb.specs.Streams.{Holds as HoldsTree};
 ghost use Rattle.cfb.specs.Views.{mini_of};
+ghost use Rattle.cfb_tree.specs.Tree.{Tree};
 ghost use Rattle.cfb_fat.specs.Tables.{has_failed_here, HasCauseBelow};
 ghost use Rattle.cfb_medium.specs.declared.error.Error.TheVariants.{Failed};
 ghost use Rattle.cfb_mini.specs.Views.{allocator_of};
 ghost use Rattle.msi.specs.Opened.{file_in, Holds, Rests};
 ghost use Rattle.msi.specs.Rows.{rows_shown};
-ghost use Rattle.msi.specs.Selected.{IsRefusedQuery};
+ghost use Rattle.msi.specs.Selected.{AnswersAt, IsRefusedQuery};
 ghost use Rattle.msi_meaning.specs.Calls.{selected_in};
 ghost use Rattle.msi_meaning.specs.Package.{Package as Packed};
 ghost use Rattle.msi_parts.specs.Whole.{Wide};
@@ -26,10 +28,13 @@ use std::rc::Rc;
 impl<F: ReadMedium> Package<F> {
     /// The rows that a query asks for, all in memory. `Failed` after a fault in a write, before all else; `NotFound` where a table that it
     /// names is missing, `InvalidInput` where a column is, the left side of a join before the right; `InvalidData` where a table that it
-    /// names has too many rows or its chain breaks. Other errors are faults. The package is only read.
+    /// names has too many rows or its chain breaks. Other errors are faults. The package is only read. It needn't be sound, and a table
+    /// that the query doesn't name may have what it likes.
     pub fn select_rows(&mut self, query: &Select) -> Result<Rows, Error>
         ensures answer { (P : Packed) → Holds self.old P → TellsOrFault rows_shown
             (selected_in P (query_of query.now)) result }
+        ensures read { (tree : Tree) → HoldsTree (file_in self.old) tree
+            → AnswersAt self.old tree query.now result }
         ensures rests { Rests self.old self.new }
         ensures failed { has_failed_here (allocator_of (mini_of (file_in self.old))) ≡ true
             → IsErrOf result Failed }
@@ -46,6 +51,8 @@ impl<F: ReadMedium> Package<F> {
     fn selected(&mut self, query: &Select) -> Result<Rows, Error>
         ensures answer { (P : Packed) → Holds self.old P → TellsOrFault rows_shown
             (selected_in P (query_of query.now)) result }
+        ensures read { (tree : Tree) → HoldsTree (file_in self.old) tree
+            → AnswersAt self.old tree query.now result }
         ensures rests { Rests self.old self.new }
         ensures cause { IfErr result (λ e. HasCauseBelow (allocator_of (mini_of (file_in self.old)))
             (allocator_of (mini_of (file_in self.new))) e ⊎ IsRefusedQuery self.old query.now e) }

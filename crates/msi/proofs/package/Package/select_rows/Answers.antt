@@ -9,3 +9,9 @@ returns-in-Err-clause-answer g c P h = elim (c.in-Err.ensures.told h.file.live h
   | inl memory ↦ inl (subst (IsFaultUnless ⊥) (sym memory) tt)
   | inr answer ↦ absurd (cc)
 ]
+
+pub returns-in-Err-clause-read : goal.returns-in-Err-clause-read
+returns-in-Err-clause-read g c tree held = elim (c.in-Err.ensures.told held.live tree (holds_shown (file_in c.args.self.now) tree held)).1 [
+  | inl memory ↦ inl (subst (IsFaultUnless ⊥) (sym memory) tt)
+  | inr answer ↦ absurd (cc)
+]

@@ -1,6 +1,6 @@
 use Rattle.std.proofs.Common.{rules, ◌≡◌, ◌∙◌, ◌⊎◌, false, inl, length, map, refl, subst, sym, true}
 use Rattle.std.specs.Prelude.{Err, IfErr, IfOk}
-use Rattle.cfb.specs.Views.{mini_of}
+use Rattle.cfb.specs.Views.{letters_in, mini_of}
 use Rattle.cfb_fat.specs.Tables.{HasCauseBelow}
 use Rattle.cfb_medium.specs.declared.error.Error.{Error}
 use Rattle.cfb_medium.specs.declared.error.Error.TheVariants.{Memory}
@@ -14,16 +14,24 @@ use Rattle.msi_tables.specs.Held.{heading_of, rows_held}
 use Rattle.msi_tables.specs.Table.{row_data, table_named}
 use Rattle.msi_tables.specs.declared.table.Table.{Table}
 use Rattle.msi.proofs.OpenedPackages.{if_err_then}
-use Rattle.msi.proofs.Selected.{query_cause, refused_answer, rows_answer, tables_held, whole_answer}
-use Rattle.msi.specs.Opened.{file_in, pool_in}
+use Rattle.msi.proofs.Selected.{held_whole, query_cause, read_answer, read_refused, read_tables, read_whole, refused_answer, refused_by, rows_answer, rows_by, tables_held, whole_answer}
+use Rattle.msi.specs.Opened.{file_in, pool_in, tables_in}
 use Rattle.msi.specs.Rows.{rows_shown}
-use Rattle.msi.specs.Selected.{IsRefusedQuery}
+use Rattle.msi.specs.Selected.{IsRefusedQuery, tables_at}
 use Rattle.msi.proofs.package.Package.selected.Goals as goal
 
 pub returns-then-not-are_wide-clause-answer : goal.returns-then-not-are_wide-clause-answer
 returns-then-not-are_wide-clause-answer g c P h =
     let it = c.args.self.now in
-    let whole = whole_answer it P h (query_of c.args.query.now) (answered (c.in-Ok.table, c.in-Ok.rows)) (c.in-Ok.ensures.answer (table_named P.tables) (tables_held it P h)) in
+    let whole = whole_answer it (table_named P.tables) (tables_held it P h) (held_whole it P h) (query_of c.args.query.now) (answered (c.in-Ok.table, c.in-Ok.rows)) (c.in-Ok.ensures.answer (table_named P.tables) (tables_held it P h)) in
+    let is : c.are_wide.result ≡ true = c.are_wide.ensures.1 (subst (λ rows. Wide (length (heading_of c.in-Ok.table).columns) (rows_held rows)) (sym c.deref.ensures.value) whole) in
+    let both : true ≡ false = sym is ∙ c.if-not-are_wide.true in
+    absurd (cc)
+
+pub returns-then-not-are_wide-clause-read : goal.returns-then-not-are_wide-clause-read
+returns-then-not-are_wide-clause-read g c tree held =
+    let it = c.args.self.now in
+    let whole = whole_answer it (tables_at (letters_in (file_in it)) tree (tables_in it)) (read_tables it tree held) (read_whole it tree held) (query_of c.args.query.now) (answered (c.in-Ok.table, c.in-Ok.rows)) (c.in-Ok.ensures.answer (tables_at (letters_in (file_in it)) tree (tables_in it)) (read_tables it tree held)) in
     let is : c.are_wide.result ≡ true = c.are_wide.ensures.1 (subst (λ rows. Wide (length (heading_of c.in-Ok.table).columns) (rows_held rows)) (sym c.deref.ensures.value) whole) in
     let both : true ≡ false = sym is ∙ c.if-not-are_wide.true in
     absurd (cc)
@@ -38,10 +46,20 @@ returns-in_err-new-in-Ok-clause-cause g c =
 pub returns-in_ok-new-in-Ok-clause-answer : goal.returns-in_ok-new-in-Ok-clause-answer
 returns-in_ok-new-in-Ok-clause-answer g c P h =
     let it = c.args.self.now in
-    rows_answer it P h (query_of c.args.query.now) (answered (c.in-Ok.table, c.in-Ok.rows)) (c.in-Ok.ensures.answer (table_named P.tables) (tables_held it P h)) c.rows_of_cells.result
+    rows_answer it P h (query_of c.args.query.now) c.rows_of_cells.result
+    (rows_by it (table_named P.tables) (tables_held it P h) (held_whole it P h) (query_of c.args.query.now) (answered (c.in-Ok.table, c.in-Ok.rows)) (c.in-Ok.ensures.answer (table_named P.tables) (tables_held it P h)) c.rows_of_cells.result
     (subst (λ (t : Table). IfOk c.rows_of_cells.result (λ rows. rows_shown rows ≡ (map (λ c. c.name) (heading_of t).columns, map (row_data (pool_in it).pool) (rows_held c.in-Ok.rows.items))))
     c.in_ok-new-in-Ok.ensures.ok c.rows_of_cells.ensures.shown)
-    c.rows_of_cells.ensures.err
+    c.rows_of_cells.ensures.err)
+
+pub returns-in_ok-new-in-Ok-clause-read : goal.returns-in_ok-new-in-Ok-clause-read
+returns-in_ok-new-in-Ok-clause-read g c tree held =
+    let it = c.args.self.now in
+    read_answer it tree held c.args.query.now c.rows_of_cells.result
+    (rows_by it (tables_at (letters_in (file_in it)) tree (tables_in it)) (read_tables it tree held) (read_whole it tree held) (query_of c.args.query.now) (answered (c.in-Ok.table, c.in-Ok.rows)) (c.in-Ok.ensures.answer (tables_at (letters_in (file_in it)) tree (tables_in it)) (read_tables it tree held)) c.rows_of_cells.result
+    (subst (λ (t : Table). IfOk c.rows_of_cells.result (λ rows. rows_shown rows ≡ (map (λ c. c.name) (heading_of t).columns, map (row_data (pool_in it).pool) (rows_held c.in-Ok.rows.items))))
+    c.in_ok-new-in-Ok.ensures.ok c.rows_of_cells.ensures.shown)
+    c.rows_of_cells.ensures.err)
 
 pub returns-in_ok-new-in-Ok-clause-cause : goal.returns-in_ok-new-in-Ok-clause-cause
 returns-in_ok-new-in-Ok-clause-cause g c =
@@ -51,7 +69,16 @@ returns-in_ok-new-in-Ok-clause-cause g c =
     (λ e memory. inl (memory_cause a b e memory))
 
 pub returns-in-Err-clause-answer : goal.returns-in-Err-clause-answer
-returns-in-Err-clause-answer g c P h = refused_answer c.args.self.now P h (query_of c.args.query.now) (stored_in c.apply.new.source) c.in-Err.error c.in-Err.ensures.answer
+returns-in-Err-clause-answer g c P h =
+    let it = c.args.self.now in
+    refused_answer it P h (query_of c.args.query.now) c.in-Err.error
+    (refused_by it (table_named P.tables) (tables_held it P h) (held_whole it P h) (query_of c.args.query.now) (stored_in c.apply.new.source) c.in-Err.error c.in-Err.ensures.answer)
+
+pub returns-in-Err-clause-read : goal.returns-in-Err-clause-read
+returns-in-Err-clause-read g c tree held =
+    let it = c.args.self.now in
+    read_refused it tree held c.args.query.now c.in-Err.error
+    (refused_by it (tables_at (letters_in (file_in it)) tree (tables_in it)) (read_tables it tree held) (read_whole it tree held) (query_of c.args.query.now) (stored_in c.apply.new.source) c.in-Err.error c.in-Err.ensures.answer)
 
 pub returns-in-Err-clause-cause : goal.returns-in-Err-clause-cause
 returns-in-Err-clause-cause g c = query_cause c.args.self.now (stored_in c.apply.new.source) (query_of c.args.query.now) c.in-Err.error c.in-Err.ensures.answer
