@@ -1,16 +1,18 @@
 -- A package that was opened is that of its bytes, and a refusal is theirs.
 use Rattle.std.proofs.Common.{◌≡◌, ◌∙◌, ◌⊎◌, ℕ, Bool, true, false, List, refl, sym, ap, subst, inl, inr}
-use Rattle.std.specs.Prelude.{◌↔◌, ◌||◌, Err, IfErr, IfOk, IsTrue, MatchResult, Ok, Result}
+use Rattle.std.specs.Prelude.{◌↔◌, ◌||◌, Err, IfErr, IfOk, IsTrue, Ok, Result}
 use Rattle.cfb.proofs.Holding.{holds_opened, holds_yet}
+use Rattle.cfb.proofs.LiveMeaning.{holds_meant, means_read}
+use Rattle.cfb.specs.Doing.{Means as MeansTree}
 use Rattle.cfb.specs.Opened.{IsOpenedAs}
 use Rattle.cfb.specs.Streams.{Holds}
 use Rattle.cfb.specs.Views.{letters_in, mini_of, sound_of, Rests}
 use Rattle.cfb.specs.declared.compound_file.CompoundFile.{CompoundFile}
 use Rattle.cfb_directory.specs.Entries.{SizesFit}
 use Rattle.cfb_directory.specs.Views.{entries_held}
-use Rattle.cfb_fat.specs.Tables.{has_failed_here, medium_of, version_of, HasCauseBelow}
+use Rattle.cfb_fat.specs.Tables.{medium_of, version_of, HasCauseBelow}
+use Rattle.cfb_meaning.proofs.OneTree.{tree_unique}
 use Rattle.cfb_meaning.specs.Means.{Means}
-use Rattle.cfb_meaning.specs.Sound.{IsSound}
 use Rattle.cfb_medium.specs.Calls.{HasCauseSince, IsFaultUnless}
 use Rattle.cfb_medium.specs.declared.error.Error.{Error}
 use Rattle.cfb_medium.specs.declared.error.Error.TheVariants.{AlreadyExists, Device, Failed, Full, InvalidData, InvalidInput, Memory, NotFound, UnexpectedEof}
@@ -25,14 +27,26 @@ use Rattle.cfb_tree.specs.Names.{Letters}
 use Rattle.cfb_tree.specs.Tree.{Tree}
 use Rattle.msi_meaning.specs.Opening.{may_use, opened}
 use Rattle.msi_meaning.specs.Package.{Package as Packed, Packs}
+use Rattle.msi_meaning.proofs.PacksOnce.{packs_once}
+use Rattle.msi_meaning.proofs.SoundAnyway.{sound_anyway}
+use Rattle.msi_meaning.proofs.Splitting.{parted}
+use Rattle.msi_meaning.specs.SoundParts.{IsSound as IsSoundPart}
+use Rattle.msi_meaning.specs.Split.{HasPool, HasSummary, Stores}
+use Rattle.msi_stored.specs.Changing.{StoresSound}
 use Rattle.msi_parts.proofs.Collected.{opened_is, schema_of}
 use Rattle.msi_parts.proofs.Memory.{memory_is}
 use Rattle.msi_parts.specs.Held.{AreHeld}
 use Rattle.msi_parts.specs.Parts.{AreParts, IsSoundIn}
 use Rattle.msi_parts.specs.declared.parts.PackageParts.{PackageParts}
 use Rattle.msi.specs.Opened.{Holds as HoldsPackage, IsOpenedPackage, IsRefused, IsSoundFile, file_in, kind_in, pool_in, sound_in, summary_in, tables_in}
-use Rattle.msi.specs.Steps.{AreJudged, IsFound, IsGivenUp, IsRefusedTree}
+use Rattle.msi_store.proofs.ShownTrees.{means_shown, shown_opened}
+use Rattle.msi_stored.specs.Shown.{FindsPart, HoldsShown, IsLostPart, ShowsTree, bytes_in}
+use Rattle.msi.specs.Steps.{IsFound, IsGivenUp}
 use Rattle.msi.specs.declared.package.Package.{Package}
+
+-- each tree that the bytes show is refused so, or a part is lost
+abbrev Refuses : Letters → List ℕ → Error → Type 0
+Refuses letters bytes e = (tree : Tree) → ShowsTree letters bytes tree → IsLostPart letters bytes e ⊎ (opened letters tree ≡ Err e)
 
 module _ {F : Type 0} {g : Ghosts F} (medium : F) (a : CompoundFile F g) (opens : OpensAt medium (mini_of a)) where
   -- a file that was only read since it was opened was opened so
@@ -60,30 +74,51 @@ module _ {F : Type 0} {g : Ghosts F} (medium : F) (a : CompoundFile F g) (opens 
     held : (tree : Tree) → Means letters (g.bytes medium) tree → Holds a tree
     held tree means = holds_opened Permissive letters medium a tree honest opens named as_opened means
 
+    shown : (tree : Tree) → ShowsTree letters (g.bytes medium) tree → HoldsShown a tree
+    shown tree shows = shown_opened Permissive letters medium a tree honest opens named as_opened shows
+
     may_here : may_use (letters_in a) ≡ true
     may_here = ap may_use named ∙ may
 
     module _ (it : Package F g) (found : IsFound a it) where
-      parts : (tree : Tree) → Means letters (g.bytes medium) tree → (gives_back : Bool) × AreParts letters tree (kind_in it) (summary_in it) (pool_in it).pool gives_back (tables_in it)
-      parts tree means = subst (λ l. (gives_back : Bool) × AreParts l tree (kind_in it) (summary_in it) (pool_in it).pool gives_back (tables_in it)) named (found.parts tree (held tree means) may_here)
+      parts : (tree : Tree) → ShowsTree letters (g.bytes medium) tree → (gives_back : Bool) × AreParts letters tree (kind_in it) (summary_in it) (pool_in it).pool gives_back (tables_in it)
+      parts tree shows = subst (λ l. (gives_back : Bool) × AreParts l tree (kind_in it) (summary_in it) (pool_in it).pool gives_back (tables_in it)) named (found.parts tree (shown tree shows) may_here)
 
       named_here : letters_in (file_in it) ≡ letters
       named_here = found.rests.letters ∙ named
 
-      yet : (tree : Tree) (P : Packed) → Means letters (g.bytes medium) tree → Packs letters tree P → HoldsPackage it P
-      yet tree P means packs =
-          let here = parts tree means in
-          record {
-            tree = tree;
-            file = holds_yet a (file_in it) tree found.rests (held tree means);
-            packs = subst (λ l. Packs l tree P) (sym named_here) packs;
-            usable = ap may_use named_here ∙ may;
-            memory = memory_is letters tree (kind_in it) (summary_in it) (pool_in it).pool here.0 (tables_in it) here.1 P packs;
-          }
-
       -- it was judged exactly
       judged : (tree : Tree) → Means letters (g.bytes medium) tree → IsTrue (sound_in it) ↔ IsSoundIn letters tree (sound_of a)
       judged tree means = subst (λ l. IsTrue (sound_in it) ↔ IsSoundIn l tree (sound_of a)) named (found.judged tree (held tree means) may_here)
+
+      -- of a sound package the file means its tree, which stores a sound one
+      sound_yet : (tree : Tree) (P : Packed) → Means letters (g.bytes medium) tree → Packs letters tree P → IsTrue (sound_in it)
+          → MeansTree (file_in it) tree × StoresSound (letters_in (file_in it)) tree P
+      sound_yet tree P means packs is =
+          let so = (judged tree means).0 is in
+          let meant = as_opened.means so.0 in
+          let h = holds_meant a meant.0 meant.1 in
+          let there : Means letters (g.bytes medium) meant.0 = subst (λ b. Means letters b meant.0) (opens.bytes honest) (subst (λ l. Means l (bytes_in a) meant.0) named (h.layout, h.means)) in
+          let same : meant.0 ≡ tree = tree_unique letters (g.bytes medium) meant.0 tree there means in
+          let sound = subst (λ (Q : Packed). IsSoundPart letters tree Q) (packs_once letters tree so.1 P so.2 packs) (sound_anyway letters tree so.1 so.2 so.3) in (
+            subst (λ t. MeansTree (file_in it) t) same (means_read a (file_in it) meant.0 found.rests meant.1),
+            subst (λ l. StoresSound l tree P) (sym named_here) (record { usable = may; stores = (parted letters tree P packs).0; counted = sound.counted; free = sound.free; named = sound.named }),
+          )
+
+      yet : (tree : Tree) (P : Packed) → Means letters (g.bytes medium) tree → Packs letters tree P → HoldsPackage it P
+      yet tree P means packs =
+          let here = parts tree (means_shown letters (g.bytes medium) tree means) in
+          let three = parted letters tree P packs in
+          record {
+            tree = tree;
+            file = holds_yet a (file_in it) tree found.rests (held tree means);
+            usable = ap may_use named_here ∙ may;
+            stores = subst (λ l. Stores l tree P) (sym named_here) three.0;
+            memory = memory_is letters tree (kind_in it) (summary_in it) (pool_in it).pool here.0 (tables_in it) here.1 P packs;
+            pool = λ unmodified. subst (λ l. HasPool l tree P.pool) (sym named_here) three.1;
+            summary = λ written. subst (λ l. HasSummary l tree P.summary) (sym named_here) three.2;
+            sound = sound_yet tree P means packs;
+          }
 
       sound_to : (b : Bool) → sound_of a ≡ b → IsTrue (sound_in it) → IsSoundFile letters (g.bytes medium)
       sound_to false e is = let both : true ≡ false = sym is ∙ found.unsound e in absurd (cc)
@@ -100,20 +135,26 @@ module _ {F : Type 0} {g : Ghosts F} (medium : F) (a : CompoundFile F g) (opens 
       pub found_opened : IsOpenedPackage letters (g.bytes medium) it
       found_opened = record {
         compared = named_here;
-        told = λ tree means. let here = parts tree means in opened_is letters tree may (kind_in it) (summary_in it) (pool_in it).pool here.0 (tables_in it) here.1;
-        schema = λ tree means. let here = parts tree means in schema_of letters tree (kind_in it) (summary_in it) (pool_in it).pool here.0 (tables_in it) here.1;
+        told = λ tree shows. let here = parts tree shows in opened_is letters tree may (kind_in it) (summary_in it) (pool_in it).pool here.0 (tables_in it) here.1;
+        schema = λ tree shows. let here = parts tree shows in schema_of letters tree (kind_in it) (summary_in it) (pool_in it).pool here.0 (tables_in it) here.1;
         holds = yet;
         sound = (sound_to (sound_of a) refl, sound_from);
       }
 
     -- a refusal is that of each tree
     pub given_refused : (m : F) (e : Error) → IsGivenUp a m e → IsFaultUnless ⊥ e ⊎ IsRefused letters (g.bytes medium) e
-    given_refused m e given = by e (λ tree means. subst (λ l. IsFaultUnless ⊥ e ⊎ (opened l tree ≡ Err e)) named (given.told tree (held tree means) may_here))
+    given_refused m e given = by e (λ tree shows. here tree (given.told tree (shown tree shows) may_here))
       where
-        each : (e : Error) → (IsFaultUnless ⊥ e → ⊥) → ((tree : Tree) → Means letters (g.bytes medium) tree → IsFaultUnless ⊥ e ⊎ (opened letters tree ≡ Err e)) → IsFaultUnless ⊥ e ⊎ IsRefused letters (g.bytes medium) e
-        each e none told = inr (inr (inr (λ tree means. elim (told tree means) [ inl fault ↦ absurd (none fault) | inr is ↦ is ])))
+        here : (tree : Tree) → IsLostPart (letters_in a) (bytes_in a) e ⊎ (opened (letters_in a) tree ≡ Err e) → IsLostPart letters (g.bytes medium) e ⊎ (opened letters tree ≡ Err e)
+        here tree told = subst (λ b. IsLostPart letters b e ⊎ (opened letters tree ≡ Err e)) (opens.bytes honest) (subst (λ l. IsLostPart l (bytes_in a) e ⊎ (opened l tree ≡ Err e)) named told)
 
-        by : (e : Error) → ((tree : Tree) → Means letters (g.bytes medium) tree → IsFaultUnless ⊥ e ⊎ (opened letters tree ≡ Err e)) → IsFaultUnless ⊥ e ⊎ IsRefused letters (g.bytes medium) e
+        each : (e : Error) → (IsFaultUnless ⊥ e → ⊥) → Refuses letters (g.bytes medium) e → IsFaultUnless ⊥ e ⊎ IsRefused letters (g.bytes medium) e
+        each e none told = inr (inr (inr (λ tree shows. elim (told tree shows) [
+          | inl lost ↦ elim lost [ inl fault ↦ absurd (none fault) | inr broken ↦ inl broken ]
+          | inr is ↦ inr is
+        ])))
+
+        by : (e : Error) → Refuses letters (g.bytes medium) e → IsFaultUnless ⊥ e ⊎ IsRefused letters (g.bytes medium) e
         by Memory told = inl tt
         by Device told = inl tt
         by Failed told = inl tt
@@ -167,13 +208,17 @@ module _ {F : Type 0} {g : Ghosts F} (medium : F) (a : CompoundFile F g) (opens 
         by (Err e) given = λ honest. given_refused medium a opens letters named may honest (as_opened honest) e.0 e.1 given
 
 -- what was judged of the file after it was read is so of the file before
-pub judged_before : {F : Type 0} {g : Ghosts F} (a b : CompoundFile F g) → Rests a b → (tree : Tree) (r : Result (PackageParts × Bool) Error) → MatchResult r (AreJudged b tree) (IsFaultUnless ⊥)
-    → MatchResult r (AreJudged a tree) (IsRefusedTree a tree)
-judged_before a b rests tree (Ok found) told = record {
-  held = subst (λ l. AreHeld l tree found.0) rests.letters told.held;
-  judged = subst (λ s. IsTrue found.1 ↔ IsSoundIn (letters_in a) tree s) rests.sound (subst (λ l. IsTrue found.1 ↔ IsSoundIn l tree (sound_of b)) rests.letters told.judged);
-}
-judged_before a b rests tree (Err e) told = inl told
+pub judged_before : {F : Type 0} {g : Ghosts F} (a b : CompoundFile F g) → Rests a b → (tree : Tree) (r : Result (PackageParts × Bool) Error)
+    → IfOk r (λ found. IsTrue found.1 ↔ IsSoundIn (letters_in b) tree (sound_of b)) → IfOk r (λ found. IsTrue found.1 ↔ IsSoundIn (letters_in a) tree (sound_of a))
+judged_before a b rests tree (Ok found) told =
+    subst (λ s. IsTrue found.1 ↔ IsSoundIn (letters_in a) tree s) rests.sound (subst (λ l. IsTrue found.1 ↔ IsSoundIn l tree (sound_of b)) rests.letters told)
+judged_before a b rests tree (Err e) told = tt
+
+-- the parts that were judged are those that were read
+pub parts_shown : (letters : Letters) (bytes : List ℕ) (tree : Tree) (parts : PackageParts) (r : Result (PackageParts × Bool) Error) → AreHeld letters tree parts
+    → IfOk r (λ found. found.0 ≡ parts) → IfErr r (IsFaultUnless ⊥) → FindsPart letters bytes (λ (found : PackageParts × Bool). AreHeld letters tree found.0) (opened letters tree) r
+parts_shown letters bytes tree parts (Ok found) are same fault = subst (AreHeld letters tree) (sym same) are
+parts_shown letters bytes tree parts (Err e) are same fault = inl (inl fault)
 
 -- another fact of the value, or of the error
 pub if_ok_then : {X E : Type 0} (P Q : X → Type 0) (r : Result X E) → IfOk r P → ((x : X) → P x → Q x) → IfOk r Q

@@ -12,11 +12,12 @@ use Rattle.cfb_tree.specs.Names.{Letters, key_cmp, name_cmp, name_key}
 use Rattle.cfb_tree.specs.Objects.{is_same_name}
 use Rattle.cfb_tree.specs.Tree.{Content, Tree, child_names, nothing, storage, stream}
 use Rattle.msi_meaning.specs.Opening.{may_use}
-use Rattle.msi_meaning.specs.Package.{Package as Packed, Packs, data_name, is_own, is_stream, object_bytes, objects, pool_name, stream_at, stream_name, summary_name}
+use Rattle.msi_meaning.specs.Split.{Stores}
+use Rattle.msi_meaning.specs.Package.{Package as Packed, data_name, is_own, is_stream, object_bytes, objects, pool_name, stream_at, stream_name, summary_name}
 use Rattle.msi_meaning.specs.Streams.{document_summary_name, is_special, signature_ex_name, signature_name, stream_names}
 use Rattle.msi_texts.specs.StreamName.{is_marked}
 use Rattle.msi_texts.specs.StreamName.{name_of as decoded_name}
-use Rattle.msi.proofs.Marks.{key_of_same, marked_alike, same_of_key}
+use Rattle.msi_streams.proofs.Marks.{key_of_same, marked_alike, same_of_key}
 
 either : (a b : Bool) → a || b ≡ true → (a ≡ true) ⊎ (b ≡ true)
 either true b e = inl refl
@@ -111,9 +112,9 @@ module _ (letters : Letters) (may : may_use letters ≡ true) where
     kept_so true true false true h = refl
     kept_so true true false false h = let no : false ≡ true = h refl in absurd (cc)
 
-    pub names_listed : (tree : Tree) → Packs letters tree P → stream_names letters P ≡ map (λ o. encode_utf8_all (decoded_name (object_name o))) (filter (is_listed letters) (objects tree.content))
-    names_listed tree packs = ap (map (λ o. encode_utf8_all (decoded_name (object_name o))))
-        (ap (filter (λ o. not (is_special letters (object_name o)) && not (is_marked (object_name o)))) packs.streams
+    pub names_listed : (tree : Tree) → Stores letters tree P → stream_names letters P ≡ map (λ o. encode_utf8_all (decoded_name (object_name o))) (filter (is_listed letters) (objects tree.content))
+    names_listed tree stores = ap (map (λ o. encode_utf8_all (decoded_name (object_name o))))
+        (ap (filter (λ o. not (is_special letters (object_name o)) && not (is_marked (object_name o)))) stores.streams
         ∙ filter_twice (λ o. is_stream o && not (is_own letters P o)) (λ o. not (is_special letters (object_name o)) && not (is_marked (object_name o))) (is_listed letters)
         (λ o. kept_so (is_stream o) (is_own letters P o) (is_special letters (object_name o)) (is_marked (object_name o)) (own_told o)) (objects tree.content))
 
@@ -156,9 +157,9 @@ module _ (letters : Letters) (may : may_use letters ≡ true) where
         by false e rest = rest
 
     -- a stream of no such name is found among all objects
-    pub stream_found : (tree : Tree) → Packs letters tree P → IsStrictlySortedBy (name_cmp letters) (child_names tree.content)
+    pub stream_found : (tree : Tree) → Stores letters tree P → IsStrictlySortedBy (name_cmp letters) (child_names tree.content)
         → stream_at letters P.streams name ≡ stream_at letters (objects tree.content) name
-    stream_found tree packs rising = ap (λ os. stream_at letters os name) packs.streams ∙ found tree.content rising
+    stream_found tree stores rising = ap (λ os. stream_at letters os name) stores.streams ∙ found tree.content rising
 
   -- which names are those of the database's own streams hangs on keys alone
   own_alike : (P : Packed) (name : List ℕ) (o : Object) → is_same_name letters name (object_name o) ≡ true → is_own letters P o ≡ is_own letters P (a_stream name 0 [])
@@ -191,8 +192,8 @@ module _ (letters : Letters) (may : may_use letters ≡ true) where
       ∙ ap (λ b. b || list_any (λ n. is_same_name letters n signature_name) (stream_name pool_name ∷ stream_name data_name ∷ map (λ t. stream_name t.name) P.tables)) summary
 
   -- nothing is found by a name that only the database's own streams have
-  pub none_found : (P : Packed) (tree : Tree) (name : List ℕ) → Packs letters tree P → ((o : Object) → is_same_name letters name (object_name o) ≡ true → is_own letters P o ≡ true) → stream_at letters P.streams name ≡ None
-  none_found P tree name packs own = ap (λ os. stream_at letters os name) packs.streams ∙ ap (option_and_then object_bytes)
+  pub none_found : (P : Packed) (tree : Tree) (name : List ℕ) → Stores letters tree P → ((o : Object) → is_same_name letters name (object_name o) ≡ true → is_own letters P o ≡ true) → stream_at letters P.streams name ≡ None
+  none_found P tree name stores own = ap (λ os. stream_at letters os name) stores.streams ∙ ap (option_and_then object_bytes)
       (none_kept (λ o. is_same_name letters name (object_name o)) (λ o. is_stream o && not (is_own letters P o)) (λ o same. out (is_stream o) (is_own letters P o) (own o same)) (objects tree.content))
     where
       out : (a b : Bool) → b ≡ true → a && not b ≡ false

@@ -1,5 +1,5 @@
 -- What a query answers of a package that is held.
-use Rattle.std.proofs.Common.{◌≡◌, ◌∙◌, ◌⊎◌, ℕ, Bool, true, false, List, [], ◌∷◌, length, map, refl, sym, ap, subst, arith, inl, inr, Some, None}
+use Rattle.std.proofs.Common.{◌≡◌, ◌∙◌, ◌⊎◌, ℕ, Bool, List, [], ◌∷◌, length, map, refl, sym, ap, subst, arith, inl, inr, Some, None}
 use Rattle.std.specs.Prelude.{All, Contains, Err, IfErr, IfOk, IfSome, MatchResult, Ok, Option, Result, option_map, unwrap_or}
 use Rattle.std.proofs.lemmas.List.Elements.{All-cons, All-head, All-tail}
 use Rattle.cfb.specs.Views.{letters_in, mini_of}
@@ -7,7 +7,7 @@ use Rattle.cfb_fat.specs.Tables.{HasCauseBelow}
 use Rattle.cfb_mini.specs.Views.{allocator_of}
 use Rattle.cfb_medium.specs.Calls.{IsFaultUnless}
 use Rattle.cfb_medium.specs.declared.error.Error.{Error}
-use Rattle.cfb_medium.specs.declared.error.Error.TheVariants.{InvalidData, Memory}
+use Rattle.cfb_medium.specs.declared.error.Error.TheVariants.{Memory}
 use Rattle.cfb_medium.specs.declared.medium.ReadMedium.{Ghosts}
 use Rattle.cfb_tree.specs.Names.{Letters}
 use Rattle.cfb_tree.specs.Tree.{Tree}
@@ -21,7 +21,7 @@ use Rattle.msi_query.specs.Query.{Query, selected}
 use Rattle.msi_query.specs.Sources.{Tables}
 use Rattle.msi_store.specs.Stores.{stored_in}
 use Rattle.msi_stored.specs.Reading.{TellsOrFault}
-use Rattle.msi_stored.specs.Stored.{AreTables, HasCause, HasTables, HasTooMany, IsUnread, Stored, rows_in}
+use Rattle.msi_stored.specs.Stored.{AreTables, HasCause, HasTables, IsUnread, Stored, rows_in}
 use Rattle.msi_tables.specs.Table.{Heading, Table, table_named}
 use Rattle.msi_tables.specs.declared.rows.Rows.{Rows}
 use Rattle.msi_texts.specs.Results.{◌>>=◌}
@@ -124,7 +124,7 @@ module _ {F : Type 0} {g : Ghosts F} (it : Package F g) (P : Packed) (h : Holds 
 
   -- all its rows are read
   read : All (λ t. rows_in (letters_in (file_in it)) h.tree (heading long t) ≡ Some t.rows) P.tables
-  read = subst (λ l. All (λ t. rows_in (letters_in (file_in it)) h.tree (heading l t) ≡ Some t.rows) P.tables) (sym (ap (λ (p : Pool). p.long) h.memory.pool)) h.packs.rows
+  read = subst (λ l. All (λ t. rows_in (letters_in (file_in it)) h.tree (heading l t) ≡ Some t.rows) P.tables) (sym (ap (λ (p : Pool). p.long) h.memory.pool)) h.stores.rows
 
   pub tables_held : HasTables (stored_in (store_in it)) (table_named P.tables)
   tables_held = (

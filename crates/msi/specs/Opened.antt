@@ -1,5 +1,6 @@
 -- A package in memory, whose rows and streams lie in its file, and what opening tells.
 use Rattle.std.specs.Prelude.{◌≡◌, ◌⊎◌, ◌↔◌, ℕ, false, true, Bool, List, Ok, Err, IsTrue}
+use Rattle.cfb.specs.Doing.{Means as MeansTree}
 use Rattle.cfb.specs.Streams.{Holds as HoldsTree}
 use Rattle.cfb.specs.Views.{letters_in}
 use Rattle.cfb.specs.Views as read
@@ -14,12 +15,15 @@ use Rattle.cfb_tree.specs.Tree.{Tree}
 use Rattle.msi_meaning.specs.Opening.{may_use, opened}
 use Rattle.msi_meaning.specs.Package.{Package as Packed, Packs}
 use Rattle.msi_meaning.specs.Sound.{IsSoundPackage}
+use Rattle.msi_meaning.specs.Split.{HasPool, HasSummary, Stores}
 use Rattle.msi_meaning.specs.declared.kind.PackageType.{PackageType}
 use Rattle.msi_parts.specs.Parts.{HasSchema, IsMemoryOf}
 use Rattle.msi_pool.specs.PoolState.{PoolState}
 use Rattle.msi_props.specs.Held.{SetState}
 use Rattle.msi_store.specs.Stores as store
 use Rattle.msi_store.specs.declared.store.Store.{Store}
+use Rattle.msi_stored.specs.Changing.{StoresSound}
+use Rattle.msi_stored.specs.Shown.{IsBrokenPart, ShowsTree}
 use Rattle.msi_tables.specs.Table.{Heading}
 use Rattle.msi.specs.declared.package.Package.{Package}
 
@@ -28,13 +32,13 @@ abbrev pub IsSoundFile : Letters → List ℕ → Type 0
 IsSoundFile letters bytes = IsSound letters bytes
     × (tree : Tree) × Means letters bytes tree × (P : Packed) × (packs : Packs letters tree P) × IsSoundPackage letters tree P packs
 
--- WHY BYTES ARE REFUSED: the letter table touches encoded names; the container can't be opened; or each tree that they mean is
--- refused so
+-- WHY BYTES ARE REFUSED: the letter table touches encoded names; the container can't be opened; or each tree that they show is refused
+-- so, or a stream that opening reads breaks, which is broken data
 abbrev pub IsRefused : Letters → List ℕ → Error → Type 0
 IsRefused letters bytes e =
     ((e ≡ InvalidInput) × (may_use letters ≡ false))
     ⊎ ((e ≡ InvalidData) × (IsOpenable letters bytes → ⊥))
-    ⊎ ((tree : Tree) → Means letters bytes tree → opened letters tree ≡ Err e)
+    ⊎ ((tree : Tree) → ShowsTree letters bytes tree → IsBrokenPart letters bytes e ⊎ (opened letters tree ≡ Err e))
 
 module _ {F : Type 0} {g : Ghosts F} where
   -- the tables and their file; the file; and the tables without their rows
@@ -59,6 +63,10 @@ module _ {F : Type 0} {g : Ghosts F} where
   abbrev pub sound_in : Package F g → Bool
   sound_in it = it.is_sound
 
+  -- whether the summary in memory is that of its stream
+  abbrev pub written_in : Package F g → Bool
+  written_in it = it.is_summary_written
+
   -- it was only read
   pub record Rests (old new : Package F g) : Type 0 where
     pub file : read.Rests (file_in old) (file_in new)
@@ -67,20 +75,25 @@ module _ {F : Type 0} {g : Ghosts F} where
     pub pool : pool_in new ≡ pool_in old
     pub summary : summary_in new ≡ summary_in old
     pub sound : sound_in new ≡ sound_in old
+    pub written : written_in new ≡ written_in old
 
-  -- THE PACKAGE IN MEMORY IS THIS ONE: a tree that its file holds packs it, and memory has its parts
+  -- THE PACKAGE IN MEMORY IS THIS ONE: a tree that its file holds stores it, and memory has its other parts, which are those of their
+  -- streams unless they were changed. Of a sound package the file means the tree, which stores a sound one.
   pub record Holds (it : Package F g) (P : Packed) : Type 0 where
     pub tree : Tree
     pub file : HoldsTree (file_in it) tree
-    pub packs : Packs (letters_in (file_in it)) tree P
     pub usable : may_use (letters_in (file_in it)) ≡ true
+    pub stores : Stores (letters_in (file_in it)) tree P
     pub memory : IsMemoryOf (kind_in it) (summary_in it).props (pool_in it).pool (tables_in it) P
+    pub pool : (pool_in it).modified ≡ false → HasPool (letters_in (file_in it)) tree P.pool
+    pub summary : written_in it ≡ true → HasSummary (letters_in (file_in it)) tree P.summary
+    pub sound : IsTrue (sound_in it) → MeansTree (file_in it) tree × StoresSound (letters_in (file_in it)) tree P
 
-  -- Opened over these bytes under this letter table: kind, summary and pool are those that the tree tells, and so are the tables; each
-  -- package that it packs is held; and it was judged exactly whether they hold a sound package.
+  -- Opened over these bytes under this letter table: kind, summary and pool are those that each tree tells that they show, and so are the
+  -- tables; each package that the tree packs that they mean is held; and it was judged exactly whether they hold a sound package.
   pub record IsOpenedPackage (letters : Letters) (bytes : List ℕ) (it : Package F g) : Type 0 where
     pub compared : letters_in (file_in it) ≡ letters
-    pub told : (tree : Tree) → Means letters bytes tree → opened letters tree ≡ Ok (kind_in it, ((summary_in it).props, (pool_in it).pool))
-    pub schema : (tree : Tree) → Means letters bytes tree → HasSchema letters tree (pool_in it).pool (tables_in it)
+    pub told : (tree : Tree) → ShowsTree letters bytes tree → opened letters tree ≡ Ok (kind_in it, ((summary_in it).props, (pool_in it).pool))
+    pub schema : (tree : Tree) → ShowsTree letters bytes tree → HasSchema letters tree (pool_in it).pool (tables_in it)
     pub holds : (tree : Tree) (P : Packed) → Means letters bytes tree → Packs letters tree P → Holds it P
     pub sound : IsTrue (sound_in it) ↔ IsSoundFile letters bytes

@@ -5,40 +5,29 @@ use Rattle.cfb.specs.Views.{letters_in, mini_of, sound_of}
 use Rattle.cfb.specs.Views as read
 use Rattle.cfb.specs.declared.compound_file.CompoundFile.{CompoundFile}
 use Rattle.cfb_fat.specs.Tables.{HasCauseBelow, medium_of}
-use Rattle.cfb_medium.specs.Calls.{IsFaultUnless}
 use Rattle.cfb_medium.specs.declared.error.Error.{Error}
 use Rattle.cfb_medium.specs.declared.medium.ReadMedium.{Ghosts}
 use Rattle.cfb_mini.specs.Views.{allocator_of}
 use Rattle.cfb_tree.specs.Tree.{Tree}
 use Rattle.msi_meaning.specs.Opening.{may_use, opened}
-use Rattle.msi_parts.specs.Held.{AreHeld}
 use Rattle.msi_parts.specs.Parts.{AreParts, IsSoundIn}
-use Rattle.msi_parts.specs.declared.parts.PackageParts.{PackageParts}
+use Rattle.msi_stored.specs.Shown.{HoldsShown, IsLostPart, bytes_in}
 use Rattle.msi.specs.Opened.{file_in, kind_in, pool_in, sound_in, summary_in, tables_in}
 use Rattle.msi.specs.declared.package.Package.{Package}
 
 module _ {F : Type 0} {g : Ghosts F} where
-  -- the parts are those of the tree, and it was judged exactly whether it packs a sound package
-  pub record AreJudged (file : CompoundFile F g) (tree : Tree) (found : PackageParts × Bool) : Type 0 where
-    pub held : AreHeld (letters_in file) tree found.0
-    pub judged : IsTrue found.1 ↔ IsSoundIn (letters_in file) tree (sound_of file)
-
-  -- the tree is refused so, or there was a fault
-  abbrev pub IsRefusedTree : CompoundFile F g → Tree → Error → Type 0
-  IsRefusedTree file tree e = IsFaultUnless ⊥ e ⊎ (opened (letters_in file) tree ≡ Err e)
-
   -- the package of the file, which was only read
   pub record IsFound (file : CompoundFile F g) (it : Package F g) : Type 0 where
     pub rests : read.Rests file (file_in it)
-    pub parts : (tree : Tree) → HoldsTree file tree → may_use (letters_in file) ≡ true
+    pub parts : (tree : Tree) → HoldsShown file tree → may_use (letters_in file) ≡ true
         → (gives_back : Bool) × AreParts (letters_in file) tree (kind_in it) (summary_in it) (pool_in it).pool gives_back (tables_in it)
     pub judged : (tree : Tree) → HoldsTree file tree → may_use (letters_in file) ≡ true → IsTrue (sound_in it) ↔ IsSoundIn (letters_in file) tree (sound_of file)
     pub unsound : sound_of file ≡ false → sound_in it ≡ false
 
-  -- the medium of the file, which was only read, with the refusal of each tree that it holds
+  -- the medium of the file, which was only read, with the refusal of each tree that it shows
   pub record IsGivenUp (file : CompoundFile F g) (medium : F) (e : Error) : Type 0 where
     pub new : CompoundFile F g
     pub rests : read.Rests file new
     pub medium_is : medium ≡ medium_of (allocator_of (mini_of new))
     pub cause : HasCauseBelow (allocator_of (mini_of file)) (allocator_of (mini_of new)) e
-    pub told : (tree : Tree) → HoldsTree file tree → may_use (letters_in file) ≡ true → IsRefusedTree file tree e
+    pub told : (tree : Tree) → HoldsShown file tree → may_use (letters_in file) ≡ true → IsLostPart (letters_in file) (bytes_in file) e ⊎ (opened (letters_in file) tree ≡ Err e)

@@ -1,9 +1,12 @@
 //! Packages by the paths of their files.
-ghost use Rattle.std.specs.Prelude.{IfOk};
+ghost use Rattle.std.specs.Prelude.{◌≡◌, ◌⊎◌, IfErr, IfOk};
 ghost use Rattle.cfb.specs.Paths.{IsOpenedOnDisk};
-ghost use Rattle.cfb.specs.Views.{mini_of};
+ghost use Rattle.cfb.specs.Views.{letters_in, mini_of};
 ghost use Rattle.cfb_opening.specs.Opened.{OpensAt};
+ghost use Rattle.cfb_tree.specs.LetterViews.{letters_of};
+ghost use Rattle.file_device.specs.FileDevice.{IsOpenRefusal};
 ghost use Rattle.msi.specs.Opened.{file_in};
+ghost use Rattle.msi_stored.specs.Reading.{IsOpeningError};
 
 use crate::package::Package;
 use cfb::{CaseMapper, FileMedium};
@@ -21,6 +24,8 @@ pub fn open<R: Files<File = File>>(
     letters: CaseMapper,
 ) -> Result<Package<FileMedium>, Error>
     ensures opened { IfOk result (λ it. IsOpenedOnDisk (file_in it)) }
+    ensures letters { IfOk result (λ it. letters_in (file_in it) ≡ letters_of letters) }
+    ensures error { IfErr result (λ e. IsOpenRefusal e ⊎ IsOpeningError e) }
 {
     match FileMedium::open(rt, path) {
         Ok(medium) => opened(alloc, medium, letters),
@@ -35,6 +40,8 @@ fn opened(
     letters: CaseMapper,
 ) -> Result<Package<FileMedium>, Error>
     ensures opens { IfOk result (λ it. OpensAt medium (mini_of (file_in it))) }
+    ensures letters { IfOk result (λ it. letters_in (file_in it) ≡ letters_of letters) }
+    ensures error { IfErr result IsOpeningError }
 {
     match Package::open(alloc, medium, letters) {
         Ok(package) => Ok(package),

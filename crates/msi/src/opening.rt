@@ -1,5 +1,5 @@
 //! Packages that are opened.
-ghost use Rattle.std.specs.Prelude.{◌≡◌, ◌⊎◌, false, true, IfErr, IfOk, IsTrue, MatchResult};
+ghost use Rattle.std.specs.Prelude.{◌≡◌, ◌⊎◌, ◌↔◌, false, true, IfErr, IfOk, IsTrue};
 ghost use Rattle.cfb.specs.Streams.{Holds};
 ghost use Rattle.cfb.specs.Views.{letters_in, mini_of, sound_of, Rests};
 ghost use Rattle.cfb_fat.specs.Tables.{HasCauseBelow};
@@ -10,9 +10,12 @@ ghost use Rattle.cfb_opening.specs.Tables.{OnlyReads};
 ghost use Rattle.cfb_tree.specs.LetterViews.{letters_of};
 ghost use Rattle.cfb_tree.specs.Tree.{Tree};
 ghost use Rattle.msi.specs.Opened.{file_in, kind_in, pool_in, sound_in, summary_in, tables_in, IsOpenedPackage, IsRefused};
-ghost use Rattle.msi.specs.Steps.{AreJudged, IsFound, IsGivenUp, IsRefusedTree};
-ghost use Rattle.msi_meaning.specs.Opening.{may_use};
+ghost use Rattle.msi.specs.Steps.{IsFound, IsGivenUp};
+ghost use Rattle.msi_meaning.specs.Opening.{may_use, opened};
 ghost use Rattle.msi_parts.specs.Held.{headings_in, AreHeld};
+ghost use Rattle.msi_parts.specs.Parts.{IsSoundIn};
+ghost use Rattle.msi_stored.specs.Reading.{IsOpeningError};
+ghost use Rattle.msi_stored.specs.Shown.{bytes_in, FindsPart, HoldsShown};
 
 use crate::package::Package;
 use cfb::{CaseMapper, CompoundFile};
@@ -31,15 +34,17 @@ impl<F: ReadMedium> Package<F> {
     /// Opens a package, whose names are compared under the letter table. `InvalidInput` where the table has a pair with a character
     /// from U+3800 to U+4840, which encoded names have; `InvalidData` where the container can't be opened; and then, one part after
     /// the other: `InvalidData` for an unknown class identifier of the root, `NotFound`, `InvalidData` or `UnexpectedEof` of the
-    /// summary and of the pool's two streams, `InvalidData` where the system tables describe no tables. Other errors are faults. It
-    /// judges once whether the package is sound, one table's rows in memory at a time. The medium is only read, and a refusal gives
-    /// it back.
+    /// summary and of the pool's two streams, `InvalidData` where the system tables describe no tables. The chains of other streams may
+    /// break. Other errors are faults. It judges once whether the package is sound, one table's rows in memory at a time. The medium
+    /// is only read, and a refusal gives it back.
     pub fn open(alloc: Global, medium: F, letters: CaseMapper) -> Result<Package<F>, (F, Error)>
         ensures opens { IfOk result (λ it. OpensAt medium (mini_of (file_in it))) }
+        ensures letters { IfOk result (λ it. letters_in (file_in it) ≡ letters_of letters) }
         ensures opened { IfOk result (λ it. IsTrue (F.honest medium)
             → IsOpenedPackage (letters_of letters) (F.bytes medium) it) }
         ensures refused { IfErr result (λ e. IsTrue (F.honest medium) → IsFaultUnless ⊥ e.1
             ⊎ IsRefused (letters_of letters) (F.bytes medium) e.1) }
+        ensures kinds { IfErr result (λ e. IsOpeningError e.1) }
         ensures cause { IfErr result (λ e. HasCauseSince F.continues F.failures F.failed medium
             e.0 e.1) }
         ensures left { IfErr result (λ e. OnlyReads F.honest F.bytes F.continues medium e.0) }
@@ -58,6 +63,7 @@ impl<F: ReadMedium> Package<F> {
 fn opened<F: ReadMedium>(alloc: Global, mut file: CompoundFile<F>) -> Result<Package<F>, (F, Error)>
     ensures ok { IfOk result (IsFound file) }
     ensures err { IfErr result (λ e. IsGivenUp file e.0 e.1) }
+    ensures kinds { IfErr result (λ e. IsOpeningError e.1) }
 {
     match judged_parts(alloc, &mut file) {
         Ok((parts, is_sound)) => Ok(from_parts(alloc, file, parts, is_sound)),
@@ -70,12 +76,18 @@ fn judged_parts<F: ReadMedium>(
     alloc: Global,
     file: &mut CompoundFile<F>,
 ) -> Result<(PackageParts, bool), Error>
-    ensures told { (tree : Tree) → Holds file.old tree → may_use (letters_in file.old) ≡ true
-        → MatchResult result (AreJudged file.old tree) (IsRefusedTree file.old tree) }
+    ensures shown { (tree : Tree) → HoldsShown file.old tree → may_use (letters_in file.old) ≡ true
+        → FindsPart (letters_in file.old) (bytes_in file.old)
+        (λ found. AreHeld (letters_in file.old) tree found.0) (opened (letters_in file.old) tree)
+        result }
+    ensures judged { (tree : Tree) → Holds file.old tree → may_use (letters_in file.old) ≡ true
+        → IfOk result (λ found. IsTrue found.1
+        ↔ IsSoundIn (letters_in file.old) tree (sound_of file.old)) }
     ensures unsound { IfOk result (λ found. sound_of file.old ≡ false → found.1 ≡ false) }
     ensures rests { Rests file.old file.new }
     ensures cause { IfErr result (HasCauseBelow (allocator_of (mini_of file.old))
         (allocator_of (mini_of file.new))) }
+    ensures kinds { IfErr result IsOpeningError }
 {
     match read_parts(alloc, file) {
         Ok(parts) => judged(alloc, file, parts),
@@ -89,13 +101,15 @@ fn judged<F: ReadMedium>(
     file: &mut CompoundFile<F>,
     parts: PackageParts,
 ) -> Result<(PackageParts, bool), Error>
-    ensures told { (tree : Tree) → Holds file.old tree → may_use (letters_in file.old) ≡ true
-        → AreHeld (letters_in file.old) tree parts → MatchResult result (AreJudged file.old tree)
-        (IsFaultUnless ⊥) }
+    ensures parts { IfOk result (λ found. found.0 ≡ parts) }
+    ensures judged { (tree : Tree) → Holds file.old tree → may_use (letters_in file.old) ≡ true
+        → AreHeld (letters_in file.old) tree parts → IfOk result (λ found. IsTrue found.1
+        ↔ IsSoundIn (letters_in file.old) tree (sound_of file.old)) }
     ensures unsound { IfOk result (λ found. sound_of file.old ≡ false → found.1 ≡ false) }
     ensures rests { Rests file.old file.new }
     ensures cause { IfErr result (HasCauseBelow (allocator_of (mini_of file.old))
         (allocator_of (mini_of file.new))) }
+    ensures fault { IfErr result (IsFaultUnless ⊥) }
 {
     match is_sound_package(alloc, file, &parts) {
         Ok(is_sound) => Ok((parts, is_sound)),
@@ -128,6 +142,7 @@ fn from_parts<F: ReadMedium>(
         kind,
         pool,
         summary,
+        is_summary_written: true,
         is_sound,
     }
 }

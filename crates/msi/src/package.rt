@@ -38,6 +38,7 @@ pub struct Package<F: ReadMedium> {
     pub(crate) kind: PackageType,
     pub(crate) pool: StringPool,
     pub(crate) summary: SummaryInfo,
+    pub(crate) is_summary_written: bool,
     pub(crate) is_sound: bool,
 }
 
@@ -97,6 +98,7 @@ impl<F: ReadMedium> Package<F> {
             kind: _,
             pool: _,
             summary: _,
+            is_summary_written: _,
             is_sound: _,
         } = self;
         store.file.into_inner()

@@ -8,21 +8,22 @@ ghost use Rattle.cfb_medium.specs.declared.error.Error.TheVariants.{InvalidData,
 ghost use Rattle.cfb_mini.specs.Views.{allocator_of};
 ghost use Rattle.cfb_tree.specs.Tree.{Tree};
 ghost use Rattle.msi_meaning.specs.Opening.{may_use};
-ghost use Rattle.msi_meaning.specs.Package.{Package as Packed, Packs};
+ghost use Rattle.msi_meaning.specs.Package.{Package as Packed};
+ghost use Rattle.msi_meaning.specs.Split.{Stores};
 ghost use Rattle.msi_meaning.specs.Streams.{has_stream, is_signed, may_name, stream_read};
 ghost use Rattle.msi_stored.specs.Reading.{TellsOrFault};
 
-use crate::names::{encoded_stream_name, is_same_name};
 use crate::reader::StreamReader;
 use cfb::CompoundFile;
 use cfb_medium::{Error, ReadMedium};
 use msi_store::stream_bytes;
+use msi_streams::{encoded_stream_name, is_same_name};
 use msi_texts::{DIGITAL_SIGNATURE_STREAM_NAME, SUMMARY_INFO_STREAM_NAME};
 
 /// Whether there is a stream of this name; none where reading refuses the name. It takes no memory.
 pub(crate) fn has_stream<F: ReadMedium>(file: &CompoundFile<F>, name: &str) -> bool
     ensures { (tree : Tree) → Holds file.now tree → (P : Packed)
-        → Packs (letters_in file.now) tree P → may_use (letters_in file.now) ≡ true
+        → Stores (letters_in file.now) tree P → may_use (letters_in file.now) ≡ true
         → result ≡ has_stream (letters_in file.now) P name.now }
 {
     match encoded_stream_name(file.letters(), name) {
@@ -38,7 +39,7 @@ pub(crate) fn read_stream<F: ReadMedium>(
     name: &str,
 ) -> Result<StreamReader, Error>
     ensures told { (tree : Tree) → Holds file.old tree → (P : Packed)
-        → Packs (letters_in file.old) tree P → may_use (letters_in file.old) ≡ true
+        → Stores (letters_in file.old) tree P → may_use (letters_in file.old) ≡ true
         → TellsOrFault (λ it. it.bytes) (stream_read (letters_in file.old) P name.now) result }
     ensures at_start { IfOk result (λ it. it.position ≡ 0) }
     ensures refused { may_name (letters_in file.old) name.now ≡ Err InvalidInput
@@ -63,7 +64,7 @@ pub(crate) fn read_stream<F: ReadMedium>(
 /// Whether there is a digital signature. A letter table under which its name is the summary's leaves it none. It takes no memory.
 pub(crate) fn has_digital_signature<F: ReadMedium>(file: &CompoundFile<F>) -> bool
     ensures { (tree : Tree) → Holds file.now tree → (P : Packed)
-        → Packs (letters_in file.now) tree P → may_use (letters_in file.now) ≡ true
+        → Stores (letters_in file.now) tree P → may_use (letters_in file.now) ≡ true
         → result ≡ is_signed (letters_in file.now) P }
 {
     if is_same_name(

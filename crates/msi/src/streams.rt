@@ -16,13 +16,14 @@ ghost use Rattle.cfb_mini.specs.Views.{allocator_of};
 ghost use Rattle.cfb_tree.specs.LetterViews.{letters_of};
 ghost use Rattle.cfb_tree.specs.Tree.{Tree};
 ghost use Rattle.msi_meaning.specs.Opening.{may_use};
-ghost use Rattle.msi_meaning.specs.Package.{Package as Packed, Packs};
+ghost use Rattle.msi_meaning.specs.Package.{Package as Packed};
+ghost use Rattle.msi_meaning.specs.Split.{Stores};
 ghost use Rattle.msi_meaning.specs.Streams.{stream_names};
 ghost use Rattle.msi.specs.Lists.{name_listed, streams_left};
 
-use crate::names::is_special;
 use cfb::{CaseMapper, CompoundFile, Entries, Entry};
 use cfb_medium::{Error, ReadMedium};
+use msi_streams::is_special;
 use msi_texts::decode;
 use std::alloc::Global;
 use std::iter::ExactSizeIterator;
@@ -42,7 +43,7 @@ impl Streams {
         file: &CompoundFile<F>,
     ) -> Result<Streams, Error>
         ensures told { (tree : Tree) → Holds file.now tree → (P : Packed)
-            → Packs (letters_in file.now) tree P → may_use (letters_in file.now) ≡ true
+            → Stores (letters_in file.now) tree P → may_use (letters_in file.now) ≡ true
             → MatchResult result (λ it. map string_bytes (streams_left it)
             ≡ stream_names (letters_in file.now) P) (IsFaultUnless ⊥) }
         ensures cause { IfErr result (HasCauseBelow (allocator_of (mini_of file.now))

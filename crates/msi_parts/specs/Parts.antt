@@ -1,6 +1,5 @@
 -- The parts of a package, read from its file one by one.
-use Rattle.std.specs.Prelude.{◌≡◌, ◌⊎◌, ◌<◌, ℕ, Bool, true, List, map, Some, Ok, Err, Result, MatchResult, slice_index, IsTrue}
-use Rattle.cfb_medium.specs.Calls.{IsFaultUnless}
+use Rattle.std.specs.Prelude.{◌≡◌, ◌<◌, ℕ, Bool, true, List, map, Some, Ok, Result, slice_index, IsTrue}
 use Rattle.cfb_medium.specs.declared.error.Error.{Error}
 use Rattle.cfb_medium.specs.declared.error.Error.TheVariants.{InvalidData, NotFound}
 use Rattle.cfb_tree.specs.Names.{Letters}
@@ -19,10 +18,6 @@ use Rattle.msi_tables.specs.Rows.{Row}
 use Rattle.msi_tables.specs.Schema.{columns_columns, columns_name, is_schema, tables_columns, tables_name, validation_columns, validation_name}
 use Rattle.msi_tables.specs.Table.{Heading, row_data, Table}
 use Rattle.msi_texts.specs.Results.{◌>>=◌, or_refused, unless_not}
-
--- a part that was found so; or the refusal that the definition gives, or a fault
-abbrev pub Finds : {A B : Type 0} → (A → Type 0) → Result B Error → Result A Error → Type 0
-Finds found defined result = MatchResult result found (λ e. IsFaultUnless ⊥ e ⊎ (defined ≡ Err e))
 
 module _ (letters : Letters) (tree : Tree) where
   -- the summary of the tree, or its refusal

@@ -1,5 +1,5 @@
 -- Errors that are told as broken data, and results that a definition gives.
-use Rattle.std.proofs.Common.{◌≡◌, ◌∙◌, ◌⊎◌, inl, inr, subst, sym}
+use Rattle.std.proofs.Common.{◌≡◌, ◌∙◌, ◌⊎◌, List, ℕ, inl, inr, subst, sym}
 use Rattle.std.specs.Prelude.{Err, Ok, Result}
 use Rattle.cfb_fat.specs.Keeping.{own_cause}
 use Rattle.cfb_fat.specs.Tables.{HasCauseBelow}
@@ -8,8 +8,9 @@ use Rattle.cfb_medium.specs.Calls.{IsFaultUnless}
 use Rattle.cfb_medium.specs.declared.error.Error.{Error}
 use Rattle.cfb_medium.specs.declared.error.Error.TheVariants.{Device, Failed, InvalidData, Memory}
 use Rattle.cfb_medium.specs.declared.medium.ReadMedium.{Ghosts}
-use Rattle.msi_parts.specs.Parts.{Finds}
+use Rattle.cfb_tree.specs.Names.{Letters}
 use Rattle.msi_store.specs.Broken.{IsAsBroken}
+use Rattle.msi_stored.specs.Shown.{FindsPart}
 
 module _ (e r : Error) (told : IsAsBroken e r) where
   pub fault_as : IsFaultUnless ⊥ e → IsFaultUnless ⊥ r
@@ -33,6 +34,6 @@ module _ {F : Type 0} {g : Ghosts F} (a b : Allocator F g) (e : Error) where
   data_cause broken = own_cause a b e (λ is. let no : Device ≡ InvalidData = sym is ∙ broken in absurd (cc)) (λ is. let no : Failed ≡ InvalidData = sym is ∙ broken in absurd (cc))
 
 -- what equals the definition's result is found by it
-pub finds_of : {A : Type 0} (r d : Result A Error) → r ≡ d → Finds (λ x. d ≡ Ok x) d r
-finds_of (Ok x) d e = sym e
-finds_of (Err x) d e = inr (sym e)
+pub finds_of : (letters : Letters) (bytes : List ℕ) {A : Type 0} (r d : Result A Error) → r ≡ d → FindsPart letters bytes (λ x. d ≡ Ok x) d r
+finds_of letters bytes (Ok x) d e = sym e
+finds_of letters bytes (Err x) d e = inr (sym e)

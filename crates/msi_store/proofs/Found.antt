@@ -1,12 +1,10 @@
 -- What a query finds of tables whose rows lie in the file.
-use Rattle.std.proofs.Common.{◌≡◌, ◌∙◌, ◌⊎◌, ◌<◌, ℕ, zero, suc, Bool, true, false, cond, List, [], ◌∷◌, length, map, refl, sym, ap, subst, arith, inl, inr, Some, None}
-use Rattle.std.specs.Prelude.{Contains, IfErr, IfOk, IfSome, MatchResult, Option, Result, Err, Ok, bytes_eq, find, option_map}
+use Rattle.std.proofs.Common.{◌≡◌, ◌∙◌, ◌⊎◌, ℕ, suc, Bool, true, false, cond, List, [], ◌∷◌, refl, sym, ap, subst, arith, inl, inr, Some, None}
+use Rattle.std.specs.Prelude.{Contains, IfErr, IfOk, IfSome, Option, Err, Ok, bytes_eq, option_map}
 use Rattle.cfb.specs.Streams as file
 use Rattle.cfb.specs.Views.{letters_in, mini_of}
-use Rattle.cfb.specs.declared.compound_file.CompoundFile.{CompoundFile}
 use Rattle.cfb_fat.specs.Tables.{HasCauseBelow}
 use Rattle.cfb_medium.specs.Calls.{IsFaultUnless}
-use Rattle.cfb_medium.specs.declared.error.Error.{Error}
 use Rattle.cfb_medium.specs.declared.error.Error.TheVariants.{InvalidData}
 use Rattle.cfb_medium.specs.declared.medium.ReadMedium.{Ghosts}
 use Rattle.cfb_mini.specs.Views.{allocator_of}

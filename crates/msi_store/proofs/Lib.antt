@@ -1,3 +1,4 @@
+pub mod ErrorKinds
 pub mod Faults
 pub mod Found
 pub mod Keys
@@ -5,4 +6,5 @@ pub mod PartsHeld
 pub mod PartsRead
 pub mod Placed
 pub mod Refusals
+pub mod ShownTrees
 pub mod Told

@@ -1,8 +1,7 @@
 -- The parts of a package that were read one after the other, and where their reading is left.
-use Rattle.std.proofs.Common.{◌≡◌, ◌∙◌, ◌⊎◌, ℕ, Bool, true, false, cond, List, map, refl, sym, ap, subst, inl, inr}
-use Rattle.std.specs.Prelude.{Err, MatchResult, Ok, Result, bytes_eq, if◌then◌else◌}
+use Rattle.std.proofs.Common.{◌≡◌, ◌∙◌, ◌⊎◌, ℕ, Bool, true, false, List, refl, sym, ap, subst, inl, inr}
+use Rattle.std.specs.Prelude.{Err, Ok, Result, bytes_eq, if◌then◌else◌}
 use Rattle.std.proofs.lemmas.Slice.Eq.{bytes_eq-Decides}
-use Rattle.cfb_medium.specs.Calls.{IsFaultUnless}
 use Rattle.cfb_medium.specs.declared.error.Error.{Error}
 use Rattle.cfb_medium.specs.declared.error.Error.TheVariants.{InvalidData}
 use Rattle.cfb_tree.specs.Names.{Letters}
@@ -19,6 +18,7 @@ use Rattle.msi_parts.specs.declared.parts.PackageParts.{PackageParts}
 use Rattle.msi_pool.specs.Pool.{Pool}
 use Rattle.msi_pool.specs.PoolReading.{Begun}
 use Rattle.msi_props.specs.Held.{SetState}
+use Rattle.msi_stored.specs.Shown.{FindsPart, IsLostPart}
 
 abbrev kind_known : Result PackageType Error → PackageType → Type 0
 kind_known r kind = r ≡ Ok kind
@@ -43,34 +43,34 @@ kind_has_class clsid kind is = first (bytes_eq clsid (class_of Installer)) refl 
     first true same is = found Installer same is
     first false same is = second (bytes_eq clsid (class_of Patch)) refl is
 
--- a refusal of the definition, or a fault
-abbrev pub Leaves : {A : Type 0} → Result A Error → Error → Type 0
-Leaves d e = IsFaultUnless ⊥ e ⊎ (d ≡ Err e)
+-- a refusal of the definition, or a part is lost
+abbrev pub Leaves : {A : Type 0} → Letters → List ℕ → Result A Error → Error → Type 0
+Leaves letters bytes d e = IsLostPart letters bytes e ⊎ (d ≡ Err e)
 
-module _ (letters : Letters) (tree : Tree) (may : may_use letters ≡ true) where
+module _ (letters : Letters) (bytes : List ℕ) (tree : Tree) (may : may_use letters ≡ true) where
   abbrev pub Read : Result PackageParts Error → Type 0
-  Read r = MatchResult r (AreHeld letters tree) (Leaves (opened letters tree))
+  Read r = FindsPart letters bytes (AreHeld letters tree) (opened letters tree) r
 
-  left : {A : Type 0} (d : Result A Error) (r : Result PackageParts Error) (e : Error) → r ≡ Err e → Leaves d e → (d ≡ Err e → opened letters tree ≡ Err e) → Read r
-  left d r e same why refuses = subst Read (sym same) (elim why [ inl fault ↦ inl fault | inr is ↦ inr (refuses is) ])
+  left : {A : Type 0} (d : Result A Error) (r : Result PackageParts Error) (e : Error) → r ≡ Err e → Leaves letters bytes d e → (d ≡ Err e → opened letters tree ≡ Err e) → Read r
+  left d r e same why refuses = subst Read (sym same) (elim why [ inl lost ↦ inl lost | inr is ↦ inr (refuses is) ])
 
-  pub kind_exit : (r : Result PackageParts Error) (e : Error) → r ≡ Err e → Leaves (kind_of tree.root.clsid) e → Read r
+  pub kind_exit : (r : Result PackageParts Error) (e : Error) → r ≡ Err e → Leaves letters bytes (kind_of tree.root.clsid) e → Read r
   kind_exit r e is why = left (kind_of tree.root.clsid) r e is why (kind_refused letters tree may e)
 
   module _ (kind : PackageType) (is_kind : kind_of tree.root.clsid ≡ Ok kind) where
-    pub summary_exit : (r : Result PackageParts Error) (e : Error) → r ≡ Err e → Leaves (summary_in letters tree) e → Read r
+    pub summary_exit : (r : Result PackageParts Error) (e : Error) → r ≡ Err e → Leaves letters bytes (summary_in letters tree) e → Read r
     summary_exit r e is why = left (summary_in letters tree) r e is why (summary_refused letters tree may kind is_kind e)
 
     module _ (s : SetState) (is_s : IsSummary letters tree s) where
-      pub builder_exit : (r : Result PackageParts Error) (e : Error) → r ≡ Err e → Leaves (builder_in letters tree) e → Read r
+      pub builder_exit : (r : Result PackageParts Error) (e : Error) → r ≡ Err e → Leaves letters bytes (builder_in letters tree) e → Read r
       builder_exit r e is why = left (builder_in letters tree) r e is why (builder_refused letters tree may kind is_kind s.props (summary_is letters tree s is_s) e)
 
       module _ (b : Begun) (is_b : IsBegun letters tree b) where
-        pub pool_exit : (r : Result PackageParts Error) (e : Error) → r ≡ Err e → Leaves (built_in letters tree b) e → Read r
+        pub pool_exit : (r : Result PackageParts Error) (e : Error) → r ≡ Err e → Leaves letters bytes (built_in letters tree b) e → Read r
         pool_exit r e is why = left (built_in letters tree b) r e is why (pool_refused letters tree may kind is_kind s.props (summary_is letters tree s is_s) b (builder_is letters tree b is_b) e)
 
         module _ (p : Pool) (back : Bool) (is_p : IsBuilt letters tree b p back) where
-          pub schema_exit : (r : Result PackageParts Error) (e : Error) → r ≡ Err e → Leaves (schema_in letters tree p) e → Read r
+          pub schema_exit : (r : Result PackageParts Error) (e : Error) → r ≡ Err e → Leaves letters bytes (schema_in letters tree p) e → Read r
           schema_exit r e is why =
               left (schema_in letters tree p) r e is why
               (schema_refused letters tree may kind is_kind s.props (summary_is letters tree s is_s) b (builder_is letters tree b is_b) p (pool_is letters tree b p back is_p) e)

@@ -15,10 +15,9 @@ use Rattle.cfb_medium.specs.declared.error.Error.TheVariants.{Device, Failed, In
 use Rattle.cfb_medium.specs.declared.medium.ReadMedium.{Ghosts}
 use Rattle.cfb_tree.specs.Names.{Letters}
 use Rattle.cfb_tree.specs.Tree.{Tree}
-use Rattle.msi_meaning.specs.Opening.{kind_of, rows_by, summary_read}
+use Rattle.msi_meaning.specs.Opening.{rows_by, summary_read}
 use Rattle.msi_meaning.specs.Package.{data_name, objects, pool_name, stream_at, summary_name, table_stream}
-use Rattle.msi_meaning.specs.declared.kind.PackageType.{PackageType}
-use Rattle.msi_parts.specs.Parts.{Finds, HasSchema, IsBegun, IsBuilt, IsSummary, builder_in, built_in, schema_in, summary_in}
+use Rattle.msi_parts.specs.Parts.{HasSchema, IsBegun, IsBuilt, IsSummary, builder_in, built_in, schema_in, summary_in}
 use Rattle.msi_pool.specs.Pool.{Pool}
 use Rattle.msi_pool.specs.PoolReading.{Begun, begun, pool_of, texts_give_back as pool_texts_give_back}
 use Rattle.msi_props.specs.Held.{SetState}
@@ -30,8 +29,9 @@ use Rattle.msi_tables.specs.Rows.{Row}
 use Rattle.msi_tables.specs.Schema.{columns_columns, columns_name, is_schema, tables_columns, tables_name, validation_columns, validation_name}
 use Rattle.msi_tables.specs.Table.{row_data}
 use Rattle.msi_tables.specs.declared.table.Table.{Table}
+use Rattle.msi_stored.specs.Shown.{FindsPart, IsLostPart}
 use Rattle.msi_store.proofs.Faults.{data_cause, memory_cause}
-use Rattle.msi_store.proofs.Refusals.{IsOfBytes, Refuses, kind_refuses}
+use Rattle.msi_store.proofs.Refusals.{IsOfBytes, Refuses}
 
 -- ---- causes
 
@@ -80,22 +80,22 @@ unfolding chars
 summary_chars = refl
 
 module _ (letters : Letters) (tree : Tree) where
-  pub summary_found : (bytes : List ℕ) (r : Result SetState Error) → stream_at letters (objects tree.content) summary_name ≡ Some bytes
-      → Answers (λ s. s.props) r (summary_read bytes) → IfOk r (λ s. s.whole ≡ texts_give_back bytes) → Finds (IsSummary letters tree) (summary_in letters tree) r
-  summary_found bytes (Ok s) at read whole = record { bytes = bytes; at = at; read = read; whole = whole }
-  summary_found bytes (Err e) at read whole = elim read [
-    | inl memory ↦ inl (subst (IsFaultUnless ⊥) (sym memory) tt)
+  pub summary_found : (whole bytes : List ℕ) (r : Result SetState Error) → stream_at letters (objects tree.content) summary_name ≡ Some bytes
+      → Answers (λ s. s.props) r (summary_read bytes) → IfOk r (λ s. s.whole ≡ texts_give_back bytes) → FindsPart letters whole (IsSummary letters tree) (summary_in letters tree) r
+  summary_found whole bytes (Ok s) at read back = record { bytes = bytes; at = at; read = read; whole = back }
+  summary_found whole bytes (Err e) at read back = elim read [
+    | inl memory ↦ inl (inl (subst (IsFaultUnless ⊥) (sym memory) tt))
     | inr is ↦ inr (ap (λ o. or_refused o NotFound >>= summary_read) at ∙ is)
   ]
 
   pub summary_missing : stream_at letters (objects tree.content) summary_name ≡ None → summary_in letters tree ≡ Err NotFound
   summary_missing at = ap (λ o. or_refused o NotFound >>= summary_read) at
 
-  pub builder_found : (bytes : List ℕ) (r : Result Begun Error) → table_stream letters (objects tree.content) pool_name ≡ Some bytes → ((i : ℕ) → slice_index bytes i < 256)
-      → Answers (λ b. b) r (begun bytes) → Finds (IsBegun letters tree) (builder_in letters tree) r
-  builder_found bytes (Ok b) at small read = record { bytes = bytes; at = at; small = small; begins = read }
-  builder_found bytes (Err e) at small read = elim read [
-    | inl memory ↦ inl (subst (IsFaultUnless ⊥) (sym memory) tt)
+  pub builder_found : (whole bytes : List ℕ) (r : Result Begun Error) → table_stream letters (objects tree.content) pool_name ≡ Some bytes → ((i : ℕ) → slice_index bytes i < 256)
+      → Answers (λ b. b) r (begun bytes) → FindsPart letters whole (IsBegun letters tree) (builder_in letters tree) r
+  builder_found whole bytes (Ok b) at small read = record { bytes = bytes; at = at; small = small; begins = read }
+  builder_found whole bytes (Err e) at small read = elim read [
+    | inl memory ↦ inl (inl (subst (IsFaultUnless ⊥) (sym memory) tt))
     | inr is ↦ inr (ap (λ o. or_refused o NotFound >>= begun) at ∙ is)
   ]
 
@@ -144,11 +144,11 @@ module _ (letters : Letters) (tree : Tree) (pool : Pool) where
             ap (λ m. m >>= after_tables) is_t ∙ ap (λ m. m >>= after_columns t) is_c ∙ ap (λ m. m >>= λ v. unless_not (told t c v) InvalidData) is_v
             ∙ ap (λ b. unless_not b InvalidData) none
 
-        pub schema_found : (r : Result Tables Error)
+        pub schema_found : (whole : List ℕ) (r : Result Tables Error)
             → IfOk r (λ found. (told t c v ≡ true) × AreTold (map (row_data pool) t) (map (row_data pool) c) (map (row_data pool) v) pool.long (headings_in found.items))
             → IfErr r (λ e. (e ≡ Memory) ⊎ ((e ≡ InvalidData) × (told t c v ≡ false)))
-            → Finds (λ ts. HasSchema letters tree pool (headings_in ts.items)) (schema_in letters tree pool) r
-        schema_found (Ok found) ok err = record {
+            → FindsPart letters whole (λ ts. HasSchema letters tree pool (headings_in ts.items)) (schema_in letters tree pool) r
+        schema_found whole (Ok found) ok err = record {
           tables = t;
           columns = c;
           validation = v;
@@ -156,55 +156,55 @@ module _ (letters : Letters) (tree : Tree) (pool : Pool) where
           schema = ok.0;
           described = ok.1;
         }
-        schema_found (Err e) ok err = elim err [
-          | inl memory ↦ inl (subst (IsFaultUnless ⊥) (sym memory) tt)
+        schema_found whole (Err e) ok err = elim err [
+          | inl memory ↦ inl (inl (subst (IsFaultUnless ⊥) (sym memory) tt))
           | inr both ↦ inr (undescribed both.1 ∙ ap (λ x. Err x) (sym both.0))
         ]
 
 -- ---- where the schema is left
 
-abbrev pub Found : Letters → Tree → Pool → Result Tables Error → Type 0
-Found letters tree pool r = Finds (λ ts. HasSchema letters tree pool (headings_in ts.items)) (schema_in letters tree pool) r
+abbrev pub Found : Letters → List ℕ → Tree → Pool → Result Tables Error → Type 0
+Found letters bytes tree pool r = FindsPart letters bytes (λ ts. HasSchema letters tree pool (headings_in ts.items)) (schema_in letters tree pool) r
 
-abbrev pub Refused : Letters → Tree → Pool → List ℕ → List Column → Error → Type 0
-Refused letters tree pool name columns e = IsFaultUnless ⊥ e ⊎ (rows_by letters (objects tree.content) pool name columns ≡ Err e)
+abbrev pub Refused : Letters → List ℕ → Tree → Pool → List ℕ → List Column → Error → Type 0
+Refused letters bytes tree pool name columns e = IsLostPart letters bytes e ⊎ (rows_by letters (objects tree.content) pool name columns ≡ Err e)
 
 abbrev pub Reads : Letters → Tree → Pool → List ℕ → List Column → List Row → Type 0
 Reads letters tree pool name columns rows = rows_by letters (objects tree.content) pool name columns ≡ Ok rows
 
-module _ (letters : Letters) (tree : Tree) (pool : Pool) where
+module _ (letters : Letters) (bytes : List ℕ) (tree : Tree) (pool : Pool) where
   -- columns that are the fixed ones
   fixed : {x : Result (List Row) Error} (name : List ℕ) (columns known : List Column) → columns ≡ known → rows_by letters (objects tree.content) pool name columns ≡ x → rows_by letters (objects tree.content) pool name known ≡ x
   fixed name columns known same is = ap (λ cs. rows_by letters (objects tree.content) pool name cs) (sym same) ∙ is
 
-  left : (r : Result Tables Error) (e : Error) → r ≡ Err e → IsFaultUnless ⊥ e ⊎ (schema_in letters tree pool ≡ Err e) → Found letters tree pool r
-  left r e is why = subst (Found letters tree pool) (sym is) why
+  left : (r : Result Tables Error) (e : Error) → r ≡ Err e → IsLostPart letters bytes e ⊎ (schema_in letters tree pool ≡ Err e) → Found letters bytes tree pool r
+  left r e is why = subst (Found letters bytes tree pool) (sym is) why
 
   module _ (cs : List Column) (same : cs ≡ tables_columns) where
-    pub tables_exit : (r : Result Tables Error) (e : Error) → r ≡ Err e → Refused letters tree pool tables_name cs e → Found letters tree pool r
-    tables_exit r e is why = left r e is (elim why [ inl fault ↦ inl fault | inr refuses ↦ inr (tables_refused letters tree pool e (fixed tables_name cs tables_columns same refuses)) ])
+    pub tables_exit : (r : Result Tables Error) (e : Error) → r ≡ Err e → Refused letters bytes tree pool tables_name cs e → Found letters bytes tree pool r
+    tables_exit r e is why = left r e is (elim why [ inl lost ↦ inl lost | inr refuses ↦ inr (tables_refused letters tree pool e (fixed tables_name cs tables_columns same refuses)) ])
 
     module _ (t : List Row) (is_t : Reads letters tree pool tables_name cs t) (ds : List Column) (same_columns : ds ≡ columns_columns) where
-      pub columns_exit : (r : Result Tables Error) (e : Error) → r ≡ Err e → Refused letters tree pool columns_name ds e → Found letters tree pool r
+      pub columns_exit : (r : Result Tables Error) (e : Error) → r ≡ Err e → Refused letters bytes tree pool columns_name ds e → Found letters bytes tree pool r
       columns_exit r e is why = left r e is (elim why [
-        | inl fault ↦ inl fault
+        | inl lost ↦ inl lost
         | inr refuses ↦ inr (columns_refused letters tree pool t (fixed tables_name cs tables_columns same is_t) e (fixed columns_name ds columns_columns same_columns refuses))
       ])
 
       module _ (c : List Row) (is_c : Reads letters tree pool columns_name ds c) (vs : List Column) (same_validation : vs ≡ validation_columns) where
-        pub validation_exit : (r : Result Tables Error) (e : Error) → r ≡ Err e → Refused letters tree pool validation_name vs e → Found letters tree pool r
+        pub validation_exit : (r : Result Tables Error) (e : Error) → r ≡ Err e → Refused letters bytes tree pool validation_name vs e → Found letters bytes tree pool r
         validation_exit r e is why = left r e is (elim why [
-          | inl fault ↦ inl fault
+          | inl lost ↦ inl lost
           | inr refuses ↦ inr (validation_refused letters tree pool t (fixed tables_name cs tables_columns same is_t) c (fixed columns_name ds columns_columns same_columns is_c) e
               (fixed validation_name vs validation_columns same_validation refuses))
         ])
 
         pub schema_end : (v : List Row) → Reads letters tree pool validation_name vs v → (r : Result Tables Error)
             → IfOk r (λ found. (told letters tree pool t c v ≡ true) × AreTold (map (row_data pool) t) (map (row_data pool) c) (map (row_data pool) v) pool.long (headings_in found.items))
-            → IfErr r (λ e. (e ≡ Memory) ⊎ ((e ≡ InvalidData) × (told letters tree pool t c v ≡ false))) → Found letters tree pool r
+            → IfErr r (λ e. (e ≡ Memory) ⊎ ((e ≡ InvalidData) × (told letters tree pool t c v ≡ false))) → Found letters bytes tree pool r
         schema_end v is_v r ok err =
             schema_found letters tree pool t (fixed tables_name cs tables_columns same is_t) c (fixed columns_name ds columns_columns same_columns is_c)
-            v (fixed validation_name vs validation_columns same_validation is_v) r ok err
+            v (fixed validation_name vs validation_columns same_validation is_v) bytes r ok err
 
 -- rows that describe nothing have no cause in the medium
 pub schema_cause : {F : Type 0} {g : Ghosts F} (a b : Allocator F g) {X : Type 0} (P : Type 0) (r : Result X Error) → IfErr r (λ e. (e ≡ Memory) ⊎ ((e ≡ InvalidData) × P)) → IfErr r (HasCauseBelow a b)

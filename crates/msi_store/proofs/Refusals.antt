@@ -7,7 +7,7 @@ use Rattle.msi_meaning.specs.Opening.{kind_of, summary_read}
 use Rattle.msi_meaning.specs.Package.{class_of}
 use Rattle.msi_meaning.specs.declared.kind.PackageType.TheVariants.{Installer, Patch, Transform}
 use Rattle.msi_pool.specs.PoolReading.{Begun, Heads, begun, head_at, heads_at, length_at, page_number, places_at, pool_of, texts_at}
-use Rattle.msi_props.specs.Props.{head_at as set_head_at, page_at, page_in, page_stored, page_told, pairs_at, properties_at, property_at, property_of, props_read, section_at, stored_props, system_of, text_at}
+use Rattle.msi_props.specs.Props.{head_at as set_head_at, page_at, page_in, page_told, pairs_at, properties_at, property_at, property_of, props_read, section_at, stored_props, system_of, text_at}
 use Rattle.msi_summary.specs.Summary.{summary_format}
 use Rattle.msi_texts.specs.Page.{page_id}
 use Rattle.msi_texts.specs.Reading.{bytes_at, number_at}

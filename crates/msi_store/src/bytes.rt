@@ -8,8 +8,9 @@ ghost use Rattle.cfb_medium.specs.Calls.{IsFaultUnless};
 ghost use Rattle.cfb_medium.specs.declared.error.Error.TheVariants.{InvalidData};
 ghost use Rattle.cfb_mini.specs.Views.{allocator_of};
 ghost use Rattle.cfb_tree.specs.Tree.{Tree};
-ghost use Rattle.msi_meaning.specs.Package.{has_slash, objects, stream_at, table_stream};
+ghost use Rattle.msi_meaning.specs.Package.{has_slash, objects, stream_at, stream_name, table_stream};
 ghost use Rattle.msi_store.specs.Broken.{IsAsBroken};
+ghost use Rattle.msi_stored.specs.Shown.{bytes_in, HoldsShown, IsLostAt};
 
 use cfb::CompoundFile;
 use cfb_medium::{Error, ReadMedium};
@@ -26,6 +27,10 @@ pub fn stream_bytes<F: ReadMedium>(
     ensures told { (tree : Tree) → Holds file.old tree → MatchResult result (λ found.
         stream_at (letters_in file.old) (objects tree.content) (chars name.now)
         ≡ option_map (λ bytes. bytes.items) found) (IsFaultUnless ⊥) }
+    ensures shown { (tree : Tree) → HoldsShown file.old tree → MatchResult result (λ found.
+        stream_at (letters_in file.old) (objects tree.content) (chars name.now)
+        ≡ option_map (λ bytes. bytes.items) found)
+        (IsLostAt (letters_in file.old) (bytes_in file.old) (chars name.now)) }
     ensures rests { Rests file.old file.new }
     ensures cause { IfErr result (HasCauseBelow (allocator_of (mini_of file.old))
         (allocator_of (mini_of file.new))) }
@@ -65,6 +70,10 @@ pub fn table_bytes<F: ReadMedium>(
     ensures told { (tree : Tree) → Holds file.old tree → MatchResult result (λ found.
         table_stream (letters_in file.old) (objects tree.content) name.now
         ≡ option_map (λ bytes. bytes.items) found) (IsFaultUnless ⊥) }
+    ensures shown { (tree : Tree) → HoldsShown file.old tree → MatchResult result (λ found.
+        table_stream (letters_in file.old) (objects tree.content) name.now
+        ≡ option_map (λ bytes. bytes.items) found)
+        (IsLostAt (letters_in file.old) (bytes_in file.old) (stream_name name.now)) }
     ensures rests { Rests file.old file.new }
     ensures cause { IfErr result (HasCauseBelow (allocator_of (mini_of file.old))
         (allocator_of (mini_of file.new))) }

@@ -1,17 +1,17 @@
 //! The parts of a package, read from its file.
-ghost use Rattle.std.specs.Prelude.{◌≡◌, ◌⊎◌, ◌<◌, ℕ, false, true, slice_index, Err, IfErr, IfOk, MatchResult, Ok};
-ghost use Rattle.cfb.specs.Streams.{Holds};
+ghost use Rattle.std.specs.Prelude.{◌≡◌, ◌⊎◌, ◌<◌, ℕ, false, true, slice_index, Err, IfErr, IfOk, Ok};
 ghost use Rattle.cfb.specs.Views.{letters_in, mini_of, Rests};
 ghost use Rattle.cfb_fat.specs.Tables.{HasCauseBelow};
-ghost use Rattle.cfb_medium.specs.Calls.{IsFaultUnless};
 ghost use Rattle.cfb_medium.specs.declared.error.Error.TheVariants.{Memory};
 ghost use Rattle.cfb_mini.specs.Views.{allocator_of};
 ghost use Rattle.cfb_tree.specs.Tree.{Tree};
 ghost use Rattle.msi_meaning.specs.Opening.{kind_of as kind_named, may_use, opened};
 ghost use Rattle.msi_parts.specs.Held.{AreHeld};
-ghost use Rattle.msi_parts.specs.Parts.{builder_in, built_in, schema_in, summary_in, Finds, HasSchema, IsBegun, IsBuilt, IsSummary};
+ghost use Rattle.msi_parts.specs.Parts.{builder_in, built_in, schema_in, summary_in, HasSchema, IsBegun, IsBuilt, IsSummary};
 ghost use Rattle.msi_pool.specs.PoolReading.{begun, pool_of, texts_give_back};
 ghost use Rattle.msi_schema.specs.Headings.{headings_in};
+ghost use Rattle.msi_stored.specs.Reading.{IsOpeningError};
+ghost use Rattle.msi_stored.specs.Shown.{bytes_in, FindsPart, HoldsShown};
 ghost use Rattle.msi_texts.specs.Results.{Answers};
 
 use crate::bytes::{stream_bytes, table_bytes};
@@ -31,17 +31,19 @@ use std::rc::Rc;
 /// Reads what opening finds in a package's file, one part after the other: its kind, by the root's identifier (`InvalidData` for an
 /// unknown one); the summary and the pool (`NotFound` where a stream of theirs is missing, `InvalidData` or `UnexpectedEof` where it
 /// can't be read); and the tables that the system tables describe (`InvalidData` where they describe none, or have too many rows).
-/// Other errors are faults. The file is only read, and whether its letter table may be used is not asked.
+/// `InvalidData` too where the chain of a stream breaks that lies on the way; those of other streams may break. Other errors are
+/// faults. The file is only read, and whether its letter table may be used is not asked.
 pub fn read_parts<F: ReadMedium>(
     alloc: Global,
     file: &mut CompoundFile<F>,
 ) -> Result<PackageParts, Error>
-    ensures told { (tree : Tree) → Holds file.old tree → may_use (letters_in file.old) ≡ true
-        → MatchResult result (AreHeld (letters_in file.old) tree) (λ e. IsFaultUnless ⊥ e
-        ⊎ (opened (letters_in file.old) tree ≡ Err e)) }
+    ensures shown { (tree : Tree) → HoldsShown file.old tree → may_use (letters_in file.old) ≡ true
+        → FindsPart (letters_in file.old) (bytes_in file.old) (AreHeld (letters_in file.old) tree)
+        (opened (letters_in file.old) tree) result }
     ensures rests { Rests file.old file.new }
     ensures cause { IfErr result (HasCauseBelow (allocator_of (mini_of file.old))
         (allocator_of (mini_of file.new))) }
+    ensures kinds { IfErr result IsOpeningError }
 {
     let kind = kind_in(file)?;
     let summary = summary_of(alloc, file)?;
@@ -59,10 +61,12 @@ pub fn read_parts<F: ReadMedium>(
 
 // What the package is for.
 fn kind_in<F: ReadMedium>(file: &CompoundFile<F>) -> Result<PackageType, Error>
-    ensures told { (tree : Tree) → Holds file.now tree → Finds
-        (λ kind. kind_named tree.root.clsid ≡ Ok kind) (kind_named tree.root.clsid) result }
+    ensures shown { (tree : Tree) → HoldsShown file.now tree → FindsPart (letters_in file.now)
+        (bytes_in file.now) (λ kind. kind_named tree.root.clsid ≡ Ok kind)
+        (kind_named tree.root.clsid) result }
     ensures cause { IfErr result (HasCauseBelow (allocator_of (mini_of file.now))
         (allocator_of (mini_of file.now))) }
+    ensures kinds { IfErr result IsOpeningError }
 {
     match file.root_entry() {
         Ok(root) => kind_of(root.clsid()),
@@ -75,11 +79,13 @@ fn summary_of<F: ReadMedium>(
     alloc: Global,
     file: &mut CompoundFile<F>,
 ) -> Result<SummaryInfo, Error>
-    ensures told { (tree : Tree) → Holds file.old tree → Finds
-        (IsSummary (letters_in file.old) tree) (summary_in (letters_in file.old) tree) result }
+    ensures shown { (tree : Tree) → HoldsShown file.old tree → FindsPart (letters_in file.old)
+        (bytes_in file.old) (IsSummary (letters_in file.old) tree)
+        (summary_in (letters_in file.old) tree) result }
     ensures rests { Rests file.old file.new }
     ensures cause { IfErr result (HasCauseBelow (allocator_of (mini_of file.old))
         (allocator_of (mini_of file.new))) }
+    ensures kinds { IfErr result IsOpeningError }
 {
     match stream_bytes(file, SUMMARY_INFO_STREAM_NAME) {
         Ok(Some(bytes)) => SummaryInfo::read(alloc, &bytes),
@@ -93,11 +99,13 @@ fn builder_of<F: ReadMedium>(
     alloc: Global,
     file: &mut CompoundFile<F>,
 ) -> Result<StringPoolBuilder, Error>
-    ensures told { (tree : Tree) → Holds file.old tree → Finds
-        (IsBegun (letters_in file.old) tree) (builder_in (letters_in file.old) tree) result }
+    ensures shown { (tree : Tree) → HoldsShown file.old tree → FindsPart (letters_in file.old)
+        (bytes_in file.old) (IsBegun (letters_in file.old) tree)
+        (builder_in (letters_in file.old) tree) result }
     ensures rests { Rests file.old file.new }
     ensures cause { IfErr result (HasCauseBelow (allocator_of (mini_of file.old))
         (allocator_of (mini_of file.new))) }
+    ensures kinds { IfErr result IsOpeningError }
 {
     match table_bytes(alloc, file, "_StringPool") {
         Ok(Some(bytes)) => builder_from(alloc, &bytes),
@@ -121,12 +129,13 @@ fn built_of<F: ReadMedium>(
     file: &mut CompoundFile<F>,
     builder: StringPoolBuilder,
 ) -> Result<(StringPool, bool), Error>
-    ensures told { (tree : Tree) → Holds file.old tree → Finds
-        (λ found. IsBuilt (letters_in file.old) tree builder found.0.pool found.1
+    ensures shown { (tree : Tree) → HoldsShown file.old tree → FindsPart (letters_in file.old)
+        (bytes_in file.old) (λ found. IsBuilt (letters_in file.old) tree builder found.0.pool found.1
         × (found.0.modified ≡ false)) (built_in (letters_in file.old) tree builder) result }
     ensures rests { Rests file.old file.new }
     ensures cause { IfErr result (HasCauseBelow (allocator_of (mini_of file.old))
         (allocator_of (mini_of file.new))) }
+    ensures kinds { IfErr result IsOpeningError }
 {
     match table_bytes(alloc, file, "_StringData") {
         Ok(Some(bytes)) => built_from(alloc, builder, &bytes),
@@ -157,12 +166,13 @@ fn schema_of<F: ReadMedium>(
     file: &mut CompoundFile<F>,
     pool: &StringPool,
 ) -> Result<Vec<Rc<Table>>, Error>
-    ensures told { (tree : Tree) → Holds file.old tree → Finds (λ tables. HasSchema
-        (letters_in file.old) tree pool.now.pool (headings_in tables.items))
-        (schema_in (letters_in file.old) tree pool.now.pool) result }
+    ensures shown { (tree : Tree) → HoldsShown file.old tree → FindsPart (letters_in file.old)
+        (bytes_in file.old) (λ tables. HasSchema (letters_in file.old) tree pool.now.pool
+        (headings_in tables.items)) (schema_in (letters_in file.old) tree pool.now.pool) result }
     ensures rests { Rests file.old file.new }
     ensures cause { IfErr result (HasCauseBelow (allocator_of (mini_of file.old))
         (allocator_of (mini_of file.new))) }
+    ensures kinds { IfErr result IsOpeningError }
 {
     let long = pool.long_string_refs();
     let tables = rows_by_columns(alloc, file, "_Tables", tables_columns(alloc)?, long)?;

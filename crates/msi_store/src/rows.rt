@@ -7,8 +7,11 @@ ghost use Rattle.cfb_medium.specs.Calls.{IsFaultUnless};
 ghost use Rattle.cfb_medium.specs.declared.error.Error.TheVariants.{InvalidData};
 ghost use Rattle.cfb_mini.specs.Views.{allocator_of};
 ghost use Rattle.cfb_tree.specs.Tree.{Tree};
+ghost use Rattle.msi_meaning.specs.Package.{stream_name};
+ghost use Rattle.msi_stored.specs.Shown.{bytes_in, HoldsShown, IsLostAt};
 ghost use Rattle.msi_stored.specs.Stored.{rows_in};
 ghost use Rattle.msi_tables.specs.Held.{heading_of, rows_held};
+ghost use Rattle.msi_tables.specs.Rows.{AreWritable};
 
 use crate::bytes::table_bytes;
 use cfb::CompoundFile;
@@ -28,7 +31,14 @@ pub fn rows_of_table<F: ReadMedium>(
         rows_in (letters_in file.old) tree (heading_of table.now) ≡ Some (rows_held rows.items))
         (λ e. IsFaultUnless ⊥ e ⊎ ((e ≡ InvalidData)
         × (rows_in (letters_in file.old) tree (heading_of table.now) ≡ None))) }
+    ensures shown { (tree : Tree) → HoldsShown file.old tree → MatchResult result (λ rows.
+        rows_in (letters_in file.old) tree (heading_of table.now) ≡ Some (rows_held rows.items))
+        (λ e. IsLostAt (letters_in file.old) (bytes_in file.old)
+        (stream_name (heading_of table.now).name) e ⊎ ((e ≡ InvalidData)
+        × (rows_in (letters_in file.old) tree (heading_of table.now) ≡ None))) }
     ensures few { IfOk result (λ rows. length rows.items ≤ 65536) }
+    ensures shape { IfOk result (λ rows. AreWritable (heading_of table.now).long
+        (heading_of table.now).columns (rows_held rows.items)) }
     ensures rests { Rests file.old file.new }
     ensures cause { IfErr result (HasCauseBelow (allocator_of (mini_of file.old))
         (allocator_of (mini_of file.new))) }

@@ -1,2 +1,4 @@
+pub mod Changing
 pub mod Reading
+pub mod Shown
 pub mod Stored

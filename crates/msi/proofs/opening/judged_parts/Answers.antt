@@ -1,21 +1,29 @@
 use Rattle.std.proofs.Common.{◌∙◌, ap, subst, sym}
 use Rattle.cfb.proofs.Holding.{holds_yet}
-use Rattle.cfb.specs.Views.{mini_of}
+use Rattle.cfb.specs.Views.{letters_in, mini_of}
 use Rattle.cfb_fat.specs.Tables.{HasCauseBelow}
 use Rattle.cfb_mini.specs.Views.{allocator_of}
 use Rattle.msi_meaning.specs.Opening.{may_use}
 use Rattle.msi_parts.specs.Held.{AreHeld}
 use Rattle.msi_stored.proofs.StoredLaws.{file_cause, file_then}
-use Rattle.msi.proofs.OpenedPackages.{if_err_then, judged_before}
+use Rattle.msi_store.proofs.ShownTrees.{shown_of_held}
+use Rattle.msi_stored.specs.Shown.{bytes_in}
+use Rattle.msi.proofs.OpenedPackages.{if_err_then, judged_before, parts_shown}
 use Rattle.msi.proofs.opening.judged_parts.Goals as goal
 
-pub returns-in-Ok-clause-told : goal.returns-in-Ok-clause-told
-returns-in-Ok-clause-told g c tree held may =
+pub returns-in-Ok-clause-shown : goal.returns-in-Ok-clause-shown
+returns-in-Ok-clause-shown g c tree shown may =
+    let letters = letters_in c.args.file.now in
+    parts_shown letters (bytes_in c.args.file.now) tree c.in-Ok.parts c.judged.result (c.in-Ok.ensures.shown tree shown may) c.judged.ensures.parts c.judged.ensures.fault
+
+pub returns-in-Ok-clause-judged : goal.returns-in-Ok-clause-judged
+returns-in-Ok-clause-judged g c tree held may =
     let a = c.args.file.now in
     let b = c.read_parts.new.file in
     let rests = c.read_parts.ensures.rests in
     judged_before a b rests tree c.judged.result
-    (c.judged.ensures.told tree (holds_yet a b tree rests held) (ap may_use rests.letters ∙ may) (subst (λ l. AreHeld l tree c.in-Ok.parts) (sym rests.letters) (c.in-Ok.ensures.told tree held may)))
+    (c.judged.ensures.judged tree (holds_yet a b tree rests held) (ap may_use rests.letters ∙ may)
+    (subst (λ l. AreHeld l tree c.in-Ok.parts) (sym rests.letters) (c.in-Ok.ensures.shown tree (shown_of_held a tree held) may)))
 
 pub returns-in-Ok-clause-rests : goal.returns-in-Ok-clause-rests
 returns-in-Ok-clause-rests g c = file_then c.args.file.now c.read_parts.new.file c.judged.new.file c.read_parts.ensures.rests c.judged.ensures.rests

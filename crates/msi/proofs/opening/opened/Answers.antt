@@ -10,7 +10,7 @@ returns-in-Ok-clause-ok g c =
     let is = c.from_parts.ensures in
     record {
       rests = subst (λ it. Rests a it) (sym is.file) c.judged_parts.ensures.rests;
-      parts = λ tree held may. (c.in-Ok.parts.gives_back, rw (is.parts.0, is.parts.1, is.parts.2, is.parts.3) (c.in-Ok.ensures.told tree held may).held.parts);
-      judged = λ tree held may. subst (λ (b : Bool). IsTrue b ↔ IsSoundIn (letters_in a) tree (sound_of a)) (sym is.sound) (c.in-Ok.ensures.told tree held may).judged;
+      parts = λ tree shown may. (c.in-Ok.parts.gives_back, rw (is.parts.0, is.parts.1, is.parts.2, is.parts.3) (c.in-Ok.ensures.shown tree shown may).parts);
+      judged = λ tree held may. subst (λ (b : Bool). IsTrue b ↔ IsSoundIn (letters_in a) tree (sound_of a)) (sym is.sound) (c.in-Ok.ensures.judged tree held may);
       unsound = λ e. is.sound ∙ c.in-Ok.ensures.unsound e;
     }

@@ -8,25 +8,25 @@ use Rattle.cfb_tree.specs.Objects.{is_same_name}
 use Rattle.msi_meaning.specs.Package.{summary_name}
 use Rattle.msi_meaning.specs.Streams.{signature_name}
 use Rattle.msi.proofs.Found.{signature_path}
-use Rattle.msi.proofs.Naming.{signature_chars, summary_chars}
+use Rattle.msi_streams.proofs.Naming.{signature_chars, summary_chars}
 use Rattle.msi.proofs.Owned.{none_found, signature_free, signature_own, stream_found}
 use Rattle.msi.proofs.Taken.{said_is}
 use Rattle.msi.proofs.reading.has_digital_signature.Goals as goal
 
 pub returns-then-is_same_name : goal.returns-then-is_same_name
-returns-then-is_same_name g c tree held P packs may =
+returns-then-is_same_name g c tree held P stores may =
     let letters = letters_in c.args.file.now in
     let same : is_same_name letters summary_name signature_name ≡ true =
     ap (λ l. is_same_name l summary_name signature_name) (sym c.letters.ensures)
     ∙ ap₂ (is_same_name (letters_of c.letters.result.now)) (sym summary_chars) (sym signature_chars) ∙ sym c.is_same_name.ensures ∙ c.if-is_same_name.true in
-    ap is_some (sym (none_found letters may P tree signature_name packs (signature_own letters may P same)))
+    ap is_some (sym (none_found letters may P tree signature_name stores (signature_own letters may P same)))
 
 pub returns : goal.returns
-returns g c tree held P packs may =
+returns g c tree held P stores may =
     let letters = letters_in c.args.file.now in
     let shows = holds_shown c.args.file.now tree held in
     let other : is_same_name letters summary_name signature_name ≡ false =
     ap (λ l. is_same_name l summary_name signature_name) (sym c.letters.ensures)
     ∙ ap₂ (is_same_name (letters_of c.letters.result.now)) (sym summary_chars) (sym signature_chars) ∙ sym c.is_same_name.ensures ∙ c.if-is_same_name.false in
     said_is letters tree signature_name c.is_stream.result (c.is_stream.ensures tree shows ∙ ap (said_at letters tree is_stream) signature_path)
-    ∙ ap is_some (sym (stream_found letters may P signature_name (signature_free letters may P other) tree packs shows.ordered.0))
+    ∙ ap is_some (sym (stream_found letters may P signature_name (signature_free letters may P other) tree stores shows.ordered.0))

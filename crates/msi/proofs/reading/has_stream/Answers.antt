@@ -7,11 +7,12 @@ use Rattle.cfb_meaning.specs.TreeRules.{is_stream}
 use Rattle.msi_meaning.specs.Package.{stream_at}
 use Rattle.msi_meaning.specs.Streams.{may_name, plain_stream_name}
 use Rattle.msi.proofs.Found.{found_taken}
-use Rattle.msi.proofs.Taken.{said_is, taken_path, there_taken}
+use Rattle.msi.proofs.Taken.{said_is, there_taken}
+use Rattle.msi_streams.proofs.Taken.{taken_path}
 use Rattle.msi.proofs.reading.has_stream.Goals as goal
 
 pub returns-in-Ok : goal.returns-in-Ok
-returns-in-Ok g c tree held P packs may =
+returns-in-Ok g c tree held P stores may =
     let letters = letters_in c.args.file.now in
     let name = c.args.name.now in
     let plain = plain_stream_name name in
@@ -19,5 +20,5 @@ returns-in-Ok g c tree held P packs may =
     let taken : may_name letters name ≡ Ok tt = ap (λ l. may_name l name) (sym c.letters.ensures) ∙ c.in-Ok.ensures.told.0 in
     let path : names_in c.as_str.result.now ≡ Some (plain ∷ []) = ap names_in (c.as_str.ensures ∙ c.in-Ok.ensures.told.1) ∙ taken_path letters name taken c.utf8.name in
     said_is letters tree plain c.is_stream.result (c.is_stream.ensures tree shows ∙ ap (said_at letters tree is_stream) path)
-    ∙ ap is_some (sym (found_taken letters may tree P packs shows.ordered.0 name taken))
+    ∙ ap is_some (sym (found_taken letters may tree P stores shows.ordered.0 name taken))
     ∙ sym (there_taken letters P name (stream_at letters P.streams plain) taken refl)

@@ -10,8 +10,9 @@ use Rattle.msi_meaning.specs.Package.{objects, stream_at}
 use Rattle.msi_meaning.specs.Streams.{may_name, plain_stream_name}
 use Rattle.msi_texts.specs.Results.{or_refused}
 use Rattle.msi.proofs.Found.{found_taken}
-use Rattle.msi.proofs.Naming.{plain_chars}
-use Rattle.msi.proofs.Taken.{read_taken, taken_path}
+use Rattle.msi_streams.proofs.Naming.{plain_chars}
+use Rattle.msi.proofs.Taken.{read_taken}
+use Rattle.msi_streams.proofs.Taken.{taken_path}
 use Rattle.msi.proofs.reading.read_stream.Goals as goal
 
 pub stream_bytes-requires : goal.stream_bytes-requires
@@ -22,7 +23,7 @@ stream_bytes-requires g c =
     ∙ ap (λ n. Some (n ∷ [])) (sym (ap chars text ∙ plain_chars name c.utf8.name))
 
 pub returns-in-Ok-Some-clause-told : goal.returns-in-Ok-Some-clause-told
-returns-in-Ok-Some-clause-told g c tree held P packs may =
+returns-in-Ok-Some-clause-told g c tree held P stores may =
     let letters = letters_in c.args.file.now in
     let name = c.args.name.now in
     let plain : chars c.as_str.result.now ≡ plain_stream_name name = ap chars (c.as_str.ensures ∙ c.in-Ok.ensures.told.1) ∙ plain_chars name c.utf8.name in
@@ -30,11 +31,11 @@ returns-in-Ok-Some-clause-told g c tree held P packs may =
     let there : stream_at letters (objects tree.content) (plain_stream_name name) ≡ Some c.in-Ok-Some.bytes.items =
     ap (stream_at letters (objects tree.content)) (sym plain) ∙ c.in-Ok-Some.ensures.told tree held ∙ ap (option_map (λ bytes. bytes.items)) c.in-Ok-Some.field-0-is in
     read_taken letters P name taken
-    ∙ ap (λ o. or_refused o NotFound) (found_taken letters may tree P packs (holds_shown c.args.file.now tree held).ordered.0 name taken ∙ there)
+    ∙ ap (λ o. or_refused o NotFound) (found_taken letters may tree P stores (holds_shown c.args.file.now tree held).ordered.0 name taken ∙ there)
     ∙ ap (λ it. Ok it.bytes) (sym c.new.ensures)
 
 pub returns-in-Ok-None-clause-told : goal.returns-in-Ok-None-clause-told
-returns-in-Ok-None-clause-told g c tree held P packs may =
+returns-in-Ok-None-clause-told g c tree held P stores may =
     let letters = letters_in c.args.file.now in
     let name = c.args.name.now in
     let plain : chars c.as_str.result.now ≡ plain_stream_name name = ap chars (c.as_str.ensures ∙ c.in-Ok.ensures.told.1) ∙ plain_chars name c.utf8.name in
@@ -42,7 +43,7 @@ returns-in-Ok-None-clause-told g c tree held P packs may =
     let there : stream_at letters (objects tree.content) (plain_stream_name name) ≡ None =
     ap (stream_at letters (objects tree.content)) (sym plain) ∙ c.in-Ok-None.ensures.told tree held ∙ ap (option_map (λ bytes. bytes.items)) c.in-Ok-None.field-0-is in
     inr (read_taken letters P name taken
-    ∙ ap (λ o. or_refused o NotFound) (found_taken letters may tree P packs (holds_shown c.args.file.now tree held).ordered.0 name taken ∙ there))
+    ∙ ap (λ o. or_refused o NotFound) (found_taken letters may tree P stores (holds_shown c.args.file.now tree held).ordered.0 name taken ∙ there))
 
 pub returns-in-Err-stream_bytes-clause-told : goal.returns-in-Err-stream_bytes-clause-told
-returns-in-Err-stream_bytes-clause-told g c tree held P packs may = inl (c.in-Err-stream_bytes.ensures.told tree held)
+returns-in-Err-stream_bytes-clause-told g c tree held P stores may = inl (c.in-Err-stream_bytes.ensures.told tree held)

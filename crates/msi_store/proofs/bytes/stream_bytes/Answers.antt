@@ -4,6 +4,7 @@ use Rattle.cfb.proofs.Holding.{holds_shown}
 use Rattle.cfb.specs.Views.{letters_in, mini_of}
 use Rattle.cfb_mini.specs.Views.{allocator_of}
 use Rattle.msi_stored.proofs.Children.{none_of, refused_of, some_of}
+use Rattle.msi_store.proofs.ShownTrees.{breaks_at, bytes_shown, shown_sizes}
 use Rattle.msi_store.proofs.Faults.{cause_as, fault_as, kind_as}
 use Rattle.msi_store.proofs.bytes.stream_bytes.Goals as goal
 
@@ -29,3 +30,33 @@ returns-in-Err-clause-cause g c =
 
 pub returns-in-Err-clause-error : goal.returns-in-Err-clause-error
 returns-in-Err-clause-error g c = kind_as c.in-Err.error c.as_broken.result c.as_broken.ensures
+
+pub returns-then-not-is_stream-clause-shown : goal.returns-then-not-is_stream-clause-shown
+returns-then-not-is_stream-clause-shown g c tree shown =
+    none_of (letters_in c.args.file.now) tree c.args.name.now (chars c.args.name.now) c.requires c.is_stream.result c.if-not-is_stream.true
+    (c.is_stream.ensures tree (shown_sizes c.args.file.now tree shown))
+
+pub returns-in-Ok-clause-shown : goal.returns-in-Ok-clause-shown
+returns-in-Ok-clause-shown g c tree shown =
+    let it = c.args.file.now in
+    bytes_shown it c.read_stream.new.self tree shown c.args.name.now (chars c.args.name.now) c.requires c.in-Ok.bytes.items c.in-Ok.ensures.rests
+    (c.in-Ok.ensures.told tree (shown_sizes it tree shown)).0.0 (c.in-Ok.ensures.found (shown.honest, shown.memory))
+
+pub returns-in-Err-clause-shown : goal.returns-in-Err-clause-shown
+returns-in-Err-clause-shown g c tree shown =
+    let it = c.args.file.now in
+    let name = chars c.args.name.now in
+    let sizes = shown_sizes it tree shown in
+    elim (c.in-Err.ensures.told tree sizes).1 [
+      | inl fault ↦ inl (fault_as c.in-Err.error c.as_broken.result c.as_broken.ensures fault)
+      | inr other ↦ elim other [
+        | inl answer ↦ absurd (refused_of (letters_in it) tree c.args.name.now name c.requires c.is_stream.result c.in-Err.error c.if-not-is_stream.false (c.is_stream.ensures tree sizes) answer)
+        | inr unread ↦ elim unread [
+          | inl broken ↦ elim (kind_as c.in-Err.error c.as_broken.result c.as_broken.ensures) [
+            | inl fault ↦ inl fault
+            | inr is ↦ inr (is, breaks_at it c.read_stream.new.self tree shown c.args.name.now name c.requires broken.1)
+          ]
+          | inr place ↦ absurd (place.1 (shown.honest, shown.memory))
+        ]
+      ]
+    ]

@@ -8,6 +8,7 @@ use Rattle.msi_meaning.specs.Package.{has_slash, objects, stream_at, stream_name
 use Rattle.msi_texts.specs.StreamName.{spelled_name}
 use Rattle.msi_texts.proofs.SpelledNames.{scalars-spelled_name}
 use Rattle.msi_stored.proofs.Children.{table_path}
+use Rattle.msi_stored.specs.Shown.{IsLostAt, bytes_in}
 use Rattle.msi_store.proofs.bytes.table_bytes.Goals as goal
 
 pub stream_bytes-requires : goal.stream_bytes-requires
@@ -27,3 +28,15 @@ returns-clause-told g c tree held =
     ap (stream_at letters (objects tree.content)) same
     ∙ ap (λ b. if b then None else stream_at letters (objects tree.content) (stream_name name)) (sym (sym c.has_slash.ensures ∙ c.if-has_slash.false)) in
     subst (λ (o : Option (List ℕ)). MatchResult c.stream_bytes.result (λ found. o ≡ option_map (λ bytes. bytes.items) found) (IsFaultUnless ⊥)) whole (c.stream_bytes.ensures.told tree held)
+
+pub returns-clause-shown : goal.returns-clause-shown
+returns-clause-shown g c tree shown =
+    let letters = letters_in c.args.file.now in
+    let name = c.args.name.now in
+    let text = c.deref.ensures ∙ c.in_ok-path.ensures.text in
+    let same : chars c.deref.result.now ≡ stream_name name = ap chars text ∙ chars-encodes (spelled_name true (chars name)) (scalars-spelled_name true (chars name) (scalars-chars name c.utf8.name)) in
+    let whole : stream_at letters (objects tree.content) (stream_name name) ≡ (if has_slash name then None else stream_at letters (objects tree.content) (stream_name name)) =
+    ap (λ b. if b then None else stream_at letters (objects tree.content) (stream_name name)) (sym (sym c.has_slash.ensures ∙ c.if-has_slash.false)) in
+    subst (λ (o : Option (List ℕ)). MatchResult c.stream_bytes.result (λ found. o ≡ option_map (λ bytes. bytes.items) found) (IsLostAt letters (bytes_in c.args.file.now) (stream_name name))) whole
+    (subst (λ (n : List ℕ). MatchResult c.stream_bytes.result (λ found. stream_at letters (objects tree.content) n ≡ option_map (λ bytes. bytes.items) found) (IsLostAt letters (bytes_in c.args.file.now) n)) same
+    (c.stream_bytes.ensures.shown tree shown))

@@ -1,20 +1,30 @@
 use Rattle.std.proofs.Common.{◌∙◌, ap, sym, subst, inl, inr}
-use Rattle.cfb.proofs.Holding.{holds_shown}
+use Rattle.cfb.specs.Views.{letters_in}
 use Rattle.cfb_entries.specs.Listed.{listed_in}
 use Rattle.cfb_medium.specs.Calls.{IsFaultUnless}
 use Rattle.msi_meaning.specs.Opening.{kind_of}
+use Rattle.msi_store.proofs.ShownTrees.{shown_sizes}
+use Rattle.msi_stored.specs.Shown.{bytes_in}
 use Rattle.msi_store.proofs.Faults.{finds_of}
 use Rattle.msi_store.proofs.PartsRead.{root_class}
+use Rattle.msi_store.proofs.ErrorKinds.{root_kind, same_kind}
+use Rattle.msi_store.proofs.Refusals.{kind_refuses}
 use Rattle.msi_store.proofs.parts.kind_in.Goals as goal
 
-pub returns-in-Ok-clause-told : goal.returns-in-Ok-clause-told
-returns-in-Ok-clause-told g c tree held =
-    let told = (c.in-Ok.ensures.told held.live tree (holds_shown c.args.file.now tree held)).0 in
-    finds_of c.kind_of.result (kind_of tree.root.clsid)
+pub returns-in-Ok-clause-shown : goal.returns-in-Ok-clause-shown
+returns-in-Ok-clause-shown g c tree shown =
+    let told = (c.in-Ok.ensures.told shown.live tree (shown_sizes c.args.file.now tree shown)).0 in
+    finds_of (letters_in c.args.file.now) (bytes_in c.args.file.now) c.kind_of.result (kind_of tree.root.clsid)
     (c.kind_of.ensures ∙ ap kind_of (c.clsid.ensures ∙ root_class tree (listed_in c.in-Ok.root) told.0 told.1 told.2))
 
-pub returns-in-Err-clause-told : goal.returns-in-Err-clause-told
-returns-in-Err-clause-told g c tree held = elim (c.in-Err.ensures.told held.live tree (holds_shown c.args.file.now tree held)).1 [
-  | inl memory ↦ inl (subst (IsFaultUnless ⊥) (sym memory) tt)
+pub returns-in-Err-clause-shown : goal.returns-in-Err-clause-shown
+returns-in-Err-clause-shown g c tree shown = elim (c.in-Err.ensures.told shown.live tree (shown_sizes c.args.file.now tree shown)).1 [
+  | inl memory ↦ inl (inl (subst (IsFaultUnless ⊥) (sym memory) tt))
   | inr answer ↦ absurd (cc)
 ]
+
+pub returns-in-Ok-clause-kinds : goal.returns-in-Ok-clause-kinds
+returns-in-Ok-clause-kinds g c = same_kind c.kind_of.result (kind_of c.clsid.result) (kind_refuses c.clsid.result) c.kind_of.ensures
+
+pub returns-in-Err-clause-kinds : goal.returns-in-Err-clause-kinds
+returns-in-Err-clause-kinds g c = root_kind c.args.file.now c.in-Err.error c.in-Err.ensures.cause

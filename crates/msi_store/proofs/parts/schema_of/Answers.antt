@@ -1,27 +1,29 @@
-use Rattle.std.proofs.Common.{rules, ◌≡◌, ◌∙◌, ap, sym}
+use Rattle.std.proofs.Common.{rules, ◌≡◌, ◌∙◌, ap, arith, refl, sym}
 use Rattle.std.specs.Prelude.{Err, Ok}
 use Rattle.cfb.specs.Views.{letters_in, mini_of}
 use Rattle.cfb_mini.specs.Views.{allocator_of}
 use Rattle.cfb_fat.specs.Tables.{HasCauseBelow}
 use Rattle.msi_columns.specs.Held.{columns_of}
-use Rattle.msi_stored.proofs.Later.{later}
+use Rattle.msi_store.proofs.ShownTrees.{shown_later}
 use Rattle.msi_stored.proofs.StoredLaws.{file_cause, file_then}
+use Rattle.msi_stored.specs.Shown.{bytes_in}
 use Rattle.msi_tables.specs.Held.{rows_held}
 use Rattle.msi_tables.specs.Schema.{columns_name, tables_name, validation_name}
 use Rattle.msi_store.proofs.Faults.{memory_cause}
 use Rattle.msi_store.proofs.PartsRead.{Reads, Refused, columns_exit, err_at, schema_cause, schema_end, tables_exit, validation_exit}
+use Rattle.msi_store.proofs.ErrorKinds.{schema_kind}
 use Rattle.msi_store.proofs.parts.schema_of.Goals as goal
 
-pub returns-in_err-tables-clause-told : goal.returns-in_err-tables-clause-told
-returns-in_err-tables-clause-told g c =
+pub returns-in_err-tables-clause-shown : goal.returns-in_err-tables-clause-shown
+returns-in_err-tables-clause-shown g c =
     let e = c.in_err-tables.field-0.0 in
     let is : c.from_residual-in_err-tables.result ≡ Err e = search (rules, c.from_residual-in_err-tables.ensures) in
-    λ tree held.
+    λ tree shown.
     let letters = letters_in c.args.file.now in
     let pool = c.args.pool.now.pool in
     let long = sym c.long_string_refs-long.ensures in
     let cs = columns_of c.in_ok-tables_columns.field-0.items in
-    tables_exit letters tree pool cs c.in_ok-tables_columns.ensures.ok c.from_residual-in_err-tables.result e is (c.in_err-tables.ensures.told tree held pool long)
+    tables_exit letters (bytes_in c.args.file.now) tree pool cs c.in_ok-tables_columns.ensures.ok c.from_residual-in_err-tables.result e is (c.in_err-tables.ensures.shown tree shown pool long (3, omega arith, refl))
 
 pub returns-in_err-columns_columns-clause-cause : goal.returns-in_err-columns_columns-clause-cause
 returns-in_err-columns_columns-clause-cause g c =
@@ -31,19 +33,19 @@ returns-in_err-columns_columns-clause-cause g c =
     let b = allocator_of (mini_of c.rows_by_columns.new.file) in
     err_at (HasCauseBelow a b) c.from_residual-in_err-columns_columns.result e is (memory_cause a b e c.in_err-columns_columns.ensures.err)
 
-pub returns-in_err-columns-clause-told : goal.returns-in_err-columns-clause-told
-returns-in_err-columns-clause-told g c =
+pub returns-in_err-columns-clause-shown : goal.returns-in_err-columns-clause-shown
+returns-in_err-columns-clause-shown g c =
     let e = c.in_err-columns.field-0.0 in
     let is : c.from_residual-in_err-columns.result ≡ Err e = search (rules, c.from_residual-in_err-columns.ensures) in
-    λ tree held.
+    λ tree shown.
     let letters = letters_in c.args.file.now in
     let pool = c.args.pool.now.pool in
     let long = sym c.long_string_refs-long.ensures in
     let cs = columns_of c.in_ok-tables_columns.field-0.items in
-    let is_t = c.in_ok-tables.ensures.told tree held pool long in
+    let is_t = c.in_ok-tables.ensures.shown tree shown pool long (3, omega arith, refl) in
     let ds = columns_of c.in_ok-columns_columns.field-0.items in
-    columns_exit letters tree pool cs c.in_ok-tables_columns.ensures.ok (rows_held c.in_ok-tables.tables.items) is_t ds c.in_ok-columns_columns.ensures.ok c.from_residual-in_err-columns.result e is
-    (later c.args.file.now c.rows_by_columns.new.file (λ l t. Refused l t pool columns_name ds e) c.rows_by_columns.ensures.rests (λ t h. c.in_err-columns.ensures.told t h pool long) tree held)
+    columns_exit letters (bytes_in c.args.file.now) tree pool cs c.in_ok-tables_columns.ensures.ok (rows_held c.in_ok-tables.tables.items) is_t ds c.in_ok-columns_columns.ensures.ok c.from_residual-in_err-columns.result e is
+    (shown_later c.args.file.now c.rows_by_columns.new.file (λ l b t. Refused l b t pool columns_name ds e) c.rows_by_columns.ensures.rests (λ t h. c.in_err-columns.ensures.shown t h pool long (4, omega arith, refl)) tree shown)
 
 pub returns-in_err-columns-clause-rests : goal.returns-in_err-columns-clause-rests
 returns-in_err-columns-clause-rests g c = file_then c.args.file.now c.rows_by_columns.new.file c.rows_by_columns-2.new.file c.rows_by_columns.ensures.rests c.rows_by_columns-2.ensures.rests
@@ -60,25 +62,25 @@ returns-in_err-columns-clause-cause g c =
 pub returns-in_err-columns_of_validation-clause-rests : goal.returns-in_err-columns_of_validation-clause-rests
 returns-in_err-columns_of_validation-clause-rests g c = file_then c.args.file.now c.rows_by_columns.new.file c.rows_by_columns-2.new.file c.rows_by_columns.ensures.rests c.rows_by_columns-2.ensures.rests
 
-pub returns-in_err-validation-clause-told : goal.returns-in_err-validation-clause-told
-returns-in_err-validation-clause-told g c =
+pub returns-in_err-validation-clause-shown : goal.returns-in_err-validation-clause-shown
+returns-in_err-validation-clause-shown g c =
     let e = c.in_err-validation.field-0.0 in
     let is : c.from_residual-in_err-validation.result ≡ Err e = search (rules, c.from_residual-in_err-validation.ensures) in
-    λ tree held.
+    λ tree shown.
     let letters = letters_in c.args.file.now in
     let pool = c.args.pool.now.pool in
     let long = sym c.long_string_refs-long.ensures in
     let cs = columns_of c.in_ok-tables_columns.field-0.items in
-    let is_t = c.in_ok-tables.ensures.told tree held pool long in
+    let is_t = c.in_ok-tables.ensures.shown tree shown pool long (3, omega arith, refl) in
     let ds = columns_of c.in_ok-columns_columns.field-0.items in
     let first = c.rows_by_columns.new.file in
     let second = c.rows_by_columns-2.new.file in
-    let is_c = later c.args.file.now first (λ l t. Reads l t pool columns_name ds (rows_held c.in_ok-columns.columns.items)) c.rows_by_columns.ensures.rests (λ t h. c.in_ok-columns.ensures.told t h pool long) tree held in
+    let is_c = shown_later c.args.file.now first (λ l b t. Reads l t pool columns_name ds (rows_held c.in_ok-columns.columns.items)) c.rows_by_columns.ensures.rests (λ t h. c.in_ok-columns.ensures.shown t h pool long (4, omega arith, refl)) tree shown in
     let vs = columns_of c.in_ok-columns_of_validation.columns_of_validation.items in
-    validation_exit letters tree pool cs c.in_ok-tables_columns.ensures.ok (rows_held c.in_ok-tables.tables.items) is_t ds c.in_ok-columns_columns.ensures.ok
+    validation_exit letters (bytes_in c.args.file.now) tree pool cs c.in_ok-tables_columns.ensures.ok (rows_held c.in_ok-tables.tables.items) is_t ds c.in_ok-columns_columns.ensures.ok
     (rows_held c.in_ok-columns.columns.items) is_c vs c.in_ok-columns_of_validation.ensures.ok c.from_residual-in_err-validation.result e is
-    (later c.args.file.now second (λ l t. Refused l t pool validation_name vs e) (file_then c.args.file.now first second c.rows_by_columns.ensures.rests c.rows_by_columns-2.ensures.rests)
-    (λ t h. c.in_err-validation.ensures.told t h pool long) tree held)
+    (shown_later c.args.file.now second (λ l b t. Refused l b t pool validation_name vs e) (file_then c.args.file.now first second c.rows_by_columns.ensures.rests c.rows_by_columns-2.ensures.rests)
+    (λ t h. c.in_err-validation.ensures.shown t h pool long (5, omega arith, refl)) tree shown)
 
 pub returns-in_err-validation-clause-rests : goal.returns-in_err-validation-clause-rests
 returns-in_err-validation-clause-rests g c =
@@ -95,26 +97,26 @@ returns-in_err-validation-clause-cause g c =
     err_at (HasCauseBelow (allocator_of (mini_of a)) (allocator_of (mini_of b))) c.from_residual-in_err-validation.result e is
     (file_cause a second b e (file_then a c.rows_by_columns.new.file second c.rows_by_columns.ensures.rests c.rows_by_columns-2.ensures.rests) c.in_err-validation.ensures.cause)
 
-pub returns-clause-told : goal.returns-clause-told
-returns-clause-told g c tree held =
+pub returns-clause-shown : goal.returns-clause-shown
+returns-clause-shown g c tree shown =
     let letters = letters_in c.args.file.now in
     let pool = c.args.pool.now.pool in
     let long = sym c.long_string_refs-long.ensures in
     let cs = columns_of c.in_ok-tables_columns.field-0.items in
-    let is_t = c.in_ok-tables.ensures.told tree held pool long in
+    let is_t = c.in_ok-tables.ensures.shown tree shown pool long (3, omega arith, refl) in
     let ds = columns_of c.in_ok-columns_columns.field-0.items in
     let first = c.rows_by_columns.new.file in
     let second = c.rows_by_columns-2.new.file in
     let vs = columns_of c.in_ok-columns_of_validation.columns_of_validation.items in
     let at_t : Reads letters tree pool tables_name cs (rows_held c.deref.result.now) = is_t ∙ ap (λ xs. Ok (rows_held xs)) (sym c.deref.ensures.value) in
     let at_c : Reads letters tree pool columns_name ds (rows_held c.deref-2.result.now) =
-    later c.args.file.now first (λ l t. Reads l t pool columns_name ds (rows_held c.in_ok-columns.columns.items)) c.rows_by_columns.ensures.rests (λ t h. c.in_ok-columns.ensures.told t h pool long) tree held
+    shown_later c.args.file.now first (λ l b t. Reads l t pool columns_name ds (rows_held c.in_ok-columns.columns.items)) c.rows_by_columns.ensures.rests (λ t h. c.in_ok-columns.ensures.shown t h pool long (4, omega arith, refl)) tree shown
     ∙ ap (λ xs. Ok (rows_held xs)) (sym c.deref-2.ensures.value) in
     let at_v : Reads letters tree pool validation_name vs (rows_held c.deref-3.result.now) =
-    later c.args.file.now second (λ l t. Reads l t pool validation_name vs (rows_held c.in_ok-validation.validation.items))
-    (file_then c.args.file.now first second c.rows_by_columns.ensures.rests c.rows_by_columns-2.ensures.rests) (λ t h. c.in_ok-validation.ensures.told t h pool long) tree held
+    shown_later c.args.file.now second (λ l b t. Reads l t pool validation_name vs (rows_held c.in_ok-validation.validation.items))
+    (file_then c.args.file.now first second c.rows_by_columns.ensures.rests c.rows_by_columns-2.ensures.rests) (λ t h. c.in_ok-validation.ensures.shown t h pool long (5, omega arith, refl)) tree shown
     ∙ ap (λ xs. Ok (rows_held xs)) (sym c.deref-3.ensures.value) in
-    schema_end letters tree pool cs c.in_ok-tables_columns.ensures.ok (rows_held c.deref.result.now) at_t ds c.in_ok-columns_columns.ensures.ok
+    schema_end letters (bytes_in c.args.file.now) tree pool cs c.in_ok-tables_columns.ensures.ok (rows_held c.deref.result.now) at_t ds c.in_ok-columns_columns.ensures.ok
     (rows_held c.deref-2.result.now) at_c vs c.in_ok-columns_of_validation.ensures.ok (rows_held c.deref-3.result.now) at_v c.schema_tables.result c.schema_tables.ensures.ok c.schema_tables.ensures.err
 
 pub returns-clause-rests : goal.returns-clause-rests
@@ -124,3 +126,6 @@ returns-clause-rests g c =
 
 pub returns-clause-cause : goal.returns-clause-cause
 returns-clause-cause g c = schema_cause (allocator_of (mini_of c.args.file.now)) (allocator_of (mini_of c.rows_by_columns-3.new.file)) _ c.schema_tables.result c.schema_tables.ensures.err
+
+pub returns-clause-kinds : goal.returns-clause-kinds
+returns-clause-kinds g c = schema_kind _ c.schema_tables.result c.schema_tables.ensures.err

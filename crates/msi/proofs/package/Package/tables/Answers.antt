@@ -4,7 +4,7 @@ use Rattle.std.specs.Rc.{rc_value}
 use Rattle.msi_meaning.specs.Calls.{table_names}
 use Rattle.msi_tables.specs.Held.{heading_of}
 use Rattle.msi.specs.Lists.{tables_left}
-use Rattle.msi.specs.Opened.{pool_in, tables_in}
+use Rattle.msi.specs.Opened.{pool_in}
 use Rattle.msi.proofs.HeldTables.{names_same}
 use Rattle.msi.proofs.OpenedPackages.{if_ok_then}
 use Rattle.msi.proofs.package.Package.tables.Goals as goal

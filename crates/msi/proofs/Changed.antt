@@ -1,0 +1,182 @@
+-- A package whose file was changed by a rule is held as the rule makes it.
+use Rattle.std.proofs.Common.{◌≡◌, ◌∙◌, ◌⊎◌, IsTrue, ap, false, inl, inr, map, subst, sym, true}
+use Rattle.std.specs.Prelude.{Err, IfErr, Ok, OnErr, OnOk, Result, ◌||◌}
+use Rattle.cfb.proofs.LiveMeaning.{holds_meant}
+use Rattle.cfb.specs.Doing.{Means as MeansTree}
+use Rattle.cfb.specs.Putting.{KeepsMeant}
+use Rattle.cfb.specs.Views.{letters_in, mini_of}
+use Rattle.cfb.specs.declared.compound_file.CompoundFile.{CompoundFile}
+use Rattle.cfb_fat.specs.Tables.{has_failed, has_failed_here, medium_of}
+use Rattle.cfb_live.specs.Doing.{IsFault}
+use Rattle.cfb_medium.specs.declared.error.Error.{Error}
+use Rattle.cfb_medium.specs.declared.medium.ReadMedium.{Ghosts}
+use Rattle.cfb_mini.specs.Views.{allocator_of}
+use Rattle.cfb_tree.specs.Tree.{Tree}
+use Rattle.msi_edits.specs.Edited.{Edits, IsEdited}
+use Rattle.msi_edits.specs.Edited as edited
+use Rattle.msi_meaning.specs.Opening.{may_use}
+use Rattle.msi_meaning.specs.Package.{Package as Packed}
+use Rattle.msi_meaning.specs.Split.{HasPool, HasSummary, Stores}
+use Rattle.msi_parts.specs.Parts.{heading}
+use Rattle.msi_pool.specs.Pool.{Pool}
+use Rattle.msi_pool.specs.PoolState.{PoolState}
+use Rattle.msi_stored.specs.Changing.{ChangesBy, IsChanged, PackageRule, StoresSound}
+use Rattle.msi.specs.Changing.{Changes, KeepsHeld, failed_in}
+use Rattle.msi.specs.Opened.{Holds, file_in, kind_in, pool_in, sound_in, store_in, summary_in, tables_in, written_in}
+use Rattle.msi.specs.declared.package.Package.{Package}
+
+-- two packages in memory that differ by their files and pools alone
+pub record DifferByFile {F : Type 0} {g : Ghosts F} (old new : Package F g) : Type 0 where
+  pub letters : letters_in (file_in new) ≡ letters_in (file_in old)
+  pub tables : tables_in new ≡ tables_in old
+  pub kind : kind_in new ≡ kind_in old
+  pub summary : summary_in new ≡ summary_in old
+  pub sound : sound_in new ≡ sound_in old
+  pub written : written_in new ≡ written_in old
+
+-- a fault in the file is one of the package
+pub failed_too : {F : Type 0} {g : Ghosts F} (file : CompoundFile F g) → has_failed_here (allocator_of (mini_of file)) ≡ true → has_failed (allocator_of (mini_of file)) ≡ true
+failed_too {F} {g} file is = ap (λ b. b || g.failed (medium_of (allocator_of (mini_of file)))) is
+
+module _ {F : Type 0} {g : Ghosts F} (old new : Package F g) (d : DifferByFile old new) where
+  -- where the file means what it meant, and the pool is as it was, what was held is held
+  pub keeps_held : IsTrue (sound_in old) → pool_in new ≡ pool_in old → KeepsMeant (file_in old) (file_in new) → KeepsHeld old new
+  keeps_held is pool keeps = record {
+    holds = λ P h.
+        let both = h.sound is in
+        let means = keeps.means h.tree both.0 in
+        record {
+          tree = h.tree;
+          file = holds_meant (file_in new) h.tree means;
+          usable = ap may_use d.letters ∙ h.usable;
+          stores = subst (λ l. Stores l h.tree P) (sym d.letters) h.stores;
+          memory = record {
+            kind = d.kind ∙ h.memory.kind;
+            summary = ap (λ s. s.props) d.summary ∙ h.memory.summary;
+            pool = ap (λ (p : PoolState). p.pool) pool ∙ h.memory.pool;
+            tables = d.tables ∙ h.memory.tables ∙ ap (λ l. map (heading l) P.tables) (sym (ap (λ (p : PoolState). p.pool.long) pool));
+          };
+          pool = λ unmodified. subst (λ l. HasPool l h.tree P.pool) (sym d.letters) (h.pool (sym (ap (λ (p : PoolState). p.modified) pool) ∙ unmodified));
+          summary = λ written. subst (λ l. HasSummary l h.tree P.summary) (sym d.letters) (h.summary (sym d.written ∙ written));
+          sound = λ yes. (means, subst (λ l. StoresSound l h.tree P) (sym d.letters) both.1);
+        };
+  }
+
+  -- what the rule gives is held
+  next_held : (rule : PackageRule) (P : Packed) (h : Holds old P) (c : IsChanged rule h.tree P (file_in old) (file_in new)) → c.next.kind ≡ P.kind → c.next.summary ≡ P.summary
+      → (pool_in new).pool ≡ c.next.pool → tables_in new ≡ map (heading (pool_in new).pool.long) c.next.tables → ((pool_in new).modified ≡ false → HasPool (letters_in (file_in old)) c.after c.next.pool) → Holds new c.next
+  next_held rule P h c kind summary pool tables has = record {
+    tree = c.after;
+    file = holds_meant (file_in new) c.after c.means;
+    usable = ap may_use d.letters ∙ h.usable;
+    stores = subst (λ l. Stores l c.after c.next) (sym d.letters) c.stores.stores;
+    memory = record {
+      kind = d.kind ∙ h.memory.kind ∙ sym kind;
+      summary = ap (λ s. s.props) d.summary ∙ h.memory.summary ∙ sym summary;
+      pool = pool;
+      tables = tables;
+    };
+    pool = λ unmodified. subst (λ l. HasPool l c.after c.next.pool) (sym d.letters) (has unmodified);
+    summary = λ written. subst (λ l. HasSummary l c.after c.next.summary) (sym d.letters) (subst (λ s. HasSummary (letters_in (file_in old)) c.after s) (sym summary) (c.keeps.summary P.summary (h.summary (sym d.written ∙ written))));
+    sound = λ yes. (c.means, subst (λ l. StoresSound l c.after c.next) (sym d.letters) c.stores);
+  }
+
+-- a rule by which a package keeps all but its streams
+pub record LeavesTables (rule : PackageRule) : Type 0 where
+  pub kind : (P Q : Packed) → rule P Q (Ok tt) → Q.kind ≡ P.kind
+  pub summary : (P Q : Packed) → rule P Q (Ok tt) → Q.summary ≡ P.summary
+  pub pool : (P Q : Packed) → rule P Q (Ok tt) → Q.pool ≡ P.pool
+  pub tables : (P Q : Packed) → rule P Q (Ok tt) → Q.tables ≡ P.tables
+
+module _ {F : Type 0} {g : Ghosts F} (rule : PackageRule) (leaves : LeavesTables rule) (old new : Package F g) (d : DifferByFile old new) (same : pool_in new ≡ pool_in old)
+    (live : failed_in old ≡ false) (sound : sound_in old ≡ true) where
+  -- a call on the file's streams is one of the package
+  pub streams_changed : (r : Result (Unit {0}) Error) → ChangesBy rule r (file_in old) (file_in new) → Changes rule r old new
+  streams_changed r c = record {
+    failed = λ yes. let never : true ≡ false = sym yes ∙ live in absurd (cc);
+    unsound = λ no wrong. let never : true ≡ false = sym sound ∙ wrong in absurd (cc);
+    done = done r c.done;
+    refused = refused r c.refused;
+    rests = rests r c.rests;
+    seen = (c.seen.0, d.sound);
+  }
+    where
+      yes : IsTrue (sound_in old)
+      yes = sound
+
+      done : (r : Result (Unit {0}) Error) → OnOk r ((tree : Tree) (P : Packed) → MeansTree (file_in old) tree → StoresSound (letters_in (file_in old)) tree P → IsChanged rule tree P (file_in old) (file_in new))
+          → OnOk r ((P : Packed) → Holds old P → (Q : Packed) × rule P Q (Ok tt) × Holds new Q)
+      done (Ok u) told = λ P h.
+          let both = h.sound yes in
+          let c = told h.tree P both.0 both.1 in
+          let pool : c.next.pool ≡ P.pool = leaves.pool P c.next c.answered in (
+            c.next,
+            c.answered,
+            next_held old new d rule P h c (leaves.kind P c.next c.answered) (leaves.summary P c.next c.answered)
+                (ap (λ (p : PoolState). p.pool) same ∙ h.memory.pool ∙ sym pool)
+                (d.tables ∙ h.memory.tables ∙ ap (λ l. map (heading l) P.tables) (sym (ap (λ (p : PoolState). p.pool.long) same)) ∙ ap (λ ts. map (heading (pool_in new).pool.long) ts) (sym (leaves.tables P c.next c.answered)))
+                (λ unmodified. subst (λ p. HasPool (letters_in (file_in old)) c.after p) (sym pool) (c.keeps.pool P.pool (h.pool (sym (ap (λ (p : PoolState). p.modified) same) ∙ unmodified)))),
+          )
+      done (Err e) told = tt
+
+      refused : (r : Result (Unit {0}) Error)
+          → IfErr r (λ e. (tree : Tree) (P : Packed) → MeansTree (file_in old) tree → StoresSound (letters_in (file_in old)) tree P → IsFault e ⊎ (rule P P (Err e) × KeepsMeant (file_in old) (file_in new)))
+          → IfErr r (λ e. (P : Packed) → Holds old P → IsTrue (sound_in old) → IsFault e ⊎ (rule P P (Err e) × KeepsHeld old new))
+      refused (Ok u) told = tt
+      refused (Err e) told = λ P h is. let both = h.sound is in elim (told h.tree P both.0 both.1) [ inl fault ↦ inl fault | inr rule ↦ inr (rule.0, keeps_held old new d is same rule.1) ]
+
+      rests : (r : Result (Unit {0}) Error) → OnErr r ((has_failed_here (allocator_of (mini_of (file_in new))) ≡ true) ⊎ KeepsMeant (file_in old) (file_in new)) → OnErr r ((failed_in new ≡ true) ⊎ KeepsHeld old new)
+      rests (Ok u) told = tt
+      rests (Err e) told = elim told [ inl failed ↦ inl (failed_too (file_in new) failed) | inr keeps ↦ inr (keeps_held old new d yes same keeps) ]
+
+-- a call on the rows of a table, and on the pool beside it, is one of the package
+module _ {F : Type 0} {g : Ghosts F} (rule : PackageRule) (kind : (P Q : Packed) → rule P Q (Ok tt) → Q.kind ≡ P.kind) (summary : (P Q : Packed) → rule P Q (Ok tt) → Q.summary ≡ P.summary)
+    (old new : Package F g) (d : DifferByFile old new) (live : failed_in old ≡ false) (sound : sound_in old ≡ true) where
+  pub rows_changed : (r : Result (Unit {0}) Error) → Edits rule r (store_in old) (store_in new) (pool_in old) (pool_in new) → Changes rule r old new
+  rows_changed r c = record {
+    failed = λ yes. let never : true ≡ false = sym yes ∙ live in absurd (cc);
+    unsound = λ no wrong. let never : true ≡ false = sym sound ∙ wrong in absurd (cc);
+    done = done c.marked r c.done;
+    refused = refused r c.refused c.pool;
+    rests = rests r c.rests c.pool;
+    seen = (c.seen.0, d.sound);
+  }
+    where
+      yes : IsTrue (sound_in old)
+      yes = sound
+
+      memory : (P : Packed) → Holds old P → edited.IsMemoryOf (store_in old) (pool_in old).pool P
+      memory P h = record { pool = h.memory.pool; tables = h.memory.tables ∙ ap (λ (p : Pool). map (heading p.long) P.tables) h.memory.pool }
+
+      has : ((pool_in new).modified ≡ false → pool_in new ≡ pool_in old) → (P : Packed) (h : Holds old P) (c : IsChanged rule h.tree P (file_in old) (file_in new)) → (pool_in new).pool ≡ c.next.pool
+          → (pool_in new).modified ≡ false → HasPool (letters_in (file_in old)) c.after c.next.pool
+      has marked P h c pool unmodified =
+          let same = marked unmodified in
+          subst (λ p. HasPool (letters_in (file_in old)) c.after p) (sym h.memory.pool ∙ sym (ap (λ (p : PoolState). p.pool) same) ∙ pool) (c.keeps.pool P.pool (h.pool (sym (ap (λ (p : PoolState). p.modified) same) ∙ unmodified)))
+
+      done : ((pool_in new).modified ≡ false → pool_in new ≡ pool_in old) → (r : Result (Unit {0}) Error)
+          → OnOk r ((tree : Tree) (P : Packed) → MeansTree (file_in old) tree → StoresSound (letters_in (file_in old)) tree P → edited.IsMemoryOf (store_in old) (pool_in old).pool P → IsEdited rule tree P (file_in old) (file_in new) (pool_in new))
+          → OnOk r ((P : Packed) → Holds old P → (Q : Packed) × rule P Q (Ok tt) × Holds new Q)
+      done marked (Err e) told = tt
+      done marked (Ok u) told = λ P h.
+          let both = h.sound yes in
+          let e = told h.tree P both.0 both.1 (memory P h) in
+          let c = e.changed in (
+            c.next,
+            c.answered,
+            next_held old new d rule P h c (kind P c.next c.answered) (summary P c.next c.answered) e.pool
+                (d.tables ∙ (memory P h).tables ∙ sym e.tables ∙ ap (λ (p : Pool). map (heading p.long) c.next.tables) (sym e.pool))
+                (has marked P h c e.pool),
+          )
+
+      refused : (r : Result (Unit {0}) Error)
+          → IfErr r (λ e. (tree : Tree) (P : Packed) → MeansTree (file_in old) tree → StoresSound (letters_in (file_in old)) tree P → edited.IsMemoryOf (store_in old) (pool_in old).pool P
+          → IsFault e ⊎ (rule P P (Err e) × KeepsMeant (file_in old) (file_in new)))
+          → OnErr r (pool_in new ≡ pool_in old) → IfErr r (λ e. (P : Packed) → Holds old P → IsTrue (sound_in old) → IsFault e ⊎ (rule P P (Err e) × KeepsHeld old new))
+      refused (Ok u) told same = tt
+      refused (Err e) told same = λ P h is. let both = h.sound is in elim (told h.tree P both.0 both.1 (memory P h)) [ inl fault ↦ inl fault | inr rule ↦ inr (rule.0, keeps_held old new d is same rule.1) ]
+
+      rests : (r : Result (Unit {0}) Error) → OnErr r ((has_failed_here (allocator_of (mini_of (file_in new))) ≡ true) ⊎ KeepsMeant (file_in old) (file_in new)) → OnErr r (pool_in new ≡ pool_in old)
+          → OnErr r ((failed_in new ≡ true) ⊎ KeepsHeld old new)
+      rests (Ok u) told same = tt
+      rests (Err e) told same = elim told [ inl failed ↦ inl (failed_too (file_in new) failed) | inr keeps ↦ inr (keeps_held old new d yes same keeps) ]

@@ -1,0 +1,19 @@
+use Rattle.std.proofs.Common.{◌∙◌, refl, sym}
+use Rattle.cfb.specs.Views.{letters_in}
+use Rattle.msi_streams.specs.Writing.{Makes, most_bytes, written_within}
+use Rattle.msi.specs.Changing.{failed_in}
+use Rattle.msi.specs.Opened.{file_in, sound_in}
+use Rattle.msi.proofs.Changed.{streams_changed}
+use Rattle.msi.proofs.Leaving.{writing_leaves}
+use Rattle.msi.proofs.Permitted.{not_permitted, permitted}
+use Rattle.msi.proofs.package.Package.write_stream.Goals as goal
+
+pub returns-in-Err-clause-changes : goal.returns-in-Err-clause-changes
+returns-in-Err-clause-changes g c = not_permitted (Makes (written_within (letters_in (file_in c.args.self.now)) (most_bytes (file_in c.args.self.now)) c.args.name.now c.args.bytes.now)) c.args.self.now c.in-Err.error (sym c.may_change.ensures ∙ c.in-Err.is)
+
+pub returns-clause-changes : goal.returns-clause-changes
+returns-clause-changes g c =
+    let it = c.args.self.now in
+    let may = permitted (failed_in it) (sound_in it) (sym c.may_change.ensures ∙ c.in_default.is) in
+    let done = c.write_stream.ensures.changes in
+    streams_changed (Makes (written_within (letters_in (file_in c.args.self.now)) (most_bytes (file_in c.args.self.now)) c.args.name.now c.args.bytes.now)) (writing_leaves (letters_in (file_in c.args.self.now)) (most_bytes (file_in c.args.self.now)) c.args.name.now c.args.bytes.now) it _ (record { letters = done.seen.0; tables = refl; kind = refl; summary = refl; sound = refl; written = refl }) refl may.0 may.1 c.write_stream.result done

@@ -1,0 +1,176 @@
+-- What an insert into a table makes of the package that a file stores.
+use Rattle.std.proofs.Common.{◌≡◌, ◌∙◌, ℕ, Bool, true, false, List, [], ◌∷◌, map, Some, None, Option, refl, sym, ap, ap₂, subst, arith, Result, Ok, Err}
+use Rattle.std.specs.Prelude.{not, slice_get, unwrap_or, MatchResult}
+use Rattle.std.specs.List.{remove}
+use Rattle.std.proofs.lemmas.Option.{get_or_from_slice_get, slice_get-get_or, slice_get_within}
+use Rattle.cfb.specs.Doing.{Means}
+use Rattle.cfb.specs.Views.{letters_in}
+use Rattle.cfb.specs.declared.compound_file.CompoundFile.{CompoundFile}
+use Rattle.cfb_medium.specs.declared.error.Error.{Error}
+use Rattle.cfb_medium.specs.declared.error.Error.TheVariants.{InvalidInput, NotFound}
+use Rattle.cfb_medium.specs.declared.medium.ReadMedium.{Ghosts}
+use Rattle.cfb_tree.specs.Names.{Letters}
+use Rattle.cfb_tree.specs.Tree.{Tree}
+use Rattle.msi_changes.specs.Applied.{with_rows as rows_given}
+use Rattle.msi_changes.specs.Changes.{inserted}
+use Rattle.msi_changes.proofs.Refused.{refused_likewise}
+use Rattle.msi_changes.proofs.UsesKept.{used_are_counted}
+use Rattle.msi_pool.specs.Pool.{Pool}
+use Rattle.msi_pool.specs.PoolState.{PoolState}
+use Rattle.msi_tables.specs.Rows.{kinds_of, rows_of, Row}
+use Rattle.msi_tables.specs.Table.{table_named, Heading, IsStoredByKeys, Table}
+use Rattle.msi_values.specs.Datum.{Datum}
+use Rattle.msi_texts.specs.Results.{◌>>=◌, or_refused}
+use Rattle.msi_meaning.specs.Back.{ComeBack}
+use Rattle.msi_meaning.specs.Calls.{change, changed, is_system, may_insert, rows_put, with_rows, Change, Ends, Inserts, Puts}
+use Rattle.msi_meaning.specs.Package.{at_name, objects, stream_name, table_stream}
+use Rattle.msi_meaning.specs.Package.{Package as Packed}
+use Rattle.msi_meaning.specs.Sound.{is_free_table_name, uses_of}
+use Rattle.msi_parts.specs.Parts.{heading}
+use Rattle.msi_stored.specs.Changing.{StoresSound}
+use Rattle.msi_stored.specs.Stored.{rows_in}
+use Rattle.msi_rewritten.specs.Rewriting.{rewritten, HasPut, IsRewriting}
+use Rattle.msi_rewritten.proofs.Before.{uses_before}
+use Rattle.msi_rewritten.proofs.Counted.{counted_after}
+use Rattle.msi_rewritten.proofs.Inserted.{insert_rewrites, inserted_come_back}
+use Rattle.msi_rewritten.proofs.Put.{pool_after, summary_after}
+use Rattle.msi_rewritten.proofs.Stored.{found_at, named_after, stores_after}
+use Rattle.msi_rewritten.proofs.Tables.{columns_kept, name_kept}
+use Rattle.msi_edits.specs.Edited.{CanPut, IsEdited, IsTableOf}
+use Rattle.msi_edits.specs.Inserting.{IsInsert}
+
+-- into a table that describes others nothing is inserted
+never_inserted : (pool : Pool) (t : Table) (news : List (List Datum)) (x : List Row × Pool) → inserted false pool t news ≡ Ok x → ⊥
+never_inserted pool t news x is = by (inserted true pool t news) (refused_likewise pool t news)
+  where
+    by : (r : Result (List Row × Pool) Error) → MatchResult r (λ after. inserted false pool t news ≡ Err InvalidInput) (λ e. inserted false pool t news ≡ Err e) → ⊥
+    by (Ok y) e = (let never : Ok x ≡ Err InvalidInput = sym is ∙ e in cc)
+    by (Err y) e = (let never : Ok x ≡ Err y = sym is ∙ e in cc)
+
+was_ordinary : (name : List ℕ) (pool : Pool) (t : Table) (news : List (List Datum)) (x : List Row × Pool) → inserted (may_insert name) pool t news ≡ Ok x → is_system name ≡ false
+was_ordinary name pool t news x is = by (is_system name) refl
+  where
+    by : (b : Bool) → is_system name ≡ b → b ≡ false
+    by false e = refl
+    by true e = absurd (never_inserted pool t news x (sym (ap (λ b. inserted (not b) pool t news) e) ∙ is))
+
+-- ---- the rule
+
+module _ (P : Packed) (t : Table) (news : List (List Datum)) (name : List ℕ) (there : table_named P.tables name ≡ Some t) where
+  change_is : (r : Result (List Row × Pool) Error) → inserted (may_insert name) P.pool t news ≡ r → change P name (λ t. inserted (may_insert name) P.pool t news) ≡ changed t r
+  change_is r is = subst (λ o. (◌≡◌ {A = Result Change Error} (of_found o) (changed t r))) (sym there) (ap (changed t) is)
+    where
+      of_found : Option Table → Result Change Error
+      of_found o = or_refused o NotFound >>= λ t. changed t (inserted (may_insert name) P.pool t news)
+
+  pub insert_done : (rows stored : List Row) (next : Pool) → inserted (may_insert name) P.pool t news ≡ Ok (rows, next) → IsStoredByKeys next t.columns rows stored
+      → Inserts P name news (rewritten P name stored next) (Ok tt)
+  insert_done rows stored next is by_keys =
+      let Accepted : Change → Type 0 = λ x. (s : List Row) × IsStoredByKeys x.pool x.table.columns x.rows s × Puts P name x s (rewritten P name stored next) in
+      subst (λ (r : Result Change Error). Ends r P (rewritten P name stored next) (Ok tt) Accepted) (sym (change_is (Ok (rows, next)) is)) (refl, (stored, by_keys, refl))
+
+  pub insert_refused : (e : Error) → inserted (may_insert name) P.pool t news ≡ Err e → Inserts P name news P (Err e)
+  insert_refused e is =
+      let Accepted : Change → Type 0 = λ x. (s : List Row) × IsStoredByKeys x.pool x.table.columns x.rows s × Puts P name x s P in
+      subst (λ (r : Result Change Error). Ends r P P (Err e) Accepted) (sym (change_is (Err e) is)) (refl, refl)
+
+pub not_found : (P : Packed) (name : List ℕ) (news : List (List Datum)) → table_named P.tables name ≡ None → Inserts P name news P (Err NotFound)
+not_found P name news none =
+    let Accepted : Change → Type 0 = λ x. (s : List Row) × IsStoredByKeys x.pool x.table.columns x.rows s × Puts P name x s P in
+    let is : change P name (λ t. inserted (may_insert name) P.pool t news) ≡ Err NotFound = ap (λ o. or_refused o NotFound >>= λ t. changed t (inserted (may_insert name) P.pool t news)) none in
+    subst (λ (r : Result Change Error). Ends r P P (Err NotFound) Accepted) (sym is) (refl, refl)
+
+-- ---- tables in memory
+
+headings_stay : (long now : Bool) → now ≡ long → (name : List ℕ) (stored : List Row) (ts : List Table) → map (heading now) (rows_put name stored ts) ≡ map (heading long) ts
+headings_stay long now same name stored [] = refl
+headings_stay long now same name stored (t ∷ ts) = ap₂ (λ (h : Heading) (hs : List Heading). h ∷ hs) one (headings_stay long now same name stored ts)
+  where
+    one : heading now (with_rows name stored t) ≡ heading long t
+    one = λ i. record { name = name_kept name stored t i; columns = columns_kept name stored t i; long = same i }
+
+module _ {F : Type 0} {g : Ghosts F} (old new : CompoundFile F g) (tree : Tree) (P : Packed) (s : StoresSound (letters_in old) tree P) (h : Heading) (t : Table) (pool : Pool) (of_it : IsTableOf pool h P t) where
+  abbrev letters : Letters
+  letters = letters_in old
+
+  -- its place among the tables
+  place : (k : ℕ) × (slice_get P.tables k ≡ Some t)
+  place =
+      let at = found_at P.tables h.name t of_it.named in
+      (at.0, slice_get-get_or P.tables at.0 t at.1 ∙ ap (λ (u : Table). Some u) at.2)
+
+  named_so : h.name ≡ t.name
+  named_so = ap (λ (x : Heading). x.name) of_it.told
+
+  pub can_put : CanPut letters h.name tree
+  can_put =
+      let k = place.0 in
+      let same = get_or_from_slice_get P.tables k t t place.1 in
+      let within = slice_get_within P.tables k t place.1 in
+      subst (λ name. CanPut letters name tree) (sym named_so) (record {
+        free = subst (λ (u : Table). is_free_table_name u.name ≡ true) same (s.named.table_names k t within);
+        no_storage = ap (λ os. at_name letters os (stream_name t.name)) (sym s.stores.storages) ∙ subst (λ (u : Table). at_name letters P.storages (stream_name u.name) ≡ None) same (s.named.no_storage k t within);
+      })
+
+  -- its rows stand in the tree
+  pub rows_there : rows_in letters tree h ≡ Some t.rows
+  rows_there =
+      let k = place.0 in
+      ap (rows_in letters tree) of_it.told
+      ∙ subst (λ (u : Table). rows_of P.pool.long (kinds_of u.columns) (unwrap_or (table_stream letters (objects tree.content) u.name) []) ≡ Some u.rows) (get_or_from_slice_get P.tables k t t place.1) (s.stores.rows k t (slice_get_within P.tables k t place.1))
+
+  pub wide_so : pool.long ≡ h.long
+  wide_so = ap (λ (p : Pool). p.long) of_it.pool ∙ sym (ap (λ (x : Heading). x.long) of_it.told)
+
+  -- and are those that were read
+  rows_same : (rows : List Row) → rows_in letters tree h ≡ Some rows → rows_given h rows ≡ t
+  rows_same rows read =
+      let both : Some rows ≡ Some t.rows = sym read ∙ rows_there in
+      let same : rows ≡ t.rows = grind (arith, both) in
+      ap₂ rows_given of_it.told same
+
+  module _ (news : List (List Datum)) where
+    pub refused_here : (rows : List Row) (e : Error) → rows_in letters tree h ≡ Some rows → inserted (may_insert h.name) pool (rows_given h rows) news ≡ Err e → Inserts P h.name news P (Err e)
+    refused_here rows e read is =
+        insert_refused P t news h.name of_it.named e (ap₂ (λ p u. inserted (may_insert h.name) p u news) (sym of_it.pool) (sym (rows_same rows read)) ∙ is)
+
+    pub inserted_here : (rows : List Row) (bytes : List ℕ) (after : PoolState) → rows_in letters tree h ≡ Some rows
+        → IsInsert (may_insert h.name) pool (rows_given h rows) news bytes after.pool → (next : Tree) → Means new next → HasPut letters h.name bytes tree next
+        → IsEdited (λ P Q answer. Inserts P h.name news Q answer) tree P old new after
+    inserted_here rows bytes after read insert next means put =
+        let k = place.0 in
+        let at : slice_get P.tables k ≡ Some t = place.1 in
+        let there : table_named P.tables t.name ≡ Some t = ap (table_named P.tables) (sym named_so) ∙ of_it.named in
+        let i : IsInsert (may_insert t.name) P.pool t news bytes after.pool =
+        subst (λ name. IsInsert (may_insert name) P.pool t news bytes after.pool) named_so
+        (subst (λ (u : Table). IsInsert (may_insert h.name) P.pool u news bytes after.pool) (rows_same rows read)
+        (subst (λ (p : Pool). IsInsert (may_insert h.name) p (rows_given h rows) news bytes after.pool) of_it.pool insert)) in
+        let by_keys = i.by_keys (used_are_counted t.columns (uses_of (remove P.tables k)) P.pool t.rows (uses_before letters tree P s.stores s.counted k t at)) in
+        let ordinary : is_system t.name ≡ false = was_ordinary t.name P.pool t news (i.rows, after.pool) i.accepted in
+        let rewriting : IsRewriting P k t i.stored after.pool = insert_rewrites letters tree P s.stores k t at s.counted s.free ordinary (may_insert t.name) news (i.rows, after.pool) i.accepted i.stored by_keys in
+        let back : ComeBack P.pool.long t.columns i.stored = inserted_come_back letters tree P s.stores k t at (may_insert t.name) news (i.rows, after.pool) i.accepted i.writable i.places i.stored by_keys in
+        let one : Some back.bytes ≡ Some bytes = sym back.written ∙ i.written in
+        let same : back.bytes ≡ bytes = grind (arith, one) in
+        let read_back : rows_of P.pool.long (kinds_of t.columns) bytes ≡ Some i.stored = subst (λ (b : List ℕ). rows_of P.pool.long (kinds_of t.columns) b ≡ Some i.stored) same back.read in
+        let put_there : HasPut letters t.name bytes tree next = subst (λ name. HasPut letters name bytes tree next) named_so put in
+        record {
+          changed = record {
+            next = rewritten P t.name i.stored after.pool;
+            after = next;
+            answered = subst (λ name. Inserts P name news (rewritten P t.name i.stored after.pool) (Ok tt)) (sym named_so) (insert_done P t news t.name there i.rows i.stored after.pool i.accepted by_keys);
+            means = means;
+            stores = record {
+              usable = s.usable;
+              stores = stores_after letters tree next P s.usable s.named s.stores k t i.stored after.pool rewriting bytes put_there read_back;
+              counted = counted_after letters tree P s.stores k t i.stored after.pool rewriting;
+              free = rewriting.empty;
+              named = named_after letters tree next P s.usable s.named s.stores k t i.stored after.pool rewriting;
+            };
+            keeps = record {
+              pool = λ held has. pool_after letters P s.usable s.named k t at tree next bytes put_there held has;
+              summary = λ summary has. summary_after letters P s.usable s.named k t at tree next bytes put_there summary has;
+            };
+          };
+          pool = refl;
+          tables = headings_stay P.pool.long after.pool.long rewriting.long t.name i.stored P.tables;
+        }

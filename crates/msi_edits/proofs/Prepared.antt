@@ -1,0 +1,74 @@
+-- What an insert comes to, over plain variables.
+use Rattle.std.proofs.Common.{◌≡◌, ◌∙◌, ◌⊎◌, ℕ, Bool, true, false, List, [], ◌∷◌, ◌++◌, map, sym, ap, subst, inl, inr, Vec, Some, None, Ok, Err}
+use Rattle.std.specs.Prelude.{not, All, IsTrue, MatchResult}
+use Rattle.std.specs.List.{list_all}
+use Rattle.std.specs.declared.alloc.Global.{Global}
+use Rattle.std.proofs.lemmas.Bool.{and_parts}
+use Rattle.std.proofs.lemmas.List.Elements.{All-cons, All-nil}
+use Rattle.cfb_medium.specs.declared.error.Error.{Error}
+use Rattle.cfb_medium.specs.declared.error.Error.TheVariants.{InvalidInput, Memory}
+use Rattle.msi_changes.specs.Changes.{inserted}
+use Rattle.msi_changes.specs.Laws.{AddsRows}
+use Rattle.msi_changes.proofs.InsertLaw.{adds_rows}
+use Rattle.msi_changes.proofs.Refused.{refused_likewise}
+use Rattle.msi_columns.specs.Column.{Column}
+use Rattle.msi_pool.specs.Pool.{Pool}
+use Rattle.msi_pool.specs.declared.stringref.ValueRef.{ValueRef}
+use Rattle.msi_tables.specs.Held.{rows_held}
+use Rattle.msi_tables.specs.Rows.{has_place, AreWritable, IsArranged, Row}
+use Rattle.msi_tables.specs.Table.{row_data, row_key_cmp, Table}
+use Rattle.msi_tables.proofs.Writable.{moved_rows_are_writable, stored_rows_move, writable_rows_have_bytes}
+use Rattle.msi_values.specs.Datum.{Datum}
+use Rattle.msi_meaning.specs.Calls.{is_system, may_insert}
+use Rattle.msi_rewritten.proofs.Inserted.{of_ok}
+use Rattle.msi_edits.specs.Inserting.{IsInsert, IsUnwritten, IsWrittenAs}
+
+pub places_held : (rows : List (Vec ValueRef Global)) → list_all (λ row. list_all has_place row.items) rows ≡ true → All (λ row. IsTrue (list_all has_place row)) (rows_held rows)
+places_held [] all = All-nil (λ row. IsTrue (list_all has_place row))
+places_held (r ∷ rs) all =
+    let both = and_parts (list_all has_place r.items) (list_all (λ row. list_all has_place row.items) rs) all in
+    All-cons (λ row. IsTrue (list_all has_place row)) r.items (rows_held rs) both.0 (places_held rs both.1)
+
+-- ---- refusals
+
+module _ (name : List ℕ) (pool : Pool) (t : Table) (new_rows : List (List Datum)) where
+  pub refused_so : (e : Error) → (e ≡ Memory) ⊎ (inserted true pool t new_rows ≡ Err e) → (e ≡ Memory) ⊎ (inserted (may_insert name) pool t new_rows ≡ Err e)
+  refused_so e (inl memory) = inl memory
+  refused_so e (inr is) = inr (by (is_system name))
+    where
+      by : (b : Bool) → inserted (not b) pool t new_rows ≡ Err e
+      by false = is
+      by true = subst (λ r. MatchResult r (λ after. inserted false pool t new_rows ≡ Err InvalidInput) (λ e. inserted false pool t new_rows ≡ Err e)) is (refused_likewise pool t new_rows)
+
+  pub system_refused : (after : List Row × Pool) → inserted true pool t new_rows ≡ Ok after → is_system name ≡ true → inserted (may_insert name) pool t new_rows ≡ Err InvalidInput
+  system_refused after is system =
+      ap (λ b. inserted (not b) pool t new_rows) system
+      ∙ subst (λ r. MatchResult r (λ after. inserted false pool t new_rows ≡ Err InvalidInput) (λ e. inserted false pool t new_rows ≡ Err e)) is (refused_likewise pool t new_rows)
+
+-- rows that can be written are
+pub unwritten : (long : Bool) (columns : List Column) (rows : List Row) (e : Error) → AreWritable long columns rows → IsUnwritten long columns rows e → e ≡ Memory
+unwritten long columns rows e writable (inl memory) = memory
+unwritten long columns rows e writable (inr w) =
+    let bytes = writable_rows_have_bytes long columns w.0 (moved_rows_are_writable long columns rows w.0 (stored_rows_move columns rows w.0 w.1) writable) in
+    let never : None ≡ Some bytes.0 = sym w.2 ∙ bytes.1 in
+    absurd (cc)
+
+-- ---- accepted
+
+module _ (name : List ℕ) (pool : Pool) (t : Table) (new_rows : List (List Datum)) (rows : List Row) (next : Pool) (accepted : inserted true pool t new_rows ≡ Ok (rows, next)) (ordinary : is_system name ≡ false) where
+  pub insert_is : (listed : List Row) (bytes : List ℕ) (old_values values : List (List Datum)) → All (λ row. IsTrue (list_all has_place row)) rows → AreWritable pool.long t.columns rows
+      → old_values ≡ map (row_data pool) t.rows → values ≡ old_values ++ new_rows
+      → ((p : Pool) → values ≡ map (row_data p) rows → IsArranged (row_key_cmp p t.columns) rows listed) → IsWrittenAs pool.long t.columns listed bytes
+      → IsInsert (may_insert name) pool t new_rows bytes next
+  insert_is listed bytes old_values values places writable old new arranged w = record {
+    rows = rows;
+    accepted = ap (λ b. inserted (not b) pool t new_rows) ordinary ∙ accepted;
+    places = places;
+    writable = writable;
+    stored = w.stored;
+    by_keys = λ counted.
+        let adds : AddsRows pool t new_rows (rows, next) = of_ok (inserted true pool t new_rows) (AddsRows pool t new_rows) (rows, next) accepted (adds_rows true pool t new_rows counted) in
+        let said : values ≡ map (row_data next) rows = new ∙ ap (λ vs. vs ++ new_rows) old ∙ sym adds.rows in
+        (listed, arranged next said, w.is_stored);
+    written = w.written;
+  }

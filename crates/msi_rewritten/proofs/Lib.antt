@@ -1,0 +1,11 @@
+pub mod Beside
+pub mod Tables
+pub mod Texts
+pub mod Counted
+pub mod Names
+pub mod Stored
+pub mod Put
+pub mod Before
+pub mod Columns
+pub mod Inserted
+pub mod Edited

@@ -1,0 +1,12 @@
+pub mod Changes
+pub mod Exits
+pub mod Marks
+pub mod Naming
+pub mod Objects
+pub mod Outcomes
+pub mod Own
+pub mod PutParts
+pub mod Stored
+pub mod Streams
+pub mod Taken
+pub mod Unsigned

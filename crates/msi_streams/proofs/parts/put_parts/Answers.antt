@@ -1,0 +1,81 @@
+use Rattle.std.proofs.Common.{◌≡◌, [], ◌∷◌, inr, refl, Some}
+use Rattle.std.specs.Str.{chars}
+use Rattle.cfb.specs.Putting.{IsRefusedPut}
+use Rattle.cfb.specs.Views.{mini_of}
+use Rattle.cfb_entries.specs.Rules.{names_in}
+use Rattle.cfb_fat.specs.Resting.{all_rest_refl}
+use Rattle.cfb_mini.specs.Views.{allocator_of}
+use Rattle.cfb_owned.proofs.GoingOn.{fails_go_on, goes_then}
+use Rattle.msi_meaning.specs.Package.{summary_name}
+use Rattle.msi_streams.specs.Parts.{PartBytes}
+use Rattle.msi_streams.proofs.PutParts.{data_fault, parts_done, parts_failed, parts_unput, pool_fault, summary_fault}
+use Rattle.msi_streams.proofs.Unsigned.{both_answer, failed_answers}
+use Rattle.msi_streams.proofs.parts.put_parts.Goals as goal
+
+-- the summary's name is a path of one name
+summary_path : names_in summary_name ≡ Some (summary_name ∷ [])
+unfolding chars
+summary_path = refl
+
+pub returns-in-Err-clause-changes : goal.returns-in-Err-clause-changes
+returns-in-Err-clause-changes g c =
+    let parts : PartBytes = record { summary = c.args.summary.now; pool = c.args.pool.now; pool_data = c.args.pool_data.now } in
+    parts_unput parts c.args.file.now (names_in summary_name) c.put_stream.new.self c.in-Err.error c.in-Err.ensures.puts
+
+pub returns-in-Err-put_stream-clause-changes : goal.returns-in-Err-put_stream-clause-changes
+returns-in-Err-put_stream-clause-changes g c =
+    let parts : PartBytes = record { summary = c.args.summary.now; pool = c.args.pool.now; pool_data = c.args.pool_data.now } in
+    parts_failed parts c.args.file.now (names_in summary_name) summary_path c.put_stream.new.self _ c.in_default.ensures.puts c.put_stream-2.new.self c.fail.new.self c.in-Err-put_stream.error
+    c.put_stream-2.ensures.puts.seen c.fail.ensures.fails.sectors.failed c.fail.ensures.seen
+
+pub returns-clause-changes : goal.returns-clause-changes
+returns-clause-changes g c =
+    let parts : PartBytes = record { summary = c.args.summary.now; pool = c.args.pool.now; pool_data = c.args.pool_data.now } in
+    parts_done parts c.args.file.now (names_in summary_name) summary_path c.put_stream.new.self _ c.in_default.ensures.puts (names_in c.args.pool_path.now) (names_in c.args.data_path.now) c.requires.pool_at c.requires.data_at
+    c.put_stream-2.new.self c.put_stream-3.new.self _ _ c.in_default-put_stream.ensures.puts c.in_default-put_stream-2.ensures.puts
+
+pub returns-in-Err-put_stream-clause-goes_on : goal.returns-in-Err-put_stream-clause-goes_on
+returns-in-Err-put_stream-clause-goes_on g c =
+    let b = allocator_of (mini_of c.put_stream-2.new.self) in
+    fails_go_on 0 [] (allocator_of (mini_of c.args.file.now)) b b (allocator_of (mini_of c.fail.new.self)) (goes_then _ _ _ c.put_stream.ensures.goes_on c.put_stream-2.ensures.goes_on) (inr (all_rest_refl b)) c.fail.ensures.fails
+
+pub returns-in-Err-put_stream-clause-answers : goal.returns-in-Err-put_stream-clause-answers
+returns-in-Err-put_stream-clause-answers g c =
+    failed_answers IsRefusedPut (allocator_of (mini_of c.args.file.now)) (allocator_of (mini_of c.put_stream.new.self)) (allocator_of (mini_of c.put_stream-2.new.self)) _ c.in_default.ensures.answers
+    (allocator_of (mini_of c.fail.new.self)) c.in-Err-put_stream.error c.put_stream.ensures.goes_on c.in-Err-put_stream.ensures.answers c.fail.ensures.fails
+
+pub returns-clause-goes_on : goal.returns-clause-goes_on
+returns-clause-goes_on g c = goes_then _ _ _ c.put_stream.ensures.goes_on (goes_then _ _ _ c.put_stream-2.ensures.goes_on c.put_stream-3.ensures.goes_on)
+
+pub returns-in-Err-put_stream-2-clause-goes_on : goal.returns-in-Err-put_stream-2-clause-goes_on
+returns-in-Err-put_stream-2-clause-goes_on g c =
+    let b = allocator_of (mini_of c.put_stream-3.new.self) in
+    fails_go_on 0 [] (allocator_of (mini_of c.args.file.now)) b b (allocator_of (mini_of c.fail-in-Err-put_stream-2.new.self))
+    (goes_then _ _ _ c.put_stream.ensures.goes_on (goes_then _ _ _ c.put_stream-2.ensures.goes_on c.put_stream-3.ensures.goes_on)) (inr (all_rest_refl b)) c.fail-in-Err-put_stream-2.ensures.fails
+
+pub returns-in-Err-put_stream-2-clause-answers : goal.returns-in-Err-put_stream-2-clause-answers
+returns-in-Err-put_stream-2-clause-answers g c =
+    let a = allocator_of (mini_of c.args.file.now) in
+    let m = allocator_of (mini_of c.put_stream.new.self) in
+    let n = allocator_of (mini_of c.put_stream-2.new.self) in
+    failed_answers IsRefusedPut a n (allocator_of (mini_of c.put_stream-3.new.self)) tt (both_answer IsRefusedPut a m n _ c.in_default.ensures.answers _ c.in_default-put_stream.ensures.answers)
+    (allocator_of (mini_of c.fail-in-Err-put_stream-2.new.self)) c.in-Err-put_stream-2.error (goes_then _ _ _ c.put_stream.ensures.goes_on c.put_stream-2.ensures.goes_on) c.in-Err-put_stream-2.ensures.answers
+    c.fail-in-Err-put_stream-2.ensures.fails
+
+pub returns-in-Err-clause-refused : goal.returns-in-Err-clause-refused
+returns-in-Err-clause-refused g c =
+    let parts : PartBytes = record { summary = c.args.summary.now; pool = c.args.pool.now; pool_data = c.args.pool_data.now } in
+    summary_fault parts (names_in summary_name) (names_in c.args.pool_path.now) (names_in c.args.data_path.now) summary_path c.requires.pool_at c.requires.data_at c.args.file.now c.put_stream.new.self c.in-Err.error
+    c.in-Err.ensures.puts
+
+pub returns-in-Err-put_stream-clause-refused : goal.returns-in-Err-put_stream-clause-refused
+returns-in-Err-put_stream-clause-refused g c =
+    let parts : PartBytes = record { summary = c.args.summary.now; pool = c.args.pool.now; pool_data = c.args.pool_data.now } in
+    pool_fault parts (names_in summary_name) (names_in c.args.pool_path.now) (names_in c.args.data_path.now) summary_path c.requires.pool_at c.requires.data_at c.args.file.now c.put_stream.new.self _
+    c.in_default.ensures.puts c.put_stream-2.new.self c.in-Err-put_stream.error c.in-Err-put_stream.ensures.puts
+
+pub returns-in-Err-put_stream-2-clause-refused : goal.returns-in-Err-put_stream-2-clause-refused
+returns-in-Err-put_stream-2-clause-refused g c =
+    let parts : PartBytes = record { summary = c.args.summary.now; pool = c.args.pool.now; pool_data = c.args.pool_data.now } in
+    data_fault parts (names_in summary_name) (names_in c.args.pool_path.now) (names_in c.args.data_path.now) summary_path c.requires.pool_at c.requires.data_at c.args.file.now c.put_stream.new.self _
+    c.in_default.ensures.puts c.put_stream-2.new.self _ c.in_default-put_stream.ensures.puts c.put_stream-3.new.self c.in-Err-put_stream-2.error c.in-Err-put_stream-2.ensures.puts

@@ -1,0 +1,68 @@
+-- The pool and the summary of a package that are written to their streams.
+use Rattle.std.specs.Prelude.{◌≡◌, ◌<◌, ◌⊎◌, ℕ, true, false, length, List, Result, IsErrOf, OnErr, OnOk}
+use Rattle.cfb.specs.Doing.{Means}
+use Rattle.cfb.specs.Putting.{KeepsMeant}
+use Rattle.cfb.specs.Views.{letters_in, mini_of, sound_of, validation_of}
+use Rattle.cfb.specs.declared.compound_file.CompoundFile.{CompoundFile}
+use Rattle.cfb_fat.specs.Tables.{has_failed_here}
+use Rattle.cfb_medium.specs.declared.error.Error.{Error}
+use Rattle.cfb_medium.specs.declared.error.Error.TheVariants.{Failed, InvalidData}
+use Rattle.cfb_medium.specs.declared.medium.ReadMedium.{Ghosts}
+use Rattle.cfb_mini.specs.Views.{allocator_of}
+use Rattle.cfb_tree.specs.Names.{Letters}
+use Rattle.cfb_tree.specs.Tree.{Tree}
+use Rattle.msi_meaning.specs.Package.{Package as Packed}
+use Rattle.msi_pool.specs.Pool.{Pool, data_stream, pool_stream}
+use Rattle.msi_pool.specs.PoolState.{is_in_size}
+use Rattle.msi_props.specs.Props.{Props, props_bytes}
+use Rattle.msi_props.specs.Props.{is_in_size as set_is_in_size}
+use Rattle.msi_stored.specs.Changing.{StoresSound}
+use Rattle.msi_meaning.specs.Package.{data_name, objects, pool_name, stream_at, summary_name, table_stream}
+use Rattle.std.specs.Prelude.{Some}
+
+-- the three streams that the parts have
+pub record PartBytes : Type 0 where
+  pub summary : List ℕ
+  pub pool : List ℕ
+  pub pool_data : List ℕ
+
+-- those of a pool and a summary
+abbrev pub bytes_of_parts : Pool → Props → PartBytes
+bytes_of_parts pool summary = record { summary = props_bytes summary; pool = pool_stream pool; pool_data = data_stream pool }
+
+-- a stream of a part is longer than one can be, or the pool or the summary can't be written at all
+abbrev pub IsTooLong : ℕ → Pool → Props → Type 0
+IsTooLong most pool summary =
+    (set_is_in_size summary ≡ false) ⊎ (is_in_size pool ≡ false) ⊎ (most < length (props_bytes summary)) ⊎ (most < length (pool_stream pool)) ⊎ (most < length (data_stream pool))
+
+-- streams stand in the places of the three
+pub record HasThree (letters : Letters) (tree : Tree) : Type 0 where
+  pub summary : List ℕ
+  pub summary_at : stream_at letters (objects tree.content) summary_name ≡ Some summary
+  pub pool : List ℕ
+  pub pool_at : table_stream letters (objects tree.content) pool_name ≡ Some pool
+  pub pool_data : List ℕ
+  pub data_at : table_stream letters (objects tree.content) data_name ≡ Some pool_data
+
+module _ {F : Type 0} {g : Ghosts F} where
+  -- the file means a tree that stores the package still, and has these three streams
+  pub record HasParts (letters : Letters) (P : Packed) (parts : PartBytes) (new : CompoundFile F g) : Type 0 where
+    pub after : Tree
+    pub means : Means new after
+    pub stores : StoresSound letters after P
+    pub summary_at : stream_at letters (objects after.content) summary_name ≡ Some parts.summary
+    pub pool_at : table_stream letters (objects after.content) pool_name ≡ Some parts.pool
+    pub data_at : table_stream letters (objects after.content) data_name ≡ Some parts.pool_data
+
+  -- `Failed` after a fault, `InvalidData` where the file isn't sound; else the parts are written, and all else of the package stays.
+  -- After any error the file has failed, or means what it meant.
+  pub record PutsParts {T : Type 0} (parts : PartBytes) (result : Result T Error) (old new : CompoundFile F g) : Type 0 where
+    pub failed : has_failed_here (allocator_of (mini_of old)) ≡ true → IsErrOf result Failed
+    pub unsound : has_failed_here (allocator_of (mini_of old)) ≡ false → sound_of old ≡ false → IsErrOf result InvalidData
+    pub done : OnOk result ((tree : Tree) (P : Packed) → Means old tree → StoresSound (letters_in old) tree P → HasParts (letters_in old) P parts new)
+    pub rests : OnErr result ((has_failed_here (allocator_of (mini_of new)) ≡ true) ⊎ KeepsMeant old new)
+    pub seen : (letters_in new ≡ letters_in old) × (sound_of new ≡ sound_of old) × (validation_of new ≡ validation_of old)
+
+  -- of a file that has the three streams this is so
+  abbrev pub OfPackage : CompoundFile F g → Type 0 → Type 0
+  OfPackage it A = (tree : Tree) (P : Packed) → Means it tree → StoresSound (letters_in it) tree P → HasThree (letters_in it) tree → A
