@@ -24,7 +24,7 @@ use Rattle.cfb_sectors.specs.declared.validation.Validation.TheVariants.{Permiss
 use Rattle.cfb_tree.specs.Names.{Letters}
 use Rattle.cfb_tree.specs.Tree.{Tree}
 use Rattle.cfb.specs.Creating.{IsCreated}
-use Rattle.cfb.specs.Doing.{Means}
+use Rattle.cfb.specs.Doing.{FileMeans}
 use Rattle.cfb.specs.Opened.{IsOpenedAs}
 use Rattle.cfb.specs.Views.{letters_in, mini_of}
 use Rattle.cfb.specs.declared.compound_file.CompoundFile.{CompoundFile}
@@ -74,7 +74,7 @@ module _ (v : Version) (letters : Letters) (old now : List ℕ) (is : now ≡ ov
 
 module _ {F : Type 0} {g : Ghosts F} where
   -- the bytes that a file means mean its tree
-  meant_bytes : (it : CompoundFile F g) (tree : Tree) → Means it tree → meaning.Means (letters_in it) (bytes_of (allocator_of (mini_of it))) tree
+  meant_bytes : (it : CompoundFile F g) (tree : Tree) → FileMeans it tree → meaning.Means (letters_in it) (bytes_of (allocator_of (mini_of it))) tree
   unfolding live_of
   meant_bytes it tree m = (layout_of (live_of (mini_of it)) m.live.who m.live.held.root m.live.held.ids, means_is (live_of (mini_of it)) m.live.who (letters_in it) tree m.live.held)
 
@@ -99,5 +99,5 @@ module _ {F : Type 0} {g : Ghosts F} where
             let here : meaning.Means letters (g.bytes mid) meant.0 =
             subst (λ bs. meaning.Means letters bs meant.0) (opens.bytes (so is)) (subst (λ n. meaning.Means n (bytes_of (allocator_of (mini_of it))) meant.0) named (meant_bytes it meant.0 meant.1)) in
             let one = tree_unique letters (g.bytes mid) meant.0 empty_tree here (means_new v letters (g.bytes old) (g.bytes mid) (written is)) in
-            subst (λ (t : Tree). Means it t) one meant.1;
+            subst (λ (t : Tree). FileMeans it t) one meant.1;
       }

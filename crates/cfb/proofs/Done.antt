@@ -28,7 +28,7 @@ module _ {F : Type 0} {g : Ghosts F} {T : Type 0} (path : Option Path) (old new 
     unsound = λ _ unsound. let never : true ≡ false = sym is ∙ unsound in absurd (cc);
     done = λ tree m.
         let it = did.done tree m.live in
-        record { names = it.names; at_path = it.at_path; accepted = it.accepted; means = record { sound = sound ∙ is; live = subst (λ l. meaning.Means l (mini_of new) (tree_step (letters_in old) tree (call it.names)).0) (sym letters) it.means } };
+        record { names = it.names; at_path = it.at_path; accepted = it.accepted; means = record { sound = sound ∙ is; live = subst (λ l. meaning.MeansLive l (mini_of new) (tree_step (letters_in old) tree (call it.names)).0) (sym letters) it.means } };
     refused = tt;
     rests = tt;
     seen = (letters, sound, validation);

@@ -20,8 +20,8 @@ use Rattle.cfb_opening.specs.Opened as opening
 use Rattle.cfb_opening.proofs.Readings.{bytes_have_size, means_less}
 use Rattle.cfb_soundness.proofs.Refilling.{entries_same}
 use Rattle.cfb.specs.Opened.{IsOpenedAs}
-use Rattle.cfb.specs.Streams.{Holds}
-use Rattle.cfb.specs.Views.{letters_in, mini_of, Rests, Shows}
+use Rattle.cfb.specs.Streams.{FileHolds}
+use Rattle.cfb.specs.Views.{letters_in, mini_of, FileRests, FileShows}
 use Rattle.cfb.specs.declared.compound_file.CompoundFile.{CompoundFile}
 
 -- a meaning in whatever layout is one in the layout that is known
@@ -56,7 +56,7 @@ tree_held l Reads letters bytes tree means = record {
 
 module _ {F : Type 0} {g : Ghosts F} where
   -- reads keep the layout that memory shows
-  pub shows_yet : (old new : MiniAllocator F g) (bytes : List ℕ) (l : Layout) → mini.Rests old new → opening.Shows old bytes l → opening.Shows new bytes l
+  pub shows_yet : (old new : MiniAllocator F g) (bytes : List ℕ) (l : Layout) → mini.MiniRests old new → opening.MemoryShows old bytes l → opening.MemoryShows new bytes l
   shows_yet old new bytes l rests s =
       let r = rests.directory in
       record {
@@ -73,7 +73,7 @@ module _ {F : Type 0} {g : Ghosts F} where
       }
 
   pub holds_opened : (validation : Validation) (letters : Letters) (medium : F) (it : CompoundFile F g) (tree : Tree) → IsTrue (g.honest medium)
-      → opening.OpensAt medium (mini_of it) → letters_in it ≡ letters → IsOpenedAs validation letters (g.bytes medium) it → Means letters (g.bytes medium) tree → Holds it tree
+      → opening.OpensAt medium (mini_of it) → letters_in it ≡ letters → IsOpenedAs validation letters (g.bytes medium) it → Means letters (g.bytes medium) tree → FileHolds it tree
   holds_opened validation letters medium it tree is opens named opened means =
       let same = sym (opens.bytes is) in
       let here = meant_so letters (g.bytes medium) opened.layout opened.tree tree HasSize opened.opened.means means in
@@ -82,12 +82,12 @@ module _ {F : Type 0} {g : Ghosts F} where
         honest = subst IsTrue (sym opens.honest) is;
         memory = opens.memory;
         layout = opened.layout;
-        shows = subst (λ b. opening.Shows (mini_of it) b opened.layout) same opened.opened.shows;
+        shows = subst (λ b. opening.MemoryShows (mini_of it) b opened.layout) same opened.opened.shows;
         means = subst (λ n. MeansBy opened.layout (HasBytes (bytes_of (allocator_of (mini_of it))) opened.layout) n (bytes_of (allocator_of (mini_of it))) tree) (sym named)
             (subst (λ b. MeansBy opened.layout (HasBytes b opened.layout) letters b tree) same here);
       }
 
-  pub holds_yet : (old new : CompoundFile F g) (tree : Tree) → Rests old new → Holds old tree → Holds new tree
+  pub holds_yet : (old new : CompoundFile F g) (tree : Tree) → FileRests old new → FileHolds old tree → FileHolds new tree
   holds_yet old new tree rests h =
       let below = rests.mini.directory.allocator.sectors in
       let same = sym (below.bytes h.honest) in
@@ -96,25 +96,25 @@ module _ {F : Type 0} {g : Ghosts F} where
         honest = subst IsTrue (sym below.honest) h.honest;
         memory = rests.mini.kept h.memory;
         layout = h.layout;
-        shows = subst (λ b. opening.Shows (mini_of new) b h.layout) same (shows_yet (mini_of old) (mini_of new) _ h.layout rests.mini h.shows);
+        shows = subst (λ b. opening.MemoryShows (mini_of new) b h.layout) same (shows_yet (mini_of old) (mini_of new) _ h.layout rests.mini h.shows);
         means = subst (λ n. MeansBy h.layout (HasBytes (bytes_of (allocator_of (mini_of new))) h.layout) n (bytes_of (allocator_of (mini_of new))) tree) (sym rests.letters)
             (subst (λ b. MeansBy h.layout (HasBytes b h.layout) (letters_in old) b tree) same h.means);
       }
 
-  pub shown_yet : (old new : CompoundFile F g) (tree : Tree) → Rests old new → Shows old tree → Shows new tree
+  pub shown_yet : (old new : CompoundFile F g) (tree : Tree) → FileRests old new → FileShows old tree → FileShows new tree
   shown_yet old new tree rests h =
       subst (λ n. HoldsTree n HasSize (entries_held (directory_of (mini_of new))) tree) (sym rests.letters)
       (subst (λ es. HoldsTree (letters_in old) HasSize es tree) (sym rests.mini.directory.entries) h)
 
   -- with their bytes the entries in memory hold it
-  pub entries_hold : (it : CompoundFile F g) (tree : Tree) (h : Holds it tree)
+  pub entries_hold : (it : CompoundFile F g) (tree : Tree) (h : FileHolds it tree)
       → HoldsTree (letters_in it) (HasBytes (bytes_of (allocator_of (mini_of it))) h.layout) (entries_held (directory_of (mini_of it))) tree
   entries_hold it tree h =
       subst (λ es. HoldsTree (letters_in it) (HasBytes (bytes_of (allocator_of (mini_of it))) h.layout) es tree) (sym h.shows.entries)
       (tree_held h.layout (HasBytes (bytes_of (allocator_of (mini_of it))) h.layout) (letters_in it) (bytes_of (allocator_of (mini_of it))) tree h.means)
 
   -- and so it shows it
-  pub holds_shown : (it : CompoundFile F g) (tree : Tree) → Holds it tree → Shows it tree
+  pub holds_shown : (it : CompoundFile F g) (tree : Tree) → FileHolds it tree → FileShows it tree
   holds_shown it tree h =
       let bytes = bytes_of (allocator_of (mini_of it)) in
       subst (λ es. HoldsTree (letters_in it) HasSize es tree) (sym h.shows.entries)

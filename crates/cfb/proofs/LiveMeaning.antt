@@ -13,14 +13,14 @@ use Rattle.cfb_tree.specs.Tree.{Tree}
 use Rattle.cfb_live.specs.Live.{live_of}
 use Rattle.cfb_live.specs.Live as live
 use Rattle.cfb_live.proofs.Resting.{keeps_rests, means_stays}
-use Rattle.cfb.specs.Doing.{Keeps, Means}
-use Rattle.cfb.specs.Streams.{Holds}
-use Rattle.cfb.specs.Views.{letters_in, mini_of, Rests}
+use Rattle.cfb.specs.Doing.{FileKeeps, FileMeans}
+use Rattle.cfb.specs.Streams.{FileHolds}
+use Rattle.cfb.specs.Views.{letters_in, mini_of, FileRests}
 use Rattle.cfb.specs.declared.compound_file.CompoundFile.{CompoundFile}
 
 module _ {F : Type 0} {g : Ghosts F} where
   -- memory shows the layout in which each owner has its sectors
-  shows_so : (letters : Letters) (it : MiniAllocator F g) (tree : Tree) (m : live.Means letters it tree) → opening.Shows it (bytes_of (allocator_of it)) (layout_of (live_of it) m.who m.held.root m.held.ids)
+  shows_so : (letters : Letters) (it : MiniAllocator F g) (tree : Tree) (m : live.MeansLive letters it tree) → opening.MemoryShows it (bytes_of (allocator_of it)) (layout_of (live_of it) m.who m.held.root m.held.ids)
   unfolding live_of
   shows_so letters it tree m =
       let k = m.held.kept in record {
@@ -36,7 +36,7 @@ module _ {F : Type 0} {g : Ghosts F} where
         entries = k.entries;
       }
 
-  pub holds_meant : (it : CompoundFile F g) (tree : Tree) → Means it tree → Holds it tree
+  pub holds_meant : (it : CompoundFile F g) (tree : Tree) → FileMeans it tree → FileHolds it tree
   unfolding live_of
   holds_meant it tree m = record {
     live = m.live.live;
@@ -47,11 +47,11 @@ module _ {F : Type 0} {g : Ghosts F} where
     means = means_is (live_of (mini_of it)) m.live.who (letters_in it) tree m.live.held;
   }
 
-  pub means_kept : (old new : CompoundFile F g) (tree : Tree) → Keeps old new → Means old tree → Means new tree
+  pub means_kept : (old new : CompoundFile F g) (tree : Tree) → FileKeeps old new → FileMeans old tree → FileMeans new tree
   means_kept old new tree k m = record {
     sound = k.sound ∙ m.sound;
-    live = subst (λ l. live.Means l (mini_of new) tree) (sym k.letters) (means_stays (mini_of old) (mini_of new) k.mini (letters_in old) tree m.live);
+    live = subst (λ l. live.MeansLive l (mini_of new) tree) (sym k.letters) (means_stays (mini_of old) (mini_of new) k.mini (letters_in old) tree m.live);
   }
 
-  pub means_read : (old new : CompoundFile F g) (tree : Tree) → Rests old new → Means old tree → Means new tree
+  pub means_read : (old new : CompoundFile F g) (tree : Tree) → FileRests old new → FileMeans old tree → FileMeans new tree
   means_read old new tree r m = means_kept old new tree (record { mini = keeps_rests (mini_of old) (mini_of new) r.mini; letters = r.letters; sound = r.sound }) m

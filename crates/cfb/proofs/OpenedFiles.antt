@@ -9,7 +9,7 @@ use Rattle.cfb_directory.specs.Taken.{HasSize}
 use Rattle.cfb_directory.specs.Views.{entries_held}
 use Rattle.cfb_mini.specs.Views.{allocator_of, directory_of}
 use Rattle.cfb_mini.specs.declared.mini_allocator.MiniAllocator.{MiniAllocator}
-use Rattle.cfb_opening.specs.Opened.{OpensAt, Shows}
+use Rattle.cfb_opening.specs.Opened.{OpensAt, MemoryShows}
 use Rattle.cfb_opening.specs.Tables.{OnlyReads}
 use Rattle.cfb_soundness.specs.Views.{LiesSo}
 use Rattle.cfb_tree.specs.Names.{Letters}
@@ -33,7 +33,7 @@ module _ {F : Type 0} {g : Ghosts F} where
   left_since old it opens = record { as_honest = opens.honest; same = opens.bytes; extends = opens.continues }
 
   -- memory is that of the bytes, laid out as it shows
-  pub lies_so : (old : F) (it : MiniAllocator F g) (l : Layout) → IsTrue (g.honest old) → OpensAt old it → Shows it (g.bytes old) l → LiesSo it l
+  pub lies_so : (old : F) (it : MiniAllocator F g) (l : Layout) → IsTrue (g.honest old) → OpensAt old it → MemoryShows it (g.bytes old) l → LiesSo it l
   lies_so old it l is opens shows = record {
     live = opens.live;
     honest = subst IsTrue (sym opens.honest) is;
@@ -48,7 +48,7 @@ module _ {F : Type 0} {g : Ghosts F} where
 
   -- the entries in memory hold the tree that the bytes mean
   pub holds_so : (it : MiniAllocator F g) (bytes : List ℕ) (l : Layout) (letters : Letters) (tree : Tree)
-      → Shows it bytes l → MeansBy l HasSize letters bytes tree → HoldsTree letters HasSize (entries_held (directory_of it)) tree
+      → MemoryShows it bytes l → MeansBy l HasSize letters bytes tree → HoldsTree letters HasSize (entries_held (directory_of it)) tree
   holds_so it bytes l letters tree shows means = subst (λ es. HoldsTree letters HasSize es tree) (sym shows.entries) (record {
     root = l.root;
     root_found = means.laid_out.root_found;
@@ -64,7 +64,7 @@ module _ {F : Type 0} {g : Ghosts F} where
 
   -- it was judged, by so many bytes, whether the bytes are sound
   pub judged_so : (old : F) (it : MiniAllocator F g) (l : Layout) (letters : Letters) (tree : Tree) (len : ℕ) (sound : Bool) → IsTrue (g.honest old) → OpensAt old it
-      → Shows it (g.bytes old) l → MeansBy l HasSize letters (g.bytes old) tree → len ≡ length (g.bytes old)
+      → MemoryShows it (g.bytes old) l → MeansBy l HasSize letters (g.bytes old) tree → len ≡ length (g.bytes old)
       → ((letters : Letters) (l : Layout) (tree : Tree) → LiesSo it l → len ≡ length (bytes_of (allocator_of it))
       → MeansBy l HasSize letters (bytes_of (allocator_of it)) tree → IsTrue sound ↔ IsSound letters (bytes_of (allocator_of it)))
       → IsTrue sound ↔ IsSound letters (g.bytes old)

@@ -27,12 +27,12 @@ use Rattle.cfb_owners.specs.Held.{MeansHeld}
 use Rattle.cfb_owners.proofs.HeldIs.{held_is}
 use Rattle.cfb_owners.proofs.KeysOfParts.{sectors_of_map}
 use Rattle.cfb_owners.proofs.UsesOwned.{owners_of, used}
-use Rattle.cfb_opening.specs.Opened.{OpensAt, Shows}
+use Rattle.cfb_opening.specs.Opened.{OpensAt, MemoryShows}
 use Rattle.cfb_soundness.specs.Views.{LiesSo}
 use Rattle.cfb_soundness.proofs.InMemory.{count_is, entries_are, fat_is, mini_fat_is}
 use Rattle.cfb_soundness.proofs.Judged.{judged_from_sound}
 use Rattle.cfb_soundness.proofs.Refilling.{entries_same}
-use Rattle.cfb_live.specs.Live.{live_of, Means}
+use Rattle.cfb_live.specs.Live.{live_of, MeansLive}
 use Rattle.cfb.proofs.OpenedFiles.{lies_so}
 use Rattle.cfb.proofs.OnceByTimes.{once_by_times, times_append}
 
@@ -127,7 +127,7 @@ module _ {F : Type 0} {g : Ghosts F} (it : MiniAllocator F g) (letters : Letters
       let same = layout_same bytes l k m.laid_out s.means.laid_out entries in
       (other, subst (λ (x : Layout). IsSoundBy x letters bytes other) same s)
 
-  pub sound_means : IsSound letters bytes → (other : Tree) × Means letters it other
+  pub sound_means : IsSound letters bytes → (other : Tree) × MeansLive letters it other
   unfolding live_of
   sound_means sound =
       let s = sound_so sound in
@@ -154,8 +154,8 @@ module _ {F : Type 0} {g : Ghosts F} (it : MiniAllocator F g) (letters : Letters
 
 module _ {F : Type 0} {g : Ghosts F} where
   -- so it is of a medium that was opened
-  pub means_so : (old : F) (it : MiniAllocator F g) (l : Layout) (letters : Letters) (tree : Tree) → IsTrue (g.honest old) → OpensAt old it → Shows it (g.bytes old) l → MeansBy l HasSize letters (g.bytes old) tree
-      → IsSound letters (g.bytes old) → (other : Tree) × Means letters it other
+  pub means_so : (old : F) (it : MiniAllocator F g) (l : Layout) (letters : Letters) (tree : Tree) → IsTrue (g.honest old) → OpensAt old it → MemoryShows it (g.bytes old) l → MeansBy l HasSize letters (g.bytes old) tree
+      → IsSound letters (g.bytes old) → (other : Tree) × MeansLive letters it other
   means_so old it l letters tree is opens shows means sound =
       let same = sym (opens.bytes is) in
       sound_means it letters l tree (lies_so old it l is opens shows) opens.sizes (subst (λ b. MeansBy l HasSize letters b tree) same means) (subst (IsSound letters) same sound)

@@ -12,21 +12,21 @@ use Rattle.cfb_live.specs.Live.{live_of}
 use Rattle.cfb_live.specs.Live as live
 use Rattle.cfb_meaning.specs.Means.{HasBytes, Layout, MeansBy}
 use Rattle.cfb_mini.specs.Changing.{HasOwners}
-use Rattle.cfb_mini.specs.Views.{allocator_of, directory_of, KeepsMemory}
+use Rattle.cfb_mini.specs.Views.{allocator_of, directory_of, MiniKeepsMemory}
 use Rattle.cfb_mini.specs.declared.mini_allocator.MiniAllocator.{MiniAllocator}
 use Rattle.cfb_opening.specs.Opened as opening
 use Rattle.cfb_owners.specs.Held.{MeansHeld}
 use Rattle.cfb_tree.specs.Names.{Letters}
 use Rattle.cfb_tree.specs.Objects.{HoldsTree}
 use Rattle.cfb_tree.specs.Tree.{Tree}
-use Rattle.cfb.specs.Doing.{Means}
+use Rattle.cfb.specs.Doing.{FileMeans}
 use Rattle.cfb.specs.Publishing.{Publishes}
-use Rattle.cfb.specs.Streams.{Holds}
-use Rattle.cfb.specs.Views.{letters_in, mini_of, sound_of, Shows}
+use Rattle.cfb.specs.Streams.{FileHolds}
+use Rattle.cfb.specs.Views.{letters_in, mini_of, sound_of, FileShows}
 use Rattle.cfb.specs.declared.compound_file.CompoundFile.{CompoundFile}
 
 -- of the layer below, with its memory and bytes as they were
-module _ {F : Type 0} {g : Ghosts F} (old new : MiniAllocator F g) (k : KeepsMemory old new)
+module _ {F : Type 0} {g : Ghosts F} (old new : MiniAllocator F g) (k : MiniKeepsMemory old new)
     (same : IsTrue (is_honest (allocator_of old)) → bytes_of (allocator_of new) ≡ bytes_of (allocator_of old)) where
   same_file : IsTrue (is_honest (allocator_of old)) → live_of new ≡ live_of old
   unfolding live_of
@@ -56,7 +56,7 @@ module _ {F : Type 0} {g : Ghosts F} (old new : MiniAllocator F g) (k : KeepsMem
         mini_stream = h.mini_stream ∙ sym k.mini_stream_ids;
       }
 
-  means_below : has_failed_here (allocator_of new) ≡ false → (letters : Letters) (tree : Tree) → live.Means letters old tree → live.Means letters new tree
+  means_below : has_failed_here (allocator_of new) ≡ false → (letters : Letters) (tree : Tree) → live.MeansLive letters old tree → live.MeansLive letters new tree
   means_below alive letters tree m =
       let t = k.directory.tables in record {
         live = alive;
@@ -67,7 +67,7 @@ module _ {F : Type 0} {g : Ghosts F} (old new : MiniAllocator F g) (k : KeepsMem
         held = subst (λ s. MeansHeld s m.who letters tree) (sym (same_file m.owners.honest)) m.held;
       }
 
-  shows_below : (bytes : List ℕ) (l : Layout) → opening.Shows old bytes l → opening.Shows new bytes l
+  shows_below : (bytes : List ℕ) (l : Layout) → opening.MemoryShows old bytes l → opening.MemoryShows new bytes l
   shows_below bytes l s =
       let t = k.directory.tables in
       record {
@@ -83,16 +83,16 @@ module _ {F : Type 0} {g : Ghosts F} (old new : MiniAllocator F g) (k : KeepsMem
         entries = k.directory.entries ∙ s.entries;
       }
 
-module _ {F : Type 0} {g : Ghosts F} (old new : CompoundFile F g) (k : KeepsMemory (mini_of old) (mini_of new))
+module _ {F : Type 0} {g : Ghosts F} (old new : CompoundFile F g) (k : MiniKeepsMemory (mini_of old) (mini_of new))
     (same : IsTrue (is_honest (allocator_of (mini_of old))) → bytes_of (allocator_of (mini_of new)) ≡ bytes_of (allocator_of (mini_of old)))
     (letters : letters_in new ≡ letters_in old) where
-  pub means_published : sound_of new ≡ sound_of old → has_failed_here (allocator_of (mini_of new)) ≡ false → (tree : Tree) → Means old tree → Means new tree
+  pub means_published : sound_of new ≡ sound_of old → has_failed_here (allocator_of (mini_of new)) ≡ false → (tree : Tree) → FileMeans old tree → FileMeans new tree
   means_published sound alive tree m = record {
     sound = sound ∙ m.sound;
-    live = subst (λ l. live.Means l (mini_of new) tree) (sym letters) (means_below (mini_of old) (mini_of new) k same alive (letters_in old) tree m.live);
+    live = subst (λ l. live.MeansLive l (mini_of new) tree) (sym letters) (means_below (mini_of old) (mini_of new) k same alive (letters_in old) tree m.live);
   }
 
-  pub holds_published : has_failed_here (allocator_of (mini_of new)) ≡ false → (tree : Tree) → Holds old tree → Holds new tree
+  pub holds_published : has_failed_here (allocator_of (mini_of new)) ≡ false → (tree : Tree) → FileHolds old tree → FileHolds new tree
   holds_published alive tree h =
       let bytes = sym (same h.honest) in
       record {
@@ -100,18 +100,18 @@ module _ {F : Type 0} {g : Ghosts F} (old new : CompoundFile F g) (k : KeepsMemo
         honest = subst IsTrue (sym k.directory.honest) h.honest;
         memory = k.kept h.memory;
         layout = h.layout;
-        shows = subst (λ b. opening.Shows (mini_of new) b h.layout) bytes (shows_below (mini_of old) (mini_of new) k same _ h.layout h.shows);
+        shows = subst (λ b. opening.MemoryShows (mini_of new) b h.layout) bytes (shows_below (mini_of old) (mini_of new) k same _ h.layout h.shows);
         means = subst (λ n. MeansBy h.layout (HasBytes (bytes_of (allocator_of (mini_of new))) h.layout) n (bytes_of (allocator_of (mini_of new))) tree) (sym letters)
             (subst (λ b. MeansBy h.layout (HasBytes b h.layout) (letters_in old) b tree) bytes h.means);
       }
 
-  pub shown_published : (tree : Tree) → Shows old tree → Shows new tree
+  pub shown_published : (tree : Tree) → FileShows old tree → FileShows new tree
   shown_published tree h =
       subst (λ n. HoldsTree n HasSize (entries_held (directory_of (mini_of new))) tree) (sym letters)
       (subst (λ es. HoldsTree (letters_in old) HasSize es tree) (sym k.directory.entries) h)
 
 module _ {F : Type 0} {g : Ghosts F} (has_published : F → List ℕ → Type 0) (old new : CompoundFile F g) where
-  pub published_so : {T E : Type 0} (r : Result T E) → KeepsMemory (mini_of old) (mini_of new) → letters_in new ≡ letters_in old → sound_of new ≡ sound_of old
+  pub published_so : {T E : Type 0} (r : Result T E) → MiniKeepsMemory (mini_of old) (mini_of new) → letters_in new ≡ letters_in old → sound_of new ≡ sound_of old
       → (IsTrue (is_honest (allocator_of (mini_of old))) → OnOk r (has_published (medium_of (allocator_of (mini_of new))) (bytes_of (allocator_of (mini_of old)))))
       → (has_failed_here (allocator_of (mini_of new)) ≡ false → IsTrue (is_honest (allocator_of (mini_of old))) → bytes_of (allocator_of (mini_of new)) ≡ bytes_of (allocator_of (mini_of old)))
       → OnOk r (has_failed_here (allocator_of (mini_of new)) ≡ false) → OnOk r (Publishes has_published old new)

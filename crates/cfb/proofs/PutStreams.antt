@@ -2,7 +2,7 @@
 use Rattle.std.proofs.Common.{◌≡◌, Bool, true, false, inl, inr, List, ℕ, refl, ap, sym, subst, ◌∙◌, ⊎_elim}
 use Rattle.std.specs.Prelude.{Err, None, Ok, Option, Result, Some}
 use Rattle.cfb_entries.specs.Rules.{answer_at}
-use Rattle.cfb_fat.specs.Calls.{Answers}
+use Rattle.cfb_fat.specs.Calls.{FatAnswers}
 use Rattle.cfb_fat.specs.Keeping.{fails_cause}
 use Rattle.cfb_fat.specs.Tables.{has_failed_here, AllFails}
 use Rattle.cfb_fat.specs.declared.allocator.Allocator.{Allocator}
@@ -20,9 +20,9 @@ use Rattle.cfb_tree.specs.Objects.{object_at}
 use Rattle.cfb_tree.specs.Paths.{Path}
 use Rattle.cfb_tree.specs.Tree.{Tree}
 use Rattle.cfb_tree.proofs.OneContent.{Some_same}
-use Rattle.cfb.specs.Doing.{Does, Keeps, Means}
-use Rattle.cfb.specs.Putting.{answer_by, putting, rewriting, IsRefusedPut, IsRefusedRewriting, KeepsMeant, Puts}
-use Rattle.cfb.specs.Views.{letters_in, mini_of, said_at, sound_of, validation_of, Shows}
+use Rattle.cfb.specs.Doing.{Does, FileKeeps, FileMeans}
+use Rattle.cfb.specs.Putting.{answer_by, putting, rewriting, IsRefusedPut, IsRefusedRewriting, KeepsMeant, FilePuts}
+use Rattle.cfb.specs.Views.{letters_in, mini_of, said_at, sound_of, validation_of, FileShows}
 use Rattle.cfb.specs.declared.compound_file.CompoundFile.{CompoundFile}
 use Rattle.cfb.proofs.Holding.{holds_shown}
 use Rattle.cfb.proofs.LiveMeaning.{holds_meant, means_kept}
@@ -49,12 +49,12 @@ module _ (letters : Letters) (tree : Tree) (bytes : List ℕ) where
 
 module _ {F : Type 0} {g : Ghosts F} where
   -- a file that means a tree shows it
-  pub means_shown : (it : CompoundFile F g) (tree : Tree) → Means it tree → Shows it tree
+  pub means_shown : (it : CompoundFile F g) (tree : Tree) → FileMeans it tree → FileShows it tree
   means_shown it tree m = holds_shown it tree (holds_meant it tree m)
 
   module _ (path : Option Path) (bytes : List ℕ) (old : CompoundFile F g) where
     -- LAW: where a stream is at the path it is rewritten
-    pub puts_there : (new : CompoundFile F g) (r : Result (Unit {0}) Error) → ((tree : Tree) → Shows old tree → yes true ≡ said_at (letters_in old) tree is_stream path) → Puts (rewriting bytes) path r old new → Puts (putting bytes) path r old new
+    pub puts_there : (new : CompoundFile F g) (r : Result (Unit {0}) Error) → ((tree : Tree) → FileShows old tree → yes true ≡ said_at (letters_in old) tree is_stream path) → FilePuts (rewriting bytes) path r old new → FilePuts (putting bytes) path r old new
     puts_there new (Ok x) said p = record {
       failed = p.failed;
       unsound = p.unsound;
@@ -62,7 +62,7 @@ module _ {F : Type 0} {g : Ghosts F} where
           let d = p.done tree m in
           let there = said_so (letters_in old) tree d.names true (subst (λ q. yes true ≡ said_at (letters_in old) tree is_stream q) d.at_path (said tree (means_shown old tree m))) in
           let same = put_there (letters_in old) tree d.names bytes there in
-          record { names = d.names; at_path = d.at_path; accepted = ap (λ (o : Outcome). o.1) same ∙ d.accepted; means = subst (Means new) (ap (λ (o : Outcome). o.0) (sym same)) d.means };
+          record { names = d.names; at_path = d.at_path; accepted = ap (λ (o : Outcome). o.1) same ∙ d.accepted; means = subst (FileMeans new) (ap (λ (o : Outcome). o.0) (sym same)) d.means };
       refused = tt;
       rests = tt;
       seen = p.seen;
@@ -77,8 +77,8 @@ module _ {F : Type 0} {g : Ghosts F} where
     }
 
     -- LAW: where none is made none is put
-    pub puts_refused : (new : CompoundFile F g) (e : Error) → ((tree : Tree) → Shows old tree → yes false ≡ said_at (letters_in old) tree is_stream path) → Does {T = Unit {0}} path (λ names. create_new_stream names) (Err e) old new
-        → Puts {T = Unit {0}} (putting bytes) path (Err e) old new
+    pub puts_refused : (new : CompoundFile F g) (e : Error) → ((tree : Tree) → FileShows old tree → yes false ≡ said_at (letters_in old) tree is_stream path) → Does {T = Unit {0}} path (λ names. create_new_stream names) (Err e) old new
+        → FilePuts {T = Unit {0}} (putting bytes) path (Err e) old new
     puts_refused new e said did = record {
       failed = did.failed;
       unsound = λ live unsound. (did.unsound live unsound).0;
@@ -88,13 +88,13 @@ module _ {F : Type 0} {g : Ghosts F} where
       seen = did.seen;
     }
       where
-        keeps : Keeps old new → KeepsMeant old new
+        keeps : FileKeeps old new → KeepsMeant old new
         keeps k = record { means = λ tree m. means_kept old new tree k m }
 
     module _ (mid : CompoundFile F g) (x : Unit {0}) (did : Does {T = Unit {0}} path (λ names. create_new_stream names) (Ok x) old mid) where
       -- LAW: one was made, and its bytes were not written: then the file has failed
-      pub puts_failed : (b new : CompoundFile F g) (e : Error) → Puts {T = Unit {0}} (rewriting bytes) path (Err e) mid b → has_failed_here (allocator_of (mini_of new)) ≡ true
-          → (letters_in new ≡ letters_in b) × (sound_of new ≡ sound_of b) × (validation_of new ≡ validation_of b) → Puts {T = Unit {0}} (putting bytes) path (Err e) old new
+      pub puts_failed : (b new : CompoundFile F g) (e : Error) → FilePuts {T = Unit {0}} (rewriting bytes) path (Err e) mid b → has_failed_here (allocator_of (mini_of new)) ≡ true
+          → (letters_in new ≡ letters_in b) × (sound_of new ≡ sound_of b) × (validation_of new ≡ validation_of b) → FilePuts {T = Unit {0}} (putting bytes) path (Err e) old new
       puts_failed b new e p failed seen = record {
         failed = λ before. let never = did.failed before in absurd (cc);
         unsound = λ live unsound. let never = (did.unsound live unsound).0 in absurd (cc);
@@ -104,7 +104,7 @@ module _ {F : Type 0} {g : Ghosts F} where
         seen = (seen.0 ∙ p.seen.0 ∙ did.seen.0, seen.1 ∙ p.seen.1 ∙ did.seen.1, seen.2 ∙ p.seen.2 ∙ did.seen.2);
       }
         where
-          why : (tree : Tree) → Means old tree → IsFault e
+          why : (tree : Tree) → FileMeans old tree → IsFault e
           why tree m =
               let d = did.done tree m in
               let later = (tree_step (letters_in old) tree (create_new_stream d.names)).0 in
@@ -116,7 +116,7 @@ module _ {F : Type 0} {g : Ghosts F} where
               (p.refused later d.means)
 
       -- LAW: one was made, and got its bytes
-      pub puts_done : (new : CompoundFile F g) → Puts {T = Unit {0}} (rewriting bytes) path (Ok tt) mid new → Puts {T = Unit {0}} (putting bytes) path (Ok tt) old new
+      pub puts_done : (new : CompoundFile F g) → FilePuts {T = Unit {0}} (rewriting bytes) path (Ok tt) mid new → FilePuts {T = Unit {0}} (putting bytes) path (Ok tt) old new
       puts_done new p = record {
         failed = λ before. let never = did.failed before in absurd (cc);
         unsound = λ live unsound. let never = (did.unsound live unsound).0 in absurd (cc);
@@ -126,13 +126,13 @@ module _ {F : Type 0} {g : Ghosts F} where
             let both = put_new (letters_in old) tree d.names bytes d.accepted later refl in
             let q = p.done later d.means in
             let names : q.names ≡ d.names = Some_same (sym q.at_path ∙ d.at_path) in
-            let there : Means new (rewriting bytes (letters_in old) later d.names).0 =
-            subst (λ l. Means new (rewriting bytes l later d.names).0) did.seen.0 (subst (λ n. Means new (rewriting bytes (letters_in mid) later n).0) names q.means) in
+            let there : FileMeans new (rewriting bytes (letters_in old) later d.names).0 =
+            subst (λ l. FileMeans new (rewriting bytes l later d.names).0) did.seen.0 (subst (λ n. FileMeans new (rewriting bytes (letters_in mid) later n).0) names q.means) in
             record {
               names = d.names;
               at_path = d.at_path;
               accepted = ap (λ (o : Outcome). o.1) both.1;
-              means = subst (Means new) (ap (λ (o : Outcome). o.0) (both.0 ∙ sym both.1)) there;
+              means = subst (FileMeans new) (ap (λ (o : Outcome). o.0) (both.0 ∙ sym both.1)) there;
             };
         refused = tt;
         rests = tt;
@@ -141,8 +141,8 @@ module _ {F : Type 0} {g : Ghosts F} where
 
   -- ---- errors and their causes
 
-  module _ (a m b : Allocator F g) (x : Unit {0}) (made : Answers {T = Unit {0}} IsRefusedMade (Ok x) a m) where
-    pub put_failed_answers : (c : Allocator F g) (e : Error) → GoesOn a m → Answers {T = Unit {0}} IsRefusedRewriting (Err e) m b → AllFails b c → Answers {T = Unit {0}} IsRefusedPut (Err e) a c
+  module _ (a m b : Allocator F g) (x : Unit {0}) (made : FatAnswers {T = Unit {0}} IsRefusedMade (Ok x) a m) where
+    pub put_failed_answers : (c : Allocator F g) (e : Error) → GoesOn a m → FatAnswers {T = Unit {0}} IsRefusedRewriting (Err e) m b → AllFails b c → FatAnswers {T = Unit {0}} IsRefusedPut (Err e) a c
     put_failed_answers c e goes told fails = record {
       live = tt;
       failed = λ failed. let before = made.live.0 in absurd (cc);

@@ -4,7 +4,7 @@ use Rattle.std.proofs.lemmas.List.{drop_all}
 use Rattle.std.specs.Prelude.{Err, Ok, IsErrOf, None, Option, Result, Some}
 use Rattle.cfb_chains.specs.ChainCalls.{IsInvalidPlace}
 use Rattle.cfb_entries.specs.Rules.{answer_at}
-use Rattle.cfb_fat.specs.Calls.{Answers}
+use Rattle.cfb_fat.specs.Calls.{FatAnswers}
 use Rattle.cfb_fat.specs.Keeping.{rests_cause}
 use Rattle.cfb_fat.specs.Resting.{all_rest_then}
 use Rattle.cfb_fat.specs.Tables.{has_failed_here, version_of, AllRests, HasCauseBelow}
@@ -28,11 +28,11 @@ use Rattle.cfb_tree.specs.Paths.{Path}
 use Rattle.cfb_tree.specs.Tree.{Tree}
 use Rattle.cfb_writing.specs.Streams.{resized}
 use Rattle.cfb_writing.proofs.LongBytes.{length-resized}
-use Rattle.cfb.specs.Doing.{Means}
-use Rattle.cfb.specs.Putting.{answer_by, rewriting, IsRefusedOpening, IsRefusedRewriting, KeepsMeant, Puts}
+use Rattle.cfb.specs.Doing.{FileMeans}
+use Rattle.cfb.specs.Putting.{answer_by, rewriting, IsRefusedOpening, IsRefusedRewriting, KeepsMeant, FilePuts}
 use Rattle.cfb.specs.Streams.{IsWant}
-use Rattle.cfb.specs.Views.{letters_in, mini_of, sound_of, validation_of, Rests}
-use Rattle.cfb.specs.Writing.{FindsWritten, IsLostAt, IsWritten, KeepsAt, RewritesAt}
+use Rattle.cfb.specs.Views.{letters_in, mini_of, sound_of, validation_of, FileRests}
+use Rattle.cfb.specs.Writing.{FindsWritten, IsLostAt, StreamIsWritten, KeepsAt, RewritesAt}
 use Rattle.cfb.specs.declared.compound_file.CompoundFile.{CompoundFile}
 use Rattle.cfb.proofs.Standing.{err_as}
 use Rattle.cfb.proofs.Wants.{want_cause, want_fault as why_fault}
@@ -77,23 +77,23 @@ module _ (letters : Letters) (tree : Tree) (bytes : List ℕ) where
 
 module _ {F : Type 0} {g : Ghosts F} where
   -- a file that was only read means what it meant
-  pub rests_mean : (old new : CompoundFile F g) → Rests old new → KeepsMeant old new
+  pub rests_mean : (old new : CompoundFile F g) → FileRests old new → KeepsMeant old new
   rests_mean old new r = record {
     means = λ tree m. record {
       sound = r.sound ∙ m.sound;
-      live = subst (λ l. live.Means l (mini_of new) tree) (sym r.letters) (means_stays (mini_of old) (mini_of new) (keeps_rests (mini_of old) (mini_of new) r.mini) (letters_in old) tree m.live);
+      live = subst (λ l. live.MeansLive l (mini_of new) tree) (sym r.letters) (means_stays (mini_of old) (mini_of new) (keeps_rests (mini_of old) (mini_of new) r.mini) (letters_in old) tree m.live);
     };
   }
 
   pub want_fault : (it : CompoundFile F g) (e : Error) → IsWant it e → IsFault e
   want_fault it e = ⊎_elim (λ memory. subst IsFault (sym memory) (inl tt)) (λ failed. subst IsFault (sym failed.0) (inl tt))
 
-  module _ (path : Option Path) (bytes : List ℕ) (old mid new : CompoundFile F g) (r : Rests old mid) where
+  module _ (path : Option Path) (bytes : List ℕ) (old mid new : CompoundFile F g) (r : FileRests old mid) where
     -- LAW: no stream was found
     pub not_found : {S : Type 0} (e : Error) → (has_failed_here (allocator_of (mini_of old)) ≡ true → IsErrOf {T = S} (Err e) Failed)
         → (has_failed_here (allocator_of (mini_of old)) ≡ false → sound_of old ≡ false → IsErrOf {T = S} (Err e) InvalidData)
-        → ((tree : Tree) → Means old tree → IsWant old e ⊎ (answer_at (letters_in old) tree open_stream path ≡ refused e))
-        → Puts {T = Unit {0}} (rewriting bytes) path (Err e) old mid
+        → ((tree : Tree) → FileMeans old tree → IsWant old e ⊎ (answer_at (letters_in old) tree open_stream path ≡ refused e))
+        → FilePuts {T = Unit {0}} (rewriting bytes) path (Err e) old mid
     not_found e failed unsound told =
         let keeps = rests_mean old mid r in
         record {
@@ -106,11 +106,11 @@ module _ {F : Type 0} {g : Ghosts F} where
         }
 
     module _ (id len : ℕ) (live : has_failed_here (allocator_of (mini_of old)) ≡ true → ⊥) (sound : has_failed_here (allocator_of (mini_of old)) ≡ false → sound_of old ≡ false → ⊥)
-        (found : (tree : Tree) → Means old tree → FindsWritten old mid path tree id len) (seen : (letters_in new ≡ letters_in mid) × (sound_of new ≡ sound_of mid) × (validation_of new ≡ validation_of mid)) where
+        (found : (tree : Tree) → FileMeans old tree → FindsWritten old mid path tree id len) (seen : (letters_in new ≡ letters_in mid) × (sound_of new ≡ sound_of mid) × (validation_of new ≡ validation_of mid)) where
       -- LAW: its bytes were not written
-      pub not_written : (e : Error) → (e ≡ InvalidInput → (names : Path) (tree : Tree) (content : List ℕ) → IsWritten mid names tree id content → length content ≡ len → ⊥)
+      pub not_written : (e : Error) → (e ≡ InvalidInput → (names : Path) (tree : Tree) (content : List ℕ) → StreamIsWritten mid names tree id content → length content ≡ len → ⊥)
           → (e ≡ InvalidData → IsLostAt id mid) → (has_failed_here (allocator_of (mini_of new)) ≡ true) ⊎ KeepsAt id mid new
-          → IsFaultUnless ⊥ e ⊎ IsInvalidPlaceOrFull e → Puts {T = Unit {0}} (rewriting bytes) path (Err e) old new
+          → IsFaultUnless ⊥ e ⊎ IsInvalidPlaceOrFull e → FilePuts {T = Unit {0}} (rewriting bytes) path (Err e) old new
       not_written e large lost kept fault = record {
         failed = λ failed. absurd (live failed);
         unsound = λ alive unsound. absurd (sound alive unsound);
@@ -120,7 +120,7 @@ module _ {F : Type 0} {g : Ghosts F} where
         seen = (seen.0 ∙ r.letters, seen.1 ∙ r.sound, seen.2 ∙ r.validation);
       }
         where
-          why : (tree : Tree) → Means old tree → IsFaultUnless ⊥ e ⊎ IsInvalidPlaceOrFull e → IsFault e
+          why : (tree : Tree) → FileMeans old tree → IsFaultUnless ⊥ e ⊎ IsInvalidPlaceOrFull e → IsFault e
           why tree m fault = elim fault [
             | inl is ↦ inl is
             | inr rest ↦ elim rest [
@@ -133,7 +133,7 @@ module _ {F : Type 0} {g : Ghosts F} where
           ]
 
       -- LAW: they were
-      pub was_written : (change : List ℕ → List ℕ) → ((content : List ℕ) → length content ≡ len → change content ≡ bytes) → RewritesAt id change mid new → Puts {T = Unit {0}} (rewriting bytes) path (Ok tt) old new
+      pub was_written : (change : List ℕ → List ℕ) → ((content : List ℕ) → length content ≡ len → change content ≡ bytes) → RewritesAt id change mid new → FilePuts {T = Unit {0}} (rewriting bytes) path (Ok tt) old new
       was_written change is wrote = record {
         failed = λ failed. absurd (live failed);
         unsound = λ alive unsound. absurd (sound alive unsound);
@@ -147,7 +147,7 @@ module _ {F : Type 0} {g : Ghosts F} where
               names = f.names;
               at_path = f.at_path;
               accepted = ap (λ o. o.1) step;
-              means = subst (Means new) (ap (λ b. changed (letters_in mid) (with_bytes b) f.names tree) whole ∙ ap (λ l. changed l (with_bytes bytes) f.names tree) r.letters ∙ sym (ap (λ o. o.0) step))
+              means = subst (FileMeans new) (ap (λ b. changed (letters_in mid) (with_bytes b) f.names tree) whole ∙ ap (λ l. changed l (with_bytes bytes) f.names tree) r.letters ∙ sym (ap (λ o. o.0) step))
                   (means_written new f.names (changed (letters_in mid) (with_bytes (change f.content)) f.names tree) id (change f.content) there);
             };
         refused = tt;
@@ -166,7 +166,7 @@ module _ {F : Type 0} {g : Ghosts F} where
   module _ (a m b : Allocator F g) (r : AllRests a m) where
     -- where no stream was found
     pub not_found_answers : {S : Type 0} (it : CompoundFile F g) (e : Error) → allocator_of (mini_of it) ≡ a → (has_failed_here a ≡ true → IsErrOf {T = S} (Err e) Failed) → IsWant it e ⊎ IsRefusedOpening e
-        → Answers {T = Unit {0}} IsRefusedRewriting (Err e) a m
+        → FatAnswers {T = Unit {0}} IsRefusedRewriting (Err e) a m
     not_found_answers it e same failed why = record {
       live = tt;
       failed = λ is. (err_as e Failed (failed is), r);
@@ -176,7 +176,7 @@ module _ {F : Type 0} {g : Ghosts F} where
     }
 
     -- where one was, and a call changed the file
-    pub found_answers : (Q R : Error → Type 0) (result : Result (Unit {0}) Error) → (has_failed_here a ≡ true → ⊥) → ((e : Error) → Q e → R e) → Answers Q result m b → Answers R result a b
+    pub found_answers : (Q R : Error → Type 0) (result : Result (Unit {0}) Error) → (has_failed_here a ≡ true → ⊥) → ((e : Error) → Q e → R e) → FatAnswers Q result m b → FatAnswers R result a b
     found_answers Q R (Ok x) live more told = record {
       live = (sym r.sectors.failed ∙ told.live.0, told.live.1);
       failed = λ failed. absurd (live failed);

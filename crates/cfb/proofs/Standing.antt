@@ -11,7 +11,7 @@ use Rattle.cfb_tree.specs.Paths.{Path}
 use Rattle.cfb_tree.specs.Tree.{Tree}
 use Rattle.cfb.specs.Streams.{HasStream, KeepsStream}
 use Rattle.cfb.specs.Views.{letters_in, mini_of}
-use Rattle.cfb.specs.Writing.{file_under, id_of, stream_len, IsFaultOrGone, IsLost, IsLostAt, IsWritten, Keeps, KeepsAt, Rests, Rewrites, RewritesAt, Stands}
+use Rattle.cfb.specs.Writing.{file_under, id_of, stream_len, IsFaultOrGone, IsLost, IsLostAt, StreamIsWritten, StreamKeeps, KeepsAt, StreamRests, Rewrites, RewritesAt, Stands}
 use Rattle.cfb.specs.declared.compound_file.CompoundFile.{CompoundFile}
 use Rattle.cfb.specs.declared.written_stream.Stream.{Stream}
 use Rattle.cfb.proofs.Written.{alike_same, reads_written, written_kept}
@@ -34,12 +34,12 @@ module _ {F : Type 0} {g : Ghosts F} where
   pub stands_as : (a b : Stream F g) → file_under b ≡ file_under a → id_of b ≡ id_of a → stream_len b ≡ stream_len a → (path : Path) (tree : Tree) (content : List ℕ)
       → Stands a path tree content → Stands b path tree content
   stands_as a b file id len path tree content s = record {
-    written = subst (λ n. IsWritten (file_under b) path tree n content) (sym id) (subst (λ f. IsWritten f path tree (id_of a) content) (sym file) s.written);
+    written = subst (λ n. StreamIsWritten (file_under b) path tree n content) (sym id) (subst (λ f. StreamIsWritten f path tree (id_of a) content) (sym file) s.written);
     len = len ∙ s.len;
   }
 
   -- what was only read since it was seen so
-  pub rests_as : (a b c : Stream F g) → b.file.ghost_name ≡ a.file.ghost_name → file_under b ≡ file_under a → id_of b ≡ id_of a → stream_len b ≡ stream_len a → Rests b c → Rests a c
+  pub rests_as : (a b c : Stream F g) → b.file.ghost_name ≡ a.file.ghost_name → file_under b ≡ file_under a → id_of b ≡ id_of a → stream_len b ≡ stream_len a → StreamRests b c → StreamRests a c
   rests_as a b c name file id len h = record {
     file = h.file ∙ name;
     entry = h.entry ∙ id;
@@ -58,21 +58,21 @@ module _ {F : Type 0} {g : Ghosts F} where
 
   -- a file of which a stream was read keeps it as one that is written
   pub read_keeps : (old new : CompoundFile F g) (len : ℕ) → KeepsStream len old new → (path : Path) (tree : Tree) (id : ℕ) (content : List ℕ) → len ≡ length content
-      → IsWritten old path tree id content → IsWritten new path tree id content
+      → StreamIsWritten old path tree id content → StreamIsWritten new path tree id content
   read_keeps old new len k path tree id content size w =
       let has = subst (λ n. HasStream old n content) (sym size) (reads_written old path tree id content w) in
       written_kept old new path tree id content w (keeps_rests (mini_of old) (mini_of new) k.rests.mini) k.rests.letters k.rests.sound (λ _. alike_same _ _ k.links) (k.content content has).ahead
 
   -- LAW: a stream that was only read stands as it did
   pub rests_so : (old new : Stream F g) → new.file.ghost_name ≡ old.file.ghost_name → id_of new ≡ id_of old → stream_len new ≡ stream_len old
-      → KeepsStream (stream_len old) (file_under old) (file_under new) → Rests old new
+      → KeepsStream (stream_len old) (file_under old) (file_under new) → StreamRests old new
   rests_so old new file id len k = record {
     file = file;
     entry = id;
     len = len;
     read = k;
     keeps = λ path tree content s. record {
-      written = subst (λ n. IsWritten (file_under new) path tree n content) (sym id) (read_keeps (file_under old) (file_under new) (stream_len old) k path tree (id_of old) content s.len s.written);
+      written = subst (λ n. StreamIsWritten (file_under new) path tree n content) (sym id) (read_keeps (file_under old) (file_under new) (stream_len old) k path tree (id_of old) content s.len s.written);
       len = len ∙ s.len;
     };
   }
@@ -90,14 +90,14 @@ module _ {F : Type 0} {g : Ghosts F} where
   pub rewrites_so : (change : List ℕ → List ℕ) (old new : Stream F g) → RewritesAt (id_of old) change (file_under old) (file_under new) → id_of new ≡ id_of old
       → ((path : Path) (tree : Tree) (content : List ℕ) → Stands old path tree content → stream_len new ≡ length (change content)) → Rewrites change old new
   rewrites_so change old new did id len path tree content s = record {
-    written = subst (λ n. IsWritten (file_under new) path (changed (letters_in (file_under old)) (with_bytes (change content)) path tree) n (change content)) (sym id) (did path tree content s.written);
+    written = subst (λ n. StreamIsWritten (file_under new) path (changed (letters_in (file_under old)) (with_bytes (change content)) path tree) n (change content)) (sym id) (did path tree content s.written);
     len = len path tree content s;
   }
 
   -- what is kept in the file is kept in the stream
-  pub keeps_so : (old new : Stream F g) → KeepsAt (id_of old) (file_under old) (file_under new) → id_of new ≡ id_of old → stream_len new ≡ stream_len old → Keeps old new
+  pub keeps_so : (old new : Stream F g) → KeepsAt (id_of old) (file_under old) (file_under new) → id_of new ≡ id_of old → stream_len new ≡ stream_len old → StreamKeeps old new
   keeps_so old new kept id len path tree content s = record {
-    written = subst (λ n. IsWritten (file_under new) path tree n content) (sym id) (kept path tree content s.written);
+    written = subst (λ n. StreamIsWritten (file_under new) path tree n content) (sym id) (kept path tree content s.written);
     len = len ∙ s.len;
   }
 

@@ -21,10 +21,10 @@ use Rattle.cfb_mini.specs.declared.mini_allocator.MiniAllocator.{MiniAllocator}
 use Rattle.cfb_mini.proofs.MiniParts.{length-mini_joined}
 use Rattle.cfb_mini.proofs.Parts.{parts_are}
 use Rattle.cfb_meaning.specs.Means.{fat, mini_fat, mini_sector, mini_stream, HasBytes, Layout}
-use Rattle.cfb_opening.specs.Opened.{Shows}
+use Rattle.cfb_opening.specs.Opened.{MemoryShows}
 use Rattle.cfb_opening.proofs.CutChains.{chain_of_cut, cut_in_file, cut_of_chain}
 use Rattle.cfb_streams.specs.Content.{HasContent}
-use Rattle.cfb_streams.specs.Streams.{joined_in, len_in, sectors_in as sectors_of, HasSectorsOf, IsOfLevel, LiesIn}
+use Rattle.cfb_streams.specs.Streams.{joined_in, len_in, sectors_in as sectors_of, HasSectorsOf, IsOfLevel, StreamLiesIn}
 use Rattle.cfb_streams.specs.declared.opening.StreamLinks.{StreamLinks}
 use Rattle.cfb_streams.specs.declared.opening.StreamLinks.TheVariants.{Short, Long}
 
@@ -52,7 +52,7 @@ content_len it (Long links) len content has =
     ap length has.bytes ∙ omega (arith, length-take len (joined (version_of (allocator_of it)) (bytes_of (allocator_of it)) (ids_of links)), size, room)
 
 -- the sectors in which a stream lies are there, and have room for it
-pub sectors_found : {F : Type 0} {g : Ghosts F} (it : MiniAllocator F g) → IsMini it → (start size : ℕ) (links : StreamLinks) → LiesIn it start size (sectors_of links)
+pub sectors_found : {F : Type 0} {g : Ghosts F} (it : MiniAllocator F g) → IsMini it → (start size : ℕ) (links : StreamLinks) → StreamLiesIn it start size (sectors_of links)
     → IsOfLevel it size links → IsTrue (is_honest (allocator_of it)) → HasSectorsOf it links × (size ≤ len_in links)
 sectors_found it memory start size (Short minis) lies level is = ((memory, (lies.short level).1), (lies.short level).2)
 sectors_found it memory start size (Long links) lies level is =
@@ -61,7 +61,7 @@ sectors_found it memory start size (Long links) lies level is =
       subst (λ v. size ≤ length (ids_of links) * sector_len v) (sym level.1) at.1,
     )
 
-module _ {F : Type 0} {g : Ghosts F} (it : MiniAllocator F g) (l : Layout) (shows : Shows it (bytes_of (allocator_of it)) l) (memory : IsMini it) (e : Entry) where
+module _ {F : Type 0} {g : Ghosts F} (it : MiniAllocator F g) (l : Layout) (shows : MemoryShows it (bytes_of (allocator_of it)) l) (memory : IsMini it) (e : Entry) where
   abbrev bytes : List ℕ
   bytes = bytes_of (allocator_of it)
 
@@ -81,7 +81,7 @@ module _ {F : Type 0} {g : Ghosts F} (it : MiniAllocator F g) (l : Layout) (show
   sectors_are : (ids : List ℕ) → joined (version_of (allocator_of it)) bytes ids ≡ joined l.version bytes ids
   sectors_are ids = ap (λ v. joined v bytes ids) shows.version
 
-  module _ (links : StreamLinks) (lies : LiesIn it e.start e.size (sectors_of links)) (level : IsOfLevel it e.size links) where
+  module _ (links : StreamLinks) (lies : StreamLiesIn it e.start e.size (sectors_of links)) (level : IsOfLevel it e.size links) where
     sectors_held : IsTrue (is_honest (allocator_of it)) → HasSectorsOf it links × (e.size ≤ len_in links)
     sectors_held = sectors_found it memory e.start e.size links lies level
 
@@ -89,7 +89,7 @@ module _ {F : Type 0} {g : Ghosts F} (it : MiniAllocator F g) (l : Layout) (show
     pub bytes_are : HasBytes bytes l e (take e.size (joined_in it links))
     bytes_are = by_level links lies level
       where
-        by_level : (links : StreamLinks) → LiesIn it e.start e.size (sectors_of links) → IsOfLevel it e.size links → HasBytes bytes l e (take e.size (joined_in it links))
+        by_level : (links : StreamLinks) → StreamLiesIn it e.start e.size (sectors_of links) → IsOfLevel it e.size links → HasBytes bytes l e (take e.size (joined_in it links))
         by_level (Short minis) lies level =
             let at = lies.short level in
             let ids = minis_of minis in
@@ -129,7 +129,7 @@ module _ {F : Type 0} {g : Ghosts F} (it : MiniAllocator F g) (l : Layout) (show
       bytes = by_level links lies level;
     }
       where
-        by_level : (links : StreamLinks) → LiesIn it e.start e.size (sectors_of links) → IsOfLevel it e.size links → content ≡ take e.size (joined_in it links)
+        by_level : (links : StreamLinks) → StreamLiesIn it e.start e.size (sectors_of links) → IsOfLevel it e.size links → content ≡ take e.size (joined_in it links)
         by_level (Short minis) lies level =
             let at = lies.short level in
             let ids = minis_of minis in
@@ -146,13 +146,13 @@ module _ {F : Type 0} {g : Ghosts F} (it : MiniAllocator F g) (l : Layout) (show
             h.content_is ∙ ap (λ s. take e.size (joined l.version bytes s)) same ∙ ap (take e.size) (sym (sectors_are ids))
 
   -- a stream that has bytes lies in sectors
-  pub lies_where : (content : List ℕ) → HasBytes bytes l e content → (sectors : List ℕ) × LiesIn it e.start e.size sectors
+  pub lies_where : (content : List ℕ) → HasBytes bytes l e content → (sectors : List ℕ) × StreamLiesIn it e.start e.size sectors
   lies_where content has = by_size (dec e.size)
     where
       dec : (n : ℕ) → (n < mini_cutoff) ⊎ (mini_cutoff ≤ n)
       dec n = dite (dec_lt n mini_cutoff) (λ below. inl below) (λ up. inr (omega arith))
 
-      by_size : (e.size < mini_cutoff) ⊎ (mini_cutoff ≤ e.size) → (sectors : List ℕ) × LiesIn it e.start e.size sectors
+      by_size : (e.size < mini_cutoff) ⊎ (mini_cutoff ≤ e.size) → (sectors : List ℕ) × StreamLiesIn it e.start e.size sectors
       by_size (inl below) =
           let h = has.short below in
           let inside = subst (λ n. AreInside n h.sectors) len_is (inside_all (length (mini_stream bytes l)) h.sectors h.in_stream) in

@@ -17,10 +17,10 @@ use Rattle.cfb_meaning.specs.TreeRules.{has_bytes, open_read_stream, refused, An
 use Rattle.cfb_entries.specs.Rules.{answer_at, names_in}
 use Rattle.cfb_entries.proofs.StreamsHeld.{stream_held, StreamHeld}
 use Rattle.cfb_streams.specs.Content as lower
-use Rattle.cfb_streams.specs.Streams.{sectors_in, IsOfLevel, LiesIn}
+use Rattle.cfb_streams.specs.Streams.{sectors_in, IsOfLevel, StreamLiesIn}
 use Rattle.cfb_streams.specs.declared.ahead.ReadAhead.{ReadAhead}
 use Rattle.cfb_streams.specs.declared.opening.StreamLinks.{StreamLinks}
-use Rattle.cfb.specs.Streams.{Holds, IsBroken, IsStreamAt, IsWant}
+use Rattle.cfb.specs.Streams.{FileHolds, IsBroken, IsStreamAt, IsWant}
 use Rattle.cfb.specs.Views.{letters_in, mini_of}
 use Rattle.cfb.specs.declared.compound_file.CompoundFile.{CompoundFile}
 use Rattle.cfb.proofs.Holding.{entries_hold}
@@ -35,10 +35,10 @@ module _ {F : Type 0} {g : Ghosts F} (it : CompoundFile F g) (text : List ℕ) (
   answer = answer_at (letters_in it) tree (λ p. open_read_stream p) (names_in text)
 
   -- where its entry's start and size are told as numbers
-  pub lies_at : (a b c d : ℕ) (sectors : List ℕ) → a ≡ c → b ≡ d → LiesIn (mini_of it) a b sectors → LiesIn (mini_of it) c d sectors
-  lies_at a b c d sectors first second lies = subst (λ x. LiesIn (mini_of it) c x sectors) second (subst (λ x. LiesIn (mini_of it) x b sectors) first lies)
+  pub lies_at : (a b c d : ℕ) (sectors : List ℕ) → a ≡ c → b ≡ d → StreamLiesIn (mini_of it) a b sectors → StreamLiesIn (mini_of it) c d sectors
+  lies_at a b c d sectors first second lies = subst (λ x. StreamLiesIn (mini_of it) c x sectors) second (subst (λ x. StreamLiesIn (mini_of it) x b sectors) first lies)
 
-  held_at : (e : Entry) (at : IsStreamAt it text e) (h : Holds it tree) → StreamHeld (letters_in it) (HasBytes (bytes_of (allocator_of (mini_of it))) h.layout) tree at.names e
+  held_at : (e : Entry) (at : IsStreamAt it text e) (h : FileHolds it tree) → StreamHeld (letters_in it) (HasBytes (bytes_of (allocator_of (mini_of it))) h.layout) tree at.names e
   held_at e at h =
       let (named, id, leads, found) = at.found in
       stream_held (letters_in it) (HasBytes (bytes_of (allocator_of (mini_of it))) h.layout) (entries_held (directory_of (mini_of it))) tree e at.of_kind (entries_hold it tree h) at.names id leads found
@@ -54,7 +54,7 @@ module _ {F : Type 0} {g : Ghosts F} (it : CompoundFile F g) (text : List ℕ) (
 
   -- why its sectors were not
   module _ (e : Entry) (at : IsStreamAt it text e) (error : Error)
-      (never : error ≡ InvalidData → (sectors : List ℕ) → LiesIn (mini_of it) e.start e.size sectors → ⊥)
+      (never : error ≡ InvalidData → (sectors : List ℕ) → StreamLiesIn (mini_of it) e.start e.size sectors → ⊥)
       (why : ((error ≡ Failed) × (has_failed_here (allocator_of (mini_of it)) ≡ true)) ⊎ (error ≡ InvalidData) ⊎ (error ≡ Memory)) where
     pub broken_so : IsWant it error ⊎ (answer ≡ refused error) ⊎ ((error ≡ InvalidData) × IsBroken it text)
     broken_so = elim why [
@@ -65,7 +65,7 @@ module _ {F : Type 0} {g : Ghosts F} (it : CompoundFile F g) (text : List ℕ) (
       ]
     ]
 
-    pub never_broken : Holds it tree → IsWant it error ⊎ (answer ≡ refused error)
+    pub never_broken : FileHolds it tree → IsWant it error ⊎ (answer ≡ refused error)
     never_broken h = elim why [
       | inl failed ↦ inl (inr failed)
       | inr rest ↦ elim rest [
@@ -81,7 +81,7 @@ module _ {F : Type 0} {g : Ghosts F} (it : CompoundFile F g) (text : List ℕ) (
             never wrong sectors lies
 
   -- its bytes in the tree are those of its sectors
-  pub bytes_found : (e : Entry) (at : IsStreamAt it text e) → Holds it tree → (links : StreamLinks) → LiesIn (mini_of it) e.start e.size (sectors_in links)
+  pub bytes_found : (e : Entry) (at : IsStreamAt it text e) → FileHolds it tree → (links : StreamLinks) → StreamLiesIn (mini_of it) e.start e.size (sectors_in links)
       → IsOfLevel (mini_of it) e.size links → (bytes : List ℕ) × (answer ≡ has_bytes bytes) × lower.HasContent (mini_of it) links e.size bytes
   bytes_found e at h links lies level =
       let held = held_at e at h in (
@@ -105,7 +105,7 @@ pub carried : {A : Type 0} (P : A → ℕ → Type 0) (a b : A) (m n : ℕ) → 
 carried P a b m n first second h = subst (λ x. P x n) (sym first) (subst (P a) (sym second) h)
 
 -- a cause since a later read is one since an earlier state
-pub cause_since : {F : Type 0} {g : Ghosts F} (a b c : MiniAllocator F g) (e : Error) → mini.Rests a b → HasCauseBelow (allocator_of b) (allocator_of c) e → HasCauseBelow (allocator_of a) (allocator_of c) e
+pub cause_since : {F : Type 0} {g : Ghosts F} (a b c : MiniAllocator F g) (e : Error) → mini.MiniRests a b → HasCauseBelow (allocator_of b) (allocator_of c) e → HasCauseBelow (allocator_of a) (allocator_of c) e
 cause_since {F} {g} a b c e rests cause = λ start from.
     let below = rests.directory.allocator.sectors in
     subst (λ f. HasCause g.failures (λ m. f || g.failed m) start (medium_of (allocator_of c)) e) below.failed (cause start (below.continues start from))

@@ -15,32 +15,32 @@ use Rattle.cfb_owners.specs.Held.{HasStream}
 use Rattle.cfb_owners.specs.Owners.{stream_owner}
 use Rattle.cfb_sectors.specs.Header.{mini_cutoff}
 use Rattle.cfb_sectors.specs.Sectors.{free, Chain}
-use Rattle.cfb_streams.specs.Streams.{LiesIn}
+use Rattle.cfb_streams.specs.Streams.{StreamLiesIn}
 use Rattle.cfb_tree.specs.Directory.{Entry}
 use Rattle.cfb_tree.specs.Names.{Letters}
 use Rattle.cfb_tree.specs.Tree.{Tree}
-use Rattle.cfb.specs.Doing.{Means}
+use Rattle.cfb.specs.Doing.{FileMeans}
 use Rattle.cfb.specs.Removing.{GivesUpStream}
 use Rattle.cfb.specs.Views.{letters_in, mini_of}
 use Rattle.cfb.specs.declared.compound_file.CompoundFile.{CompoundFile}
 
 -- the sectors in which a stream lies are those that it owns
-module _ {F : Type 0} {g : Ghosts F} (letters : Letters) (it : MiniAllocator F g) (tree : Tree) (m : live.Means letters it tree) (id : ℕ) (e : Entry) (content : List ℕ) (has : HasStream (live_of it) m.who id e content) where
-  own_short : (minis : List ℕ) → LiesIn it e.start e.size minis → e.size < mini_cutoff → m.who.minis (stream_owner id) ≡ minis
+module _ {F : Type 0} {g : Ghosts F} (letters : Letters) (it : MiniAllocator F g) (tree : Tree) (m : live.MeansLive letters it tree) (id : ℕ) (e : Entry) (content : List ℕ) (has : HasStream (live_of it) m.who id e content) where
+  own_short : (minis : List ℕ) → StreamLiesIn it e.start e.size minis → e.size < mini_cutoff → m.who.minis (stream_owner id) ≡ minis
   own_short minis lies below =
       let s = stands_of letters it tree m in
       let at = is_short it m.who s id e content has below in
       one_chain (mini_fat_of it) e.start (m.who.minis (stream_owner id)) minis
       (subst (λ n. Chain (mini_fat_of it) n (m.who.minis (stream_owner id))) (sym at.1) (own_minis it m.who s (stream_owner id)).linked) (lies.short below).0
 
-  own_long : (sectors : List ℕ) → LiesIn it e.start e.size sectors → mini_cutoff ≤ e.size → m.who.sectors (stream_owner id) ≡ sectors
+  own_long : (sectors : List ℕ) → StreamLiesIn it e.start e.size sectors → mini_cutoff ≤ e.size → m.who.sectors (stream_owner id) ≡ sectors
   own_long sectors lies up =
       let table = fat_of (allocator_of it) in
       let at = is_long it m.who (stands_of letters it tree m) id e content has up in
       one_chain table e.start (m.who.sectors (stream_owner id)) sectors
       (subst (λ n. Chain table n (m.who.sectors (stream_owner id))) (sym at.1) (m.owners.owned.linked (stream_owner id))) (lies.long up).0
 
-pub given_up_so : {F : Type 0} {g : Ghosts F} (old new : CompoundFile F g) (text : List ℕ) (tree : Tree) (m : Means old tree) → FreesAt (letters_in old) (names_in text) (mini_of old) (mini_of new) m.live.who → GivesUpStream old new text
+pub given_up_so : {F : Type 0} {g : Ghosts F} (old new : CompoundFile F g) (text : List ℕ) (tree : Tree) (m : FileMeans old tree) → FreesAt (letters_in old) (names_in text) (mini_of old) (mini_of new) m.live.who → GivesUpStream old new text
 given_up_so old new text tree m f = record {
   entry = f.entry;
   at_path = record { names = f.names; found = (f.at_path, f.id, f.leads, f.found); of_kind = f.of_kind };

@@ -8,10 +8,10 @@ use Rattle.cfb_medium.specs.declared.error.Error.{Error}
 use Rattle.cfb_medium.specs.declared.error.Error.TheVariants.{InvalidData}
 use Rattle.cfb_medium.specs.declared.medium.ReadMedium.{Ghosts}
 use Rattle.cfb_mini.proofs.Longer.{mini_rests_then}
-use Rattle.cfb_streams.specs.Streams.{sectors_in, IsOfLevel, LiesIn}
+use Rattle.cfb_streams.specs.Streams.{sectors_in, IsOfLevel, StreamLiesIn}
 use Rattle.cfb.specs.Putting.{IsRefusedOpening}
 use Rattle.cfb.specs.Streams.{bytes_found, FindsStream, HasStream, IsBroken, IsTrueToBytes, IsUnread, IsWant, KeepsStream}
-use Rattle.cfb.specs.Views.{links_held, mini_of, Rests}
+use Rattle.cfb.specs.Views.{links_held, mini_of, FileRests}
 use Rattle.cfb.specs.declared.compound_file.CompoundFile.{CompoundFile}
 use Rattle.cfb.proofs.StreamBytes.{content_len}
 use Rattle.cfb.proofs.Wants.{want_is}
@@ -41,7 +41,7 @@ all_read it len content now has is =
     is ∙ take_all len content (omega (arith, size))
 
 -- it was only read twice
-pub rests_twice : {F : Type 0} {g : Ghosts F} (a b c : CompoundFile F g) → Rests a b → Rests b c → Rests a c
+pub rests_twice : {F : Type 0} {g : Ghosts F} (a b c : CompoundFile F g) → FileRests a b → FileRests b c → FileRests a c
 rests_twice a b c first second = record {
   mini = mini_rests_then (mini_of a) (mini_of b) (mini_of c) first.mini second.mini;
   letters = second.letters ∙ first.letters;
@@ -56,7 +56,7 @@ module _ {F : Type 0} {g : Ghosts F} (old mid new : CompoundFile F g) (text : Li
   found_yet f = record {
     entry = f.entry;
     at_path = f.at_path;
-    lies = subst (λ l. LiesIn (mini_of old) f.entry.start f.entry.size (sectors_in l)) (sym k.links) f.lies;
+    lies = subst (λ l. StreamLiesIn (mini_of old) f.entry.start f.entry.size (sectors_in l)) (sym k.links) f.lies;
     level = subst (λ l. IsOfLevel (mini_of old) f.entry.size l) (sym k.links) f.level;
     has_size = long ∙ f.has_size;
   }

@@ -20,7 +20,7 @@ use Rattle.cfb_mini.specs.declared.mini_allocator.MiniAllocator.{MiniAllocator}
 use Rattle.cfb_sectors.specs.Sectors.{Chain}
 use Rattle.cfb_siblings.specs.Places.{LeadsTo}
 use Rattle.cfb_streams.specs.Content as lower
-use Rattle.cfb_streams.specs.Streams.{sectors_in, IsOfLevel, LiesIn}
+use Rattle.cfb_streams.specs.Streams.{sectors_in, IsOfLevel, StreamLiesIn}
 use Rattle.cfb_streams.specs.declared.opening.StreamLinks.{StreamLinks}
 use Rattle.cfb_streams.specs.declared.opening.StreamLinks.TheVariants.{Long, Short}
 use Rattle.cfb_tree.specs.Changes.{changed, with_bytes}
@@ -32,10 +32,10 @@ use Rattle.cfb_tree.specs.Tree.{Content, Facts, Tree}
 use Rattle.cfb_tree.proofs.OneContent.{Some_same}
 use Rattle.cfb_writing.specs.Streams.{AreAlike, AreLinksOf, IsStreamAt, RewritesIn}
 use Rattle.cfb_writing.proofs.Placed.{entry_of, found_at}
-use Rattle.cfb.specs.Doing.{Means}
+use Rattle.cfb.specs.Doing.{FileMeans}
 use Rattle.cfb.specs.Streams.{HasStream, IsWant}
 use Rattle.cfb.specs.Views.{ahead_held, letters_in, links_held, mini_of, sound_of}
-use Rattle.cfb.specs.Writing.{IsWritten}
+use Rattle.cfb.specs.Writing.{StreamIsWritten}
 use Rattle.cfb.specs.declared.compound_file.CompoundFile.{CompoundFile}
 use Rattle.cfb.proofs.Holding.{entries_hold}
 use Rattle.cfb.proofs.LiveMeaning.{holds_meant}
@@ -81,9 +81,9 @@ module _ {F : Type 0} {g : Ghosts F} (it : MiniAllocator F g) (id : ℕ) where
   -- links that tell of the same sectors
   links_alike : (a b : StreamLinks) → AreAlike a b → AreLinksOf id a it → AreLinksOf id b it
   links_alike (Short a) (Short b) same are e found =
-      let was = are e found in (subst (λ s. LiesIn it e.start e.size s) (sym same) was.0, was.1)
+      let was = are e found in (subst (λ s. StreamLiesIn it e.start e.size s) (sym same) was.0, was.1)
   links_alike (Long a) (Long b) same are e found =
-      let was = are e found in (subst (λ s. LiesIn it e.start e.size s) (sym same.0) was.0, (was.1.0, same.1 ∙ was.1.1))
+      let was = are e found in (subst (λ s. StreamLiesIn it e.start e.size s) (sym same.0) was.0, (was.1.0, same.1 ∙ was.1.1))
   links_alike (Short a) (Long b) never are e found = absurd never
   links_alike (Long a) (Short b) never are e found = absurd never
 
@@ -106,7 +106,7 @@ module _ (letters : Letters) (tree : Tree) (path : Path) where
   pub open_missing : object_at letters tree path ≡ None → (tree_step letters tree (open_stream path)).1 ≡ refused NotFound
   open_missing at = rw at refl
 
-module _ {F : Type 0} {g : Ghosts F} (it : CompoundFile F g) (path : Path) (tree : Tree) (id : ℕ) (content : List ℕ) (means : Means it tree) (at : IsStreamAt (letters_in it) (mini_of it) tree path id content)
+module _ {F : Type 0} {g : Ghosts F} (it : CompoundFile F g) (path : Path) (tree : Tree) (id : ℕ) (content : List ℕ) (means : FileMeans it tree) (at : IsStreamAt (letters_in it) (mini_of it) tree path id content)
     (e : Entry) (found : slice_get (entries_held (directory_of (mini_of it))) id ≡ Some e) where
   -- the bytes of the stream in the tree are those that its entry tells of
   bytes_meant : HasBytes (bytes_of (allocator_of (mini_of it))) (holds_meant it tree means).layout e content
@@ -122,19 +122,19 @@ module _ {F : Type 0} {g : Ghosts F} (it : CompoundFile F g) (path : Path) (tree
       subst (λ b. HasBytes (bytes_of (allocator_of (mini_of it))) h.layout e b) bytes held.reads
 
   -- it lies in sectors
-  pub lies_somewhere : (sectors : List ℕ) × LiesIn (mini_of it) e.start e.size sectors
+  pub lies_somewhere : (sectors : List ℕ) × StreamLiesIn (mini_of it) e.start e.size sectors
   lies_somewhere = let h = holds_meant it tree means in lies_where (mini_of it) h.layout h.shows h.memory e content bytes_meant
 
   -- and these links have its bytes
-  pub links_read : (links : StreamLinks) → LiesIn (mini_of it) e.start e.size (sectors_in links) → IsOfLevel (mini_of it) e.size links → lower.HasContent (mini_of it) links e.size content
+  pub links_read : (links : StreamLinks) → StreamLiesIn (mini_of it) e.start e.size (sectors_in links) → IsOfLevel (mini_of it) e.size links → lower.HasContent (mini_of it) links e.size content
   links_read links lies level = let h = holds_meant it tree means in bytes_held (mini_of it) h.layout h.shows h.memory e links lies level h.honest content bytes_meant
 
   -- so many of them
-  pub size_meant : (links : StreamLinks) → LiesIn (mini_of it) e.start e.size (sectors_in links) → IsOfLevel (mini_of it) e.size links → e.size ≡ length content
+  pub size_meant : (links : StreamLinks) → StreamLiesIn (mini_of it) e.start e.size (sectors_in links) → IsOfLevel (mini_of it) e.size links → e.size ≡ length content
   size_meant links lies level = sym (content_len (mini_of it) links e.size content (links_read links lies level))
 
   -- why no sectors were found
-  pub want_so : (error : Error) → (error ≡ InvalidData → (sectors : List ℕ) → LiesIn (mini_of it) e.start e.size sectors → ⊥)
+  pub want_so : (error : Error) → (error ≡ InvalidData → (sectors : List ℕ) → StreamLiesIn (mini_of it) e.start e.size sectors → ⊥)
       → ((error ≡ Failed) × (has_failed_here (allocator_of (mini_of it)) ≡ true)) ⊎ (error ≡ InvalidData) ⊎ (error ≡ Memory) → IsWant it error
   want_so error never why = elim why [
     | inl failed ↦ inr failed
@@ -144,9 +144,9 @@ module _ {F : Type 0} {g : Ghosts F} (it : CompoundFile F g) (path : Path) (tree
     ]
   ]
 
-module _ {F : Type 0} {g : Ghosts F} (it : CompoundFile F g) (path : Path) (tree : Tree) (id : ℕ) (content : List ℕ) (w : IsWritten it path tree id content) where
+module _ {F : Type 0} {g : Ghosts F} (it : CompoundFile F g) (path : Path) (tree : Tree) (id : ℕ) (content : List ℕ) (w : StreamIsWritten it path tree id content) where
   -- the file means the tree
-  pub means_written : Means it tree
+  pub means_written : FileMeans it tree
   means_written = record { sound = w.sound; live = w.at.means }
 
   -- and reads the stream
@@ -159,15 +159,15 @@ module _ {F : Type 0} {g : Ghosts F} (it : CompoundFile F g) (path : Path) (tree
       let size = size_meant it path tree id content means_written w.at was.entry found (links_held it) lies.0 lies.1 in
       record { lies = subst (λ n. lower.HasContent (mini_of it) (links_held it) n content) size here; ahead = w.ahead }
 
-module _ {F : Type 0} {g : Ghosts F} (old new : CompoundFile F g) (path : Path) (tree : Tree) (id : ℕ) (content : List ℕ) (w : IsWritten old path tree id content) where
+module _ {F : Type 0} {g : Ghosts F} (old new : CompoundFile F g) (path : Path) (tree : Tree) (id : ℕ) (content : List ℕ) (w : StreamIsWritten old path tree id content) where
   -- LAW: a stream stays where each owner has what it had
   pub written_kept : KeepsOwners (mini_of old) (mini_of new) → letters_in new ≡ letters_in old → sound_of new ≡ sound_of old
       → (has_failed_here (allocator_of (mini_of new)) ≡ false → AreAlike (links_held old) (links_held new))
-      → lower.IsAheadOf content (ahead_held new) → IsWritten new path tree id content
+      → lower.IsAheadOf content (ahead_held new) → StreamIsWritten new path tree id content
   written_kept k letters sound links ahead = record {
     sound = sound ∙ w.sound;
     at = record {
-      means = subst (λ l. live.Means l (mini_of new) tree) (sym letters) (means_stays (mini_of old) (mini_of new) k (letters_in old) tree w.at.means);
+      means = subst (λ l. live.MeansLive l (mini_of new) tree) (sym letters) (means_stays (mini_of old) (mini_of new) k (letters_in old) tree w.at.means);
       leads = subst (λ l. LeadsTo l (entries_held (directory_of (mini_of new))) 0 path id) (sym letters) (subst (λ es. LeadsTo (letters_in old) es 0 path id) (sym k.entries) w.at.leads);
       name = w.at.name;
       bits = w.at.bits;
@@ -180,7 +180,7 @@ module _ {F : Type 0} {g : Ghosts F} (old new : CompoundFile F g) (path : Path) 
 
   -- LAW: one that was rewritten has its new bytes
   pub written_so : (change : List ℕ → List ℕ) → RewritesIn id change (links_held old) (links_held new) (mini_of old) (mini_of new) → letters_in new ≡ letters_in old → sound_of new ≡ sound_of old
-      → lower.ahead_of (ahead_held new) ≡ [] → IsWritten new path (changed (letters_in old) (with_bytes (change content)) path tree) id (change content)
+      → lower.ahead_of (ahead_held new) ≡ [] → StreamIsWritten new path (changed (letters_in old) (with_bytes (change content)) path tree) id (change content)
   written_so change did letters sound none =
       let (at, links) = did (letters_in old) tree path content w.at w.links in
       record {

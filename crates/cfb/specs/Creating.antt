@@ -11,8 +11,8 @@ use Rattle.cfb_medium.specs.declared.medium.ReadMedium.{Ghosts}
 use Rattle.cfb_medium.specs.declared.version.Version.{Version}
 use Rattle.cfb_mini.specs.Views.{allocator_of}
 use Rattle.cfb_tree.specs.Names.{Letters}
-use Rattle.cfb.specs.Doing.{Means}
-use Rattle.cfb.specs.Streams.{Holds}
+use Rattle.cfb.specs.Doing.{FileMeans}
+use Rattle.cfb.specs.Streams.{FileHolds}
 use Rattle.cfb.specs.Views.{letters_in, mini_of}
 use Rattle.cfb.specs.declared.compound_file.CompoundFile.{CompoundFile}
 
@@ -35,5 +35,5 @@ module _ {F : Type 0} {g : Ghosts F} where
     pub honest : is_honest (allocator_of (mini_of it)) ≡ g.honest medium
     pub continues : Extends g.continues medium (medium_of (allocator_of (mini_of it)))
     pub bytes : IsTrue (g.honest medium) → bytes_of (allocator_of (mini_of it)) ≡ overwritten (g.bytes medium) 0 (new_file version)
-    pub holds : IsTrue (g.honest medium) → Holds it empty_tree
-    pub means : IsTrue (g.honest medium) → length (g.bytes medium) ≤ 3 * sector_len version → Means it empty_tree
+    pub holds : IsTrue (g.honest medium) → FileHolds it empty_tree
+    pub means : IsTrue (g.honest medium) → length (g.bytes medium) ≤ 3 * sector_len version → FileMeans it empty_tree

@@ -17,12 +17,12 @@ use Rattle.cfb.specs.declared.compound_file.CompoundFile.{CompoundFile}
 
 module _ {F : Type 0} {g : Ghosts F} where
   -- THE FILE MEANS THE TREE: it is sound, nothing has failed, memory is that of the bytes, and these mean the tree ([MS-CFB] 2)
-  pub record Means (it : CompoundFile F g) (tree : Tree) : Type 0 where
+  pub record FileMeans (it : CompoundFile F g) (tree : Tree) : Type 0 where
     pub sound : sound_of it ≡ true
-    pub live : live.Means (letters_in it) (mini_of it) tree
+    pub live : live.MeansLive (letters_in it) (mini_of it) tree
 
   -- the call left file and memory as they were
-  pub record Keeps (old new : CompoundFile F g) : Type 0 where
+  pub record FileKeeps (old new : CompoundFile F g) : Type 0 where
     pub mini : KeepsOwners (mini_of old) (mini_of new)
     pub letters : letters_in new ≡ letters_in old
     pub sound : sound_of new ≡ sound_of old
@@ -32,15 +32,15 @@ module _ {F : Type 0} {g : Ghosts F} where
     pub names : Path
     pub at_path : path ≡ Some names
     pub accepted : (tree_step (letters_in old) tree (call names)).1 ≡ done
-    pub means : Means new (tree_step (letters_in old) tree (call names)).0
+    pub means : FileMeans new (tree_step (letters_in old) tree (call names)).0
 
   -- One that has failed answers `Failed`. One that isn't sound answers `InvalidData`, and nothing is changed. Of a file that means a
   -- tree the call at the path is done by the rules, or refused just as these refuse it, and then nothing is changed; else a fault
   -- came between. After another error nothing is changed, or the file has failed.
   pub record Does {T : Type 0} (path : Option Path) (call : Path → Call) (result : Result T Error) (old new : CompoundFile F g) : Type 0 where
     pub failed : has_failed_here (allocator_of (mini_of old)) ≡ true → IsErrOf result Failed
-    pub unsound : has_failed_here (allocator_of (mini_of old)) ≡ false → sound_of old ≡ false → IsErrOf result InvalidData × Keeps old new
-    pub done : OnOk result ((tree : Tree) → Means old tree → IsDone path call tree old new)
-    pub refused : IfErr result (λ e. (tree : Tree) → Means old tree → IsFault e ⊎ ((answer_at (letters_in old) tree call path ≡ refused e) × Keeps old new))
-    pub rests : OnErr result ((has_failed_here (allocator_of (mini_of new)) ≡ true) ⊎ Keeps old new)
+    pub unsound : has_failed_here (allocator_of (mini_of old)) ≡ false → sound_of old ≡ false → IsErrOf result InvalidData × FileKeeps old new
+    pub done : OnOk result ((tree : Tree) → FileMeans old tree → IsDone path call tree old new)
+    pub refused : IfErr result (λ e. (tree : Tree) → FileMeans old tree → IsFault e ⊎ ((answer_at (letters_in old) tree call path ≡ refused e) × FileKeeps old new))
+    pub rests : OnErr result ((has_failed_here (allocator_of (mini_of new)) ≡ true) ⊎ FileKeeps old new)
     pub seen : (letters_in new ≡ letters_in old) × (sound_of new ≡ sound_of old) × (validation_of new ≡ validation_of old)

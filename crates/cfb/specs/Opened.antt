@@ -7,8 +7,8 @@ use Rattle.cfb_opening.specs.Opened.{IsOpened}
 use Rattle.cfb_sectors.specs.declared.validation.Validation.{Validation}
 use Rattle.cfb_tree.specs.Names.{Letters}
 use Rattle.cfb_tree.specs.Tree.{Tree}
-use Rattle.cfb.specs.Doing.{Means}
-use Rattle.cfb.specs.Views.{mini_of, sound_of, Shows}
+use Rattle.cfb.specs.Doing.{FileMeans}
+use Rattle.cfb.specs.Views.{mini_of, sound_of, FileShows}
 use Rattle.cfb.specs.declared.compound_file.CompoundFile.{CompoundFile}
 
 module _ {F : Type 0} {g : Ghosts F} where
@@ -18,6 +18,6 @@ module _ {F : Type 0} {g : Ghosts F} where
     pub layout : Layout
     pub tree : Tree
     pub opened : IsOpened validation letters bytes (mini_of it) layout tree
-    pub shown : Shows it tree
+    pub shown : FileShows it tree
     pub sound : IsTrue (sound_of it) ↔ IsSound letters bytes
-    pub means : IsTrue (sound_of it) → (meant : Tree) × Means it meant
+    pub means : IsTrue (sound_of it) → (meant : Tree) × FileMeans it meant

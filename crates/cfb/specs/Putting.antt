@@ -12,7 +12,7 @@ use Rattle.cfb_tree.specs.Names.{Letters}
 use Rattle.cfb_tree.specs.Objects.{a_storage, a_stream, object_at, Object}
 use Rattle.cfb_tree.specs.Paths.{Path}
 use Rattle.cfb_tree.specs.Tree.{Tree}
-use Rattle.cfb.specs.Doing.{Means}
+use Rattle.cfb.specs.Doing.{FileMeans}
 use Rattle.cfb.specs.Views.{letters_in, mini_of, sound_of, validation_of}
 use Rattle.cfb.specs.declared.compound_file.CompoundFile.{CompoundFile}
 
@@ -51,21 +51,21 @@ answer_by rule letters tree (Some path) = (rule letters tree path).1
 module _ {F : Type 0} {g : Ghosts F} where
   -- each tree that the file meant it means still
   pub record KeepsMeant (old new : CompoundFile F g) : Type 0 where
-    pub means : (tree : Tree) → Means old tree → Means new tree
+    pub means : (tree : Tree) → FileMeans old tree → FileMeans new tree
 
   -- the rule accepts, and the file means the tree that it gives
   pub record IsDoneBy (rule : Rule) (path : Option Path) (tree : Tree) (old new : CompoundFile F g) : Type 0 where
     pub names : Path
     pub at_path : path ≡ Some names
     pub accepted : (rule (letters_in old) tree names).1 ≡ done
-    pub means : Means new (rule (letters_in old) tree names).0
+    pub means : FileMeans new (rule (letters_in old) tree names).0
 
   -- As `Does`, by a rule on trees: `Failed` after a fault, `InvalidData` where the file isn't sound; else done, or refused just as the
   -- rule refuses, and then the file means what it meant; else a fault. After any error it has failed, or means what it meant.
-  pub record Puts {T : Type 0} (rule : Rule) (path : Option Path) (result : Result T Error) (old new : CompoundFile F g) : Type 0 where
+  pub record FilePuts {T : Type 0} (rule : Rule) (path : Option Path) (result : Result T Error) (old new : CompoundFile F g) : Type 0 where
     pub failed : has_failed_here (allocator_of (mini_of old)) ≡ true → IsErrOf result Failed
     pub unsound : has_failed_here (allocator_of (mini_of old)) ≡ false → sound_of old ≡ false → IsErrOf result InvalidData
-    pub done : OnOk result ((tree : Tree) → Means old tree → IsDoneBy rule path tree old new)
-    pub refused : IfErr result (λ e. (tree : Tree) → Means old tree → IsFault e ⊎ ((answer_by rule (letters_in old) tree path ≡ refused e) × KeepsMeant old new))
+    pub done : OnOk result ((tree : Tree) → FileMeans old tree → IsDoneBy rule path tree old new)
+    pub refused : IfErr result (λ e. (tree : Tree) → FileMeans old tree → IsFault e ⊎ ((answer_by rule (letters_in old) tree path ≡ refused e) × KeepsMeant old new))
     pub rests : OnErr result ((has_failed_here (allocator_of (mini_of new)) ≡ true) ⊎ KeepsMeant old new)
     pub seen : (letters_in new ≡ letters_in old) × (sound_of new ≡ sound_of old) × (validation_of new ≡ validation_of old)

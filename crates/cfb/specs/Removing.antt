@@ -6,7 +6,7 @@ use Rattle.cfb_medium.specs.declared.medium.ReadMedium.{Ghosts}
 use Rattle.cfb_mini.specs.Views.{mini_fat_of}
 use Rattle.cfb_sectors.specs.Header.{mini_cutoff}
 use Rattle.cfb_sectors.specs.Sectors.{free}
-use Rattle.cfb_streams.specs.Streams.{LiesIn}
+use Rattle.cfb_streams.specs.Streams.{StreamLiesIn}
 use Rattle.cfb_tree.specs.Directory.{Entry}
 use Rattle.cfb.specs.Streams.{IsStreamAt}
 use Rattle.cfb.specs.Views.{mini_of}
@@ -17,5 +17,5 @@ module _ {F : Type 0} {g : Ghosts F} where
   pub record GivesUpStream (old new : CompoundFile F g) (text : List ℕ) : Type 0 where
     pub entry : Entry
     pub at_path : IsStreamAt old text entry
-    pub short : (minis : List ℕ) → LiesIn (mini_of old) entry.start entry.size minis → entry.size < mini_cutoff → HaveEntry free (mini_fat_of (mini_of new)) minis
-    pub long : (sectors : List ℕ) → LiesIn (mini_of old) entry.start entry.size sectors → mini_cutoff ≤ entry.size → AreGivenUp sectors (mini_of new)
+    pub short : (minis : List ℕ) → StreamLiesIn (mini_of old) entry.start entry.size minis → entry.size < mini_cutoff → HaveEntry free (mini_fat_of (mini_of new)) minis
+    pub long : (sectors : List ℕ) → StreamLiesIn (mini_of old) entry.start entry.size sectors → mini_cutoff ≤ entry.size → AreGivenUp sectors (mini_of new)

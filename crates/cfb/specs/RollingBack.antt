@@ -5,7 +5,7 @@ use Rattle.cfb_medium.specs.declared.medium.ReadMedium.{Ghosts}
 use Rattle.cfb_mini.specs.Views.{allocator_of, IsMini}
 use Rattle.cfb_opening.specs.Opened.{CanOpen}
 use Rattle.cfb.specs.Opened.{IsOpenedAs}
-use Rattle.cfb.specs.Views.{letters_in, mini_of, validation_of, Rests}
+use Rattle.cfb.specs.Views.{letters_in, mini_of, validation_of, FileRests}
 use Rattle.cfb.specs.declared.compound_file.CompoundFile.{CompoundFile}
 
 module _ {F : Type 0} {g : Ghosts F} where

@@ -14,11 +14,11 @@ use Rattle.cfb_medium.specs.declared.medium.ReadMedium.{Ghosts}
 use Rattle.cfb_mini.specs.Views.{allocator_of, directory_of, IsMini}
 use Rattle.cfb_opening.specs.Opened as opening
 use Rattle.cfb_streams.specs.Content as lower
-use Rattle.cfb_streams.specs.Streams.{joined_in, sectors_in, IsOfLevel, LiesIn}
+use Rattle.cfb_streams.specs.Streams.{joined_in, sectors_in, IsOfLevel, StreamLiesIn}
 use Rattle.cfb_tree.specs.Directory.{kind_stream, Entry}
 use Rattle.cfb_tree.specs.Paths.{Path}
 use Rattle.cfb_tree.specs.Tree.{Tree}
-use Rattle.cfb.specs.Views.{ahead_held, letters_in, links_held, mini_of, Rests}
+use Rattle.cfb.specs.Views.{ahead_held, letters_in, links_held, mini_of, FileRests}
 use Rattle.cfb.specs.declared.compound_file.CompoundFile.{CompoundFile}
 use Rattle.cfb.specs.declared.stream.ReadStream.{ReadStream}
 
@@ -44,7 +44,7 @@ module _ {F : Type 0} {g : Ghosts F} where
 
   -- the file was only read, and the stream that it reads is what it was
   pub record KeepsStream (len : ℕ) (old new : CompoundFile F g) : Type 0 where
-    pub rests : Rests old new
+    pub rests : FileRests old new
     pub links : links_held new ≡ links_held old
     pub content : (content : List ℕ) → HasStream old len content → HasStream new len content
 
@@ -59,7 +59,7 @@ module _ {F : Type 0} {g : Ghosts F} where
     pub keeps : KeepsStream (len_of old) (file_of old) (file_of new)
 
   -- once the bytes that it lent are given back it stays at its position, with these read ahead; an error has its cause
-  pub record Fills (result : Result (Bor (List ℕ)) Error) (old new : ReadStream F g) : Type 0 where
+  pub record ReaderFills (result : Result (Bor (List ℕ)) Error) (old new : ReadStream F g) : Type 0 where
     pub stays : Stays old new
     pub position : position_of new ≡ position_of old
     pub count : IfOk result (λ b. length b.now ≡ buffered_of new)
@@ -71,12 +71,12 @@ module _ {F : Type 0} {g : Ghosts F} where
 
   -- A live file over an honest medium holds the tree: memory is that of the bytes, and in the layout that memory shows they mean it,
   -- streams with their bytes ([MS-CFB] 2)
-  pub record Holds (it : CompoundFile F g) (tree : Tree) : Type 0 where
+  pub record FileHolds (it : CompoundFile F g) (tree : Tree) : Type 0 where
     pub live : has_failed_here (allocator_of (mini_of it)) ≡ false
     pub honest : IsTrue (is_honest (allocator_of (mini_of it)))
     pub memory : IsMini (mini_of it)
     pub layout : Layout
-    pub shows : opening.Shows (mini_of it) (bytes_of (allocator_of (mini_of it))) layout
+    pub shows : opening.MemoryShows (mini_of it) (bytes_of (allocator_of (mini_of it))) layout
     pub means : MeansBy layout (HasBytes (bytes_of (allocator_of (mini_of it))) layout) (letters_in it) (bytes_of (allocator_of (mini_of it))) tree
 
   -- the path's text leads to the entry of a stream, of so many bytes
@@ -89,7 +89,7 @@ module _ {F : Type 0} {g : Ghosts F} where
   pub record FindsStream (old new : CompoundFile F g) (text : List ℕ) (size : ℕ) : Type 0 where
     pub entry : Entry
     pub at_path : IsStreamAt old text entry
-    pub lies : LiesIn (mini_of old) entry.start entry.size (sectors_in (links_held new))
+    pub lies : StreamLiesIn (mini_of old) entry.start entry.size (sectors_in (links_held new))
     pub level : IsOfLevel (mini_of old) entry.size (links_held new)
     pub has_size : size ≡ entry.size
 
@@ -105,7 +105,7 @@ module _ {F : Type 0} {g : Ghosts F} where
   pub record IsBroken (it : CompoundFile F g) (text : List ℕ) : Type 0 where
     pub entry : Entry
     pub at_path : IsStreamAt it text entry
-    pub lost : (sectors : List ℕ) → LiesIn (mini_of it) entry.start entry.size sectors → ⊥
+    pub lost : (sectors : List ℕ) → StreamLiesIn (mini_of it) entry.start entry.size sectors → ⊥
 
   -- want of memory, or the file had failed
   abbrev pub IsWant : CompoundFile F g → Error → Type 0

@@ -44,8 +44,8 @@ module _ {F : Type 0} {g : Ghosts F} where
   IsLive it = has_failed_here (mini.allocator_of (mini_of it)) ≡ false
 
   -- its entries hold the tree, of whose streams the sizes alone are known ([MS-CFB] 2.6)
-  abbrev pub Shows : CompoundFile F g → Tree → Type 0
-  Shows it tree = HoldsSizes (letters_in it) (entries_held (mini.directory_of (mini_of it))) tree
+  abbrev pub FileShows : CompoundFile F g → Tree → Type 0
+  FileShows it tree = HoldsSizes (letters_in it) (entries_held (mini.directory_of (mini_of it))) tree
 
   -- the sectors of the stream that is read, and its bytes that were read ahead
   abbrev pub links_held : CompoundFile F g → StreamLinks
@@ -59,8 +59,8 @@ module _ {F : Type 0} {g : Ghosts F} where
   most_ahead_of it = most_of (ahead_held it)
 
   -- it was only read: of its layers, letter table, reader and soundness all is as it was, and how many bytes it reads ahead
-  pub record Rests (old new : CompoundFile F g) : Type 0 where
-    pub mini : mini.Rests (mini_of old) (mini_of new)
+  pub record FileRests (old new : CompoundFile F g) : Type 0 where
+    pub mini : mini.MiniRests (mini_of old) (mini_of new)
     pub letters : letters_in new ≡ letters_in old
     pub validation : validation_of new ≡ validation_of old
     pub sound : sound_of new ≡ sound_of old

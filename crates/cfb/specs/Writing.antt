@@ -2,7 +2,7 @@
 use Rattle.std.specs.Prelude.{◌≡◌, ◌⊎◌, ℕ, ◌-◌, ◌^◌, ◌≤◌, min, List, length, true, IfErr, IfOk, Option, Some, Result}
 use Rattle.std.specs.Borrow.{Bor}
 use Rattle.cfb_chains.specs.ChainCalls.{IsInvalidPlace}
-use Rattle.cfb_fat.specs.Calls.{Answers}
+use Rattle.cfb_fat.specs.Calls.{FatAnswers}
 use Rattle.cfb_fat.specs.Tables.{HasCauseBelow}
 use Rattle.cfb_fat.specs.declared.allocator.Allocator.{Allocator}
 use Rattle.cfb_meaning.specs.TreeRules.{has_bytes, open_stream, tree_step}
@@ -23,7 +23,7 @@ use Rattle.cfb.specs.declared.written_stream.Stream.{Stream}
 
 module _ {F : Type 0} {g : Ghosts F} where
   -- the file means the tree, in which the stream at the path has these bytes; it is that of entry `id`, and the file has its sectors
-  pub record IsWritten (it : CompoundFile F g) (path : Path) (tree : Tree) (id : ℕ) (content : List ℕ) : Type 0 where
+  pub record StreamIsWritten (it : CompoundFile F g) (path : Path) (tree : Tree) (id : ℕ) (content : List ℕ) : Type 0 where
     pub sound : sound_of it ≡ true
     pub at : written.IsStreamAt (letters_in it) (mini_of it) tree path id content
     pub links : written.AreLinksOf id (links_held it) (mini_of it)
@@ -31,20 +31,20 @@ module _ {F : Type 0} {g : Ghosts F} where
 
   -- the stream of entry `id` has then the bytes that come of its own by the change, and nothing else of the tree is changed
   abbrev pub RewritesAt : ℕ → (List ℕ → List ℕ) → CompoundFile F g → CompoundFile F g → Type 0
-  RewritesAt id change old new = (path : Path) (tree : Tree) (content : List ℕ) → IsWritten old path tree id content
-      → IsWritten new path (changed (letters_in old) (with_bytes (change content)) path tree) id (change content)
+  RewritesAt id change old new = (path : Path) (tree : Tree) (content : List ℕ) → StreamIsWritten old path tree id content
+      → StreamIsWritten new path (changed (letters_in old) (with_bytes (change content)) path tree) id (change content)
 
   -- the stream of entry `id` is what it was
   abbrev pub KeepsAt : ℕ → CompoundFile F g → CompoundFile F g → Type 0
-  KeepsAt id old new = (path : Path) (tree : Tree) (content : List ℕ) → IsWritten old path tree id content → IsWritten new path tree id content
+  KeepsAt id old new = (path : Path) (tree : Tree) (content : List ℕ) → StreamIsWritten old path tree id content → StreamIsWritten new path tree id content
 
   -- it is lost, whatever tree is meant
   abbrev pub IsLostAt : ℕ → CompoundFile F g → Type 0
-  IsLostAt id it = (path : Path) (tree : Tree) (content : List ℕ) → IsWritten it path tree id content → ⊥
+  IsLostAt id it = (path : Path) (tree : Tree) (content : List ℕ) → StreamIsWritten it path tree id content → ⊥
 
   -- numbers are missing for the stream of entry `id` to have so many bytes
   abbrev pub LacksRoomAt : ℕ → ℕ → CompoundFile F g → Type 0
-  LacksRoomAt id len it = (path : Path) (tree : Tree) (content : List ℕ) → IsWritten it path tree id content → written.LacksRoom (mini_of it) (length content) len
+  LacksRoomAt id len it = (path : Path) (tree : Tree) (content : List ℕ) → StreamIsWritten it path tree id content → written.LacksRoom (mini_of it) (length content) len
 
   -- the path leads to the stream of entry `id`
   pub record IsFound (it : CompoundFile F g) (path : Option Path) (tree : Tree) (id : ℕ) : Type 0 where
@@ -59,7 +59,7 @@ module _ {F : Type 0} {g : Ghosts F} where
     pub at_path : path ≡ Some names
     pub content : List ℕ
     pub answer : (tree_step (letters_in old) tree (open_stream names)).1 ≡ has_bytes content
-    pub written : IsWritten new names tree id content
+    pub written : StreamIsWritten new names tree id content
     pub len_is : len ≡ length content
 
   -- the file, how many bytes the stream has, and the place from which on they are read and written
@@ -86,7 +86,7 @@ module _ {F : Type 0} {g : Ghosts F} where
 
   -- CLOSING THE STREAM NOW LEAVES THIS TREE, in which the stream at the path has these bytes
   pub record Stands (it : Stream F g) (path : Path) (tree : Tree) (content : List ℕ) : Type 0 where
-    pub written : IsWritten (file_under it) path tree (id_of it) content
+    pub written : StreamIsWritten (file_under it) path tree (id_of it) content
     pub len : stream_len it ≡ length content
 
   -- the stream has then the bytes that come of its own by the change, and nothing else of the tree is changed
@@ -95,20 +95,20 @@ module _ {F : Type 0} {g : Ghosts F} where
       → Stands new path (changed (letters_in (file_under old)) (with_bytes (change content)) path tree) (change content)
 
   -- the stream is what it was
-  abbrev pub Keeps : Stream F g → Stream F g → Type 0
-  Keeps old new = (path : Path) (tree : Tree) (content : List ℕ) → Stands old path tree content → Stands new path tree content
+  abbrev pub StreamKeeps : Stream F g → Stream F g → Type 0
+  StreamKeeps old new = (path : Path) (tree : Tree) (content : List ℕ) → Stands old path tree content → Stands new path tree content
 
   -- it was only read: it is the same stream of the same file, and what it was
-  pub record Rests (old new : Stream F g) : Type 0 where
+  pub record StreamRests (old new : Stream F g) : Type 0 where
     pub file : new.file.ghost_name ≡ old.file.ghost_name
     pub entry : id_of new ≡ id_of old
     pub len : stream_len new ≡ stream_len old
     pub read : KeepsStream (stream_len old) (file_under old) (file_under new)
-    pub keeps : Keeps old new
+    pub keeps : StreamKeeps old new
 
   -- once the bytes that it lent are given back it was only read, and is at its place with these read ahead; an error has its cause
-  pub record Fills (result : Result (Bor (List ℕ)) Error) (old new : Stream F g) : Type 0 where
-    pub rests : Rests old new
+  pub record StreamFills (result : Result (Bor (List ℕ)) Error) (old new : Stream F g) : Type 0 where
+    pub rests : StreamRests old new
     pub place : place_of new ≡ place_of old
     pub count : IfOk result (λ b. length b.now ≡ buffered_of new)
     pub cause : IfErr result (HasCauseBelow (allocator_under old) (allocator_under new))
@@ -131,12 +131,12 @@ module _ {F : Type 0} {g : Ghosts F} where
 
   -- It is the stream of the same entry in the same file, which goes on. One that had failed answers `Failed`; after an error it has
   -- failed, or nothing but reads happened. Each error has its cause.
-  pub record Changes {T : Type 0} (refuses : Error → Type 0) (result : Result T Error) (old new : Stream F g) : Type 0 where
+  pub record StreamChanges {T : Type 0} (refuses : Error → Type 0) (result : Result T Error) (old new : Stream F g) : Type 0 where
     pub file : new.file.ghost_name ≡ old.file.ghost_name
     pub entry : id_of new ≡ id_of old
     pub seen : (letters_in (file_under new) ≡ letters_in (file_under old)) × (sound_of (file_under new) ≡ sound_of (file_under old)) × (validation_of (file_under new) ≡ validation_of (file_under old))
     pub goes_on : GoesOn (allocator_under old) (allocator_under new)
-    pub answers : Answers refuses result (allocator_under old) (allocator_under new)
+    pub answers : FatAnswers refuses result (allocator_under old) (allocator_under new)
 
   -- the rules answer with the bytes of the stream at the path, and it stands with these
   pub record Opens (path : Option Path) (old : CompoundFile F g) (tree : Tree) (new : Stream F g) : Type 0 where

@@ -34,7 +34,7 @@ pub struct CompoundFile<F: ReadMedium> {
 impl<F: ReadMedium> CompoundFile<F> {
     ghost use Rattle.cfb.specs.Putting.{IsRefusedOpening};
     ghost use Rattle.cfb.specs.Streams.{IsWant};
-    ghost use Rattle.cfb.specs.Views.{letters_in, mini_of, said_at, sound_of, IsLive, Shows};
+    ghost use Rattle.cfb.specs.Views.{letters_in, mini_of, said_at, sound_of, IsLive, FileShows};
 
     /// The version.
     pub fn version(&self) -> Version
@@ -91,7 +91,7 @@ impl<F: ReadMedium> CompoundFile<F> {
 
     /// The root. `Failed` after an earlier fault; the one other error is `Memory` ([MS-CFB] 2.6.2).
     pub fn root_entry(&self) -> Result<Entry, Error>
-        ensures told { IsLive self.now → (tree : Tree) → Shows self.now tree
+        ensures told { IsLive self.now → (tree : Tree) → FileShows self.now tree
             → TellsEntry (tree_step (letters_in self.now) tree root_entry).1 result }
         ensures failed { has_failed_here (allocator_of (mini_of self.now)) ≡ true
             → IsErrOf result Failed }
@@ -106,7 +106,7 @@ impl<F: ReadMedium> CompoundFile<F> {
     /// The object at a path. `Failed` after an earlier fault, before all else; `InvalidInput` where the path leads above the root,
     /// `NotFound` where no object is there. The one other error is `Memory`.
     pub fn entry(&self, path: &str) -> Result<Entry, Error>
-        ensures told { IsLive self.now → (tree : Tree) → Shows self.now tree → TellsEntry
+        ensures told { IsLive self.now → (tree : Tree) → FileShows self.now tree → TellsEntry
             (answer_at (letters_in self.now) tree entry (names_in path.now)) result }
         ensures failed { has_failed_here (allocator_of (mini_of self.now)) ≡ true
             → IsErrOf result Failed }
@@ -120,7 +120,7 @@ impl<F: ReadMedium> CompoundFile<F> {
 
     /// Whether an object is at a path; above the root none is. It takes no memory.
     pub fn exists(&self, path: &str) -> bool
-        ensures { (tree : Tree) → Shows self.now tree → yes result
+        ensures { (tree : Tree) → FileShows self.now tree → yes result
             ≡ said_at (letters_in self.now) tree exists (names_in path.now) }
     {
         let kind = is_stream_at(&self.letters, self.entries(), path);
@@ -129,7 +129,7 @@ impl<F: ReadMedium> CompoundFile<F> {
 
     /// Whether the object at a path is a stream; above the root none is. It takes no memory.
     pub fn is_stream(&self, path: &str) -> bool
-        ensures { (tree : Tree) → Shows self.now tree → yes result
+        ensures { (tree : Tree) → FileShows self.now tree → yes result
             ≡ said_at (letters_in self.now) tree is_stream (names_in path.now) }
     {
         let kind = is_stream_at(&self.letters, self.entries(), path);
@@ -138,7 +138,7 @@ impl<F: ReadMedium> CompoundFile<F> {
 
     /// Whether the object at a path is a storage, as the root is; above the root none is. It takes no memory.
     pub fn is_storage(&self, path: &str) -> bool
-        ensures { (tree : Tree) → Shows self.now tree → yes result
+        ensures { (tree : Tree) → FileShows self.now tree → yes result
             ≡ said_at (letters_in self.now) tree is_storage (names_in path.now) }
     {
         let kind = is_stream_at(&self.letters, self.entries(), path);
@@ -148,7 +148,7 @@ impl<F: ReadMedium> CompoundFile<F> {
     /// The children of the root, in their order. `Failed` after an earlier fault; the one other error is `Memory`
     /// ([MS-CFB] 2.6.4).
     pub fn read_root_storage(&self) -> Result<Entries, Error>
-        ensures told { IsLive self.now → (tree : Tree) → Shows self.now tree
+        ensures told { IsLive self.now → (tree : Tree) → FileShows self.now tree
             → TellsEntries (tree_step (letters_in self.now) tree read_root_storage).1 result }
         ensures failed { has_failed_here (allocator_of (mini_of self.now)) ≡ true
             → IsErrOf result Failed }
@@ -164,7 +164,7 @@ impl<F: ReadMedium> CompoundFile<F> {
     /// where the path leads above the root, `NotFound` where no object is there, `InvalidInput` where it is a stream. The one
     /// other error is `Memory` ([MS-CFB] 2.6.4).
     pub fn read_storage(&self, path: &str) -> Result<Entries, Error>
-        ensures told { IsLive self.now → (tree : Tree) → Shows self.now tree → TellsEntries
+        ensures told { IsLive self.now → (tree : Tree) → FileShows self.now tree → TellsEntries
             (answer_at (letters_in self.now) tree read_storage (names_in path.now)) result }
         ensures failed { has_failed_here (allocator_of (mini_of self.now)) ≡ true
             → IsErrOf result Failed }
@@ -179,7 +179,7 @@ impl<F: ReadMedium> CompoundFile<F> {
     /// The root and all objects in it, each storage before what it holds. `Failed` after an earlier fault; the one other error is
     /// `Memory`.
     pub fn walk(&self) -> Result<Entries, Error>
-        ensures told { IsLive self.now → (tree : Tree) → Shows self.now tree
+        ensures told { IsLive self.now → (tree : Tree) → FileShows self.now tree
             → TellsEntries (tree_step (letters_in self.now) tree walk).1 result }
         ensures failed { has_failed_here (allocator_of (mini_of self.now)) ≡ true
             → IsErrOf result Failed }
@@ -195,7 +195,7 @@ impl<F: ReadMedium> CompoundFile<F> {
     /// else; `InvalidInput` where the path leads above the root, `NotFound` where no object is there, `InvalidInput` where it is a
     /// stream. The one other error is `Memory`.
     pub fn walk_storage(&self, path: &str) -> Result<Entries, Error>
-        ensures told { IsLive self.now → (tree : Tree) → Shows self.now tree → TellsEntries
+        ensures told { IsLive self.now → (tree : Tree) → FileShows self.now tree → TellsEntries
             (answer_at (letters_in self.now) tree walk_storage (names_in path.now)) result }
         ensures failed { has_failed_here (allocator_of (mini_of self.now)) ≡ true
             → IsErrOf result Failed }

@@ -15,8 +15,8 @@ use cfb_medium::{Error, Medium, ReadMedium};
 use cfb_sectors::HasSectors;
 
 impl<F: ReadMedium> CompoundFile<F> {
-    ghost use Rattle.cfb.specs.Doing.{Means};
-    ghost use Rattle.cfb.specs.Views.{letters_in, mini_of, sound_of, Rests};
+    ghost use Rattle.cfb.specs.Doing.{FileMeans};
+    ghost use Rattle.cfb.specs.Views.{letters_in, mini_of, sound_of, FileRests};
 
     /// Copies the file to an empty medium: there is then a file of the same version that means the same tree, is sound, and has no
     /// sector that serves no use; what the file holds in sectors and mini sectors of streams is copied whole. The file is only read.
@@ -27,14 +27,14 @@ impl<F: ReadMedium> CompoundFile<F> {
     pub fn copy_to<T: Medium>(&mut self, target: &mut T) -> Result<(), Error>
         requires { IsTrue (T.honest target.old) → T.bytes target.old ≡ [] }
         ensures copied { OnOk result (IsTrue (T.honest target.old) → (tree : Tree)
-            → Means self.old tree → HoldsCopy (version_of (allocator_of (mini_of self.old)))
+            → FileMeans self.old tree → HoldsCopy (version_of (allocator_of (mini_of self.old)))
             (letters_in self.old) (T.bytes target.new) tree) }
-        ensures refused { IfErr result (λ e. (tree : Tree) → Means self.old tree → IsFault e) }
+        ensures refused { IfErr result (λ e. (tree : Tree) → FileMeans self.old tree → IsFault e) }
         ensures failed { has_failed_here (allocator_of (mini_of self.old)) ≡ true
             → IsErrOf result Failed }
         ensures unsound { has_failed_here (allocator_of (mini_of self.old)) ≡ false
             → sound_of self.old ≡ false → IsErrOf result InvalidData }
-        ensures rests { Rests self.old self.new }
+        ensures rests { FileRests self.old self.new }
         ensures unwritten { IsTrue (T.honest target.old)
             → OnErr result (T.bytes target.new ≡ T.bytes target.old) }
         ensures honest { T.honest target.new ≡ T.honest target.old }

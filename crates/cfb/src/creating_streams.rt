@@ -1,7 +1,7 @@
 //! Streams that are made, or emptied where they are, by their paths.
 ghost use Rattle.cfb_directory.specs.Growth.{LacksEntries};
 ghost use Rattle.cfb_entries.specs.Rules.{names_in};
-ghost use Rattle.cfb_fat.specs.Calls.{Answers};
+ghost use Rattle.cfb_fat.specs.Calls.{FatAnswers};
 ghost use Rattle.cfb_fat.specs.Tables.{has_failed_here};
 ghost use Rattle.cfb_live.specs.Making.{IsRefusedMade};
 ghost use Rattle.cfb_meaning.specs.TreeRules.{create_stream};
@@ -32,7 +32,7 @@ impl<F: Medium> CompoundFile<F> {
             → LacksEntries (directory_of (mini_of self.old)) }
         ensures goes_on { GoesOn (allocator_of (mini_of self.old))
             (allocator_of (mini_of self.new)) }
-        ensures answers { Answers IsRefusedMade result (allocator_of (mini_of self.old))
+        ensures answers { FatAnswers IsRefusedMade result (allocator_of (mini_of self.old))
             (allocator_of (mini_of self.new)) }
     {
         if self.mini.directory().allocator().is_failed() {

@@ -1,6 +1,6 @@
 //! Facts of a file's objects, set by their paths.
 ghost use Rattle.cfb_entries.specs.Rules.{names_in};
-ghost use Rattle.cfb_fat.specs.Calls.{Answers};
+ghost use Rattle.cfb_fat.specs.Calls.{FatAnswers};
 ghost use Rattle.cfb_live.specs.Facts.{setting, IsRefusedFact};
 ghost use Rattle.cfb_meaning.specs.TreeRules.{set_created_time, set_modified_time, set_state_bits, set_storage_clsid, touch};
 ghost use Rattle.cfb_medium.specs.Times.{units_of};
@@ -22,7 +22,7 @@ impl<F: Medium> CompoundFile<F> {
         ensures does { Does (names_in path.now) (setting fact) result self.old self.new }
         ensures goes_on { GoesOn (allocator_of (mini_of self.old))
             (allocator_of (mini_of self.new)) }
-        ensures answers { Answers IsRefusedFact result (allocator_of (mini_of self.old))
+        ensures answers { FatAnswers IsRefusedFact result (allocator_of (mini_of self.old))
             (allocator_of (mini_of self.new)) }
     {
         if self.mini.directory().allocator().is_failed() {
@@ -42,7 +42,7 @@ impl<F: Medium> CompoundFile<F> {
             self.old self.new }
         ensures goes_on { GoesOn (allocator_of (mini_of self.old))
             (allocator_of (mini_of self.new)) }
-        ensures answers { Answers IsRefusedFact result (allocator_of (mini_of self.old))
+        ensures answers { FatAnswers IsRefusedFact result (allocator_of (mini_of self.old))
             (allocator_of (mini_of self.new)) }
     {
         self.set_fact(path, Fact::StateBits(bits))
@@ -55,7 +55,7 @@ impl<F: Medium> CompoundFile<F> {
             self.old self.new }
         ensures goes_on { GoesOn (allocator_of (mini_of self.old))
             (allocator_of (mini_of self.new)) }
-        ensures answers { Answers IsRefusedFact result (allocator_of (mini_of self.old))
+        ensures answers { FatAnswers IsRefusedFact result (allocator_of (mini_of self.old))
             (allocator_of (mini_of self.new)) }
     {
         self.set_fact(path, Fact::ClassId(clsid))
@@ -68,7 +68,7 @@ impl<F: Medium> CompoundFile<F> {
             self.old self.new }
         ensures goes_on { GoesOn (allocator_of (mini_of self.old))
             (allocator_of (mini_of self.new)) }
-        ensures answers { Answers IsRefusedFact result (allocator_of (mini_of self.old))
+        ensures answers { FatAnswers IsRefusedFact result (allocator_of (mini_of self.old))
             (allocator_of (mini_of self.new)) }
     {
         self.set_fact(path, Fact::Modified(moment))
@@ -81,7 +81,7 @@ impl<F: Medium> CompoundFile<F> {
             result self.old self.new }
         ensures goes_on { GoesOn (allocator_of (mini_of self.old))
             (allocator_of (mini_of self.new)) }
-        ensures answers { Answers IsRefusedFact result (allocator_of (mini_of self.old))
+        ensures answers { FatAnswers IsRefusedFact result (allocator_of (mini_of self.old))
             (allocator_of (mini_of self.new)) }
     {
         self.set_fact(path, Fact::Created(moment))
@@ -93,7 +93,7 @@ impl<F: Medium> CompoundFile<F> {
             result self.old self.new }
         ensures goes_on { GoesOn (allocator_of (mini_of self.old))
             (allocator_of (mini_of self.new)) }
-        ensures answers { Answers IsRefusedFact result (allocator_of (mini_of self.old))
+        ensures answers { FatAnswers IsRefusedFact result (allocator_of (mini_of self.old))
             (allocator_of (mini_of self.new)) }
     {
         self.set_fact(path, Fact::Modified(moment))

@@ -1,7 +1,7 @@
 //! New objects of a file, by their paths.
 ghost use Rattle.cfb_directory.specs.Growth.{LacksEntries};
 ghost use Rattle.cfb_entries.specs.Rules.{names_in};
-ghost use Rattle.cfb_fat.specs.Calls.{Answers};
+ghost use Rattle.cfb_fat.specs.Calls.{FatAnswers};
 ghost use Rattle.cfb_fat.specs.Tables.{has_failed_here};
 ghost use Rattle.cfb_live.specs.Making.{making, IsRefusedMade};
 ghost use Rattle.cfb_meaning.specs.TreeRules.{create_new_stream, create_storage, create_storage_all};
@@ -28,7 +28,7 @@ impl<F: Medium> CompoundFile<F> {
             → LacksEntries (directory_of (mini_of self.old)) }
         ensures goes_on { GoesOn (allocator_of (mini_of self.old))
             (allocator_of (mini_of self.new)) }
-        ensures answers { Answers IsRefusedMade result (allocator_of (mini_of self.old))
+        ensures answers { FatAnswers IsRefusedMade result (allocator_of (mini_of self.old))
             (allocator_of (mini_of self.new)) }
     {
         if self.mini.directory().allocator().is_failed() {
@@ -53,7 +53,7 @@ impl<F: Medium> CompoundFile<F> {
             → LacksEntries (directory_of (mini_of self.old)) }
         ensures goes_on { GoesOn (allocator_of (mini_of self.old))
             (allocator_of (mini_of self.new)) }
-        ensures answers { Answers IsRefusedMade result (allocator_of (mini_of self.old))
+        ensures answers { FatAnswers IsRefusedMade result (allocator_of (mini_of self.old))
             (allocator_of (mini_of self.new)) }
     {
         self.make(path, NewObject::Storage(moment))
@@ -68,7 +68,7 @@ impl<F: Medium> CompoundFile<F> {
             → LacksEntries (directory_of (mini_of self.old)) }
         ensures goes_on { GoesOn (allocator_of (mini_of self.old))
             (allocator_of (mini_of self.new)) }
-        ensures answers { Answers IsRefusedMade result (allocator_of (mini_of self.old))
+        ensures answers { FatAnswers IsRefusedMade result (allocator_of (mini_of self.old))
             (allocator_of (mini_of self.new)) }
     {
         self.make(path, NewObject::Stream)
@@ -88,7 +88,7 @@ impl<F: Medium> CompoundFile<F> {
             → LacksEntries (directory_of (mini_of self.old)) }
         ensures goes_on { GoesOn (allocator_of (mini_of self.old))
             (allocator_of (mini_of self.new)) }
-        ensures answers { Answers IsRefusedMade result (allocator_of (mini_of self.old))
+        ensures answers { FatAnswers IsRefusedMade result (allocator_of (mini_of self.old))
             (allocator_of (mini_of self.new)) }
     {
         if self.mini.directory().allocator().is_failed() {

@@ -1,8 +1,8 @@
 //! Streams that get their bytes in one call, by their paths.
-ghost use Rattle.cfb.specs.Putting.{putting, rewriting, IsRefusedPut, IsRefusedRewriting, Puts};
+ghost use Rattle.cfb.specs.Putting.{putting, rewriting, IsRefusedPut, IsRefusedRewriting, FilePuts};
 ghost use Rattle.cfb.specs.Views.{mini_of};
 ghost use Rattle.cfb_entries.specs.Rules.{names_in};
-ghost use Rattle.cfb_fat.specs.Calls.{Answers};
+ghost use Rattle.cfb_fat.specs.Calls.{FatAnswers};
 ghost use Rattle.cfb_fat.specs.Tables.{version_of};
 ghost use Rattle.cfb_medium.specs.Versions.{stream_len_mask};
 ghost use Rattle.cfb_mini.specs.Views.{allocator_of};
@@ -21,10 +21,10 @@ impl<F: Medium> CompoundFile<F> {
     pub fn rewrite_stream(&mut self, path: &str, bytes: &[u8]) -> Result<(), Error>
         requires { length bytes.now
             ≤ stream_len_mask (version_of (allocator_of (mini_of self.old))) }
-        ensures puts { Puts (rewriting bytes.now) (names_in path.now) result self.old self.new }
+        ensures puts { FilePuts (rewriting bytes.now) (names_in path.now) result self.old self.new }
         ensures goes_on { GoesOn (allocator_of (mini_of self.old))
             (allocator_of (mini_of self.new)) }
-        ensures answers { Answers IsRefusedRewriting result (allocator_of (mini_of self.old))
+        ensures answers { FatAnswers IsRefusedRewriting result (allocator_of (mini_of self.old))
             (allocator_of (mini_of self.new)) }
     {
         let (id, len) = match self.find_written(path) {
@@ -50,10 +50,10 @@ impl<F: Medium> CompoundFile<F> {
     pub fn put_stream(&mut self, path: &str, bytes: &[u8]) -> Result<(), Error>
         requires { length bytes.now
             ≤ stream_len_mask (version_of (allocator_of (mini_of self.old))) }
-        ensures puts { Puts (putting bytes.now) (names_in path.now) result self.old self.new }
+        ensures puts { FilePuts (putting bytes.now) (names_in path.now) result self.old self.new }
         ensures goes_on { GoesOn (allocator_of (mini_of self.old))
             (allocator_of (mini_of self.new)) }
-        ensures answers { Answers IsRefusedPut result (allocator_of (mini_of self.old))
+        ensures answers { FatAnswers IsRefusedPut result (allocator_of (mini_of self.old))
             (allocator_of (mini_of self.new)) }
     {
         if self.is_stream(path) {

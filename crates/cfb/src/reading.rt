@@ -1,7 +1,7 @@
 //! Streams of a file, opened by their paths and read.
 ghost use Rattle.cfb.specs.Putting.{IsRefusedOpening};
-ghost use Rattle.cfb.specs.Streams.{bytes_found, file_of, len_of, position_of, HasContent, HasStream, Holds, IsStreamAt, IsTrueToBytes, IsWant, KeepsStream, TellsBytes, TellsRead, TellsStream};
-ghost use Rattle.cfb.specs.Views.{ahead_held, letters_in, mini_of, most_ahead_of, Rests, Shows};
+ghost use Rattle.cfb.specs.Streams.{bytes_found, file_of, len_of, position_of, HasContent, HasStream, FileHolds, IsStreamAt, IsTrueToBytes, IsWant, KeepsStream, TellsBytes, TellsRead, TellsStream};
+ghost use Rattle.cfb.specs.Views.{ahead_held, letters_in, mini_of, most_ahead_of, FileRests, FileShows};
 ghost use Rattle.cfb.specs.contracts.compound_file.CompoundFile.{the_row};
 ghost use Rattle.cfb_entries.specs.Rules.{answer_at, names_in};
 ghost use Rattle.cfb_chains.specs.ChainCalls.{IsInvalidPlace};
@@ -43,12 +43,12 @@ impl<F: ReadMedium> CompoundFile<F> {
 
     // Where the stream at a path begins, and how many bytes it has.
     fn stream_place(&self, path: &str) -> Result<(u32, u64), Error>
-        ensures found { (tree : Tree) → Shows self.now tree → IfOk result (λ it. (e : Entry)
+        ensures found { (tree : Tree) → FileShows self.now tree → IfOk result (λ it. (e : Entry)
             × IsStreamAt self.now path.now e × (it.0 ≡ e.start) × (it.1 ≡ e.size)) }
-        ensures answer { (tree : Tree) → Shows self.now tree → IfOk result (λ it. (bytes : List ℕ)
+        ensures answer { (tree : Tree) → FileShows self.now tree → IfOk result (λ it. (bytes : List ℕ)
             × (answer_at (letters_in self.now) tree open_read_stream (names_in path.now)
             ≡ has_bytes bytes) × (length bytes ≡ it.1)) }
-        ensures refused { (tree : Tree) → Shows self.now tree → IfErr result (λ e. (e ≡ Memory)
+        ensures refused { (tree : Tree) → FileShows self.now tree → IfErr result (λ e. (e ≡ Memory)
             ⊎ (answer_at (letters_in self.now) tree open_read_stream (names_in path.now)
             ≡ refused e)) }
         ensures error { IfErr result (λ e. (e ≡ Memory) ⊎ IsRefusedOpening e) }
@@ -62,12 +62,12 @@ impl<F: ReadMedium> CompoundFile<F> {
 
     // Finds the sectors of the stream at a path, and gives how many bytes it has. Nothing is read ahead of it yet.
     fn find_stream(&mut self, path: &str) -> Result<u64, Error>
-        ensures rests { Rests self.old self.new }
+        ensures rests { FileRests self.old self.new }
         ensures small { IfOk result (λ len. len < 2 ^ 63) }
-        ensures told { (tree : Tree) → Shows self.old tree
+        ensures told { (tree : Tree) → FileShows self.old tree
             → TellsStream self.old path.now (λ len. self.new) (λ len. len)
             (answer_at (letters_in self.old) tree open_read_stream (names_in path.now)) result }
-        ensures bytes { (tree : Tree) → Holds self.old tree
+        ensures bytes { (tree : Tree) → FileHolds self.old tree
             → TellsBytes self.old (λ len. self.new) (λ len. len)
             (answer_at (letters_in self.old) tree open_read_stream (names_in path.now)) result }
         ensures found { IfOk result (λ len. IsTrueToBytes self.old
@@ -98,14 +98,14 @@ impl<F: ReadMedium> CompoundFile<F> {
     /// errors are `Memory`, and `Failed` after an earlier fault, before all else. The file is only read.
     pub fn open_read_stream(&mut self, path: &str) -> Result<ReadStream<'_, F>, Error>
         ensures* refused { sem 𝓛 (RestsIfErr (the_row F.row F.ReadMedium) self.entry
-            (λ s. s.file.ghost_name) result (Rests self.old)) }
+            (λ s. s.file.ghost_name) result (FileRests self.old)) }
         ensures same_reference { IfOk result (λ s. s.file.ghost_name ≡ self.entry.ghost_name) }
-        ensures rests { IfOk result (λ s. Rests self.old (file_of s)) }
+        ensures rests { IfOk result (λ s. FileRests self.old (file_of s)) }
         ensures at_start { IfOk result (λ s. position_of s ≡ 0) }
-        ensures told { (tree : Tree) → Shows self.old tree
+        ensures told { (tree : Tree) → FileShows self.old tree
             → TellsStream self.old path.now file_of len_of
             (answer_at (letters_in self.old) tree open_read_stream (names_in path.now)) result }
-        ensures bytes { (tree : Tree) → Holds self.old tree → TellsBytes self.old file_of len_of
+        ensures bytes { (tree : Tree) → FileHolds self.old tree → TellsBytes self.old file_of len_of
             (answer_at (letters_in self.old) tree open_read_stream (names_in path.now)) result }
         ensures found { IfOk result (λ s. IsTrueToBytes self.old
             → HasContent s (bytes_found (file_of s) (len_of s))) }
@@ -123,14 +123,14 @@ impl<F: ReadMedium> CompoundFile<F> {
     /// the root, `NotFound` where no object is there, `InvalidInput` where it is a storage, `InvalidData` where the stream's chain
     /// breaks or is too short. The other errors are `Memory` and `Device`. The file is only read ([MS-CFB] 2.6.3).
     pub fn read_stream(&mut self, path: &str) -> Result<Vec<u8>, Error>
-        ensures rests { Rests self.old self.new }
-        ensures told { (tree : Tree) → Shows self.old tree
+        ensures rests { FileRests self.old self.new }
+        ensures told { (tree : Tree) → FileShows self.old tree
             → TellsRead self.old self.new path.now (λ bytes. bytes.items)
             (answer_at (letters_in self.old) tree open_read_stream (names_in path.now)) result }
-        ensures bytes { (tree : Tree) → Holds self.old tree → IfOk result (λ bytes.
+        ensures bytes { (tree : Tree) → FileHolds self.old tree → IfOk result (λ bytes.
             answer_at (letters_in self.old) tree open_read_stream (names_in path.now)
             ≡ has_bytes bytes.items) }
-        ensures refused { (tree : Tree) → Holds self.old tree
+        ensures refused { (tree : Tree) → FileHolds self.old tree
             → IfErr result (λ e. IsFaultUnless ⊥ e
             ⊎ (answer_at (letters_in self.old) tree open_read_stream (names_in path.now)
             ≡ refused e)) }

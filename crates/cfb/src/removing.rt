@@ -1,6 +1,6 @@
 //! Objects of a file that are removed, by their paths.
 ghost use Rattle.cfb_entries.specs.Rules.{names_in};
-ghost use Rattle.cfb_fat.specs.Calls.{Answers};
+ghost use Rattle.cfb_fat.specs.Calls.{FatAnswers};
 ghost use Rattle.cfb_live.specs.Removing.{IsRefusedRemoval};
 ghost use Rattle.cfb_meaning.specs.TreeRules.{remove_storage, remove_storage_all, remove_stream};
 ghost use Rattle.cfb_mini.specs.Views.{allocator_of};
@@ -13,7 +13,7 @@ use cfb_medium::{Error, Medium};
 use cfb_sectors::HasSectors;
 
 impl<F: Medium> CompoundFile<F> {
-    ghost use Rattle.cfb.specs.Doing.{Does, Means};
+    ghost use Rattle.cfb.specs.Doing.{Does, FileMeans};
     ghost use Rattle.cfb.specs.Removing.{GivesUpStream};
     ghost use Rattle.cfb.specs.Views.{mini_of};
 
@@ -24,11 +24,11 @@ impl<F: Medium> CompoundFile<F> {
     pub fn remove_stream(&mut self, path: &str) -> Result<(), Error>
         ensures does { Does (names_in path.now) (λ names. remove_stream names) result self.old
             self.new }
-        ensures freed { OnOk result ((tree : Tree) → Means self.old tree
+        ensures freed { OnOk result ((tree : Tree) → FileMeans self.old tree
             → GivesUpStream self.old self.new path.now) }
         ensures goes_on { GoesOn (allocator_of (mini_of self.old))
             (allocator_of (mini_of self.new)) }
-        ensures answers { Answers IsRefusedRemoval result (allocator_of (mini_of self.old))
+        ensures answers { FatAnswers IsRefusedRemoval result (allocator_of (mini_of self.old))
             (allocator_of (mini_of self.new)) }
     {
         if self.mini.directory().allocator().is_failed() {
@@ -47,7 +47,7 @@ impl<F: Medium> CompoundFile<F> {
             self.new }
         ensures goes_on { GoesOn (allocator_of (mini_of self.old))
             (allocator_of (mini_of self.new)) }
-        ensures answers { Answers IsRefusedRemoval result (allocator_of (mini_of self.old))
+        ensures answers { FatAnswers IsRefusedRemoval result (allocator_of (mini_of self.old))
             (allocator_of (mini_of self.new)) }
     {
         if self.mini.directory().allocator().is_failed() {
@@ -68,7 +68,7 @@ impl<F: Medium> CompoundFile<F> {
             self.new }
         ensures goes_on { GoesOn (allocator_of (mini_of self.old))
             (allocator_of (mini_of self.new)) }
-        ensures answers { Answers IsRefusedRemoval result (allocator_of (mini_of self.old))
+        ensures answers { FatAnswers IsRefusedRemoval result (allocator_of (mini_of self.old))
             (allocator_of (mini_of self.new)) }
     {
         if self.mini.directory().allocator().is_failed() {

@@ -1,7 +1,7 @@
 //! Files that go back to what was published last.
 ghost use Rattle.cfb.specs.Readers.{IsReadAlike, IsReadBy};
 ghost use Rattle.cfb.specs.RollingBack.{CannotOpen, HasLostAll, RollsBack};
-ghost use Rattle.cfb.specs.Views.{mini_of, Rests};
+ghost use Rattle.cfb.specs.Views.{mini_of, FileRests};
 ghost use Rattle.cfb_fat.specs.Tables.{has_failed_here, medium_of};
 ghost use Rattle.cfb_medium.specs.Calls.{Extends, HasCauseSince, IsFaultUnless};
 ghost use Rattle.cfb_medium.specs.declared.error.Error.TheVariants.{InvalidData, InvalidInput};
@@ -43,9 +43,9 @@ impl<F: Medium> CompoundFile<F> {
     // read again.
     fn rolled_back(self) -> (CompoundFile<F>, Result<(), Error>)
         ensures rolled { OnOk result.1 (RollsBack F.has_published self result.0) }
-        ensures left { OnErr result.1 (Rests self result.0
+        ensures left { OnErr result.1 (FileRests self result.0
             ⊎ HasLostAll F.has_published self result.0) }
-        ensures unable { IsErrOf result.1 InvalidInput → Rests self result.0 }
+        ensures unable { IsErrOf result.1 InvalidInput → FileRests self result.0 }
         ensures refused { IsErrOf result.1 InvalidData → CannotOpen F.has_published self }
         ensures reader { IsReadAlike self result.0 }
         ensures honest { F.honest (medium_of (allocator_of (mini_of result.0)))
@@ -100,9 +100,9 @@ impl<F: Medium> CompoundFile<F> {
     /// where the reader can't open the published bytes: then the file has failed. Nothing is written, and nothing is published.
     pub fn roll_back(&mut self) -> Result<(), Error>
         ensures rolled { OnOk result (RollsBack F.has_published self.old self.new) }
-        ensures left { OnErr result (Rests self.old self.new
+        ensures left { OnErr result (FileRests self.old self.new
             ⊎ HasLostAll F.has_published self.old self.new) }
-        ensures unable { IsErrOf result InvalidInput → Rests self.old self.new }
+        ensures unable { IsErrOf result InvalidInput → FileRests self.old self.new }
         ensures refused { IsErrOf result InvalidData → CannotOpen F.has_published self.old }
         ensures reader { IsReadAlike self.old self.new }
         ensures honest { F.honest (medium_of (allocator_of (mini_of self.new)))

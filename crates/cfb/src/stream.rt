@@ -24,7 +24,7 @@ pub struct ReadStream<'a, F: ReadMedium> {
 }
 
 impl<'a, F: ReadMedium> ReadStream<'a, F> {
-    ghost use Rattle.cfb.specs.Streams.{buffered_of, file_of, len_of, position_of, Fills, HasContent, IsFaultOrLost, Stays};
+    ghost use Rattle.cfb.specs.Streams.{buffered_of, file_of, len_of, position_of, ReaderFills, HasContent, IsFaultOrLost, Stays};
     ghost use Rattle.cfb.specs.contracts.stream.ReadStream.{the_row};
     ghost use Rattle.std.specs.Io.BufRead.{Rests as Leaves};
 
@@ -138,7 +138,7 @@ impl<'a, F: ReadMedium> ReadStream<'a, F> {
     pub fn fill_buf(&mut self) -> Result<&[u8], Error>
         ensures* leaves { sem 𝓛 (Leaves
             (the_row (record { mir = named 1; lft = [] }) F.row F.ReadMedium) self.entry
-            (Fills result self.old)) }
+            (ReaderFills result self.old)) }
         ensures bytes { (content : List ℕ) → HasContent self.old content → IfOk result (λ b. b.now
             ≡ take (length b.now) (drop (position_of self.old) content)) }
         ensures inside { IfOk result (λ b. length b.now ≤ len_of self.old - position_of self.old) }

@@ -1,14 +1,14 @@
 //! Streams of a file, opened by their paths and written.
-ghost use Rattle.cfb.specs.Doing.{Means as MeansTree};
+ghost use Rattle.cfb.specs.Doing.{FileMeans};
 ghost use Rattle.cfb.specs.Putting.{IsRefusedOpening};
 ghost use Rattle.cfb.specs.Streams.{IsWant, KeepsStream};
-ghost use Rattle.cfb.specs.Views.{letters_in, mini_of, sound_of, validation_of, Rests};
-ghost use Rattle.cfb.specs.Writing.{file_under, place_of, FindsWritten, IsFound, IsLostAt, IsWritten, KeepsAt, LacksRoomAt, Opens, RewritesAt};
+ghost use Rattle.cfb.specs.Views.{letters_in, mini_of, sound_of, validation_of, FileRests};
+ghost use Rattle.cfb.specs.Writing.{file_under, place_of, FindsWritten, IsFound, IsLostAt, StreamIsWritten, KeepsAt, LacksRoomAt, Opens, RewritesAt};
 ghost use Rattle.cfb_directory.specs.Views.{entries_held};
 ghost use Rattle.cfb.specs.contracts.compound_file.CompoundFile.{the_row};
 ghost use Rattle.cfb_chains.specs.ChainCalls.{IsInvalidPlace};
 ghost use Rattle.cfb_entries.specs.Rules.{answer_at, names_in};
-ghost use Rattle.cfb_fat.specs.Calls.{Answers};
+ghost use Rattle.cfb_fat.specs.Calls.{FatAnswers};
 ghost use Rattle.cfb_fat.specs.Tables.{has_failed_here, version_of, HasCauseBelow};
 ghost use Rattle.cfb_medium.specs.Calls.{IsFaultUnless};
 ghost use Rattle.cfb_meaning.specs.TreeRules.{open_stream, refused};
@@ -35,9 +35,9 @@ impl<F: ReadMedium> CompoundFile<F> {
     fn stream_entry(&self, path: &str) -> Result<u32, Error>
         ensures inside { IfOk result (λ id.
             id < length (entries_held (directory_of (mini_of self.now)))) }
-        ensures found { (tree : Tree) → MeansTree self.now tree
+        ensures found { (tree : Tree) → FileMeans self.now tree
             → IfOk result (λ id. IsFound self.now (names_in path.now) tree id) }
-        ensures refused { (tree : Tree) → MeansTree self.now tree
+        ensures refused { (tree : Tree) → FileMeans self.now tree
             → IfErr result (λ e. IsWant self.now e
             ⊎ (answer_at (letters_in self.now) tree open_stream (names_in path.now) ≡ refused e)) }
         ensures error { IfErr result (λ e. (e ≡ Memory) ⊎ IsRefusedOpening e) }
@@ -61,11 +61,11 @@ impl<F: ReadMedium> CompoundFile<F> {
     // Finds the entry and the sectors of the stream at a path, and gives the entry's number and how many bytes the stream has.
     // Nothing is read ahead of it yet.
     pub(crate) fn find_written(&mut self, path: &str) -> Result<(u32, u64), Error>
-        ensures rests { Rests self.old self.new }
+        ensures rests { FileRests self.old self.new }
         ensures small { IfOk result (λ it. it.1 < 2 ^ 63) }
-        ensures found { (tree : Tree) → MeansTree self.old tree → IfOk result (λ it.
+        ensures found { (tree : Tree) → FileMeans self.old tree → IfOk result (λ it.
             FindsWritten self.old self.new (names_in path.now) tree it.0 it.1) }
-        ensures refused { (tree : Tree) → MeansTree self.old tree
+        ensures refused { (tree : Tree) → FileMeans self.old tree
             → IfErr result (λ e. IsWant self.old e
             ⊎ (answer_at (letters_in self.old) tree open_stream (names_in path.now) ≡ refused e)) }
         ensures failed { has_failed_here (allocator_of (mini_of self.old)) ≡ true
@@ -101,14 +101,14 @@ impl<F: ReadMedium> CompoundFile<F> {
     /// storage. The one other error is `Memory`. The file is only read ([MS-CFB] 2.6.3).
     pub fn open_stream(&mut self, path: &str) -> Result<Stream<'_, F>, Error>
         ensures* rests { sem 𝓛 (RestsIfErr (the_row F.row F.ReadMedium) self.entry
-            (λ s. s.file.ghost_name) result (Rests self.old)) }
+            (λ s. s.file.ghost_name) result (FileRests self.old)) }
         ensures same_reference { IfOk result (λ s.
             s.file.ghost_name ≡ self.entry.ghost_name) }
-        ensures read { IfOk result (λ s. Rests self.old (file_under s)) }
+        ensures read { IfOk result (λ s. FileRests self.old (file_under s)) }
         ensures at_start { IfOk result (λ s. place_of s ≡ 0) }
-        ensures opened { (tree : Tree) → MeansTree self.old tree
+        ensures opened { (tree : Tree) → FileMeans self.old tree
             → IfOk result (Opens (names_in path.now) self.old tree) }
-        ensures refused { (tree : Tree) → MeansTree self.old tree
+        ensures refused { (tree : Tree) → FileMeans self.old tree
             → IfErr result (λ e. IsWant self.old e
             ⊎ (answer_at (letters_in self.old) tree open_stream (names_in path.now) ≡ refused e)) }
         ensures failed { has_failed_here (allocator_of (mini_of self.old)) ≡ true
@@ -141,13 +141,13 @@ impl<F: Medium> CompoundFile<F> {
         ensures written { OnOk result (RewritesAt id (λ content. overwritten content at bytes.now)
             self.old self.new) }
         ensures past { IsErrOf result InvalidInput → (path : Path) (tree : Tree) (content : List ℕ)
-            → IsWritten self.old path tree id content → length content < at + length bytes.now }
+            → StreamIsWritten self.old path tree id content → length content < at + length bytes.now }
         ensures refused { IsErrOf result InvalidData → IsLostAt id self.old }
         ensures kept { OnErr result ((has_failed_here (allocator_of (mini_of self.new)) ≡ true)
             ⊎ KeepsAt id self.old self.new) }
         ensures goes_on { GoesOn (allocator_of (mini_of self.old))
             (allocator_of (mini_of self.new)) }
-        ensures answers { Answers IsInvalidPlace result (allocator_of (mini_of self.old))
+        ensures answers { FatAnswers IsInvalidPlace result (allocator_of (mini_of self.old))
             (allocator_of (mini_of self.new)) }
         ensures seen { (letters_in self.new ≡ letters_in self.old)
             × (sound_of self.new ≡ sound_of self.old)
@@ -175,7 +175,7 @@ impl<F: Medium> CompoundFile<F> {
             → OnOk result ⊥ × KeepsAt id self.old self.new }
         ensures goes_on { GoesOn (allocator_of (mini_of self.old))
             (allocator_of (mini_of self.new)) }
-        ensures answers { Answers IsInvalidPlaceOrFull result (allocator_of (mini_of self.old))
+        ensures answers { FatAnswers IsInvalidPlaceOrFull result (allocator_of (mini_of self.old))
             (allocator_of (mini_of self.new)) }
         ensures seen { (letters_in self.new ≡ letters_in self.old)
             × (sound_of self.new ≡ sound_of self.old)
@@ -201,7 +201,7 @@ impl<F: Medium> CompoundFile<F> {
         ensures written { OnOk result (RewritesAt id
             (λ content. overwritten (resized end content) at bytes.now) self.old self.new) }
         ensures large { IsErrOf result InvalidInput → (path : Path) (tree : Tree)
-            (content : List ℕ) → IsWritten self.old path tree id content
+            (content : List ℕ) → StreamIsWritten self.old path tree id content
             → stream_len_mask (version_of (allocator_of (mini_of self.old))) < end }
         ensures refused { IsErrOf result InvalidData → IsLostAt id self.old }
         ensures kept { OnErr result ((has_failed_here (allocator_of (mini_of self.new)) ≡ true)
@@ -211,7 +211,7 @@ impl<F: Medium> CompoundFile<F> {
             → LacksRoomAt id end self.old }
         ensures goes_on { GoesOn (allocator_of (mini_of self.old))
             (allocator_of (mini_of self.new)) }
-        ensures answers { Answers IsInvalidPlaceOrFull result (allocator_of (mini_of self.old))
+        ensures answers { FatAnswers IsInvalidPlaceOrFull result (allocator_of (mini_of self.old))
             (allocator_of (mini_of self.new)) }
         ensures seen { (letters_in self.new ≡ letters_in self.old)
             × (sound_of self.new ≡ sound_of self.old)

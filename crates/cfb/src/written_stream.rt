@@ -37,7 +37,7 @@ pub struct Stream<'a, F: ReadMedium> {
 
 impl<'a, F: ReadMedium> Stream<'a, F> {
     ghost use Rattle.cfb.specs.Streams.{HasStream, KeepsStream};
-    ghost use Rattle.cfb.specs.Writing.{allocator_under, buffered_of, file_under, id_of, place_of, stream_len, Fills, IsFaultOrGone, Rests, Stands};
+    ghost use Rattle.cfb.specs.Writing.{allocator_under, buffered_of, file_under, id_of, place_of, stream_len, StreamFills, IsFaultOrGone, StreamRests, Stands};
     ghost use Rattle.cfb.specs.contracts.written_stream.Stream.{the_row};
     ghost use Rattle.std.specs.Io.BufRead.{Rests as Leaves};
 
@@ -112,7 +112,7 @@ impl<'a, F: ReadMedium> Stream<'a, F> {
             ≡ place_of self.old + n) }
         ensures unmoved { OnErr result (place_of self.new
             ≡ place_of self.old) }
-        ensures rests { Rests self.old self.new }
+        ensures rests { StreamRests self.old self.new }
         ensures cause { IfErr result (HasCauseBelow
             (allocator_under self.old)
             (allocator_under self.new)) }
@@ -134,7 +134,7 @@ impl<'a, F: ReadMedium> Stream<'a, F> {
             place_of self.new ≡ stream_len self.old) }
         ensures unmoved { OnErr result ((place_of self.new
             ≡ place_of self.old) × (bytes.new.items ≡ bytes.old.items)) }
-        ensures rests { Rests self.old self.new }
+        ensures rests { StreamRests self.old self.new }
         ensures cause { IfErr result (HasCauseBelow
             (allocator_under self.old)
             (allocator_under self.new)) }
@@ -165,7 +165,7 @@ impl<'a, F: ReadMedium> Stream<'a, F> {
         ensures some { OnOk result (place_of self.old < stream_len self.old
             → 0 < buffered_of self.new) }
         ensures unmoved { place_of self.new ≡ place_of self.old }
-        ensures rests { Rests self.old self.new }
+        ensures rests { StreamRests self.old self.new }
         ensures cause { IfErr result (HasCauseBelow
             (allocator_under self.old)
             (allocator_under self.new)) }
@@ -190,7 +190,7 @@ impl<'a, F: ReadMedium> Stream<'a, F> {
     pub fn fill_buf(&mut self) -> Result<&[u8], Error>
         ensures* leaves { sem 𝓛 (Leaves
             (the_row (record { mir = named 1; lft = [] }) F.row F.ReadMedium) self.entry
-            (Fills result self.old)) }
+            (StreamFills result self.old)) }
         ensures bytes { (path : Path) (tree : Tree) (content : List ℕ)
             → Stands self.old path tree content → IfOk result (λ b. b.now
             ≡ take (length b.now) (drop (place_of self.old) content)) }
@@ -211,7 +211,7 @@ impl<'a, F: ReadMedium> Stream<'a, F> {
         requires { place_of self.old + amount ≤ stream_len self.old }
         ensures moved { place_of self.new
             ≡ place_of self.old + amount }
-        ensures rests { Rests self.old self.new }
+        ensures rests { StreamRests self.old self.new }
     {
         self.position += amount as u64;
     }
@@ -227,7 +227,7 @@ impl<'a, F: ReadMedium> Stream<'a, F> {
         ensures failed { has_failed_here (allocator_under self.old) ≡ true → IsErrOf result Failed }
         ensures unmoved { OnErr result (place_of self.new
             ≡ place_of self.old) }
-        ensures rests { Rests self.old self.new }
+        ensures rests { StreamRests self.old self.new }
     {
         if self.file.is_failed() {
             return Err(Error::Failed);
@@ -241,8 +241,8 @@ impl<'a, F: ReadMedium> Stream<'a, F> {
 }
 
 impl<'a, F: Medium> Stream<'a, F> {
-    ghost use Rattle.cfb.specs.Doing.{Means};
-    ghost use Rattle.cfb.specs.Writing.{allocator_under, file_under, place_of, stream_len, Changes, IfStands, IsFullFor, IsLost, Keeps, Rests, Rewrites, Stands};
+    ghost use Rattle.cfb.specs.Doing.{FileMeans};
+    ghost use Rattle.cfb.specs.Writing.{allocator_under, file_under, place_of, stream_len, StreamChanges, IfStands, IsFullFor, IsLost, StreamKeeps, StreamRests, Rewrites, Stands};
 
     // Where so many bytes end that are written from the position on.
     fn end_behind(&self, count: usize) -> Result<u64, Error>
@@ -275,9 +275,9 @@ impl<'a, F: Medium> Stream<'a, F> {
         ensures large { IsErrOf result InvalidInput → IsLost self.old }
         ensures refused { IsErrOf result InvalidData → IsLost self.old }
         ensures kept { OnErr result ((has_failed_here (allocator_under self.new) ≡ true)
-            ⊎ Keeps self.old self.new) }
+            ⊎ StreamKeeps self.old self.new) }
         ensures room { IsErrOf result Full → ⊥ }
-        ensures changes { Changes IsInvalidPlaceOrFull result self.old self.new }
+        ensures changes { StreamChanges IsInvalidPlaceOrFull result self.old self.new }
     {
         let (id, place) = (self.id, self.position);
         if let Err(error) = self.file.overwrite_bytes(id, place, bytes) {
@@ -301,10 +301,10 @@ impl<'a, F: Medium> Stream<'a, F> {
             (stream_len_mask (version_of (allocator_under self.old)) < end) }
         ensures refused { IsErrOf result InvalidData → IsLost self.old }
         ensures kept { OnErr result ((has_failed_here (allocator_under self.new) ≡ true)
-            ⊎ Keeps self.old self.new) }
+            ⊎ StreamKeeps self.old self.new) }
         ensures full { IsErrOf result Full → has_failed_here (allocator_under self.new) ≡ false
             → IsFullFor self.old end }
-        ensures changes { Changes IsInvalidPlaceOrFull result self.old self.new }
+        ensures changes { StreamChanges IsInvalidPlaceOrFull result self.old self.new }
     {
         let (id, place) = (self.id, self.position);
         if let Err(error) = self.file.extend_bytes(id, place, bytes, end) {
@@ -329,13 +329,13 @@ impl<'a, F: Medium> Stream<'a, F> {
         ensures large { IsErrOf result InvalidInput → IfStands self.old
             (stream_len_mask (version_of (allocator_under self.old))
             < place_of self.old + length bytes.now) }
-        ensures unchanged { IsErrOf result InvalidInput → Keeps self.old self.new }
+        ensures unchanged { IsErrOf result InvalidInput → StreamKeeps self.old self.new }
         ensures refused { IsErrOf result InvalidData → IsLost self.old }
         ensures kept { OnErr result ((has_failed_here (allocator_under self.new) ≡ true)
-            ⊎ Keeps self.old self.new) }
+            ⊎ StreamKeeps self.old self.new) }
         ensures full { IsErrOf result Full → has_failed_here (allocator_under self.new) ≡ false
             → IsFullFor self.old (place_of self.old + length bytes.now) }
-        ensures changes { Changes IsInvalidPlaceOrFull result self.old self.new }
+        ensures changes { StreamChanges IsInvalidPlaceOrFull result self.old self.new }
     {
         if self.file.is_failed() {
             return Err(Error::Failed);
@@ -358,15 +358,15 @@ impl<'a, F: Medium> Stream<'a, F> {
         ensures unmoved { OnErr result (place_of self.new ≡ place_of self.old) }
         ensures large { IsErrOf result InvalidInput
             → stream_len_mask (version_of (allocator_under self.old)) < len }
-        ensures unchanged { IsErrOf result InvalidInput → Keeps self.old self.new }
+        ensures unchanged { IsErrOf result InvalidInput → StreamKeeps self.old self.new }
         ensures refused { IsErrOf result InvalidData → IsLost self.old }
         ensures kept { OnErr result ((has_failed_here (allocator_under self.new) ≡ true)
-            ⊎ Keeps self.old self.new) }
+            ⊎ StreamKeeps self.old self.new) }
         ensures full { IsErrOf result Full → has_failed_here (allocator_under self.new) ≡ false
             → IsFullFor self.old len }
         ensures spared { IsPastNumbers (version_of (allocator_under self.old)) len
-            → OnOk result ⊥ × Keeps self.old self.new }
-        ensures changes { Changes IsInvalidPlaceOrFull result self.old self.new }
+            → OnOk result ⊥ × StreamKeeps self.old self.new }
+        ensures changes { StreamChanges IsInvalidPlaceOrFull result self.old self.new }
     {
         if self.file.is_failed() {
             return Err(Error::Failed);
@@ -390,12 +390,12 @@ impl<'a, F: Medium> Stream<'a, F> {
             → stream_len_mask (version_of (allocator_under self.old)) < len }
         ensures refused { IsErrOf result InvalidData → IsLost self.old }
         ensures kept { OnErr result ((has_failed_here (allocator_under self.new) ≡ true)
-            ⊎ Keeps self.old self.new) }
+            ⊎ StreamKeeps self.old self.new) }
         ensures full { IsErrOf result Full → has_failed_here (allocator_under self.new) ≡ false
             → IsFullFor self.old len }
         ensures spared { IsPastNumbers (version_of (allocator_under self.old)) len
-            → OnOk result ⊥ × Keeps self.old self.new }
-        ensures changes { Changes IsInvalidPlaceOrFull result self.old self.new }
+            → OnOk result ⊥ × StreamKeeps self.old self.new }
+        ensures changes { StreamChanges IsInvalidPlaceOrFull result self.old self.new }
     {
         let id = self.id;
         if let Err(error) = self.file.resize_bytes(id, len) {
@@ -409,7 +409,7 @@ impl<'a, F: Medium> Stream<'a, F> {
     /// Passes on what the medium keeps back, and publishes nothing; the stream is as it was, also after an error. `Failed` after an
     /// earlier fault; the other errors are `Memory` and `Device`.
     pub fn flush(&mut self) -> Result<(), Error>
-        ensures rests { Rests self.old self.new }
+        ensures rests { StreamRests self.old self.new }
         ensures unmoved { place_of self.new ≡ place_of self.old }
         ensures failed { has_failed_here (allocator_under self.old) ≡ true → IsErrOf result Failed }
         ensures cause { IfErr result (HasCauseBelow (allocator_under self.old)
@@ -424,7 +424,7 @@ impl<'a, F: Medium> Stream<'a, F> {
     pub fn close(self) -> Result<(), Error>
         ensures left { self.exit.0.now ≡ file_under self.entry }
         ensures closed { OnOk result ((path : Path) (tree : Tree) (content : List ℕ)
-            → Stands self.entry path tree content → Means self.exit.0.now tree) }
+            → Stands self.entry path tree content → FileMeans self.exit.0.now tree) }
         ensures live { OnOk result (has_failed_here (allocator_under self.entry) ≡ false) }
         ensures failed { IfErr result (λ e. (e ≡ Failed)
             × (has_failed_here (allocator_under self.entry) ≡ true)) }

@@ -50,7 +50,7 @@ module _ {H : Type 0} {s : Ghosts H} where
 
   -- Only over a live layer is a call done, and leaves it live; one that had failed answers `Failed`, and rests. After an error
   -- the layer has failed, or nothing but reads happened. The error is a fault or such a refusal, and has its cause.
-  pub record Answers {T : Type 0} (g : Changing H) (refuses : Error → Type 0) (result : Result T Error) (old new : Chain H s) : Type 0 where
+  pub record ChainAnswers {T : Type 0} (g : Changing H) (refuses : Error → Type 0) (result : Result T Error) (old new : Chain H s) : Type 0 where
     pub live : OnOk result ((g.failed (holder_of old) ≡ false) × (g.failed (holder_of new) ≡ false))
     pub failed : g.failed (holder_of old) ≡ true → IsErrOf result Failed × ChainRests g.rests old new
     pub after : OnErr result ((g.failed (holder_of new) ≡ true) ⊎ ChainRests g.rests old new)
@@ -76,14 +76,14 @@ module _ {H : Type 0} {s : Ghosts H} where
     pub stays : OnErr result (position_of new ≡ position_of old)
 
   -- these bytes lie over the chain's from a place on, where no sector stands twice in it
-  abbrev pub Overwrites : Changing H → ℕ → List ℕ → Chain H s → Chain H s → Type 0
-  Overwrites g place bytes old new = IsTrue (g.honest (holder_of old)) → AreOnce (sectors_of old)
+  abbrev pub ChainOverwrites : Changing H → ℕ → List ℕ → Chain H s → Chain H s → Type 0
+  ChainOverwrites g place bytes old new = IsTrue (g.honest (holder_of old)) → AreOnce (sectors_of old)
       → joined (version_of old) (g.bytes (holder_of new)) (sectors_of old) ≡ overwritten (chain_bytes g.bytes old) place bytes
 
   -- A write before the chain's end lies over the chain's bytes. It is done where the layer may write there; `InvalidData` tells
   -- of a live layer that may not, and then nothing but reads happened.
   pub record WritesInside (g : Changing H) (bytes : List ℕ) (result : Result ℕ Error) (old new : Chain H s) : Type 0 where
-    pub written : IfOk result (λ n. Overwrites g (position_of old) (take n bytes) old new)
+    pub written : IfOk result (λ n. ChainOverwrites g (position_of old) (take n bytes) old new)
     pub there : OnOk result (MayTake g.may_write bytes old)
     pub refused : IsErrOf result InvalidData ↔ ((g.failed (holder_of old) ≡ false) × (MayTake g.may_write bytes old → ⊥))
     pub writes : MayTake g.may_write bytes old → Puts g.writes bytes old (sectors_of old) (holder_of old) (holder_of new)
@@ -142,8 +142,8 @@ module _ {H : Type 0} {s : Ghosts H} where
     pub bytes : OnOk result (KeepsBytes g old new)
 
   -- a linked and writable chain of an honest layer, whose sectors are these now, has these bytes
-  abbrev pub Holds : Growing H → Chain H s → List ℕ → H → List ℕ → Type 0
-  Holds g old ids now content = IsTrue (g.honest (holder_of old)) → g.version (holder_of old) ≡ version_of old → IsLinked (g.fat (holder_of old)) (sectors_of old)
+  abbrev pub ChainHolds : Growing H → Chain H s → List ℕ → H → List ℕ → Type 0
+  ChainHolds g old ids now content = IsTrue (g.honest (holder_of old)) → g.version (holder_of old) ≡ version_of old → IsLinked (g.fat (holder_of old)) (sectors_of old)
       → AreWritable (g.may_write (holder_of old)) (version_of old) (sectors_of old) → joined (version_of old) (g.bytes now) ids ≡ content
 
   -- the chain took in sectors behind its own, which are these now, and the table changed at entries of these alone
@@ -158,7 +158,7 @@ module _ {H : Type 0} {s : Ghosts H} where
       × Ends (Puts g.writes bytes old (sectors_of new)) g.rests g.fails mid (holder_of new)
 
   -- where the table had the chain and it was writable, so is that of these sectors
-  pub record Keeps (g : Growing H) (old : Chain H s) (ids : List ℕ) (now : H) : Type 0 where
+  pub record ChainKeeps (g : Growing H) (old : Chain H s) (ids : List ℕ) (now : H) : Type 0 where
     pub linked : IsLinked (g.fat (holder_of old)) (sectors_of old) → IsLinked (g.fat now) ids
     pub writable : g.version (holder_of old) ≡ version_of old → AreWritable (g.may_write (holder_of old)) (version_of old) (sectors_of old) → AreWritable (g.may_write now) (version_of old) ids
 

@@ -28,7 +28,7 @@ module _ {H : Type 0} {g : Ghosts H} where
   init_of it = it.init
 
   -- the same chain, lent by the same layer and links
-  pub record IsSame (old new : Chain H g) : Type 0 where
+  pub record IsSameChain (old new : Chain H g) : Type 0 where
     pub holder : new.holder.ghost_name ≡ old.holder.ghost_name
     pub links : new.links.ghost_name ≡ old.links.ghost_name
     pub version : version_of new ≡ version_of old

@@ -25,7 +25,7 @@ pub struct Chain<'a, H: HasSectors> {
 
 impl<'a, H: HasSectors> Chain<'a, H> {
     ghost use Rattle.cfb_chains.specs.ChainCalls.{chain_bytes, len_of};
-    ghost use Rattle.cfb_chains.specs.ChainViews.{holder_of, init_of, position_of, sectors_of, version_of, IsSame};
+    ghost use Rattle.cfb_chains.specs.ChainViews.{holder_of, init_of, position_of, sectors_of, version_of, IsSameChain};
 
     /// The chain of these sectors, at its first byte. What it takes in later holds at first what `init` says; the links follow
     /// what it takes in and frees.
@@ -119,7 +119,7 @@ impl<'a, H: HasSectors> Chain<'a, H> {
             → position_of self.old < len_of self.old → 0 < n) }
         ensures moved { IfOk result (λ n. position_of self.new ≡ position_of self.old + n) }
         ensures stays { OnErr result (position_of self.new ≡ position_of self.old) }
-        ensures same { IsSame self.old self.new }
+        ensures same { IsSameChain self.old self.new }
         ensures live { OnOk result (H.failed (holder_of self.old) ≡ false) }
         ensures failed { H.failed (holder_of self.old) ≡ true → IsErrOf result Failed }
         ensures rests { H.rests (holder_of self.old) (holder_of self.new) }
@@ -149,7 +149,7 @@ impl<'a, H: HasSectors> Chain<'a, H> {
             (len_of self.old) (position_of self.old)) }
         ensures failed { H.failed (holder_of self.old) ≡ true → IsErrOf result Failed }
         ensures stays { OnErr result (position_of self.new ≡ position_of self.old) }
-        ensures same { IsSame self.old self.new }
+        ensures same { IsSameChain self.old self.new }
         ensures holder { holder_of self.new ≡ holder_of self.old }
     {
         if self.holder.is_failed() {

@@ -1,5 +1,5 @@
 //! Chains that become shorter, and chains of a given length.
-ghost use Rattle.cfb_chains.specs.ChainCalls.{chain_bytes, len_of, new_sector, Answers, ChainRests, Cuts, FreesBehind, Holds, IsCutTo, IsInvalid, IsInvalidOrFull, IsUnlinked, Keeps, KeepsBytes, LacksNumber, Lengthens, StaysLinked, StaysWritable};
+ghost use Rattle.cfb_chains.specs.ChainCalls.{chain_bytes, len_of, new_sector, ChainAnswers, ChainRests, Cuts, FreesBehind, ChainHolds, IsCutTo, IsInvalid, IsInvalidOrFull, IsUnlinked, ChainKeeps, KeepsBytes, LacksNumber, Lengthens, StaysLinked, StaysWritable};
 ghost use Rattle.cfb_chains.specs.Positions.{sectors_for};
 ghost use Rattle.cfb_medium.specs.declared.error.Error.TheVariants.{Failed, Full, InvalidData};
 ghost use Rattle.cfb_sectors.specs.Copies.{copies};
@@ -26,7 +26,7 @@ impl<'a, H: FreesChains> Chain<'a, H> {
         ensures orderly { OnOk result (IsTrue (H.orderly (holder_of self.old))) }
         ensures refused { IsErrOf result InvalidData
             → IsUnlinked H.FreesChains self.old × ChainRests H.rests self.old self.new }
-        ensures answers { Answers H.ChangesSectors IsInvalid result self.old self.new }
+        ensures answers { ChainAnswers H.ChangesSectors IsInvalid result self.old self.new }
     {
         let last = self.links.sector_ids()[count - 1];
         match self.holder.free_chain_after(last) {
@@ -50,7 +50,7 @@ impl<'a, H: FreesChains> Chain<'a, H> {
         ensures orderly { OnOk result (IsTrue (H.orderly (holder_of self.old))) }
         ensures refused { IsErrOf result InvalidData
             → IsUnlinked H.FreesChains self.old × ChainRests H.rests self.old self.new }
-        ensures answers { Answers H.ChangesSectors IsInvalid result self.old self.new }
+        ensures answers { ChainAnswers H.ChangesSectors IsInvalid result self.old self.new }
     {
         if count == 0 {
             return self.free();
@@ -86,12 +86,12 @@ impl<'a, H: GrowsChains> Chain<'a, H> {
         ensures longer { length (sectors_of self.old) ≤ sectors_for (version_of self.old) len
             → Lengthens H.GrowsChains self.old (sectors_of self.new) (holder_of self.new) }
         ensures filled { length (sectors_of self.old) ≤ sectors_for (version_of self.old) len
-            → OnOk result (Holds H.GrowsChains self.old (sectors_of self.new) (holder_of self.new)
+            → OnOk result (ChainHolds H.GrowsChains self.old (sectors_of self.new) (holder_of self.new)
             (chain_bytes H.bytes self.old ++ copies (length (sectors_of self.new)
             - length (sectors_of self.old)) (new_sector self.old))) }
         ensures shorter { sectors_for (version_of self.old) len < length (sectors_of self.old)
             → Cuts H.FreesChains (sectors_for (version_of self.old) len) result self.old self.new }
-        ensures keeps { OnOk result (Keeps H.GrowsChains self.old (sectors_of self.new)
+        ensures keeps { OnOk result (ChainKeeps H.GrowsChains self.old (sectors_of self.new)
             (holder_of self.new)) }
         ensures position { OnOk result (position_of self.new
             ≡ min (position_of self.old) (len_of self.new)) }
@@ -102,7 +102,7 @@ impl<'a, H: GrowsChains> Chain<'a, H> {
         ensures full { IsErrOf result Full → IsTrue (H.orderly (holder_of self.old))
             × (H.failed (holder_of self.new) ≡ false
             → LacksNumber H.lacks (sectors_for (version_of self.old) len) self.old) }
-        ensures answers { Answers H.ChangesSectors IsInvalidOrFull result self.old self.new }
+        ensures answers { ChainAnswers H.ChangesSectors IsInvalidOrFull result self.old self.new }
     {
         let count = needed_sectors(self.links.version(), len) as usize;
         if count < self.num_sectors() {

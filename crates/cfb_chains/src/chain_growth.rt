@@ -1,5 +1,5 @@
 //! Chains that become longer.
-ghost use Rattle.cfb_chains.specs.ChainCalls.{chain_bytes, new_sector, Answers, ChainRests, HasEnd, HasNoEnd, HasNoNumber, Holds, IsInvalidOrFull, IsUnlinked, Keeps, LacksNumber, Lengthens, MayWriteSector};
+ghost use Rattle.cfb_chains.specs.ChainCalls.{chain_bytes, new_sector, ChainAnswers, ChainRests, HasEnd, HasNoEnd, HasNoNumber, ChainHolds, IsInvalidOrFull, IsUnlinked, ChainKeeps, LacksNumber, Lengthens, MayWriteSector};
 ghost use Rattle.cfb_chains.specs.Changes.{AreAmong};
 ghost use Rattle.cfb_chains.specs.Grown.{IsLinked};
 ghost use Rattle.cfb_medium.specs.Calls.{IsFaultUnless};
@@ -22,12 +22,12 @@ impl<'a, H: GrowsChains> Chain<'a, H> {
             × (IsLinked (H.fat (holder_of self.old)) (sectors_of self.old)
             → AreAmong (sectors_of self.old ++ n ∷ []) changed)) }
         ensures none { OnErr result (H.grows [] [] (holder_of self.old) (holder_of self.new)) }
-        ensures keeps { IfOk result (λ n. Keeps H.GrowsChains self.old
+        ensures keeps { IfOk result (λ n. ChainKeeps H.GrowsChains self.old
             (sectors_of self.old ++ n ∷ []) (holder_of self.new)) }
         ensures ends { IfOk result (λ n. IsChain (H.fat (holder_of self.new)) n (n ∷ [])) }
         ensures room { IfOk result (λ n. MayWriteSector H.GrowsChains self.old n
             (holder_of self.new)) }
-        ensures filled { IfOk result (λ n. Holds H.GrowsChains self.old
+        ensures filled { IfOk result (λ n. ChainHolds H.GrowsChains self.old
             (sectors_of self.old ++ n ∷ []) (holder_of self.new)
             (chain_bytes H.bytes self.old ++ new_sector self.old)) }
         ensures same { IsSameButSectors self.old self.new }
@@ -37,7 +37,7 @@ impl<'a, H: GrowsChains> Chain<'a, H> {
             → HasNoEnd H.FreesChains self.old × ChainRests H.rests self.old self.new }
         ensures full { IsErrOf result Full → IsTrue (H.orderly (holder_of self.old))
             × H.is_full (holder_of self.old) × ChainRests H.rests self.old self.new }
-        ensures answers { Answers H.ChangesSectors IsInvalidOrFull result self.old self.new }
+        ensures answers { ChainAnswers H.ChangesSectors IsInvalidOrFull result self.old self.new }
     {
         let count = self.links.sector_ids().len();
         if count == 0 {
@@ -82,13 +82,13 @@ impl<'a, H: GrowsChains> Chain<'a, H> {
         ensures longer { OnOk result (length (sectors_of self.new)
             ≡ length (sectors_of self.old) + 1) }
         ensures none { OnErr result (sectors_of self.new ≡ sectors_of self.old) }
-        ensures keeps { OnOk result (Keeps H.GrowsChains self.old (sectors_of self.new)
+        ensures keeps { OnOk result (ChainKeeps H.GrowsChains self.old (sectors_of self.new)
             (holder_of self.new)) }
         ensures ends { OnOk result (HasEnd H.fat self.new) }
         ensures room { OnOk result (MayWriteSector H.GrowsChains self.old
             (slice_index (sectors_of self.new) (length (sectors_of self.old)))
             (holder_of self.new)) }
-        ensures filled { OnOk result (Holds H.GrowsChains self.old (sectors_of self.new)
+        ensures filled { OnOk result (ChainHolds H.GrowsChains self.old (sectors_of self.new)
             (holder_of self.new)
             (chain_bytes H.bytes self.old ++ new_sector self.old)) }
         ensures same { IsSameButSectors self.old self.new }
@@ -97,7 +97,7 @@ impl<'a, H: GrowsChains> Chain<'a, H> {
             → HasNoEnd H.FreesChains self.old × ChainRests H.rests self.old self.new }
         ensures full { IsErrOf result Full → IsTrue (H.orderly (holder_of self.old))
             × HasNoNumber H.is_full self.old × ChainRests H.rests self.old self.new }
-        ensures answers { Answers H.ChangesSectors IsInvalidOrFull result self.old self.new }
+        ensures answers { ChainAnswers H.ChangesSectors IsInvalidOrFull result self.old self.new }
     {
         if self.holder.is_failed() {
             return Err(Error::Failed);
@@ -131,9 +131,9 @@ impl<'a, H: GrowsChains> Chain<'a, H> {
         ensures count { OnOk result (length (sectors_of self.new) ≡ count) }
         ensures few { OnErr result (length (sectors_of self.new) < count) }
         ensures keeps { H.failed (holder_of self.new) ≡ false
-            → Keeps H.GrowsChains self.old (sectors_of self.new) (holder_of self.new) }
+            → ChainKeeps H.GrowsChains self.old (sectors_of self.new) (holder_of self.new) }
         ensures filled { H.failed (holder_of self.new) ≡ false
-            → Holds H.GrowsChains self.old (sectors_of self.new) (holder_of self.new)
+            → ChainHolds H.GrowsChains self.old (sectors_of self.new) (holder_of self.new)
             (chain_bytes H.bytes self.old ++ copies (length (sectors_of self.new)
             - length (sectors_of self.old)) (new_sector self.old)) }
         ensures same { IsSameButSectors self.old self.new }
@@ -161,9 +161,9 @@ impl<'a, H: GrowsChains> Chain<'a, H> {
             (holder_of self.new) }
         ensures count { OnOk result (length (sectors_of self.new) ≡ count) }
         ensures few { length (sectors_of self.new) ≤ count }
-        ensures keeps { OnOk result (Keeps H.GrowsChains self.old (sectors_of self.new)
+        ensures keeps { OnOk result (ChainKeeps H.GrowsChains self.old (sectors_of self.new)
             (holder_of self.new)) }
-        ensures filled { OnOk result (Holds H.GrowsChains self.old (sectors_of self.new)
+        ensures filled { OnOk result (ChainHolds H.GrowsChains self.old (sectors_of self.new)
             (holder_of self.new)
             (chain_bytes H.bytes self.old ++ copies (length (sectors_of self.new)
             - length (sectors_of self.old)) (new_sector self.old))) }
@@ -172,7 +172,7 @@ impl<'a, H: GrowsChains> Chain<'a, H> {
             → IsUnlinked H.FreesChains self.old × ChainRests H.rests self.old self.new }
         ensures full { IsErrOf result Full → IsTrue (H.orderly (holder_of self.old))
             × (H.failed (holder_of self.new) ≡ false → LacksNumber H.lacks count self.old) }
-        ensures answers { Answers H.ChangesSectors IsInvalidOrFull result self.old self.new }
+        ensures answers { ChainAnswers H.ChangesSectors IsInvalidOrFull result self.old self.new }
     {
         let wanted = count - self.num_sectors();
         if wanted == 0 {

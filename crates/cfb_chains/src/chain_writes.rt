@@ -1,5 +1,5 @@
 //! The bytes of a chain of sectors, written from a position on.
-ghost use Rattle.cfb_chains.specs.ChainCalls.{chain_bytes, len_of, new_sector, Advances, Answers, ChainRests, HasNoNumber, Holds, IsInvalid, IsInvalidOrFull, IsInvalidPlace, IsUnlinked, Keeps, LengthensAndPuts, MayTake, MayZero, Overwrites, Puts, WritesInside, Zeroes};
+ghost use Rattle.cfb_chains.specs.ChainCalls.{chain_bytes, len_of, new_sector, Advances, ChainAnswers, ChainRests, HasNoNumber, ChainHolds, IsInvalid, IsInvalidOrFull, IsInvalidPlace, IsUnlinked, ChainKeeps, LengthensAndPuts, MayTake, MayZero, ChainOverwrites, Puts, WritesInside, Zeroes};
 ghost use Rattle.cfb_chains.specs.Positions.{tail_in};
 ghost use Rattle.cfb_medium.specs.Bytes.{overwritten};
 ghost use Rattle.cfb_medium.specs.declared.error.Error.TheVariants.{Failed, Full, InvalidData, InvalidInput};
@@ -13,14 +13,14 @@ use cfb_sectors::ChangesSectors;
 const LONGEST: usize = 4096;
 
 impl<'a, H: ChangesSectors> Chain<'a, H> {
-    ghost use Rattle.cfb_chains.specs.ChainViews.{holder_of, position_of, sectors_of, version_of, IsSame};
+    ghost use Rattle.cfb_chains.specs.ChainViews.{holder_of, position_of, sectors_of, version_of, IsSameChain};
 
     // Writes what the sector at the position takes, and moves the position behind it. `InvalidData` where the layer may not
     // write there, and then nothing is changed.
     pub(crate) fn write_inside(&mut self, bytes: &[u8]) -> Result<usize, Error>
         requires { position_of self.old < len_of self.old }
         ensures advances { Advances bytes.now result self.old self.new }
-        ensures written { IfOk result (λ n. Overwrites H.ChangesSectors (position_of self.old)
+        ensures written { IfOk result (λ n. ChainOverwrites H.ChangesSectors (position_of self.old)
             (take n bytes.now)
             self.old self.new) }
         ensures there { OnOk result (MayTake H.may_write bytes.now self.old) }
@@ -37,8 +37,8 @@ impl<'a, H: ChangesSectors> Chain<'a, H> {
             ⊎ H.rests (holder_of self.old) (holder_of self.new) }
         ensures still { (at count : ℕ) → H.may_write (holder_of self.old) at count
             → H.may_write (holder_of self.new) at count }
-        ensures same { IsSame self.old self.new }
-        ensures answers { Answers H.ChangesSectors IsInvalid result self.old self.new }
+        ensures same { IsSameChain self.old self.new }
+        ensures answers { ChainAnswers H.ChangesSectors IsInvalid result self.old self.new }
         ensures fault { IfErr result (λ e. (e ≡ InvalidData)
             ⊎ (H.failed (holder_of self.new) ≡ true)) }
     {
@@ -53,7 +53,7 @@ impl<'a, H: ChangesSectors> Chain<'a, H> {
     /// length is past the chain's end, `InvalidData` where the layer may not write there, and then nothing is changed. After a
     /// fault in the write the layer has failed. The position stays.
     pub fn zero_tail(&mut self, len: u64) -> Result<(), Error>
-        ensures zeroed { OnOk result (Overwrites H.ChangesSectors len
+        ensures zeroed { OnOk result (ChainOverwrites H.ChangesSectors len
             (replicate (tail_in (version_of self.old) len) 0)
             self.old self.new) }
         ensures there { OnOk result (len ≤ len_of self.old) }
@@ -67,8 +67,8 @@ impl<'a, H: ChangesSectors> Chain<'a, H> {
         ensures still { (at count : ℕ) → H.may_write (holder_of self.old) at count
             → H.may_write (holder_of self.new) at count }
         ensures position { position_of self.new ≡ position_of self.old }
-        ensures same { IsSame self.old self.new }
-        ensures answers { Answers H.ChangesSectors IsInvalidPlace result self.old self.new }
+        ensures same { IsSameChain self.old self.new }
+        ensures answers { ChainAnswers H.ChangesSectors IsInvalidPlace result self.old self.new }
         ensures fault { IfErr result (λ e. IsInvalidPlace e
             ⊎ (H.failed (holder_of self.new) ≡ true)) }
     {
@@ -91,19 +91,19 @@ impl<'a, H: ChangesSectors> Chain<'a, H> {
 }
 
 impl<'a, H: GrowsChains> Chain<'a, H> {
-    ghost use Rattle.cfb_chains.specs.ChainViews.{holder_of, position_of, sectors_of, version_of, IsSame, IsSameBut};
+    ghost use Rattle.cfb_chains.specs.ChainViews.{holder_of, position_of, sectors_of, version_of, IsSameChain, IsSameBut};
 
     // At the end: takes in a sector, and writes what it takes.
     fn write_behind(&mut self, bytes: &[u8]) -> Result<usize, Error>
         requires { position_of self.old ≡ len_of self.old }
         ensures advances { Advances bytes.now result self.old self.new }
-        ensures written { IfOk result (λ n. Holds H.GrowsChains self.old (sectors_of self.new)
+        ensures written { IfOk result (λ n. ChainHolds H.GrowsChains self.old (sectors_of self.new)
             (holder_of self.new)
             (overwritten (chain_bytes H.bytes self.old ++ new_sector self.old)
             (position_of self.old) (take n bytes.now))) }
         ensures grows { LengthensAndPuts H.GrowsChains bytes.now self.old self.new }
         ensures longer { length (sectors_of self.new) ≤ length (sectors_of self.old) + 1 }
-        ensures keeps { OnOk result (Keeps H.GrowsChains self.old (sectors_of self.new)
+        ensures keeps { OnOk result (ChainKeeps H.GrowsChains self.old (sectors_of self.new)
             (holder_of self.new)) }
         ensures same { IsSameBut self.old self.new }
         ensures refused_live { IsErrOf result InvalidData → H.failed (holder_of self.new) ≡ false
@@ -113,7 +113,7 @@ impl<'a, H: GrowsChains> Chain<'a, H> {
             → IsUnlinked H.FreesChains self.old × ChainRests H.rests self.old self.new }
         ensures full { IsErrOf result Full → IsTrue (H.orderly (holder_of self.old))
             × HasNoNumber H.is_full self.old × ChainRests H.rests self.old self.new }
-        ensures answers { Answers H.ChangesSectors IsInvalidOrFull result self.old self.new }
+        ensures answers { ChainAnswers H.ChangesSectors IsInvalidOrFull result self.old self.new }
     {
         if let Err(error) = self.append_sector() {
             return Err(error);
@@ -138,13 +138,13 @@ impl<'a, H: GrowsChains> Chain<'a, H> {
             → WritesInside H.ChangesSectors bytes.now result self.old self.new }
         ensures appended { IfOk result (λ n. position_of self.old ≡ len_of self.old
             → 0 < length bytes.now
-            → Holds H.GrowsChains self.old (sectors_of self.new) (holder_of self.new)
+            → ChainHolds H.GrowsChains self.old (sectors_of self.new) (holder_of self.new)
             (overwritten (chain_bytes H.bytes self.old ++ new_sector self.old)
             (position_of self.old) (take n bytes.now))) }
         ensures empty { length bytes.now ≡ 0 → sectors_of self.new ≡ sectors_of self.old }
         ensures grows { LengthensAndPuts H.GrowsChains bytes.now self.old self.new }
         ensures longer { length (sectors_of self.new) ≤ length (sectors_of self.old) + 1 }
-        ensures keeps { OnOk result (Keeps H.GrowsChains self.old (sectors_of self.new)
+        ensures keeps { OnOk result (ChainKeeps H.GrowsChains self.old (sectors_of self.new)
             (holder_of self.new)) }
         ensures same { IsSameBut self.old self.new }
         ensures refused_live { IsErrOf result InvalidData → position_of self.old ≡ len_of self.old
@@ -154,7 +154,7 @@ impl<'a, H: GrowsChains> Chain<'a, H> {
             → IsUnlinked H.FreesChains self.old × ChainRests H.rests self.old self.new }
         ensures full { IsErrOf result Full → IsTrue (H.orderly (holder_of self.old))
             × HasNoNumber H.is_full self.old × ChainRests H.rests self.old self.new }
-        ensures answers { Answers H.ChangesSectors IsInvalidOrFull result self.old self.new }
+        ensures answers { ChainAnswers H.ChangesSectors IsInvalidOrFull result self.old self.new }
     {
         if self.position < self.len() {
             return self.write_inside(bytes);

@@ -1,5 +1,5 @@
 //! Chains that are freed, at whatever height.
-ghost use Rattle.cfb_chains.specs.ChainCalls.{start_of, Answers, ChainRests, IsInvalid};
+ghost use Rattle.cfb_chains.specs.ChainCalls.{start_of, ChainAnswers, ChainRests, IsInvalid};
 ghost use Rattle.cfb_chains.specs.Changes.{DifferAt, HaveEntry};
 ghost use Rattle.cfb_medium.specs.Calls.{IsFaultUnless};
 ghost use Rattle.cfb_medium.specs.declared.error.Error.TheVariants.{Failed, InvalidData};
@@ -89,7 +89,7 @@ impl<'a, H: FreesChains> Chain<'a, H> {
             → (IsTrue (H.orderly (holder_of self.old)) → (ids : List ℕ)
             → IsChain (H.fat (holder_of self.old)) (start_of self.old) ids → ⊥)
             × ChainRests H.rests self.old self.new }
-        ensures answers { Answers H.ChangesSectors IsInvalid result self.old self.new }
+        ensures answers { ChainAnswers H.ChangesSectors IsInvalid result self.old self.new }
     {
         let start = self.start_sector_id();
         self.holder.free_chain(start)?;

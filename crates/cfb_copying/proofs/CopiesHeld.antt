@@ -7,7 +7,7 @@ use Rattle.cfb_sectors.specs.Header.{mini_cutoff, IsHeader}
 use Rattle.cfb_directory.specs.Taken.{HasSize}
 use Rattle.cfb_directory.specs.Views.{entries_held}
 use Rattle.cfb_fat.specs.Tables.{version_of}
-use Rattle.cfb_live.specs.Live.{live_of, Means}
+use Rattle.cfb_live.specs.Live.{live_of, MeansLive}
 use Rattle.cfb_mini.specs.Views.{allocator_of, directory_of, mini_fat_ids}
 use Rattle.cfb_mini.specs.declared.mini_allocator.MiniAllocator.{MiniAllocator}
 use Rattle.cfb_owners.specs.Held.{HasStream}
@@ -21,7 +21,7 @@ use Rattle.cfb_copying.specs.Copied.{HoldsCopy, IsCopied, IsTight}
 use Rattle.cfb_copying.specs.Steps.{HasCopy, IsOriginal}
 use Rattle.cfb_copying.proofs.CopiedTight.{copy_tight}
 
-module _ {F : Type 0} {g : Ghosts F} (mini : MiniAllocator F g) (letters : Letters) (tree : Tree) (m : Means letters mini tree) where
+module _ {F : Type 0} {g : Ghosts F} (mini : MiniAllocator F g) (letters : Letters) (tree : Tree) (m : MeansLive letters mini tree) where
   has_size : (id : ℕ) (e : Entry) (bytes : List ℕ) → HasStream (live_of mini) m.who id e bytes → HasSize e bytes
   has_size id e bytes has = ⊎_elim (λ long. (has.long long.1).1.whole) (λ short. (has.short short.1).1.whole) (leb_tells mini_cutoff e.size)
 

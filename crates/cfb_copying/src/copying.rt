@@ -5,9 +5,9 @@ ghost use Rattle.cfb_copying.specs.Steps.{HasCopy, IsOriginal};
 ghost use Rattle.cfb_directory.specs.Entries.{entries_in};
 ghost use Rattle.cfb_fat.specs.Tables.{has_failed_here, version_of, AllRests, HasCauseBelow};
 ghost use Rattle.cfb_live.specs.Doing.{IsFault};
-ghost use Rattle.cfb_live.specs.Live.{Means};
+ghost use Rattle.cfb_live.specs.Live.{MeansLive};
 ghost use Rattle.cfb_medium.specs.declared.error.Error.TheVariants.{Failed};
-ghost use Rattle.cfb_mini.specs.Views.{allocator_of, mini_fat_ids, Rests};
+ghost use Rattle.cfb_mini.specs.Views.{allocator_of, mini_fat_ids, MiniRests};
 ghost use Rattle.cfb_owners.specs.LiveFile.{LiveFile};
 ghost use Rattle.cfb_owners.specs.Owners.{first_of, mini_fat_owner, Owners};
 ghost use Rattle.cfb_tree.specs.Names.{Letters};
@@ -87,7 +87,7 @@ fn copy_lent<F: ReadMedium>(
     ensures refused { IfErr result (λ e. (s : LiveFile) (who : Owners)
         → IsOriginal (allocator_of mini.old) s who ids.now → s.entries ≡ entries_in entries.old
         → mini_fat_at ≡ first_of (who.sectors mini_fat_owner) → IsFault e) }
-    ensures rests { Rests mini.old mini.new }
+    ensures rests { MiniRests mini.old mini.new }
     ensures cause { IfErr result (HasCauseBelow (allocator_of mini.old) (allocator_of mini.new)) }
     ensures fault { IfErr result IsCopyFault }
 {
@@ -107,12 +107,12 @@ fn entries_again(alloc: Global, entries: &[DirEntry]) -> Result<Vec<DirEntry>, A
 /// where numbers of sectors are missing. The other errors are `Memory` and `Device` ([MS-CFB] 2).
 pub fn copy_of<F: ReadMedium>(alloc: Global, mini: &mut MiniAllocator<F>) -> Result<Vec<u8>, Error>
     ensures copied { IfOk result (λ bytes. (letters : Letters) (tree : Tree)
-        → Means letters mini.old tree
+        → MeansLive letters mini.old tree
         → HoldsCopy (version_of (allocator_of mini.old)) letters bytes.items tree) }
     ensures refused { IfErr result (λ e. (letters : Letters) (tree : Tree)
-        → Means letters mini.old tree → IsFault e) }
+        → MeansLive letters mini.old tree → IsFault e) }
     ensures failed { has_failed_here (allocator_of mini.old) ≡ true → IsErrOf result Failed }
-    ensures rests { Rests mini.old mini.new }
+    ensures rests { MiniRests mini.old mini.new }
     ensures cause { IfErr result (HasCauseBelow (allocator_of mini.old) (allocator_of mini.new)) }
     ensures fault { IfErr result IsCopyFault }
 {

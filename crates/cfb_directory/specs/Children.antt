@@ -6,7 +6,7 @@ use Rattle.cfb_medium.specs.declared.medium.ReadMedium.{Ghosts}
 use Rattle.cfb_medium.specs.declared.version.Version.{Version}
 use Rattle.cfb_siblings.specs.Changes.{HoldsOneLess, HoldsOneMore, IsAlone, IsUnused}
 use Rattle.cfb_siblings.specs.Links.{holder, relinked}
-use Rattle.cfb_siblings.specs.Places.{path_to, HasEntry, IsStorageAt, IsTaken}
+use Rattle.cfb_siblings.specs.Places.{path_to, HasEntry, IsStorageAt, NameIsTaken}
 use Rattle.cfb_siblings.specs.Reading.{ReadBy}
 use Rattle.cfb_siblings.specs.declared.links.Link.{Link}
 use Rattle.cfb_siblings.specs.declared.removal.Removal.{Removal}
@@ -38,7 +38,7 @@ pub record HoldsStorage (letters : Letters) (reads : ℕ → ℕ → List ℕ �
 -- so they do, and the link leads to entry `id`, the child of this name of the storage `parent` at the path ([MS-CFB] 2.6.4)
 pub record HoldsChild (letters : Letters) (reads : ℕ → ℕ → List ℕ → Bool) (entries : List Entry) (tree : Tree) (path : Path) (parent : ℕ) (name : List ℕ) (link : Link) (id : ℕ) : Type 0 where
   pub within : HoldsStorage letters reads entries tree path parent
-  pub taken : IsTaken letters entries parent name link id
+  pub taken : NameIsTaken letters entries parent name link id
 
 -- of each tree that the entries hold with such a storage: it has an object of this name in it
 abbrev pub IsNameTaken : Letters → List Entry → ℕ → List ℕ → Type 0

@@ -43,14 +43,14 @@ module _ {F : Type 0} {g : Ghosts F} where
         → entries_held it ≡ entries_of (version_of (allocator_of it)) (joined (version_of (allocator_of it)) (bytes_of (allocator_of it)) (directory_ids it))
 
   -- nothing but reads and flushes was done
-  pub record Rests (old new : Directory F g) : Type 0 where
+  pub record DirectoryRests (old new : Directory F g) : Type 0 where
     pub allocator : AllRests (allocator_of old) (allocator_of new)
     pub ids : directory_ids new ≡ directory_ids old
     pub entries : entries_held new ≡ entries_held old
     pub kept : IsDirectory old → IsDirectory new
 
   -- the memory is what it was, and that of the bytes where it was so
-  pub record KeepsMemory (old new : Directory F g) : Type 0 where
+  pub record DirectoryKeepsMemory (old new : Directory F g) : Type 0 where
     pub honest : is_honest (allocator_of new) ≡ is_honest (allocator_of old)
     pub live : has_failed_here (allocator_of new) ≡ false → has_failed_here (allocator_of old) ≡ false
     pub tables : KeepsTables (allocator_of old) (allocator_of new)

@@ -1,9 +1,9 @@
 //! Entries changed in their places.
 ghost use Rattle.cfb_directory.specs.Changes.{changed_entry, HasDirectory, KeepsEntries, LiesBeside, SetsEntry};
 ghost use Rattle.cfb_directory.specs.Entries.{IsNoted};
-ghost use Rattle.cfb_directory.specs.Views.{allocator_of, entries_held, numbers_noted, IsDirectory, Rests};
+ghost use Rattle.cfb_directory.specs.Views.{allocator_of, entries_held, numbers_noted, IsDirectory, DirectoryRests};
 ghost use Rattle.cfb_chains.specs.ChainCalls.{IsInvalid};
-ghost use Rattle.cfb_fat.specs.Calls.{Answers};
+ghost use Rattle.cfb_fat.specs.Calls.{FatAnswers};
 ghost use Rattle.cfb_fat.specs.Tables.{has_failed_here, version_of};
 ghost use Rattle.cfb_medium.specs.Versions.{stream_len_mask};
 ghost use Rattle.cfb_medium.specs.declared.error.Error.TheVariants.{InvalidData, InvalidInput};
@@ -69,7 +69,7 @@ impl<F: Medium> Directory<F> {
         ensures valid { IsErrOf result InvalidInput → ⊥ }
         ensures noted { numbers_noted self.new ≡ numbers_noted self.old }
         ensures goes_on { GoesOn (allocator_of self.old) (allocator_of self.new) }
-        ensures answers { Answers IsInvalid result (allocator_of self.old)
+        ensures answers { FatAnswers IsInvalid result (allocator_of self.old)
             (allocator_of self.new) }
     {
         if self.allocator.is_failed() {
@@ -101,14 +101,14 @@ impl<F: Medium> Directory<F> {
             → SetsEntry id (changed_entry change e) self.old self.new) }
         ensures kept { OnErr result (KeepsEntries self.old self.new) }
         ensures memory { IsDirectory self.old → LiesBeside self.old → IsDirectory self.new }
-        ensures rests { IsErrOf result InvalidInput → Rests self.old self.new }
+        ensures rests { IsErrOf result InvalidInput → DirectoryRests self.old self.new }
         ensures refused { IsErrOf result InvalidData → HasDirectory self.old → ⊥ }
         ensures large { (e : Entry) → slice_get (entries_held self.old) id ≡ Some e
             → IsErrOf result InvalidInput ↔ ((has_failed_here (allocator_of self.old) ≡ false)
             × (stream_len_mask (version_of (allocator_of self.old))
             < (changed_entry change e).size)) }
         ensures goes_on { GoesOn (allocator_of self.old) (allocator_of self.new) }
-        ensures answers { Answers (λ e. (e ≡ InvalidData) ⊎ (e ≡ InvalidInput)) result
+        ensures answers { FatAnswers (λ e. (e ≡ InvalidData) ⊎ (e ≡ InvalidInput)) result
             (allocator_of self.old) (allocator_of self.new) }
     {
         if self.allocator.is_failed() {
@@ -128,14 +128,14 @@ impl<F: Medium> Directory<F> {
             → SetsEntry 0 (changed_entry change e) self.old self.new) }
         ensures kept { OnErr result (KeepsEntries self.old self.new) }
         ensures memory { IsDirectory self.old → LiesBeside self.old → IsDirectory self.new }
-        ensures rests { IsErrOf result InvalidInput → Rests self.old self.new }
+        ensures rests { IsErrOf result InvalidInput → DirectoryRests self.old self.new }
         ensures refused { IsErrOf result InvalidData → HasDirectory self.old → ⊥ }
         ensures large { (e : Entry) → slice_get (entries_held self.old) 0 ≡ Some e
             → IsErrOf result InvalidInput ↔ ((has_failed_here (allocator_of self.old) ≡ false)
             × (stream_len_mask (version_of (allocator_of self.old))
             < (changed_entry change e).size)) }
         ensures goes_on { GoesOn (allocator_of self.old) (allocator_of self.new) }
-        ensures answers { Answers (λ e. (e ≡ InvalidData) ⊎ (e ≡ InvalidInput)) result
+        ensures answers { FatAnswers (λ e. (e ≡ InvalidData) ⊎ (e ≡ InvalidInput)) result
             (allocator_of self.old) (allocator_of self.new) }
     {
         self.with_dir_entry_mut(0, change)

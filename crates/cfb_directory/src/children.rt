@@ -4,8 +4,8 @@ ghost use Rattle.cfb_directory.specs.Changes.{HasDirectory, KeepsEntries, LiesBe
 ghost use Rattle.cfb_directory.specs.Children.{AddsAt, AddsChild, HasHolders, HasNoStorage, HoldsChild, HoldsStorage, IsNameFree, IsNameTaken, IsRefusedInsert, IsRefusedRemove, LinksNew, Removes, RemovesAt, RemovesChild};
 ghost use Rattle.cfb_directory.specs.Entries.{IsOneOf, SizesFit};
 ghost use Rattle.cfb_directory.specs.Growth.{GrowsDirectory, IsReady, LacksEntries};
-ghost use Rattle.cfb_directory.specs.Views.{allocator_of, entries_held, numbers_noted, IsDirectory, Rests};
-ghost use Rattle.cfb_fat.specs.Calls.{Answers};
+ghost use Rattle.cfb_directory.specs.Views.{allocator_of, entries_held, numbers_noted, IsDirectory, DirectoryRests};
+ghost use Rattle.cfb_fat.specs.Calls.{FatAnswers};
 ghost use Rattle.cfb_fat.specs.Tables.{has_failed_here, version_of};
 ghost use Rattle.cfb_medium.specs.Times.{units_of};
 ghost use Rattle.cfb_medium.specs.declared.error.Error.TheVariants.{AlreadyExists, Full, InvalidData, InvalidInput, NotFound};
@@ -41,7 +41,7 @@ impl<F: Medium> Directory<F> {
             → SizesFit (version_of (allocator_of self.old)) (entries_held self.old) → ⊥ }
         ensures noted { numbers_noted self.new ≡ numbers_noted self.old }
         ensures goes_on { GoesOn (allocator_of self.old) (allocator_of self.new) }
-        ensures answers { Answers IsInvalid result (allocator_of self.old)
+        ensures answers { FatAnswers IsInvalid result (allocator_of self.old)
             (allocator_of self.new) }
     {
         if self.allocator.is_failed() {
@@ -74,7 +74,7 @@ impl<F: Medium> Directory<F> {
         ensures full { IsErrOf result Full → has_failed_here (allocator_of self.new) ≡ false
             → LacksEntries self.old }
         ensures goes_on { GoesOn (allocator_of self.old) (allocator_of self.new) }
-        ensures answers { Answers IsInvalidOrFull result (allocator_of self.old)
+        ensures answers { FatAnswers IsInvalidOrFull result (allocator_of self.old)
             (allocator_of self.new) }
     {
         let id = match self.free_entry() {
@@ -116,7 +116,7 @@ impl<F: Medium> Directory<F> {
         ensures named { IsErrOf result InvalidInput → (IsTrue (is_name (chars name.now)) → ⊥)
             × IsNameFree (letters_of letters.now) (entries_held self.old) parent (chars name.now) }
         ensures rests { IsErrOf result AlreadyExists ⊎ IsErrOf result InvalidInput
-            → Rests self.old self.new }
+            → DirectoryRests self.old self.new }
         ensures refused { IsErrOf result InvalidData
             → HasNoStorage (letters_of letters.now) self.old parent }
         ensures full { IsErrOf result Full → has_failed_here (allocator_of self.new) ≡ false
@@ -126,7 +126,7 @@ impl<F: Medium> Directory<F> {
             → KeepsEntries self.old self.new) }
         ensures memory { IsDirectory self.old → LiesBeside self.old → IsDirectory self.new }
         ensures goes_on { GoesOn (allocator_of self.old) (allocator_of self.new) }
-        ensures answers { Answers IsRefusedInsert result (allocator_of self.old)
+        ensures answers { FatAnswers IsRefusedInsert result (allocator_of self.old)
             (allocator_of self.new) }
     {
         if self.allocator.is_failed() {
@@ -153,7 +153,7 @@ impl<F: Medium> Directory<F> {
             → IfSome joined (λ it. HasEntry (entries_held self.old) (holder it.link)) → ⊥ }
         ensures noted { numbers_noted self.new ≡ numbers_noted self.old }
         ensures goes_on { GoesOn (allocator_of self.old) (allocator_of self.new) }
-        ensures answers { Answers IsInvalid result (allocator_of self.old)
+        ensures answers { FatAnswers IsInvalid result (allocator_of self.old)
             (allocator_of self.new) }
     {
         match joined {
@@ -174,7 +174,7 @@ impl<F: Medium> Directory<F> {
             → HasHolders (entries_held self.old) removal → ⊥ }
         ensures failed { OnErr result (has_failed_here (allocator_of self.new) ≡ true) }
         ensures goes_on { GoesOn (allocator_of self.old) (allocator_of self.new) }
-        ensures answers { Answers IsInvalid result (allocator_of self.old)
+        ensures answers { FatAnswers IsInvalid result (allocator_of self.old)
             (allocator_of self.new) }
     {
         if let Err(error) = self.write_joined(removal.joined) {
@@ -211,7 +211,7 @@ impl<F: Medium> Directory<F> {
             → KeepsEntries self.old self.new) }
         ensures memory { IsDirectory self.old → LiesBeside self.old → IsDirectory self.new }
         ensures goes_on { GoesOn (allocator_of self.old) (allocator_of self.new) }
-        ensures answers { Answers IsInvalid result (allocator_of self.old)
+        ensures answers { FatAnswers IsInvalid result (allocator_of self.old)
             (allocator_of self.new) }
     {
         if self.allocator.is_failed() {
@@ -246,7 +246,7 @@ impl<F: Medium> Directory<F> {
             × RemovesAt (entries_held self.old) (entries_held self.new) id) }
         ensures missing { IsErrOf result NotFound
             → IsNameFree (letters_of letters.now) (entries_held self.old) parent (chars name.now) }
-        ensures rests { IsErrOf result NotFound → Rests self.old self.new }
+        ensures rests { IsErrOf result NotFound → DirectoryRests self.old self.new }
         ensures refused { IsErrOf result InvalidData
             → HasNoStorage (letters_of letters.now) self.old parent }
         ensures grown { OnOk result (HasDirectory self.old → GrowsDirectory self.old self.new) }
@@ -254,7 +254,7 @@ impl<F: Medium> Directory<F> {
             → KeepsEntries self.old self.new) }
         ensures memory { IsDirectory self.old → LiesBeside self.old → IsDirectory self.new }
         ensures goes_on { GoesOn (allocator_of self.old) (allocator_of self.new) }
-        ensures answers { Answers IsRefusedRemove result (allocator_of self.old)
+        ensures answers { FatAnswers IsRefusedRemove result (allocator_of self.old)
             (allocator_of self.new) }
     {
         if self.allocator.is_failed() {

@@ -57,7 +57,7 @@ pub struct Directory<F: ReadMedium> {
 }
 
 impl<F: ReadMedium> Directory<F> {
-    ghost use Rattle.cfb_directory.specs.Views.{allocator_of, directory_ids, entries_held, IsDirectory, Rests};
+    ghost use Rattle.cfb_directory.specs.Views.{allocator_of, directory_ids, entries_held, IsDirectory, DirectoryRests};
 
     /// Reads the directory from the chain of its first sector. `InvalidData` where there is no such chain, or a reader doesn't
     /// take its entries as a tree: entry 0 is no root, an entry below it is no stream or storage or has no name, one stands
@@ -195,7 +195,7 @@ impl<F: ReadMedium> Directory<F> {
 }
 
 impl<F: Medium> Directory<F> {
-    ghost use Rattle.cfb_directory.specs.Views.{allocator_of, KeepsMemory, Rests};
+    ghost use Rattle.cfb_directory.specs.Views.{allocator_of, DirectoryKeepsMemory, DirectoryRests};
 
     /// Whether a fault in a write or a commit has left it, or the medium, in a state in which every call is refused.
     pub fn has_failed(&self) -> bool
@@ -206,7 +206,7 @@ impl<F: Medium> Directory<F> {
 
     /// Passes on what the medium keeps back, and publishes nothing.
     pub fn flush(&mut self) -> Result<(), Error>
-        ensures rests { Rests self.old self.new }
+        ensures rests { DirectoryRests self.old self.new }
         ensures failed { has_failed_here (allocator_of self.old) ≡ true → IsErrOf result Failed }
         ensures cause { IfErr result (HasCauseBelow (allocator_of self.old)
             (allocator_of self.new)) }
@@ -223,14 +223,14 @@ impl<F: Medium> Directory<F> {
         ensures left { IsTrue (is_honest (allocator_of self.old))
             → LeavesOldOrBytes (sectors_of (allocator_of self.old))
             (sectors_of (allocator_of self.new)) }
-        ensures memory { KeepsMemory self.old self.new }
+        ensures memory { DirectoryKeepsMemory self.old self.new }
         ensures bytes { has_failed_here (allocator_of self.new) ≡ false
             → IsTrue (is_honest (allocator_of self.old))
             → bytes_of (allocator_of self.new) ≡ bytes_of (allocator_of self.old) }
         ensures live { OnOk result (has_failed_here (allocator_of self.new) ≡ false) }
         ensures err { OnErr result (has_failed_here (allocator_of self.new) ≡ true) }
         ensures failed { has_failed_here (allocator_of self.old) ≡ true
-            → IsErrOf result Failed × Rests self.old self.new }
+            → IsErrOf result Failed × DirectoryRests self.old self.new }
         ensures cause { IfErr result (HasCauseBelow (allocator_of self.old)
             (allocator_of self.new)) }
         ensures medium { (F.failures (medium_of (allocator_of self.old))

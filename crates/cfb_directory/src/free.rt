@@ -4,7 +4,7 @@ ghost use Rattle.cfb_chains.specs.Owned.{Leaves};
 ghost use Rattle.cfb_directory.specs.Changes.{HasDirectory, KeepsEntries, LiesBeside};
 ghost use Rattle.cfb_directory.specs.Entries.{entries_in, AreNoted, HasNoneUnused, IsOneOf};
 ghost use Rattle.cfb_directory.specs.Growth.{count_words, longer, GrowsDirectory, IsCounted, LacksEntries, MayGrow};
-ghost use Rattle.cfb_fat.specs.Calls.{Answers};
+ghost use Rattle.cfb_fat.specs.Calls.{FatAnswers};
 ghost use Rattle.cfb_fat.specs.Seeing.{seen_of};
 ghost use Rattle.cfb_fat.specs.Tables.{bytes_of, has_failed_here, is_honest, orderly_of, version_of};
 ghost use Rattle.cfb_medium.specs.declared.error.Error.TheVariants.{Full, InvalidData, Memory};
@@ -138,7 +138,7 @@ fn write_count<F: Medium>(allocator: &mut Allocator<F>, count: u32) -> Result<()
         → Leaves (sector (version_of allocator.old)) (count_words (version_of allocator.old)) []
         (seen_of allocator.old) (seen_of allocator.new)) }
     ensures goes_on { GoesOn allocator.old allocator.new }
-    ensures answers { Answers (λ _. ⊥) result allocator.old allocator.new }
+    ensures answers { FatAnswers (λ _. ⊥) result allocator.old allocator.new }
 {
     match allocator.version() {
         Version::V3 => Ok(()),
@@ -167,7 +167,7 @@ impl<F: Medium> Directory<F> {
         ensures full { IsErrOf result Full → has_failed_here (allocator_of self.new) ≡ false
             → LacksEntries self.old }
         ensures goes_on { GoesOn (allocator_of self.old) (allocator_of self.new) }
-        ensures answers { Answers IsInvalidOrFull result (allocator_of self.old)
+        ensures answers { FatAnswers IsInvalidOrFull result (allocator_of self.old)
             (allocator_of self.new) }
     {
         if self.allocator.is_failed() {
@@ -213,7 +213,7 @@ impl<F: Medium> Directory<F> {
         ensures full { IsErrOf result Full → has_failed_here (allocator_of self.new) ≡ false
             → LacksEntries self.old }
         ensures goes_on { GoesOn (allocator_of self.old) (allocator_of self.new) }
-        ensures answers { Answers IsInvalidOrFull result (allocator_of self.old)
+        ensures answers { FatAnswers IsInvalidOrFull result (allocator_of self.old)
             (allocator_of self.new) }
     {
         if self.allocator.is_failed() {

@@ -36,7 +36,7 @@ impl DirectoryHusk {
 }
 
 impl<F: Medium> Directory<F> {
-    ghost use Rattle.cfb_directory.specs.Views.{allocator_of, Rests};
+    ghost use Rattle.cfb_directory.specs.Views.{allocator_of, DirectoryRests};
 
     /// The medium, taken back to the bytes that were published last, and the husk of the directory, also where it has failed.
     /// A refusal gives the directory as it was: `InvalidInput` of a medium that doesn't survive a stop, `Failed` of one that
@@ -44,7 +44,7 @@ impl<F: Medium> Directory<F> {
     pub fn roll_back(self) -> Result<(F, DirectoryHusk), (Directory<F>, Error)>
         ensures rolled { IfOk result (λ it. RollsBack F.honest F.bytes F.continues F.has_published
             (medium_of (allocator_of self)) it.0) }
-        ensures rests { IfErr result (λ e. Rests self e.0) }
+        ensures rests { IfErr result (λ e. DirectoryRests self e.0) }
         ensures cause { IfErr result (λ e. HasCauseSince F.continues F.failures F.failed
             (medium_of (allocator_of self)) (medium_of (allocator_of e.0)) e.1) }
         ensures fault { IfErr result (λ e. IsFaultUnless (F.survives ≡ false) e.1) }

@@ -48,7 +48,7 @@ module _ {F : Type 0} {g : Ghosts F} where
     pub fault : IfErr result (λ e. (IsFaultUnless ⊥ e × ((has_failed_here new ≡ true) ⊎ AllRests old new)) ⊎ refuses e)
 
   -- A change by several of these: after any error it has failed, or nothing but reads happened.
-  pub record Answers {T : Type 0} (refuses : Error → Type 0) (result : Result T Error) (old new : Allocator F g) : Type 0 where
+  pub record FatAnswers {T : Type 0} (refuses : Error → Type 0) (result : Result T Error) (old new : Allocator F g) : Type 0 where
     pub live : OnOk result ((has_failed_here old ≡ false) × (has_failed_here new ≡ false))
     pub failed : has_failed_here old ≡ true → IsErrOf result Failed × AllRests old new
     pub after : OnErr result ((has_failed_here new ≡ true) ⊎ AllRests old new)

@@ -1,5 +1,5 @@
 //! Sectors that are taken into use, for chains that begin or become longer ([MS-CFB] 2.3).
-ghost use Rattle.cfb_fat.specs.Calls.{Answers, Attempts, ChangesTables, FillsBehind, HasNoneBelow, IsFresh, IsFull, IsLastResort, IsTheLast, Occupies, TakesOne, Tries};
+ghost use Rattle.cfb_fat.specs.Calls.{FatAnswers, Attempts, ChangesTables, FillsBehind, HasNoneBelow, IsFresh, IsFull, IsLastResort, IsTheLast, Occupies, TakesOne, Tries};
 ghost use Rattle.cfb_chains.specs.ChainCalls.{IsInvalidOrFull};
 ghost use Rattle.cfb_chains.specs.Changes.{AreAmong, IsFreeIn, IsNoneOf};
 ghost use Rattle.cfb_chains.specs.Grown.{AreWritable, IsLinked};
@@ -294,7 +294,7 @@ impl<F: Medium> Allocator<F> {
             × (has_failed_here self.new ≡ false → LacksNumbers self.old count
             ⊎ ((ids : List ℕ) × IsChain (fat_of self.old) start ids
             × (greatest_regular < length ids + count))) }
-        ensures answers { Answers IsInvalidOrFull result self.old self.new }
+        ensures answers { FatAnswers IsInvalidOrFull result self.old self.new }
     {
         let mut links = self.open_chain(start)?;
         let old = links.sector_ids().len();
@@ -333,7 +333,7 @@ impl<F: Medium> Allocator<F> {
             → LacksNumbers self.old (sectors_for (links_version links.old) len
             - length (ids_of links.old))
             ⊎ (greatest_regular + 1 < sectors_for (links_version links.old) len)) }
-        ensures answers { Answers IsInvalidOrFull result self.old self.new }
+        ensures answers { FatAnswers IsInvalidOrFull result self.old self.new }
     {
         let mut chain = Chain::new(self, links, init);
         chain.set_len(len)

@@ -24,7 +24,7 @@ use Rattle.cfb_tree.specs.Paths.{Path}
 use Rattle.cfb_tree.specs.Tree.{nothing, storage, stream, Content, Tree}
 use Rattle.cfb_tree.proofs.NameOrder.{name_cmp_total}
 use Rattle.cfb_tree.proofs.NamesRead.{all_append}
-use Rattle.cfb_live.specs.Emptying.{HasStorage}
+use Rattle.cfb_live.specs.WholeRemoval.{HasStorage}
 use Rattle.cfb_live.specs.Making.{IsFreePlace}
 use Rattle.cfb_live.specs.Parents.{AreNames, IsMadeAsFar, MakesChild, MeansAsFar}
 use Rattle.cfb_live.specs.declared.making.NewObject.TheVariants.{Storage}

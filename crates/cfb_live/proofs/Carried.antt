@@ -4,7 +4,7 @@ use Rattle.std.specs.Prelude.{slice_index_or, slice_range}
 use Rattle.std.specs.List.{flat_map, AllByRecursion}
 use Rattle.cfb_sectors.specs.Sectors.{end_of_chain, joined, places}
 use Rattle.cfb_tree.specs.Directory.{Entry}
-use Rattle.cfb_owners.specs.Held.{HasStream, LiesIn}
+use Rattle.cfb_owners.specs.Held.{HasStream, EntryLiesIn}
 use Rattle.cfb_owners.specs.LiveFile.{LiveFile}
 use Rattle.cfb_owners.specs.Owners.{mini_stream_owner, stream_owner, Owners}
 use Rattle.cfb_live.specs.Freeing.{CarriesBut}
@@ -32,7 +32,7 @@ carries_but s t who now c = record {
 
 module _ (key : ℕ) (s t : LiveFile) (who now : Owners) (c : CarriesBut key s t who now) where
   lies_still : (e f : Entry) (ids ids' bytes bytes' all all' content : List ℕ) → f.start ≡ e.start → f.size ≡ e.size → ids' ≡ ids → bytes' ≡ bytes → all' ≡ all
-      → LiesIn s.bytes e ids bytes all content → LiesIn t.bytes f ids' bytes' all' content
+      → EntryLiesIn s.bytes e ids bytes all content → EntryLiesIn t.bytes f ids' bytes' all' content
   lies_still e f ids ids' bytes bytes' all all' content start size same_ids same_bytes same_all h = record {
     start = start ∙ h.start ∙ ap (λ l. slice_index_or l 0 end_of_chain) (sym same_ids);
     content_is = h.content_is ∙ ap (λ n. take n bytes) (sym size) ∙ ap (take f.size) (sym same_bytes);

@@ -11,7 +11,7 @@ use Rattle.cfb_tree.specs.Objects.{object_at, HoldsTree, Object}
 use Rattle.cfb_tree.specs.Paths.{Path}
 use Rattle.cfb_tree.specs.Tree.{Tree}
 use Rattle.cfb_tree.proofs.OneContent.{Some_same}
-use Rattle.cfb_siblings.specs.Changes.{Becomes, HasSameLinks, HoldsOn, KeepBytes}
+use Rattle.cfb_siblings.specs.Changes.{ObjectBecomes, HasSameLinks, HoldsOn, KeepBytes}
 use Rattle.cfb_siblings.proofs.Frames.{set_changes_only, set_found}
 use Rattle.cfb_siblings.specs.Places.{LeadsTo}
 use Rattle.cfb_siblings.specs.Reading.{ReadBy}
@@ -151,7 +151,7 @@ keeps_all Reads directory id (k ∷ ids) = ((λ other e bytes found reads. reads
 -- one entry became another with the same links and the same stream: the live file means the tree with the object changed so
 pub entry_changed : (s t : LiveFile) (who now : Owners) (letters : Letters) (tree : Tree) (path : Path) (id : ℕ) (e f : Entry) (change : Object → Object) (object : Object)
     → (h : MeansHeld s who letters tree) → LeadsTo letters s.entries 0 path id → object_at letters tree path ≡ Some object → slice_get s.entries id ≡ Some e
-    → HasSameLinks e f → f.start ≡ e.start → f.size ≡ e.size → Becomes (ReadBy (reads s who)) f object (change object) → t.entries ≡ slice_set s.entries id f
+    → HasSameLinks e f → f.start ≡ e.start → f.size ≡ e.size → ObjectBecomes (ReadBy (reads s who)) f object (change object) → t.entries ≡ slice_set s.entries id f
     → Carries s t who now → (root : Entry) → Kept t now root → MeansHeld t now letters (changed letters change path tree)
 unfolding tree_held
 entry_changed s t who now letters tree path id e f change object h leads at found links start size becomes set c root kept =

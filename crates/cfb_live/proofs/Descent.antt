@@ -22,7 +22,7 @@ use Rattle.cfb_tree.specs.Tree.{nothing, storage, stream, Content, Tree}
 use Rattle.cfb_tree.proofs.NameOrder.{name_cmp_total}
 use Rattle.cfb_tree.proofs.NamesRead.{all_append}
 use Rattle.cfb_tree.proofs.OneContent.{Some_same}
-use Rattle.cfb_live.specs.Emptying.{HasEmptyStorage, IsLeafAt}
+use Rattle.cfb_live.specs.WholeRemoval.{HasEmptyStorage, IsLeafAt}
 
 pub equal_self : (o : Ordering) → o ≡ ordering_reverse o → o ≡ Equal
 equal_self Less is = absurd (cc)

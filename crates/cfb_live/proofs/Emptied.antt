@@ -22,8 +22,8 @@ use Rattle.cfb_tree.specs.Paths.{Path}
 use Rattle.cfb_tree.specs.Tree.{nothing, storage, stream, Content, Facts, Tree}
 use Rattle.cfb_tree.specs.declared.entry.DirEntry.{DirEntry}
 use Rattle.cfb_tree.proofs.OneContent.{Some_same}
-use Rattle.cfb_live.specs.Emptying.{Empties, HasEmptyStorage, HasStorage, IsLeafAt, IsLeafOnWay, TakesBelow}
-use Rattle.cfb_live.specs.Live.{live_of, Means}
+use Rattle.cfb_live.specs.WholeRemoval.{Empties, HasEmptyStorage, HasStorage, IsLeafAt, IsLeafOnWay, TakesBelow}
+use Rattle.cfb_live.specs.Live.{live_of, MeansLive}
 use Rattle.cfb_live.specs.Removing.{IsChildAt, LacksChild}
 use Rattle.cfb_live.proofs.Below.{removed_below, removed_smaller, size, storage_stays}
 use Rattle.cfb_live.proofs.Descent.{tree_fits}
@@ -88,8 +88,8 @@ emptied_there letters tree path long empty e (inr root) = let nil = ap length ro
 
 module _ {F : Type 0} {g : Ghosts F} (letters : Letters) (path : Path) (tree : Tree) where
   -- an object below the storage was taken out
-  pub takes_below : (it new : MiniAllocator F g) (above : List ℕ) (top id : ℕ) → Means letters it tree → (below : IsLeafOnWay letters (entries_held (directory_of it)) path above top id)
-      → Means letters new (removed letters (path_to (path ++ below.way.more) below.name) tree) → TakesBelow letters path tree new
+  pub takes_below : (it new : MiniAllocator F g) (above : List ℕ) (top id : ℕ) → MeansLive letters it tree → (below : IsLeafOnWay letters (entries_held (directory_of it)) path above top id)
+      → MeansLive letters new (removed letters (path_to (path ++ below.way.more) below.name) tree) → TakesBelow letters path tree new
   takes_below it new above top id m below taken =
       let at = path ++ below.way.more in
       let o = object_there letters (ReadBy (reads (live_of it) m.who)) (entries_held (directory_of it)) tree (means_held letters it tree m) (path_to at below.name) id (some_there at below.name) below.leaf.leads in
@@ -112,10 +112,10 @@ module _ {F : Type 0} {g : Ghosts F} (letters : Letters) (path : Path) (tree : T
     pub later : Tree
     pub storage : HasStorage letters later path
     pub others : removed letters path later ≡ removed letters path tree
-    pub means : Means letters it later
+    pub means : MeansLive letters it later
     pub left : steps + size later.content < count
 
-  pub emptying_begun : (it : MiniAllocator F g) (count : ℕ) → Means letters it tree → HasStorage letters tree path → count ≡ length (entries_held (directory_of it)) → Emptying it 0 count
+  pub emptying_begun : (it : MiniAllocator F g) (count : ℕ) → MeansLive letters it tree → HasStorage letters tree path → count ≡ length (entries_held (directory_of it)) → Emptying it 0 count
   emptying_begun it count m has count_is =
       let held = means_held letters it tree m in
       let Reads = ReadBy (reads (live_of it) m.who) in
@@ -136,5 +136,5 @@ module _ {F : Type 0} {g : Ghosts F} (letters : Letters) (path : Path) (tree : T
         left = omega (arith, left, smaller);
       }
 
-  pub emptying_ended : (it new : MiniAllocator F g) (steps count : ℕ) → (e : Emptying it steps count) → Means letters new e.later → HasEmptyStorage letters e.later path → Empties letters path tree new
+  pub emptying_ended : (it new : MiniAllocator F g) (steps count : ℕ) → (e : Emptying it steps count) → MeansLive letters new e.later → HasEmptyStorage letters e.later path → Empties letters path tree new
   emptying_ended it new steps count e m empty = record { later = e.later; empty = empty; others = e.others; means = m }

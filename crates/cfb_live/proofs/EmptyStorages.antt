@@ -21,7 +21,7 @@ use Rattle.cfb_mini.specs.declared.mini_allocator.MiniAllocator.{MiniAllocator}
 use Rattle.cfb_owners.specs.LiveFile.{LiveFile}
 use Rattle.cfb_owners.specs.Owners.{stream_owner, Owners, OwnsNothing}
 use Rattle.cfb_live.specs.Freeing.{CarriesBut, FreesStream}
-use Rattle.cfb_live.specs.Live.{live_of, Means}
+use Rattle.cfb_live.specs.Live.{live_of, MeansLive}
 use Rattle.cfb_live.proofs.Freed.{none_have}
 use Rattle.cfb_live.proofs.Standing.{stands_of}
 
@@ -73,7 +73,7 @@ carries_all key s who = record { version = refl; longer = omega arith; sectors =
 
 module _ {F : Type 0} {g : Ghosts F} where
   -- the entry of a storage owns nothing as it is
-  pub owns_nothing : (letters : Letters) (it : MiniAllocator F g) (tree : Tree) (m : Means letters it tree) (id : ℕ) (e : Entry) → slice_get (entries_held (directory_of it)) id ≡ Some e → (e.kind ≡ kind_stream → ⊥) → FreesStream id it it m.who
+  pub owns_nothing : (letters : Letters) (it : MiniAllocator F g) (tree : Tree) (m : MeansLive letters it tree) (id : ℕ) (e : Entry) → slice_get (entries_held (directory_of it)) id ≡ Some e → (e.kind ≡ kind_stream → ⊥) → FreesStream id it it m.who
   unfolding live_of
   owns_nothing letters it tree m id e found never =
       let none : OwnsNothing m.who (stream_owner id) = m.held.unused id (λ among. never (subst (λ (o : Option Entry). IfSome o (λ x. x.kind ≡ kind_stream)) found among.1)) in record {

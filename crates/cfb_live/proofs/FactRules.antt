@@ -11,7 +11,7 @@ use Rattle.cfb_tree.specs.Objects.{a_storage, a_stream, object_at, root_object, 
 use Rattle.cfb_tree.specs.Paths.{Path}
 use Rattle.cfb_tree.specs.Tree.{Content, Facts, Tree}
 use Rattle.cfb_tree.proofs.OneContent.{Some_same}
-use Rattle.cfb_siblings.specs.Changes.{Becomes, HasSameLinks}
+use Rattle.cfb_siblings.specs.Changes.{ObjectBecomes, HasSameLinks}
 use Rattle.cfb_siblings.specs.Places.{IsEntryAt}
 use Rattle.cfb_siblings.specs.Reading.{ReadBy}
 use Rattle.cfb_directory.specs.Changes.{changed_entry}
@@ -49,21 +49,21 @@ same_links e = record { name_units = refl; name_len = refl; kind = refl; left = 
 
 -- where an entry has the fact, it becomes as the rule says
 stream_becomes : (Reads : ℕ → ℕ → List ℕ → Bool) (fact : Fact) (path : Path) (id : ℕ) (e : Entry) (name : List ℕ) (bits : ℕ) (bytes : List ℕ) → e.kind ≡ kind_stream → ReadBy Reads e bytes
-    → MayHave fact id e → Becomes (ReadBy Reads) (changed_entry (change_for fact) e) (a_stream name bits bytes) (rule fact path (a_stream name bits bytes))
+    → MayHave fact id e → ObjectBecomes (ReadBy Reads) (changed_entry (change_for fact) e) (a_stream name bits bytes) (rule fact path (a_stream name bits bytes))
 stream_becomes Reads (StateBits b) path id e name bits bytes kind reads may = (refl, refl, reads)
 stream_becomes Reads (ClassId clsid) path id e name bits bytes kind reads may = absurd (may kind)
 stream_becomes Reads (Created moment) path id e name bits bytes kind reads may = absurd (may.0 kind)
 stream_becomes Reads (Modified moment) path id e name bits bytes kind reads may = absurd (may.0 kind)
 
 storage_becomes : (Reads : ℕ → ℕ → List ℕ → Bool) (fact : Fact) (first : List ℕ) (path : Path) (id : ℕ) (e : Entry) (name : List ℕ) (facts : Facts) (inside : Content) → e.facts ≡ facts
-    → Becomes (ReadBy Reads) (changed_entry (change_for fact) e) (a_storage name facts inside) (rule fact (first ∷ path) (a_storage name facts inside))
+    → ObjectBecomes (ReadBy Reads) (changed_entry (change_for fact) e) (a_storage name facts inside) (rule fact (first ∷ path) (a_storage name facts inside))
 storage_becomes Reads (StateBits b) first path id e name facts inside is = (refl, ap (λ (x : Facts). record x { state_bits = b }) is, refl)
 storage_becomes Reads (ClassId clsid) first path id e name facts inside is = (refl, ap (λ (x : Facts). record x { clsid = clsid }) is, refl)
 storage_becomes Reads (Created moment) first path id e name facts inside is = (refl, ap (λ (x : Facts). record x { created = units_of moment }) is, refl)
 storage_becomes Reads (Modified moment) first path id e name facts inside is = (refl, ap (λ (x : Facts). record x { modified = units_of moment }) is, refl)
 
 root_becomes : (Reads : ℕ → ℕ → List ℕ → Bool) (fact : Fact) (id : ℕ) (e : Entry) (tree : Tree) → id ≡ 0 → e.facts ≡ tree.root → MayHave fact id e
-    → Becomes (ReadBy Reads) (changed_entry (change_for fact) e) (root_object tree) (rule fact [] (root_object tree))
+    → ObjectBecomes (ReadBy Reads) (changed_entry (change_for fact) e) (root_object tree) (rule fact [] (root_object tree))
 root_becomes Reads (StateBits b) id e tree zero is may = (refl, ap (λ (x : Facts). record x { state_bits = b }) is, refl)
 root_becomes Reads (ClassId clsid) id e tree zero is may = (refl, ap (λ (x : Facts). record x { clsid = clsid }) is, refl)
 root_becomes Reads (Created moment) id e tree zero is may = absurd (may.1 zero)
@@ -71,13 +71,13 @@ root_becomes Reads (Modified moment) id e tree zero is may = absurd (may.1 zero)
 
 -- where it has none, it stays
 stream_as_was : (Reads : ℕ → ℕ → List ℕ → Bool) (fact : Fact) (path : Path) (id : ℕ) (e : Entry) (name : List ℕ) (bits : ℕ) (bytes : List ℕ) → e.facts.state_bits ≡ bits → ReadBy Reads e bytes
-    → LacksTime fact id e → Becomes (ReadBy Reads) e (a_stream name bits bytes) (rule fact path (a_stream name bits bytes))
+    → LacksTime fact id e → ObjectBecomes (ReadBy Reads) e (a_stream name bits bytes) (rule fact path (a_stream name bits bytes))
 stream_as_was Reads (StateBits b) path id e name bits bytes is reads lacks = absurd lacks
 stream_as_was Reads (ClassId clsid) path id e name bits bytes is reads lacks = absurd lacks
 stream_as_was Reads (Created moment) path id e name bits bytes is reads lacks = (refl, is, reads)
 stream_as_was Reads (Modified moment) path id e name bits bytes is reads lacks = (refl, is, reads)
 
-root_as_was : (Reads : ℕ → ℕ → List ℕ → Bool) (fact : Fact) (id : ℕ) (e : Entry) (tree : Tree) → e.facts ≡ tree.root → LacksTime fact id e → Becomes (ReadBy Reads) e (root_object tree) (rule fact [] (root_object tree))
+root_as_was : (Reads : ℕ → ℕ → List ℕ → Bool) (fact : Fact) (id : ℕ) (e : Entry) (tree : Tree) → e.facts ≡ tree.root → LacksTime fact id e → ObjectBecomes (ReadBy Reads) e (root_object tree) (rule fact [] (root_object tree))
 root_as_was Reads (StateBits b) id e tree is lacks = absurd lacks
 root_as_was Reads (ClassId clsid) id e tree is lacks = absurd lacks
 root_as_was Reads (Created moment) id e tree is lacks = (refl, is, refl)
@@ -96,14 +96,14 @@ module _ (Reads : ℕ → ℕ → List ℕ → Bool) (letters : Letters) (direct
       let both : kind_root ≡ kind_storage = sym h.root_kind ∙ ap (λ (x : Entry). x.kind) is ∙ kind in
       omega (arith, both)
 
-  pub becomes : (fact : Fact) (path : Path) (at : IsEntryAt (ReadBy Reads) letters directory tree path id) → MayHave fact id e → Becomes (ReadBy Reads) (changed_entry (change_for fact) e) at.object (rule fact path at.object)
+  pub becomes : (fact : Fact) (path : Path) (at : IsEntryAt (ReadBy Reads) letters directory tree path id) → MayHave fact id e → ObjectBecomes (ReadBy Reads) (changed_entry (change_for fact) e) at.object (rule fact path at.object)
   becomes fact [] at may =
       let root : h.root ≡ e = Some_same (sym h.root_found ∙ ap (slice_get directory) (sym at.leads) ∙ found) in
-      subst (λ o. Becomes (ReadBy Reads) (changed_entry (change_for fact) e) o (rule fact [] o)) (Some_same at.at_path)
+      subst (λ o. ObjectBecomes (ReadBy Reads) (changed_entry (change_for fact) e) o (rule fact [] o)) (Some_same at.at_path)
       (root_becomes Reads fact id e tree at.leads (ap (λ (x : Entry). x.facts) (sym root) ∙ h.facts) may)
   becomes fact (name ∷ names) at may = of_object at.object (at.is_object (λ no. absurd (cc)))
     where
-      of_object : (o : Object) → IsObject directory (ReadBy Reads) id o at.own → Becomes (ReadBy Reads) (changed_entry (change_for fact) e) o (rule fact (name ∷ names) o)
+      of_object : (o : Object) → IsObject directory (ReadBy Reads) id o at.own → ObjectBecomes (ReadBy Reads) (changed_entry (change_for fact) e) o (rule fact (name ∷ names) o)
       of_object (a_stream n bits bytes) (x, is, reads, own) =
           let same : x ≡ e = Some_same (sym is.found ∙ found) in
           stream_becomes Reads fact (name ∷ names) id e n bits bytes (ap (λ (y : Entry). y.kind) (sym same) ∙ is.of_kind) (subst (λ y. ReadBy Reads y bytes) same reads) may
@@ -111,13 +111,13 @@ module _ (Reads : ℕ → ℕ → List ℕ → Bool) (letters : Letters) (direct
           let same : x ≡ e = Some_same (sym is.found ∙ found) in
           storage_becomes Reads fact name names id e n facts inside (ap (λ (y : Entry). y.facts) (sym same) ∙ is.has_facts)
 
-  pub as_was : (fact : Fact) (path : Path) (at : IsEntryAt (ReadBy Reads) letters directory tree path id) → LacksTime fact id e → Becomes (ReadBy Reads) e at.object (rule fact path at.object)
+  pub as_was : (fact : Fact) (path : Path) (at : IsEntryAt (ReadBy Reads) letters directory tree path id) → LacksTime fact id e → ObjectBecomes (ReadBy Reads) e at.object (rule fact path at.object)
   as_was fact [] at lacks =
       let root : h.root ≡ e = Some_same (sym h.root_found ∙ ap (slice_get directory) (sym at.leads) ∙ found) in
-      subst (λ o. Becomes (ReadBy Reads) e o (rule fact [] o)) (Some_same at.at_path) (root_as_was Reads fact id e tree (ap (λ (x : Entry). x.facts) (sym root) ∙ h.facts) lacks)
+      subst (λ o. ObjectBecomes (ReadBy Reads) e o (rule fact [] o)) (Some_same at.at_path) (root_as_was Reads fact id e tree (ap (λ (x : Entry). x.facts) (sym root) ∙ h.facts) lacks)
   as_was fact (name ∷ names) at lacks = of_object at.object (at.is_object (λ no. absurd (cc)))
     where
-      of_object : (o : Object) → IsObject directory (ReadBy Reads) id o at.own → Becomes (ReadBy Reads) e o (rule fact (name ∷ names) o)
+      of_object : (o : Object) → IsObject directory (ReadBy Reads) id o at.own → ObjectBecomes (ReadBy Reads) e o (rule fact (name ∷ names) o)
       of_object (a_stream n bits bytes) (x, is, reads, own) =
           let same : x ≡ e = Some_same (sym is.found ∙ found) in
           stream_as_was Reads fact (name ∷ names) id e n bits bytes (ap (λ (y : Entry). y.facts.state_bits) (sym same) ∙ is.bits) (subst (λ y. ReadBy Reads y bytes) same reads) lacks

@@ -10,7 +10,7 @@ use Rattle.cfb_tree.specs.Names.{Letters}
 use Rattle.cfb_tree.specs.Objects.{a_stream, object_at, HoldsTree}
 use Rattle.cfb_tree.specs.Paths.{Path}
 use Rattle.cfb_tree.specs.Tree.{Tree}
-use Rattle.cfb_live.specs.Emptying.{HasStorage}
+use Rattle.cfb_live.specs.WholeRemoval.{HasStorage}
 use Rattle.cfb_live.proofs.FactRules.{object_kind}
 use Rattle.cfb_live.proofs.NewPlaces.{storage_of, stream_of}
 use Rattle.cfb_live.proofs.Objects.{object_there}

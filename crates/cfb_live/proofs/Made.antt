@@ -28,7 +28,7 @@ use Rattle.cfb_mini.specs.Changing.{ChangesDirectory}
 use Rattle.cfb_mini.specs.Children.{HasRoot}
 use Rattle.cfb_mini.specs.Views.{allocator_of, directory_of}
 use Rattle.cfb_mini.specs.declared.mini_allocator.MiniAllocator.{MiniAllocator}
-use Rattle.cfb_live.specs.Live.{live_of, Means}
+use Rattle.cfb_live.specs.Live.{live_of, MeansLive}
 use Rattle.cfb_live.specs.Making.{kind_made, moment_made, object_of}
 use Rattle.cfb_live.specs.declared.making.NewObject.{NewObject}
 use Rattle.cfb_live.specs.declared.making.NewObject.TheVariants.{Storage, Stream}
@@ -56,14 +56,14 @@ pub starts_nowhere : (object : NewObject) (name : List ℕ) → kind_made object
 starts_nowhere Stream name is = refl
 starts_nowhere (Storage moment) name is = absurd (omega (arith, is))
 
-module _ {F : Type 0} {g : Ghosts F} (letters : Letters) (old : MiniAllocator F g) (tree later : Tree) (m : Means letters old tree) where
+module _ {F : Type 0} {g : Ghosts F} (letters : Letters) (old : MiniAllocator F g) (tree later : Tree) (m : MeansLive letters old tree) where
   pub has_root : HasRoot (entries_held (directory_of old))
   unfolding live_of
   has_root = record { root = m.held.root; found = m.held.kept.root_found; of_kind = m.held.kept.root_kind }
 
   pub made_means : (new : MiniAllocator F g) (e : Entry) (path : Path) (id : ℕ) → AddsAt (entries_held (directory_of old)) (entries_held (directory_of new)) e id
       → HoldsOneMore letters (ReadBy (reads (live_of old) m.who)) (entries_held (directory_of old)) (entries_held (directory_of new)) later m.held.ids path id → e.size ≡ 0 → (e.kind ≡ kind_stream → e.start ≡ end_of_chain)
-      → GoesOn (allocator_of old) (allocator_of new) → has_failed_here (allocator_of new) ≡ false → ChangesDirectory (count_words (version_of (allocator_of old))) old new m.who.sectors → Means letters new later
+      → GoesOn (allocator_of old) (allocator_of new) → has_failed_here (allocator_of new) ≡ false → ChangesDirectory (count_words (version_of (allocator_of old))) old new m.who.sectors → MeansLive letters new later
   unfolding live_of
   made_means new e path id adds more small starts goes live c =
       let words = count_words (version_of (allocator_of old)) in

@@ -32,7 +32,7 @@ use Rattle.cfb_owners.proofs.HoldsById.{each_part, holds_with, IsPart}
 use Rattle.cfb_owners.proofs.KeysOfParts.{IsOneOf}
 use Rattle.cfb_owners.proofs.UsesOfEntries.{all_from, all_one, one_not_none}
 use Rattle.cfb_live.specs.Freeing.{CarriesBut, FreesStream, Stands}
-use Rattle.cfb_live.specs.Live.{live_of, Means}
+use Rattle.cfb_live.specs.Live.{live_of, MeansLive}
 use Rattle.cfb_live.proofs.Carried.{carries_then}
 use Rattle.cfb_live.proofs.Changed.{moved_stream_but}
 use Rattle.cfb_live.proofs.ChildAdded.{apart_or, none_of, one_apart, zero_apart}
@@ -152,10 +152,10 @@ module _ (s t : LiveFile) (who now : Owners) (letters : Letters) (tree later : T
             (eqb_tells k id);
       }
 
-module _ {F : Type 0} {g : Ghosts F} (letters : Letters) (old mid new : MiniAllocator F g) (tree later : Tree) (m : Means letters old tree) (path : Path) (id : ℕ) (frees : FreesStream id old mid m.who) where
+module _ {F : Type 0} {g : Ghosts F} (letters : Letters) (old mid new : MiniAllocator F g) (tree later : Tree) (m : MeansLive letters old tree) (path : Path) (id : ℕ) (frees : FreesStream id old mid m.who) where
   -- a stream gave up its sectors, and then its entry was taken out
   pub removed_means : RemovesAt (entries_held (directory_of old)) (entries_held (directory_of new)) id → HoldsOneLess letters (ReadBy (reads (live_of old) m.who)) (entries_held (directory_of old)) (entries_held (directory_of new)) later m.held.ids path id []
-      → (id ≡ 0 → ⊥) → GoesOn (allocator_of mid) (allocator_of new) → has_failed_here (allocator_of new) ≡ false → ChangesDirectory (count_words (version_of (allocator_of mid))) mid new frees.now.sectors → Means letters new later
+      → (id ≡ 0 → ⊥) → GoesOn (allocator_of mid) (allocator_of new) → has_failed_here (allocator_of new) ≡ false → ChangesDirectory (count_words (version_of (allocator_of mid))) mid new frees.now.sectors → MeansLive letters new later
   unfolding live_of
   removed_means at less other goes live c =
       let words = count_words (version_of (allocator_of mid)) in
@@ -176,7 +176,7 @@ module _ {F : Type 0} {g : Ghosts F} (letters : Letters) (old mid new : MiniAllo
       }
 
 module _ {F : Type 0} {g : Ghosts F} where
-  pub stream_held : (letters : Letters) (it : MiniAllocator F g) (tree : Tree) (m : Means letters it tree) (id : ℕ) (e : Entry) → IsOneOf m.held.ids id → slice_get (entries_held (directory_of it)) id ≡ Some e → e.kind ≡ kind_stream
+  pub stream_held : (letters : Letters) (it : MiniAllocator F g) (tree : Tree) (m : MeansLive letters it tree) (id : ℕ) (e : Entry) → IsOneOf m.held.ids id → slice_get (entries_held (directory_of it)) id ≡ Some e → e.kind ≡ kind_stream
       → (content : List ℕ) × HasStream (live_of it) m.who id e content
   unfolding live_of
   stream_held letters it tree m id e one found kind = stream_there (live_of it) m.who letters tree m.held id e one found kind

@@ -12,11 +12,11 @@ use Rattle.cfb_tree.specs.Directory.{Entry}
 use Rattle.cfb_tree.specs.Names.{Letters}
 use Rattle.cfb_tree.specs.Tree.{Tree}
 use Rattle.cfb_mini.specs.Changing.{KeepsOwners}
-use Rattle.cfb_mini.specs.Views.{allocator_of, directory_of, Rests}
+use Rattle.cfb_mini.specs.Views.{allocator_of, directory_of, MiniRests}
 use Rattle.cfb_mini.specs.declared.mini_allocator.MiniAllocator.{MiniAllocator}
 use Rattle.cfb_owners.specs.Held.{MeansHeld}
 use Rattle.cfb_owners.specs.LiveFile.{LiveFile}
-use Rattle.cfb_live.specs.Live.{live_of, Means}
+use Rattle.cfb_live.specs.Live.{live_of, MeansLive}
 
 abbrev file_of : Version → List ℕ → ℕ → List ℕ → List ℕ → List ℕ → List ℕ → List Entry → LiveFile
 file_of version bytes count fat fat_sectors difat_sectors mini_fat entries = record {
@@ -44,7 +44,7 @@ module _ {F : Type 0} {g : Ghosts F} (old new : MiniAllocator F g) (k : KeepsOwn
       let entries = k.entries in
       cc
 
-  pub means_stays : (letters : Letters) (tree : Tree) → Means letters old tree → Means letters new tree
+  pub means_stays : (letters : Letters) (tree : Tree) → MeansLive letters old tree → MeansLive letters new tree
   means_stays letters tree m = record {
     live = k.allocator.sectors.failed ∙ m.live;
     orderly = subst IsTrue (sym k.allocator.orderly) m.orderly;
@@ -59,7 +59,7 @@ module _ {F : Type 0} {g : Ghosts F} where
   keeps_refl it = record { allocator = all_rest_refl (allocator_of it); entries = refl; mini_fat = refl; owners = λ own h. h }
 
   -- only reads happened: each owner has what it had
-  pub keeps_rests : (old new : MiniAllocator F g) → Rests old new → KeepsOwners old new
+  pub keeps_rests : (old new : MiniAllocator F g) → MiniRests old new → KeepsOwners old new
   keeps_rests old new r =
       let rests = r.directory.allocator in
       let a = allocator_of old in

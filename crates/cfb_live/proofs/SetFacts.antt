@@ -14,7 +14,7 @@ use Rattle.cfb_tree.specs.Changes.{changed}
 use Rattle.cfb_tree.specs.Paths.{Path}
 use Rattle.cfb_tree.specs.Tree.{Tree}
 use Rattle.cfb_tree.proofs.OneContent.{Some_same}
-use Rattle.cfb_siblings.specs.Changes.{Becomes, HasSameLinks}
+use Rattle.cfb_siblings.specs.Changes.{ObjectBecomes, HasSameLinks}
 use Rattle.cfb_siblings.specs.Places.{IsEntryAt}
 use Rattle.cfb_siblings.specs.Reading.{ReadBy}
 use Rattle.cfb_directory.specs.Views.{entries_held}
@@ -23,7 +23,7 @@ use Rattle.cfb_mini.specs.Views.{allocator_of, directory_of}
 use Rattle.cfb_mini.specs.declared.mini_allocator.MiniAllocator.{MiniAllocator}
 use Rattle.cfb_owners.specs.LiveFile.{LiveFile}
 use Rattle.cfb_owners.specs.Owners.{Owners}
-use Rattle.cfb_live.specs.Live.{live_of, Means}
+use Rattle.cfb_live.specs.Live.{live_of, MeansLive}
 use Rattle.cfb_live.proofs.Carried.{Carries}
 use Rattle.cfb_live.proofs.Changed.{entry_changed, set_keeps, tree_held, tree_ids}
 use Rattle.cfb_live.proofs.Directories.{carries, has_owners, kept_later, owners_now}
@@ -50,19 +50,19 @@ carries_same s who = record { version = refl; longer = omega arith; sectors = λ
 
 module _ {F : Type 0} {g : Ghosts F} where
   -- the entries hold the tree that is meant
-  pub means_held : (letters : Letters) (it : MiniAllocator F g) (tree : Tree) → (m : Means letters it tree) → HoldsTree letters (ReadBy (reads (live_of it) m.who)) (entries_held (directory_of it)) tree
+  pub means_held : (letters : Letters) (it : MiniAllocator F g) (tree : Tree) → (m : MeansLive letters it tree) → HoldsTree letters (ReadBy (reads (live_of it) m.who)) (entries_held (directory_of it)) tree
   unfolding live_of
   means_held letters it tree m = tree_held (live_of it) m.who letters tree m.held
 
-  pub means_ids : (letters : Letters) (it : MiniAllocator F g) (tree : Tree) (m : Means letters it tree) → (means_held letters it tree m).ids ≡ m.held.ids
+  pub means_ids : (letters : Letters) (it : MiniAllocator F g) (tree : Tree) (m : MeansLive letters it tree) → (means_held letters it tree m).ids ≡ m.held.ids
   unfolding live_of means_held
   means_ids letters it tree m = tree_ids (live_of it) m.who letters tree m.held
 
-module _ {F : Type 0} {g : Ghosts F} (letters : Letters) (old : MiniAllocator F g) (tree : Tree) (m : Means letters old tree) (path : Path) (id : ℕ) (e f : Entry) (change : Object → Object)
+module _ {F : Type 0} {g : Ghosts F} (letters : Letters) (old : MiniAllocator F g) (tree : Tree) (m : MeansLive letters old tree) (path : Path) (id : ℕ) (e f : Entry) (change : Object → Object)
     (at : IsEntryAt (ReadBy (reads (live_of old) m.who)) letters (entries_held (directory_of old)) tree path id) (found : slice_get (entries_held (directory_of old)) id ≡ Some e) where
-  pub set_means : (new : MiniAllocator F g) → HasSameLinks e f → f.start ≡ e.start → f.size ≡ e.size → Becomes (ReadBy (reads (live_of old) m.who)) f at.object (change at.object)
+  pub set_means : (new : MiniAllocator F g) → HasSameLinks e f → f.start ≡ e.start → f.size ≡ e.size → ObjectBecomes (ReadBy (reads (live_of old) m.who)) f at.object (change at.object)
       → GoesOn (allocator_of old) (allocator_of new) → has_failed_here (allocator_of new) ≡ false → ChangesDirectory [] old new m.who.sectors
-      → entries_held (directory_of new) ≡ slice_set (entries_held (directory_of old)) id f → Means letters new (changed letters change path tree)
+      → entries_held (directory_of new) ≡ slice_set (entries_held (directory_of old)) id f → MeansLive letters new (changed letters change path tree)
   unfolding live_of
   set_means new links start size becomes goes live c set =
       let none : (p n : ℕ) → (p + n ≤ 40) ⊎ (48 ≤ p) → AreBesideWords [] p n = λ p n beside. tt in
@@ -79,7 +79,7 @@ module _ {F : Type 0} {g : Ghosts F} (letters : Letters) (old : MiniAllocator F 
       }
 
   -- or where nothing is to be set
-  pub same_means : HasSameLinks e e → Becomes (ReadBy (reads (live_of old) m.who)) e at.object (change at.object) → Means letters old (changed letters change path tree)
+  pub same_means : HasSameLinks e e → ObjectBecomes (ReadBy (reads (live_of old) m.who)) e at.object (change at.object) → MeansLive letters old (changed letters change path tree)
   unfolding live_of
   same_means links becomes = record {
     live = m.live;

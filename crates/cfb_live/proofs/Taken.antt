@@ -24,9 +24,9 @@ use Rattle.cfb_tree.specs.Objects.{a_storage, a_stream, HoldsTree, IsObject, Obj
 use Rattle.cfb_tree.specs.Paths.{Path}
 use Rattle.cfb_tree.specs.Tree.{Tree}
 use Rattle.cfb_tree.proofs.OneContent.{Some_same}
-use Rattle.cfb_live.specs.Emptying.{IsLeafAt, KeepsWay}
+use Rattle.cfb_live.specs.WholeRemoval.{IsLeafAt, KeepsWay}
 use Rattle.cfb_live.specs.Freeing.{FreesStream}
-use Rattle.cfb_live.specs.Live.{live_of, Means}
+use Rattle.cfb_live.specs.Live.{live_of, MeansLive}
 use Rattle.cfb_live.specs.Removing.{IsChildAt}
 use Rattle.cfb_live.proofs.NewPlaces.{path_is}
 use Rattle.cfb_live.proofs.Removed.{among, below_root, removed_means}
@@ -58,7 +58,7 @@ leaf_at letters Reads entries tree path link id some at e found empty = record {
 pub some_there : (path : Path) (name : List ℕ) → 0 < length (path_to path name)
 some_there path name = omega (arith, length-append path (name ∷ []))
 
-module _ {F : Type 0} {g : Ghosts F} (letters : Letters) (it : MiniAllocator F g) (tree : Tree) (m : Means letters it tree) (path : Path) (name : List ℕ) (link : Link) (id : ℕ)
+module _ {F : Type 0} {g : Ghosts F} (letters : Letters) (it : MiniAllocator F g) (tree : Tree) (m : MeansLive letters it tree) (path : Path) (name : List ℕ) (link : Link) (id : ℕ)
     (leaf : IsLeafAt letters (entries_held (directory_of it)) path name link id) where
   abbrev held : HoldsTree letters (ReadBy (reads (live_of it) m.who)) (entries_held (directory_of it)) tree
   held = means_held letters it tree m
@@ -80,7 +80,7 @@ module _ {F : Type 0} {g : Ghosts F} (letters : Letters) (it : MiniAllocator F g
   -- its sectors were freed, and then its entry was taken out
   pub taken_means : (mid new : MiniAllocator F g) (frees : FreesStream id it mid m.who) → RemovesChild (entries_held (directory_of mid)) (entries_held (directory_of new)) link id → RemovesAt (entries_held (directory_of mid)) (entries_held (directory_of new)) id
       → GoesOn (allocator_of mid) (allocator_of new) → has_failed_here (allocator_of new) ≡ false → ChangesDirectory (count_words (version_of (allocator_of mid))) mid new frees.now.sectors
-      → Means letters new (removed letters (path_to path name) tree)
+      → MeansLive letters new (removed letters (path_to path name) tree)
   unfolding leaf_child
   taken_means mid new frees removed_child at goes live changes =
       let directory = entries_held (directory_of it) in

@@ -8,7 +8,7 @@ use Rattle.cfb_tree.specs.Directory.{no_entry, Entry}
 use Rattle.cfb_tree.specs.Names.{Letters}
 use Rattle.cfb_tree.specs.Paths.{Path}
 use Rattle.cfb_tree.proofs.OneContent.{Some_same}
-use Rattle.cfb_live.specs.Emptying.{IsWayTo, KeepsWay}
+use Rattle.cfb_live.specs.WholeRemoval.{IsWayTo, KeepsWay}
 use Rattle.cfb_live.proofs.NewPlaces.{path_is}
 
 no_names : (path : Path) → length path ≡ 0 → path ≡ []

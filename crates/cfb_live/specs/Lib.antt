@@ -4,5 +4,5 @@ pub mod Facts
 pub mod Making
 pub mod Freeing
 pub mod Removing
-pub mod Emptying
+pub mod WholeRemoval
 pub mod Parents

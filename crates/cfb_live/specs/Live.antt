@@ -30,7 +30,7 @@ module _ {F : Type 0} {g : Ghosts F} where
 
   -- THE LIVE FILE MEANS THE TREE: nothing has failed, its tables can be changed, memory is that of the bytes of an honest medium,
   -- entries can be written as they are, and each stream of the tree has its bytes in sectors or mini sectors that nothing else owns
-  pub record Means (letters : Letters) (it : MiniAllocator F g) (tree : Tree) : Type 0 where
+  pub record MeansLive (letters : Letters) (it : MiniAllocator F g) (tree : Tree) : Type 0 where
     pub live : has_failed_here (allocator_of it) ≡ false
     pub orderly : IsTrue (orderly_of (allocator_of it))
     pub who : Owners

@@ -12,8 +12,8 @@ use Rattle.cfb_tree.specs.Names.{is_name, Letters}
 use Rattle.cfb_tree.specs.Objects.{object_at}
 use Rattle.cfb_tree.specs.Paths.{Path}
 use Rattle.cfb_tree.specs.Tree.{Tree}
-use Rattle.cfb_live.specs.Emptying.{HasStorage}
-use Rattle.cfb_live.specs.Live.{Means}
+use Rattle.cfb_live.specs.WholeRemoval.{HasStorage}
+use Rattle.cfb_live.specs.Live.{MeansLive}
 use Rattle.cfb_live.specs.Making.{kind_made, making}
 use Rattle.cfb_live.specs.declared.making.NewObject.{NewObject}
 
@@ -33,7 +33,7 @@ module _ {F : Type 0} {g : Ghosts F} where
   -- the rules make the object at the path, and the file means the tree that they give
   pub record MakesAt (letters : Letters) (path : Path) (object : NewObject) (tree : Tree) (new : MiniAllocator F g) : Type 0 where
     pub accepted : (tree_step letters tree (making object path)).1 ≡ done
-    pub means : Means letters new (tree_step letters tree (making object path)).0
+    pub means : MeansLive letters new (tree_step letters tree (making object path)).0
 
   -- so it does, and the path leads to entry `id`, which is of the object's kind
   pub record MakesChild (letters : Letters) (path : Path) (object : NewObject) (tree : Tree) (new : MiniAllocator F g) (id : ℕ) : Type 0 where
@@ -47,5 +47,5 @@ module _ {F : Type 0} {g : Ghosts F} where
   pub record MeansAsFar (letters : Letters) (moment : ℕ) (tree : Tree) (path : Path) (count : ℕ) (id : ℕ) (new : MiniAllocator F g) : Type 0 where
     pub now : Tree
     pub far : IsMadeAsFar letters moment tree path count now
-    pub means : Means letters new now
+    pub means : MeansLive letters new now
     pub storage : IsStorageAt letters (entries_held (directory_of new)) (take count path) id

@@ -2,7 +2,7 @@
 use Rattle.std.specs.Prelude.{◌≡◌, ℕ, ◌⊎◌, Bool, List, [], None, Some}
 use Rattle.cfb_medium.specs.declared.error.Error.{Error}
 use Rattle.cfb_medium.specs.declared.error.Error.TheVariants.{InvalidData, InvalidInput, NotFound}
-use Rattle.cfb_siblings.specs.Places.{IsStorageAt, IsTaken, LeadsTo}
+use Rattle.cfb_siblings.specs.Places.{IsStorageAt, NameIsTaken, LeadsTo}
 use Rattle.cfb_siblings.specs.Reading.{ReadBy}
 use Rattle.cfb_siblings.specs.declared.links.Link.{Link}
 use Rattle.cfb_tree.specs.Changes.{last_of, parent_of}
@@ -20,7 +20,7 @@ IsRefusedRemoval e = (e ≡ NotFound) ⊎ (e ≡ InvalidInput) ⊎ (e ≡ Invali
 pub record IsChildAt (letters : Letters) (reads : ℕ → ℕ → List ℕ → Bool) (entries : List Entry) (tree : Tree) (path : Path) (link : Link) (id : ℕ) : Type 0 where
   pub parent : ℕ
   pub storage : IsStorageAt letters entries (parent_of path) parent
-  pub taken : IsTaken letters entries parent (last_of path) link id
+  pub taken : NameIsTaken letters entries parent (last_of path) link id
   pub leads : LeadsTo letters entries 0 path id
   pub object : Object
   pub at_path : object_at letters tree path ≡ Some object

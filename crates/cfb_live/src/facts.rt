@@ -1,6 +1,6 @@
 //! Facts of objects: state bits, class identifiers and times ([MS-CFB] 2.6.1).
 ghost use Rattle.cfb_entries.specs.Rules.{names_in};
-ghost use Rattle.cfb_fat.specs.Calls.{Answers};
+ghost use Rattle.cfb_fat.specs.Calls.{FatAnswers};
 ghost use Rattle.cfb_live.specs.Doing.{Does};
 ghost use Rattle.cfb_live.specs.Facts.{setting, IsRefusedFact};
 ghost use Rattle.cfb_mini.specs.Views.{allocator_of};
@@ -103,7 +103,7 @@ pub fn set_fact<F: Medium>(
     ensures does { Does (letters_of letters.now) (names_in path.now) (setting fact) result mini.old
         mini.new }
     ensures goes_on { GoesOn (allocator_of mini.old) (allocator_of mini.new) }
-    ensures answers { Answers IsRefusedFact result (allocator_of mini.old)
+    ensures answers { FatAnswers IsRefusedFact result (allocator_of mini.old)
         (allocator_of mini.new) }
 {
     if mini.directory().allocator().is_failed() {

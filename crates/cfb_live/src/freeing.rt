@@ -1,6 +1,6 @@
 //! Streams that give up their sectors ([MS-CFB] 2.3, 2.4).
 ghost use Rattle.cfb_chains.specs.ChainCalls.{IsInvalid};
-ghost use Rattle.cfb_fat.specs.Calls.{Answers};
+ghost use Rattle.cfb_fat.specs.Calls.{FatAnswers};
 ghost use Rattle.cfb_fat.specs.Tables.{has_failed_here, orderly_of};
 ghost use Rattle.cfb_live.specs.Freeing.{FreesStream, Stands};
 ghost use Rattle.cfb_live.specs.Live.{live_of};
@@ -31,7 +31,7 @@ fn free_short<F: Medium>(mini: &mut MiniAllocator<F>, start: u32) -> Result<(), 
     ensures rests { OnErr result ((has_failed_here (allocator_of mini.new) ≡ true)
         ⊎ KeepsOwners mini.old mini.new) }
     ensures goes_on { GoesOn (allocator_of mini.old) (allocator_of mini.new) }
-    ensures answers { Answers IsInvalid result (allocator_of mini.old) (allocator_of mini.new) }
+    ensures answers { FatAnswers IsInvalid result (allocator_of mini.old) (allocator_of mini.new) }
 {
     if mini.directory().allocator().is_failed() {
         return Err(Error::Failed);
@@ -56,7 +56,7 @@ fn free_long<F: Medium>(mini: &mut MiniAllocator<F>, start: u32) -> Result<(), E
     ensures rests { OnErr result ((has_failed_here (allocator_of mini.new) ≡ true)
         ⊎ KeepsOwners mini.old mini.new) }
     ensures goes_on { GoesOn (allocator_of mini.old) (allocator_of mini.new) }
-    ensures answers { Answers IsInvalid result (allocator_of mini.old) (allocator_of mini.new) }
+    ensures answers { FatAnswers IsInvalid result (allocator_of mini.old) (allocator_of mini.new) }
 {
     if mini.directory().allocator().is_failed() {
         return Err(Error::Failed);
@@ -84,7 +84,7 @@ pub fn free_stream<F: Medium>(mini: &mut MiniAllocator<F>, id: u32) -> Result<()
     ensures rests { OnErr result ((has_failed_here (allocator_of mini.new) ≡ true)
         ⊎ KeepsOwners mini.old mini.new) }
     ensures goes_on { GoesOn (allocator_of mini.old) (allocator_of mini.new) }
-    ensures answers { Answers IsInvalid result (allocator_of mini.old) (allocator_of mini.new) }
+    ensures answers { FatAnswers IsInvalid result (allocator_of mini.old) (allocator_of mini.new) }
 {
     let entry = mini.directory().dir_entry(id);
     let start = entry.start_sector;

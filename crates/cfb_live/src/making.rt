@@ -1,8 +1,8 @@
 //! New objects: storages and streams without content ([MS-CFB] 2.6.2, 2.6.3).
 ghost use Rattle.cfb_entries.specs.Rules.{names_in};
-ghost use Rattle.cfb_fat.specs.Calls.{Answers};
+ghost use Rattle.cfb_fat.specs.Calls.{FatAnswers};
 ghost use Rattle.cfb_live.specs.Doing.{Does, IsFault};
-ghost use Rattle.cfb_live.specs.Live.{Means};
+ghost use Rattle.cfb_live.specs.Live.{MeansLive};
 ghost use Rattle.cfb_live.specs.Making.{making, IsFreePlace, IsRefusedMade};
 ghost use Rattle.cfb_live.specs.Parents.{MakesAt, MakesChild};
 ghost use Rattle.cfb_fat.specs.Tables.{has_failed_here};
@@ -78,13 +78,13 @@ pub(crate) fn make_child<F: Medium>(
     object: NewObject,
 ) -> Result<u32, Error>
     ensures made { IfOk result (λ id. (tree : Tree) (path : Path)
-        → Means (letters_of letters.now) mini.old tree
+        → MeansLive (letters_of letters.now) mini.old tree
         → IsFreePlace (letters_of letters.now) (entries_held (directory_of mini.old)) tree
         (path_to path (chars name.now)) parent
         → MakesChild (letters_of letters.now) (path_to path (chars name.now)) object tree mini.new
         id) }
     ensures refused { IfErr result (λ e. (tree : Tree) (path : Path)
-        → Means (letters_of letters.now) mini.old tree
+        → MeansLive (letters_of letters.now) mini.old tree
         → IsFreePlace (letters_of letters.now) (entries_held (directory_of mini.old)) tree
         (path_to path (chars name.now)) parent → IsFault e) }
     ensures rests { OnErr result ((has_failed_here (allocator_of mini.new) ≡ true)
@@ -92,7 +92,7 @@ pub(crate) fn make_child<F: Medium>(
     ensures full { IsErrOf result Full → has_failed_here (allocator_of mini.new) ≡ false
         → LacksEntries (directory_of mini.old) }
     ensures goes_on { GoesOn (allocator_of mini.old) (allocator_of mini.new) }
-    ensures answers { Answers IsRefusedMade result (allocator_of mini.old)
+    ensures answers { FatAnswers IsRefusedMade result (allocator_of mini.old)
         (allocator_of mini.new) }
 {
     if mini.directory().allocator().is_failed() {
@@ -120,10 +120,10 @@ fn make_named<F: Medium>(
     names: &[&str],
     object: NewObject,
 ) -> Result<(), Error>
-    ensures made { OnOk result ((tree : Tree) → Means (letters_of letters.now) mini.old tree
+    ensures made { OnOk result ((tree : Tree) → MeansLive (letters_of letters.now) mini.old tree
         → MakesAt (letters_of letters.now) (path_of names.now) object tree mini.new) }
     ensures refused { IfErr result (λ e. (tree : Tree)
-        → Means (letters_of letters.now) mini.old tree → IsFault e
+        → MeansLive (letters_of letters.now) mini.old tree → IsFault e
         ⊎ (((tree_step (letters_of letters.now) tree (making object (path_of names.now))).1
         ≡ refused e) × KeepsOwners mini.old mini.new)) }
     ensures rests { OnErr result ((has_failed_here (allocator_of mini.new) ≡ true)
@@ -131,7 +131,7 @@ fn make_named<F: Medium>(
     ensures full { IsErrOf result Full → has_failed_here (allocator_of mini.new) ≡ false
         → LacksEntries (directory_of mini.old) }
     ensures goes_on { GoesOn (allocator_of mini.old) (allocator_of mini.new) }
-    ensures answers { Answers IsRefusedMade result (allocator_of mini.old)
+    ensures answers { FatAnswers IsRefusedMade result (allocator_of mini.old)
         (allocator_of mini.new) }
 {
     if mini.directory().allocator().is_failed() {
@@ -165,7 +165,7 @@ pub fn make_object<F: Medium>(
     ensures full { IsErrOf result Full → has_failed_here (allocator_of mini.new) ≡ false
         → LacksEntries (directory_of mini.old) }
     ensures goes_on { GoesOn (allocator_of mini.old) (allocator_of mini.new) }
-    ensures answers { Answers IsRefusedMade result (allocator_of mini.old)
+    ensures answers { FatAnswers IsRefusedMade result (allocator_of mini.old)
         (allocator_of mini.new) }
 {
     if mini.directory().allocator().is_failed() {

@@ -1,7 +1,7 @@
 //! Storages that are made at a path and at those above it ([MS-CFB] 2.6.2).
 ghost use Rattle.cfb_entries.specs.Rules.{names_in};
 ghost use Rattle.cfb_directory.specs.Growth.{LacksEntries};
-ghost use Rattle.cfb_fat.specs.Calls.{Answers};
+ghost use Rattle.cfb_fat.specs.Calls.{FatAnswers};
 ghost use Rattle.cfb_fat.specs.Tables.{has_failed_here};
 ghost use Rattle.cfb_live.specs.Doing.{Does, IsFault};
 ghost use Rattle.cfb_live.specs.Making.{IsRefusedMade};
@@ -105,7 +105,7 @@ fn make_missing<F: Medium>(
         (units_of moment) tree (path_of names.now) first top mini.old → IsFault e) }
     ensures failed { OnErr result (has_failed_here (allocator_of mini.new) ≡ true) }
     ensures goes_on { GoesOn (allocator_of mini.old) (allocator_of mini.new) }
-    ensures answers { Answers IsRefusedMade result (allocator_of mini.old)
+    ensures answers { FatAnswers IsRefusedMade result (allocator_of mini.old)
         (allocator_of mini.new) }
 {
     if mini.directory().allocator().is_failed() {
@@ -142,7 +142,7 @@ pub fn create_storage_all<F: Medium>(
     ensures full { IsErrOf result Full → has_failed_here (allocator_of mini.new) ≡ false
         → LacksEntries (directory_of mini.old) }
     ensures goes_on { GoesOn (allocator_of mini.old) (allocator_of mini.new) }
-    ensures answers { Answers IsRefusedMade result (allocator_of mini.old)
+    ensures answers { FatAnswers IsRefusedMade result (allocator_of mini.old)
         (allocator_of mini.new) }
 {
     if mini.directory().allocator().is_failed() {

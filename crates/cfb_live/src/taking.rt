@@ -1,11 +1,11 @@
 //! Objects that are taken out of their storages ([MS-CFB] 2.6.3, 2.6.4).
 ghost use Rattle.cfb_chains.specs.ChainCalls.{IsInvalid};
 ghost use Rattle.cfb_directory.specs.Views.{entries_held};
-ghost use Rattle.cfb_fat.specs.Calls.{Answers};
+ghost use Rattle.cfb_fat.specs.Calls.{FatAnswers};
 ghost use Rattle.cfb_fat.specs.Tables.{has_failed_here};
-ghost use Rattle.cfb_live.specs.Emptying.{IsLeafAt, KeepsWay};
+ghost use Rattle.cfb_live.specs.WholeRemoval.{IsLeafAt, KeepsWay};
 ghost use Rattle.cfb_live.specs.Freeing.{GivesUp};
-ghost use Rattle.cfb_live.specs.Live.{Means};
+ghost use Rattle.cfb_live.specs.Live.{MeansLive};
 ghost use Rattle.cfb_medium.specs.declared.error.Error.TheVariants.{InvalidData};
 ghost use Rattle.cfb_mini.specs.Changing.{KeepsOwners};
 ghost use Rattle.cfb_mini.specs.Views.{allocator_of, directory_of};
@@ -35,26 +35,26 @@ pub(crate) fn take_out<F: Medium>(
 ) -> Result<(), Error>
     requires { id < length (entries_held (directory_of mini.old)) }
     ensures taken { OnOk result ((letters : Letters) (tree : Tree) (path : Path) (name : List ℕ)
-        → Means letters mini.old tree
+        → MeansLive letters mini.old tree
         → IsLeafAt letters (entries_held (directory_of mini.old)) path name link id
-        → Means letters mini.new (removed letters (path_to path name) tree)) }
+        → MeansLive letters mini.new (removed letters (path_to path name) tree)) }
     ensures ways { OnOk result ((letters : Letters) (tree : Tree) (path : Path) (name : List ℕ)
-        → Means letters mini.old tree
+        → MeansLive letters mini.old tree
         → IsLeafAt letters (entries_held (directory_of mini.old)) path name link id
         → KeepsWay letters (entries_held (directory_of mini.old))
         (entries_held (directory_of mini.new)) path id) }
     ensures freed { OnOk result ((letters : Letters) (tree : Tree) (path : Path) (name : List ℕ)
-        → (m : Means letters mini.old tree)
+        → (m : MeansLive letters mini.old tree)
         → IsLeafAt letters (entries_held (directory_of mini.old)) path name link id
         → GivesUp (m.who.sectors (stream_owner id)) (m.who.minis (stream_owner id)) mini.new) }
     ensures refused { IsErrOf result InvalidData
         → (letters : Letters) (tree : Tree) (path : Path) (name : List ℕ)
-        → Means letters mini.old tree
+        → MeansLive letters mini.old tree
         → IsLeafAt letters (entries_held (directory_of mini.old)) path name link id → ⊥ }
     ensures rests { OnErr result ((has_failed_here (allocator_of mini.new) ≡ true)
         ⊎ KeepsOwners mini.old mini.new) }
     ensures goes_on { GoesOn (allocator_of mini.old) (allocator_of mini.new) }
-    ensures answers { Answers IsInvalid result (allocator_of mini.old) (allocator_of mini.new) }
+    ensures answers { FatAnswers IsInvalid result (allocator_of mini.old) (allocator_of mini.new) }
 {
     if mini.directory().allocator().is_failed() {
         return Err(Error::Failed);

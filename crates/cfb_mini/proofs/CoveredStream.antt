@@ -18,7 +18,7 @@ use Rattle.cfb_directory.specs.Views as directory
 use Rattle.cfb_directory.specs.declared.directory.Directory.{Directory}
 use Rattle.cfb_directory.proofs.Setting.{has_directory}
 use Rattle.cfb_mini.specs.Changing.{CoversStream, HasOwners, IsCovered, Lengthens}
-use Rattle.cfb_mini.specs.Views.{allocator_of, directory_of, mini_stream_ids, mini_stream_len, Rests}
+use Rattle.cfb_mini.specs.Views.{allocator_of, directory_of, mini_stream_ids, mini_stream_len, MiniRests}
 use Rattle.cfb_mini.specs.declared.mini_allocator.MiniAllocator.{MiniAllocator}
 use Rattle.cfb_mini.proofs.Counts.{counts_beside, part_spared}
 use Rattle.cfb_mini.proofs.DirectoryChanges.{directory_beside, directory_changes, first_start}
@@ -88,7 +88,7 @@ module _ {F : Type 0} {g : Ghosts F} where
       h.entries
 
   -- nothing was done
-  pub mini_rests_refl : (it : MiniAllocator F g) → Rests it it
+  pub mini_rests_refl : (it : MiniAllocator F g) → MiniRests it it
   mini_rests_refl it = record {
     directory = record { allocator = all_rest_refl (allocator_of it); ids = refl; entries = refl; kept = λ is. is };
     mini_fat_ids = refl;

@@ -19,7 +19,7 @@ use Rattle.cfb_fat.specs.declared.allocator.Allocator.{Allocator}
 use Rattle.cfb_owned.specs.Chains.{content_of, len_of, HasChain, Overwrites}
 use Rattle.cfb_owned.proofs.Owning.{becomes_then}
 use Rattle.cfb_owned.proofs.WrittenParts.{nothing_over}
-use Rattle.cfb_mini.specs.Entering.{Enters, LiesSo}
+use Rattle.cfb_mini.specs.NumberWrites.{Enters, LiesSo}
 use Rattle.cfb_mini.specs.NumberViews.{numbers_of}
 use Rattle.cfb_mini.specs.declared.mini_fat.MiniFat.{MiniFat}
 use Rattle.cfb_mini.proofs.MiniNumbers.{differ_set, numbers_set}

@@ -24,16 +24,16 @@ use Rattle.cfb_directory.specs.Lent as lent
 use Rattle.cfb_tree.specs.Directory.{Entry, entries_of}
 use Rattle.cfb_directory.specs.Views as directory
 use Rattle.cfb_directory.specs.declared.directory.Directory.{Directory}
-use Rattle.cfb_mini.specs.Changing.{mini_seen, with_allocator, Extends, Frees, FreesChain, GrowsMiniFat, HasOwners, IsKeptOver, Overwrites, Shortens}
-use Rattle.cfb_mini.specs.Entering.{CutsMinis, Enters, LiesSo}
-use Rattle.cfb_mini.specs.Growing.{mini_fat_words, GrowsTable}
+use Rattle.cfb_mini.specs.Changing.{mini_seen, with_allocator, Extends, Frees, FreesChain, GrowsMiniFat, HasOwners, IsKeptOver, MiniOverwrites, Shortens}
+use Rattle.cfb_mini.specs.NumberWrites.{CutsMinis, Enters, LiesSo}
+use Rattle.cfb_mini.specs.FatGrowth.{mini_fat_words, GrowsTable}
 use Rattle.cfb_mini.specs.Layers.{IsOver}
 use Rattle.cfb_mini.specs.LinkViews.{minis_of}
 use Rattle.cfb_mini.specs.Minis.{mini_joined, mini_sector, IsMiniChain}
 use Rattle.cfb_mini.specs.NumberViews.{numbers_of}
 use Rattle.cfb_mini.specs.Overwriting.{WritesMinis}
-use Rattle.cfb_mini.specs.Taking.{TakesIn}
-use Rattle.cfb_mini.specs.Views.{allocator_of, directory_of, mini_fat_ids, mini_stream_ids, mini_stream_of, IsMini, Rests}
+use Rattle.cfb_mini.specs.NextSector.{TakesIn}
+use Rattle.cfb_mini.specs.Views.{allocator_of, directory_of, mini_fat_ids, mini_stream_ids, mini_stream_of, IsMini, MiniRests}
 use Rattle.cfb_mini.specs.declared.links.MiniLinks.{MiniLinks}
 use Rattle.cfb_mini.specs.declared.mini_allocator.MiniAllocator.{MiniAllocator}
 use Rattle.cfb_mini.specs.declared.mini_fat.MiniFat.{MiniFat}
@@ -137,7 +137,7 @@ module _ {F : Type 0} {g : Ghosts F} where
   -- a mini chain was written over
   pub overwrites_is : (at : ℕ) (bytes : List ℕ) (it : MiniAllocator F g) (b : Allocator F g) (mini : MiniFat) (links : MiniLinks) (own : ℕ → List ℕ) (len : ℕ) → HasOwners it own → IsMiniChain (numbers_of it.mini_fat.numbers) len (minis_of links)
       → GoesOn (allocator_of it) b → lent.IsKeptOver (directory_of it) → LiesSo it.mini_fat mini → numbers_of mini.numbers ≡ numbers_of it.mini_fat.numbers
-      → WritesMinis at bytes (allocator_of it) b it.mini_fat.stream (minis_of links) → Overwrites at bytes it (moved it b mini) links own
+      → WritesMinis at bytes (allocator_of it) b it.mini_fat.stream (minis_of links) → MiniOverwrites at bytes it (moved it b mini) links own
   unfolding mini_seen
   overwrites_is at bytes it b mini links own len h mine goes kept lies numbers did =
       let a = allocator_of it in
@@ -241,7 +241,7 @@ module _ {F : Type 0} {g : Ghosts F} where
       }
 
   -- only reads happened
-  pub rests_is : (it : MiniAllocator F g) (b : Allocator F g) (mini : MiniFat) → AllRests (allocator_of it) b → LiesSo it.mini_fat mini → numbers_of mini.numbers ≡ numbers_of it.mini_fat.numbers → Rests it (moved it b mini)
+  pub rests_is : (it : MiniAllocator F g) (b : Allocator F g) (mini : MiniFat) → AllRests (allocator_of it) b → LiesSo it.mini_fat mini → numbers_of mini.numbers ≡ numbers_of it.mini_fat.numbers → MiniRests it (moved it b mini)
   rests_is it b mini rests lies same =
       let a = allocator_of it in
       record {
@@ -374,7 +374,7 @@ module _ {F : Type 0} {g : Ghosts F} where
 
   -- only reads happened, and the mini FAT is the same
   pub rests_same : (it : MiniAllocator F g) (b : Allocator F g) (mini : MiniFat) → AllRests (allocator_of it) b → ids_of mini.links ≡ ids_of it.mini_fat.links → links_version mini.links ≡ links_version it.mini_fat.links → mini.stream ≡ it.mini_fat.stream
-      → numbers_of mini.numbers ≡ numbers_of it.mini_fat.numbers → Rests it (moved it b mini)
+      → numbers_of mini.numbers ≡ numbers_of it.mini_fat.numbers → MiniRests it (moved it b mini)
   rests_same it b mini rests ids version stream numbers =
       let base = rests_is it b it.mini_fat rests (record { links = refl; stream = refl }) refl in record {
         directory = base.directory;
@@ -397,7 +397,7 @@ module _ {F : Type 0} {g : Ghosts F} where
 
   -- only reads happened, and the mini stream's sectors are the same
   pub rests_stream : (it : MiniAllocator F g) (b : Allocator F g) (mini : MiniFat) → AllRests (allocator_of it) b → mini.links ≡ it.mini_fat.links → ids_of mini.stream ≡ ids_of it.mini_fat.stream → links_version mini.stream ≡ links_version it.mini_fat.stream
-      → numbers_of mini.numbers ≡ numbers_of it.mini_fat.numbers → Rests it (moved it b mini)
+      → numbers_of mini.numbers ≡ numbers_of it.mini_fat.numbers → MiniRests it (moved it b mini)
   rests_stream it b mini rests links ids version numbers =
       let base = rests_is it b it.mini_fat rests (record { links = refl; stream = refl }) refl in record {
         directory = base.directory;

@@ -17,8 +17,8 @@ use Rattle.cfb_tree.proofs.OneContent.{Some_same}
 use Rattle.cfb_directory.specs.Entries.{SizesFit}
 use Rattle.cfb_directory.specs.Views.{directory_ids, entries_held}
 use Rattle.cfb_mini.specs.Files.{count_told, LeavesFile}
-use Rattle.cfb_mini.specs.Growing.{mini_fat_words, TellsMiniFat}
-use Rattle.cfb_mini.specs.Views.{allocator_of, directory_of, mini_fat_ids, mini_stream_ids, Rests}
+use Rattle.cfb_mini.specs.FatGrowth.{mini_fat_words, TellsMiniFat}
+use Rattle.cfb_mini.specs.Views.{allocator_of, directory_of, mini_fat_ids, mini_stream_ids, MiniRests}
 use Rattle.cfb_mini.specs.declared.mini_allocator.MiniAllocator.{MiniAllocator}
 use Rattle.cfb_mini.proofs.Counts.{counts_rest, counts_stay, part_spared}
 use Rattle.cfb_mini.proofs.Headers.{header_stays, u32_same, KeepsFront}
@@ -59,7 +59,7 @@ module _ {F : Type 0} {g : Ghosts F} where
   }
 
   -- over reads
-  pub file_rests : (b c : MiniAllocator F g) → IsTrue (is_honest (allocator_of b)) → Rests b c → LeavesFile b c
+  pub file_rests : (b c : MiniAllocator F g) → IsTrue (is_honest (allocator_of b)) → MiniRests b c → LeavesFile b c
   file_rests b c honest rests =
       let layer = rests.directory.allocator.sectors in
       let same : bytes_of (allocator_of c) ≡ bytes_of (allocator_of b) = layer.bytes honest in

@@ -9,7 +9,7 @@ use Rattle.cfb_sectors.specs.Sectors.{end_of_chain, free, greatest_regular, Chai
 use Rattle.cfb_chains.specs.Changes.{AreAmong, StayBut}
 use Rattle.cfb_chains.specs.Grown.{IsLinked}
 use Rattle.cfb_chains.proofs.ChainGrowing.{extended}
-use Rattle.cfb_mini.specs.Taking.{linked_behind, linked_pair, HasNumber}
+use Rattle.cfb_mini.specs.NextSector.{linked_behind, linked_pair, HasNumber}
 
 -- the last number of a chain is a chain of its own
 pub last_ends : (table : List ℕ) (start : ℕ) (ids : List ℕ) (m : ℕ) → suc m ≡ length ids → IsChain table start ids → IsChain table (get_or ids m 0) (get_or ids m 0 ∷ [])

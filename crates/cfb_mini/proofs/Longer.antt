@@ -15,7 +15,7 @@ use Rattle.cfb_chains.specs.LinkViews.{links_version}
 use Rattle.cfb_chains.specs.Owned.{Owned, Stays}
 use Rattle.cfb_chains.proofs.Beside.{free_then, none_first}
 use Rattle.cfb_chains.proofs.ChainGrowing.{in_use}
-use Rattle.cfb_fat.specs.Calls.{Answers}
+use Rattle.cfb_fat.specs.Calls.{FatAnswers}
 use Rattle.cfb_fat.specs.Keeping.{rests_cause}
 use Rattle.cfb_fat.specs.Resting.{all_rest_then}
 use Rattle.cfb_fat.specs.Seeing.{seen_of}
@@ -24,8 +24,8 @@ use Rattle.cfb_fat.specs.declared.allocator.Allocator.{Allocator}
 use Rattle.cfb_tree.specs.Directory.{Entry}
 use Rattle.cfb_directory.specs.Views as directory
 use Rattle.cfb_mini.specs.Changing.{mini_seen, CoversStream, Extends, GrowsMiniFat, GrowsMiniStream, HasOwners, LacksMini, Lengthens, TellsStream}
-use Rattle.cfb_mini.specs.Growing.{LacksMore}
-use Rattle.cfb_mini.specs.Views.{allocator_of, directory_of, mini_fat_ids, mini_fat_of, mini_stream_ids, mini_stream_len, mini_stream_of, IsMini, Rests}
+use Rattle.cfb_mini.specs.FatGrowth.{LacksMore}
+use Rattle.cfb_mini.specs.Views.{allocator_of, directory_of, mini_fat_ids, mini_fat_of, mini_stream_ids, mini_stream_len, mini_stream_of, IsMini, MiniRests}
 use Rattle.cfb_mini.specs.declared.mini_allocator.MiniAllocator.{MiniAllocator}
 use Rattle.cfb_mini.proofs.Entries.{content_len}
 use Rattle.cfb_mini.proofs.Keeping.{pick, pick_mine, pick_other}
@@ -310,7 +310,7 @@ module _ {F : Type 0} {g : Ghosts F} where
   }
 
   -- owners over reads
-  pub owners_rest : (b c : MiniAllocator F g) (own : ℕ → List ℕ) → Rests b c → HasOwners b own → HasOwners c own
+  pub owners_rest : (b c : MiniAllocator F g) (own : ℕ → List ℕ) → MiniRests b c → HasOwners b own → HasOwners c own
   owners_rest b c own rests h =
       let layer = rests.directory.allocator in
       record {
@@ -323,7 +323,7 @@ module _ {F : Type 0} {g : Ghosts F} where
       }
 
   -- only reads happened
-  pub lengthens_rest : (a b c : MiniAllocator F g) (minis mid : List ℕ) (own : ℕ → List ℕ) → version_of (allocator_of b) ≡ version_of (allocator_of a) → Lengthens a b minis mid own → Rests b c → Lengthens a c minis mid own
+  pub lengthens_rest : (a b c : MiniAllocator F g) (minis mid : List ℕ) (own : ℕ → List ℕ) → version_of (allocator_of b) ≡ version_of (allocator_of a) → Lengthens a b minis mid own → MiniRests b c → Lengthens a c minis mid own
   lengthens_rest a b c minis mid own version h rests =
       let was = lengthened_owners a b minis mid own h in
       let layer = rests.directory.allocator in
@@ -348,7 +348,7 @@ module _ {F : Type 0} {g : Ghosts F} where
       }
 
   -- reads one after the other
-  pub mini_rests_then : (a b c : MiniAllocator F g) → Rests a b → Rests b c → Rests a c
+  pub mini_rests_then : (a b c : MiniAllocator F g) → MiniRests a b → MiniRests b c → MiniRests a c
   mini_rests_then a b c h k = record {
     directory = record {
       allocator = all_rest_then (allocator_of a) (allocator_of b) (allocator_of c) h.directory.allocator k.directory.allocator;
@@ -363,7 +363,7 @@ module _ {F : Type 0} {g : Ghosts F} where
   }
 
   -- what a call answers, told from before reads
-  pub answers_after : {T : Type 0} (P : Error → Type 0) (r : Result T Error) (a b c : Allocator F g) → AllRests a b → Answers P r b c → Answers P r a c
+  pub answers_after : {T : Type 0} (P : Error → Type 0) (r : Result T Error) (a b c : Allocator F g) → AllRests a b → FatAnswers P r b c → FatAnswers P r a c
   answers_after P (Ok x) a b c rests k = record {
     live = (sym rests.sectors.failed ∙ k.live.0, k.live.1);
     failed = λ was. absurd (let wrong = (k.failed (rests.sectors.failed ∙ was)).0 in cc);
@@ -388,7 +388,7 @@ module _ {F : Type 0} {g : Ghosts F} where
   lacks_more_rest b c n m rests same = ⊎_elim (λ numbers. inl (subst (λ l. greatest_regular + 1 + count_by (λ entry. nat_eq entry free) l < length l + 1) rests.fat numbers)) (λ long. inr (omega (arith, long, same)))
 
   -- what is lacking after reads was lacking before
-  pub lacks_rest : (b c : MiniAllocator F g) → IsMini b → Rests b c → LacksMini c → LacksMini b
+  pub lacks_rest : (b c : MiniAllocator F g) → IsMini b → MiniRests b c → LacksMini c → LacksMini b
   lacks_rest b c is rests lacks =
       let layer = rests.directory.allocator in
       let ids = ap length rests.mini_stream_ids in
@@ -441,5 +441,5 @@ module _ {F : Type 0} {g : Ghosts F} where
       }
 
   -- the root's size was raised, or it was enough
-  pub lengthens_covered : (a b c : MiniAllocator F g) (minis mid : List ℕ) (own : ℕ → List ℕ) → version_of (allocator_of b) ≡ version_of (allocator_of a) → Lengthens a b minis mid own → Rests b c ⊎ CoversStream b c (own_now b own) → Lengthens a c minis mid own
+  pub lengthens_covered : (a b c : MiniAllocator F g) (minis mid : List ℕ) (own : ℕ → List ℕ) → version_of (allocator_of b) ≡ version_of (allocator_of a) → Lengthens a b minis mid own → MiniRests b c ⊎ CoversStream b c (own_now b own) → Lengthens a c minis mid own
   lengthens_covered a b c minis mid own version h did = ⊎_elim (λ rests. lengthens_rest a b c minis mid own version h rests) (λ covers. lengthens_by_cover a b c minis mid own version h covers) did

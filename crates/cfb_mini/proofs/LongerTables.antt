@@ -32,7 +32,7 @@ use Rattle.cfb_fat.proofs.Growth.{numbers_append}
 use Rattle.cfb_fat.proofs.TableWords.{header_word, word, word_other, word_written}
 use Rattle.cfb_owned.specs.Chains.{GoesOn, LacksSectors, Resizes}
 use Rattle.cfb_owned.proofs.Owning.{none_behind_all}
-use Rattle.cfb_mini.specs.Growing.{mini_fat_words, GrowsTable, LacksMore, TellsMiniFat}
+use Rattle.cfb_mini.specs.FatGrowth.{mini_fat_words, GrowsTable, LacksMore, TellsMiniFat}
 use Rattle.cfb_mini.specs.NumberViews.{numbers_of}
 use Rattle.cfb_mini.specs.declared.mini_fat.MiniFat.{MiniFat}
 

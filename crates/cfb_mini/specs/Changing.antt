@@ -16,10 +16,10 @@ use Rattle.cfb_owned.specs.Chains.{place_of, GoesOn}
 use Rattle.cfb_tree.specs.Directory.{Entry}
 use Rattle.cfb_directory.specs.Views as directory
 use Rattle.cfb_mini.specs.Files.{HasCounts, HasHeader, LeavesFile}
-use Rattle.cfb_mini.specs.Growing.{LacksMore, TellsMiniFat}
+use Rattle.cfb_mini.specs.FatGrowth.{LacksMore, TellsMiniFat}
 use Rattle.cfb_mini.specs.LinkViews.{minis_of}
 use Rattle.cfb_mini.specs.Minis.{all_words, mini_place, mini_sector}
-use Rattle.cfb_mini.specs.Taking.{HasNoneBelow, IsFreeIn}
+use Rattle.cfb_mini.specs.NextSector.{HasNoneBelow, IsFreeIn}
 use Rattle.cfb_mini.specs.Views.{allocator_of, directory_of, mini_content_of, mini_fat_ids, mini_fat_of, mini_stream_ids, mini_stream_len, mini_stream_of, IsMini}
 use Rattle.cfb_mini.specs.declared.links.MiniLinks.{MiniLinks}
 use Rattle.cfb_mini.specs.declared.mini_allocator.MiniAllocator.{MiniAllocator}
@@ -57,15 +57,15 @@ module _ {F : Type 0} {g : Ghosts F} where
 
   -- The mini chain of these mini sectors became another one, of what it had and of what was free; all other mini sectors keep
   -- their numbers and bytes. Each owner but directory, mini FAT and mini stream has the sectors that it had, with their bytes.
-  pub record Changes (minis more later : List ℕ) (old new : MiniAllocator F g) (own then : ℕ → List ℕ) : Type 0 where
+  pub record MiniChanges (minis more later : List ℕ) (old new : MiniAllocator F g) (own then : ℕ → List ℕ) : Type 0 where
     pub owners : HasOwners new then
     pub same : (k : ℕ) → 2 < k → then k ≡ own k
     pub others : (k : ℕ) → 2 < k → Stays (sector (version_of (allocator_of old))) (seen_of (allocator_of old)) (seen_of (allocator_of new)) (own k)
     pub becomes : Becomes mini_sector all_words minis more later (mini_seen old) (mini_seen new)
 
   -- these bytes lie over the mini chain's from a place on, and in the file; its mini sectors are those that they were
-  pub record Overwrites (at : ℕ) (bytes : List ℕ) (old new : MiniAllocator F g) (links : MiniLinks) (own : ℕ → List ℕ) : Type 0 where
-    pub changes : Changes (minis_of links) [] (minis_of links) old new own own
+  pub record MiniOverwrites (at : ℕ) (bytes : List ℕ) (old new : MiniAllocator F g) (links : MiniLinks) (own : ℕ → List ℕ) : Type 0 where
+    pub changes : MiniChanges (minis_of links) [] (minis_of links) old new own own
     pub content : mini_content_of new links ≡ overwritten (mini_content_of old links) at bytes
     pub there : (k : ℕ) → at ≤ k → k < at + length bytes
         → place_of (version_of (allocator_of old)) (mini_stream_ids old) (mini_place (minis_of links) k) < length (bytes_of (allocator_of new))
@@ -74,7 +74,7 @@ module _ {F : Type 0} {g : Ghosts F} where
 
   -- these mini sectors are free; no sector but the mini FAT's own is touched
   pub record Frees (minis : List ℕ) (old new : MiniAllocator F g) (own : ℕ → List ℕ) : Type 0 where
-    pub changes : Changes minis [] [] old new own own
+    pub changes : MiniChanges minis [] [] old new own own
     pub freed : HaveEntry free (mini_fat_of new) minis
     pub becomes : Becomes (sector (version_of (allocator_of old))) [] (own 1) [] (own 1) (seen_of (allocator_of old)) (seen_of (allocator_of new))
     pub entries : directory.entries_held (directory_of new) ≡ directory.entries_held (directory_of old)
@@ -93,7 +93,7 @@ module _ {F : Type 0} {g : Ghosts F} where
   -- touched. The mini stream's bytes are those that they were.
   pub record Shortens (count : ℕ) (old new : MiniAllocator F g) (minis later : List ℕ) (own : ℕ → List ℕ) : Type 0 where
     pub minis_are : later ≡ take count minis
-    pub changes : Changes minis [] later old new own own
+    pub changes : MiniChanges minis [] later old new own own
     pub freed : HaveEntry free (mini_fat_of new) (drop count minis)
     pub becomes : Becomes (sector (version_of (allocator_of old))) [] (own 1) [] (own 1) (seen_of (allocator_of old)) (seen_of (allocator_of new))
     pub bytes : mini_stream_of new ≡ mini_stream_of old
@@ -107,7 +107,7 @@ module _ {F : Type 0} {g : Ghosts F} where
     pub was_free : IsFreeIn (mini_fat_of old) (mini_stream_len old) taken
     pub first : HasNoneBelow (mini_fat_of old) taken
     pub minis_are : later ≡ minis ++ taken ∷ []
-    pub changes : Changes minis (taken ∷ []) later old new own own
+    pub changes : MiniChanges minis (taken ∷ []) later old new own own
     pub bytes : mini_stream_of new ≡ mini_stream_of old
     pub entries : directory.entries_held (directory_of new) ≡ directory.entries_held (directory_of old)
     pub file : LeavesFile old new

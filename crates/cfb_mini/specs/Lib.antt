@@ -1,12 +1,12 @@
 pub mod Changing
 pub mod Children
-pub mod Entering
+pub mod NumberWrites
 pub mod Files
-pub mod Growing
+pub mod FatGrowth
 pub mod Layers
 pub mod LinkViews
 pub mod Minis
 pub mod NumberViews
 pub mod Overwriting
-pub mod Taking
+pub mod NextSector
 pub mod Views

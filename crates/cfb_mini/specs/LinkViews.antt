@@ -8,6 +8,6 @@ abbrev pub minis_of : MiniLinks → List ℕ
 minis_of it = it.mini_sector_ids.items
 
 -- one mini sector more can be taken in, without memory
-pub record HasRoom (it : MiniLinks) : Type 0 where
+pub record MiniHasRoom (it : MiniLinks) : Type 0 where
   pub memory : vec_len it.mini_sector_ids < vec_capacity it.mini_sector_ids
   pub number : vec_len it.mini_sector_ids ≤ greatest_regular

@@ -56,16 +56,16 @@ module _ {F : Type 0} {g : Ghosts F} where
     pub stream_at : (root : Entry) → slice_get (entries_held (directory_of it)) 0 ≡ Some root → root.start ≡ slice_index_or (mini_stream_ids it) 0 end_of_chain
 
   -- nothing but reads and flushes was done
-  pub record Rests (old new : MiniAllocator F g) : Type 0 where
-    pub directory : directory.Rests (directory_of old) (directory_of new)
+  pub record MiniRests (old new : MiniAllocator F g) : Type 0 where
+    pub directory : directory.DirectoryRests (directory_of old) (directory_of new)
     pub mini_fat_ids : mini_fat_ids new ≡ mini_fat_ids old
     pub mini_fat : mini_fat_of new ≡ mini_fat_of old
     pub mini_stream_ids : mini_stream_ids new ≡ mini_stream_ids old
     pub kept : IsMini old → IsMini new
 
   -- the memory is what it was, and that of the bytes where it was so
-  pub record KeepsMemory (old new : MiniAllocator F g) : Type 0 where
-    pub directory : directory.KeepsMemory (directory_of old) (directory_of new)
+  pub record MiniKeepsMemory (old new : MiniAllocator F g) : Type 0 where
+    pub directory : directory.DirectoryKeepsMemory (directory_of old) (directory_of new)
     pub mini_fat_ids : mini_fat_ids new ≡ mini_fat_ids old
     pub mini_fat : mini_fat_of new ≡ mini_fat_of old
     pub mini_stream_ids : mini_stream_ids new ≡ mini_stream_ids old

@@ -1,25 +1,25 @@
 //! Mini chains that are written over and freed, and the calls that are passed down.
 ghost use Rattle.cfb_chains.specs.ChainCalls.{IsInvalid, IsInvalidOrFull, IsInvalidPlace};
 ghost use Rattle.cfb_chains.specs.Grown.{IsLinked};
-ghost use Rattle.cfb_fat.specs.Calls.{Answers};
+ghost use Rattle.cfb_fat.specs.Calls.{FatAnswers};
 ghost use Rattle.cfb_fat.specs.Orderly.{AreBelow};
 ghost use Rattle.cfb_fat.specs.Tables.{bytes_of, has_failed as allocator_failed, has_failed_here, is_honest, medium_of, orderly_of, sectors_of, HasCauseBelow};
 ghost use Rattle.cfb_medium.specs.Calls.{IsFaultUnless};
 ghost use Rattle.cfb_medium.specs.declared.error.Error.TheVariants.{Failed, Full, InvalidData, InvalidInput};
-ghost use Rattle.cfb_mini.specs.Changing.{Extends, Frees, GrowsMiniFat, HasOwners, Overwrites, Shortens};
-ghost use Rattle.cfb_mini.specs.Growing.{LacksMore};
+ghost use Rattle.cfb_mini.specs.Changing.{Extends, Frees, GrowsMiniFat, HasOwners, MiniOverwrites, Shortens};
+ghost use Rattle.cfb_mini.specs.FatGrowth.{LacksMore};
 ghost use Rattle.cfb_mini.specs.LinkViews.{minis_of};
 ghost use Rattle.cfb_mini.specs.Minis.{IsMiniChain};
-ghost use Rattle.cfb_mini.specs.Taking.{IsFreeIn};
-ghost use Rattle.cfb_mini.specs.Views.{allocator_of, mini_fat_ids, mini_fat_of, mini_stream_len, KeepsMemory, Rests};
+ghost use Rattle.cfb_mini.specs.NextSector.{IsFreeIn};
+ghost use Rattle.cfb_mini.specs.Views.{allocator_of, mini_fat_ids, mini_fat_of, mini_stream_len, MiniKeepsMemory, MiniRests};
 ghost use Rattle.cfb_owned.specs.Chains.{GoesOn};
 ghost use Rattle.cfb_sectors.specs.Held.{LeavesOldOrBytes};
 ghost use Rattle.cfb_sectors.specs.Sectors.{greatest_regular};
 ghost use Rattle.std.specs.Prelude.{false, length, true, IfErr, IfOk, IsErrOf, IsTrue, List, OnErr, OnOk, [], ℕ, ◌*◌, ◌+◌, ◌<◌, ◌≡◌, ◌≤◌, ◌↔◌, ◌⊎◌};
 
-use crate::entering::{cut_minis, free_minis};
-use crate::growing::grow_table;
-use crate::taking::extend_minis;
+use crate::fat_growth::grow_table;
+use crate::next_sector::extend_minis;
+use crate::number_writes::{cut_minis, free_minis};
 use crate::writing::overwrite_minis;
 use crate::{MiniAllocator, MiniLinks};
 use cfb_medium::{Error, Medium};
@@ -34,7 +34,7 @@ impl<F: Medium> MiniAllocator<F> {
 
     /// Passes on what the medium keeps back, and publishes nothing.
     pub fn flush(&mut self) -> Result<(), Error>
-        ensures rests { Rests self.old self.new }
+        ensures rests { MiniRests self.old self.new }
         ensures failed { has_failed_here (allocator_of self.old) ≡ true → IsErrOf result Failed }
         ensures cause { IfErr result (HasCauseBelow (allocator_of self.old)
             (allocator_of self.new)) }
@@ -51,14 +51,14 @@ impl<F: Medium> MiniAllocator<F> {
         ensures left { IsTrue (is_honest (allocator_of self.old))
             → LeavesOldOrBytes (sectors_of (allocator_of self.old))
             (sectors_of (allocator_of self.new)) }
-        ensures memory { KeepsMemory self.old self.new }
+        ensures memory { MiniKeepsMemory self.old self.new }
         ensures bytes { has_failed_here (allocator_of self.new) ≡ false
             → IsTrue (is_honest (allocator_of self.old))
             → bytes_of (allocator_of self.new) ≡ bytes_of (allocator_of self.old) }
         ensures live { OnOk result (has_failed_here (allocator_of self.new) ≡ false) }
         ensures err { OnErr result (has_failed_here (allocator_of self.new) ≡ true) }
         ensures failed { has_failed_here (allocator_of self.old) ≡ true
-            → IsErrOf result Failed × Rests self.old self.new }
+            → IsErrOf result Failed × MiniRests self.old self.new }
         ensures cause { IfErr result (HasCauseBelow (allocator_of self.old)
             (allocator_of self.new)) }
         ensures medium { (F.failures (medium_of (allocator_of self.old))
@@ -81,19 +81,19 @@ impl<F: Medium> MiniAllocator<F> {
     ) -> Result<(), Error>
         ensures written { OnOk result ((own : ℕ → List ℕ) → HasOwners self.old own
             → IsMiniChain (mini_fat_of self.old) (mini_stream_len self.old) (minis_of links.now)
-            → Overwrites at bytes.now self.old self.new links.now own) }
+            → MiniOverwrites at bytes.now self.old self.new links.now own) }
         ensures there { OnOk result (at + length bytes.now ≤ 64 * length (minis_of links.now)) }
         ensures past { IsErrOf result InvalidInput
             ↔ ((has_failed_here (allocator_of self.old) ≡ false)
             × (64 * length (minis_of links.now) < at + length bytes.now)) }
-        ensures unchanged { IsErrOf result InvalidInput → Rests self.old self.new }
+        ensures unchanged { IsErrOf result InvalidInput → MiniRests self.old self.new }
         ensures refused { IsErrOf result InvalidData → (own : ℕ → List ℕ) → HasOwners self.old own
             → IsMiniChain (mini_fat_of self.old) (mini_stream_len self.old) (minis_of links.now)
             → ⊥ }
         ensures rests { OnErr result ((has_failed_here (allocator_of self.new) ≡ true)
-            ⊎ Rests self.old self.new) }
+            ⊎ MiniRests self.old self.new) }
         ensures goes_on { GoesOn (allocator_of self.old) (allocator_of self.new) }
-        ensures answers { Answers IsInvalidPlace result (allocator_of self.old)
+        ensures answers { FatAnswers IsInvalidPlace result (allocator_of self.old)
             (allocator_of self.new) }
     {
         overwrite_minis(
@@ -114,7 +114,7 @@ impl<F: Medium> MiniAllocator<F> {
         ensures extended { IfOk result (λ took. took ≡ true → (own : ℕ → List ℕ)
             → HasOwners self.old own → IsLinked (mini_fat_of self.old) (minis_of links.old)
             → Extends self.old self.new (minis_of links.old) (minis_of links.new) own) }
-        ensures none { IfOk result (λ took. took ≡ false → Rests self.old self.new
+        ensures none { IfOk result (λ took. took ≡ false → MiniRests self.old self.new
             × (minis_of links.new ≡ minis_of links.old)
             × ((n : ℕ) → IsFreeIn (mini_fat_of self.old) (mini_stream_len self.old) n → ⊥)) }
         ensures kept { OnErr result (minis_of links.new ≡ minis_of links.old) }
@@ -122,9 +122,9 @@ impl<F: Medium> MiniAllocator<F> {
             → IsLinked (mini_fat_of self.old) (minis_of links.old) → ⊥ }
         ensures full { IsErrOf result Full → greatest_regular < length (minis_of links.old) }
         ensures rests { OnErr result ((has_failed_here (allocator_of self.new) ≡ true)
-            ⊎ Rests self.old self.new) }
+            ⊎ MiniRests self.old self.new) }
         ensures goes_on { GoesOn (allocator_of self.old) (allocator_of self.new) }
-        ensures answers { Answers IsInvalidOrFull result (allocator_of self.old)
+        ensures answers { FatAnswers IsInvalidOrFull result (allocator_of self.old)
             (allocator_of self.new) }
     {
         extend_minis(self.directory.allocator_mut(), &mut self.mini_fat, links)
@@ -141,9 +141,9 @@ impl<F: Medium> MiniAllocator<F> {
         ensures full { IsErrOf result Full → has_failed_here (allocator_of self.new) ≡ false
             → LacksMore (allocator_of self.old) (length (mini_fat_ids self.old)) }
         ensures rests { OnErr result ((has_failed_here (allocator_of self.new) ≡ true)
-            ⊎ Rests self.old self.new) }
+            ⊎ MiniRests self.old self.new) }
         ensures goes_on { GoesOn (allocator_of self.old) (allocator_of self.new) }
-        ensures answers { Answers IsInvalidOrFull result (allocator_of self.old)
+        ensures answers { FatAnswers IsInvalidOrFull result (allocator_of self.old)
             (allocator_of self.new) }
     {
         grow_table(self.directory.allocator_mut(), &mut self.mini_fat)
@@ -159,9 +159,9 @@ impl<F: Medium> MiniAllocator<F> {
             → AreBelow (length (mini_fat_of self.old)) (minis_of links.old) → ⊥ }
         ensures kept { OnErr result (minis_of links.new ≡ minis_of links.old) }
         ensures rests { OnErr result ((has_failed_here (allocator_of self.new) ≡ true)
-            ⊎ Rests self.old self.new) }
+            ⊎ MiniRests self.old self.new) }
         ensures goes_on { GoesOn (allocator_of self.old) (allocator_of self.new) }
-        ensures answers { Answers IsInvalid result (allocator_of self.old)
+        ensures answers { FatAnswers IsInvalid result (allocator_of self.old)
             (allocator_of self.new) }
     {
         free_minis(self.directory.allocator_mut(), &mut self.mini_fat, links)
@@ -178,9 +178,9 @@ impl<F: Medium> MiniAllocator<F> {
             → AreBelow (length (mini_fat_of self.old)) (minis_of links.old) → ⊥ }
         ensures kept { OnErr result (minis_of links.new ≡ minis_of links.old) }
         ensures rests { OnErr result ((has_failed_here (allocator_of self.new) ≡ true)
-            ⊎ Rests self.old self.new) }
+            ⊎ MiniRests self.old self.new) }
         ensures goes_on { GoesOn (allocator_of self.old) (allocator_of self.new) }
-        ensures answers { Answers IsInvalid result (allocator_of self.old)
+        ensures answers { FatAnswers IsInvalid result (allocator_of self.old)
             (allocator_of self.new) }
     {
         cut_minis(

@@ -1,16 +1,16 @@
 //! The root's size, which covers the mini stream ([MS-CFB] 2.6.3).
 ghost use Rattle.cfb_chains.specs.ChainCalls.{IsInvalidOrFull};
-ghost use Rattle.cfb_fat.specs.Calls.{Answers};
+ghost use Rattle.cfb_fat.specs.Calls.{FatAnswers};
 ghost use Rattle.cfb_fat.specs.Tables.{has_failed_here, version_of};
 ghost use Rattle.cfb_medium.specs.Versions.{stream_len_mask};
 ghost use Rattle.cfb_medium.specs.declared.error.Error.TheVariants.{Full, InvalidData};
 ghost use Rattle.cfb_mini.specs.Changing.{CoversStream, HasOwners, IsCovered};
-ghost use Rattle.cfb_mini.specs.Views.{allocator_of, mini_stream_len, Rests};
+ghost use Rattle.cfb_mini.specs.Views.{allocator_of, mini_stream_len, MiniRests};
 ghost use Rattle.cfb_owned.specs.Chains.{GoesOn};
 ghost use Rattle.std.specs.Prelude.{false, true, IsErrOf, List, OnErr, OnOk, ℕ, ◌<◌, ◌≡◌, ◌⊎◌};
 
 use crate::MiniAllocator;
-use crate::growing::start_of;
+use crate::fat_growth::start_of;
 use crate::places::stream_len;
 use cfb_directory::EntryChange;
 use cfb_medium::{Error, Medium};
@@ -22,14 +22,14 @@ impl<F: Medium> MiniAllocator<F> {
     // changed, or it has failed.
     pub(crate) fn cover_mini_stream(&mut self) -> Result<(), Error>
         ensures covers { OnOk result ((own : ℕ → List ℕ) → HasOwners self.old own
-            → Rests self.old self.new ⊎ CoversStream self.old self.new own) }
+            → MiniRests self.old self.new ⊎ CoversStream self.old self.new own) }
         ensures covered { OnOk result (IsCovered self.new) }
         ensures refused { IsErrOf result InvalidData → (own : ℕ → List ℕ)
             → HasOwners self.old own → ⊥ }
         ensures full { IsErrOf result Full → stream_len_mask (version_of (allocator_of self.old))
             < mini_stream_len self.old }
         ensures goes_on { GoesOn (allocator_of self.old) (allocator_of self.new) }
-        ensures answers { Answers IsInvalidOrFull result (allocator_of self.old)
+        ensures answers { FatAnswers IsInvalidOrFull result (allocator_of self.old)
             (allocator_of self.new) }
     {
         if self.directory.allocator().is_failed() {

@@ -4,7 +4,7 @@ ghost use Rattle.cfb_directory.specs.Changes.{changed_entry};
 ghost use Rattle.cfb_directory.specs.Children.{AddsAt, AddsChild, HoldsChild, IsRefusedInsert, RemovesAt, RemovesChild};
 ghost use Rattle.cfb_directory.specs.Growth.{count_words, LacksEntries};
 ghost use Rattle.cfb_directory.specs.Views.{entries_held};
-ghost use Rattle.cfb_fat.specs.Calls.{Answers};
+ghost use Rattle.cfb_fat.specs.Calls.{FatAnswers};
 ghost use Rattle.cfb_fat.specs.Tables.{has_failed_here, version_of};
 ghost use Rattle.cfb_medium.specs.Versions.{stream_len_mask};
 ghost use Rattle.cfb_medium.specs.declared.error.Error.TheVariants.{AlreadyExists, Full, InvalidData, InvalidInput};
@@ -54,7 +54,7 @@ impl<F: Medium> MiniAllocator<F> {
             ⊎ KeepsOwners self.old self.new) }
         ensures unchanged { IsErrOf result InvalidInput → KeepsOwners self.old self.new }
         ensures goes_on { GoesOn (allocator_of self.old) (allocator_of self.new) }
-        ensures answers { Answers (λ e. (e ≡ InvalidData) ⊎ (e ≡ InvalidInput)) result
+        ensures answers { FatAnswers (λ e. (e ≡ InvalidData) ⊎ (e ≡ InvalidInput)) result
             (allocator_of self.old) (allocator_of self.new) }
     {
         if let Err(error) = self.directory.with_dir_entry_mut(id, change) {
@@ -94,7 +94,7 @@ impl<F: Medium> MiniAllocator<F> {
         ensures unchanged { IsErrOf result AlreadyExists ⊎ IsErrOf result InvalidInput
             → KeepsOwners self.old self.new }
         ensures goes_on { GoesOn (allocator_of self.old) (allocator_of self.new) }
-        ensures answers { Answers IsRefusedInsert result (allocator_of self.old)
+        ensures answers { FatAnswers IsRefusedInsert result (allocator_of self.old)
             (allocator_of self.new) }
     {
         let id = match self
@@ -126,7 +126,7 @@ impl<F: Medium> MiniAllocator<F> {
         ensures rests { OnErr result ((has_failed_here (allocator_of self.new) ≡ true)
             ⊎ KeepsOwners self.old self.new) }
         ensures goes_on { GoesOn (allocator_of self.old) (allocator_of self.new) }
-        ensures answers { Answers IsInvalid result (allocator_of self.old)
+        ensures answers { FatAnswers IsInvalid result (allocator_of self.old)
             (allocator_of self.new) }
     {
         if let Err(error) = self.directory.unlink_dir_entry(link, id) {

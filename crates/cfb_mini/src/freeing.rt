@@ -1,11 +1,11 @@
 //! Chains of sectors that come out of use ([MS-CFB] 2.3).
 ghost use Rattle.cfb_chains.specs.ChainCalls.{IsInvalid};
 ghost use Rattle.cfb_chains.specs.LinkViews.{ids_of, links_version};
-ghost use Rattle.cfb_fat.specs.Calls.{Answers};
+ghost use Rattle.cfb_fat.specs.Calls.{FatAnswers};
 ghost use Rattle.cfb_fat.specs.Tables.{has_failed_here, orderly_of, version_of};
 ghost use Rattle.cfb_medium.specs.declared.error.Error.TheVariants.{InvalidData};
 ghost use Rattle.cfb_mini.specs.Changing.{FreesChain, HasOwners};
-ghost use Rattle.cfb_mini.specs.Views.{allocator_of, Rests};
+ghost use Rattle.cfb_mini.specs.Views.{allocator_of, MiniRests};
 ghost use Rattle.cfb_owned.specs.Chains.{GoesOn};
 ghost use Rattle.std.specs.Prelude.{true, IsErrOf, IsTrue, List, OnErr, OnOk, [], ℕ, ◌<◌, ◌≡◌, ◌⊎◌};
 
@@ -29,9 +29,9 @@ impl<F: Medium> MiniAllocator<F> {
             → links_version links.old ≡ version_of (allocator_of self.old)
             → IsTrue (orderly_of (allocator_of self.old)) → ⊥ }
         ensures rests { OnErr result ((has_failed_here (allocator_of self.new) ≡ true)
-            ⊎ Rests self.old self.new) }
+            ⊎ MiniRests self.old self.new) }
         ensures goes_on { GoesOn (allocator_of self.old) (allocator_of self.new) }
-        ensures answers { Answers IsInvalid result (allocator_of self.old)
+        ensures answers { FatAnswers IsInvalid result (allocator_of self.old)
             (allocator_of self.new) }
     {
         free_chain(self.directory.allocator_mut(), links)

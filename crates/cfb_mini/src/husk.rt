@@ -40,7 +40,7 @@ impl MiniHusk {
 }
 
 impl<F: Medium> MiniAllocator<F> {
-    ghost use Rattle.cfb_mini.specs.Views.{allocator_of, Rests};
+    ghost use Rattle.cfb_mini.specs.Views.{allocator_of, MiniRests};
 
     /// The medium, taken back to the bytes that were published last, and the husk of the rest, also where it has failed. A
     /// refusal gives all as it was: `InvalidInput` of a medium that doesn't survive a stop, `Failed` of one that has failed,
@@ -48,7 +48,7 @@ impl<F: Medium> MiniAllocator<F> {
     pub fn roll_back(self) -> Result<(F, MiniHusk), (MiniAllocator<F>, Error)>
         ensures rolled { IfOk result (λ it. RollsBack F.honest F.bytes F.continues F.has_published
             (medium_of (allocator_of self)) it.0) }
-        ensures rests { IfErr result (λ e. Rests self e.0) }
+        ensures rests { IfErr result (λ e. MiniRests self e.0) }
         ensures cause { IfErr result (λ e. HasCauseSince F.continues F.failures F.failed
             (medium_of (allocator_of self)) (medium_of (allocator_of e.0)) e.1) }
         ensures fault { IfErr result (λ e. IsFaultUnless (F.survives ≡ false) e.1) }

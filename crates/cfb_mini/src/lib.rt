@@ -1,24 +1,24 @@
 //! Mini sectors of a compound file: short streams, over the mini FAT and the mini stream.
 #![tactic(auto)]
 
+mod chain_growth;
 mod changing;
 mod covering;
 mod directory_entries;
-mod entering;
+mod fat_growth;
 mod freeing;
-mod growing;
 mod husk;
 mod laws;
 mod lending;
-mod lengthening;
 mod links;
 mod mini_allocator;
 mod mini_fat;
+mod next_sector;
+mod number_writes;
 mod numbers;
 mod places;
 mod reading;
 mod stream_growth;
-mod taking;
 mod writing;
 
 pub use husk::MiniHusk;

@@ -15,7 +15,7 @@ pub struct MiniLinks {
 }
 
 impl MiniLinks {
-    ghost use Rattle.cfb_mini.specs.LinkViews.{minis_of, HasRoom};
+    ghost use Rattle.cfb_mini.specs.LinkViews.{minis_of, MiniHasRoom};
 
     /// No mini sectors.
     pub fn new(alloc: Global) -> MiniLinks
@@ -87,7 +87,7 @@ impl MiniLinks {
 
     // Makes room for one mini sector more. `Full` where there is no number for it.
     pub(crate) fn reserve_one(&mut self) -> Result<(), Error>
-        ensures room { OnOk result (HasRoom self.new) }
+        ensures room { OnOk result (MiniHasRoom self.new) }
         ensures same { minis_of self.new ≡ minis_of self.old }
         ensures error { IfErr result (λ e. (e ≡ Memory)
             ⊎ ((e ≡ Full) × (greatest_regular < length (minis_of self.old)))) }
@@ -101,7 +101,7 @@ impl MiniLinks {
 
     // Takes in a mini sector behind the last.
     pub(crate) fn push_reserved(&mut self, mini_sector_id: u32)
-        requires { HasRoom self.old }
+        requires { MiniHasRoom self.old }
         ensures { minis_of self.new ≡ minis_of self.old ++ mini_sector_id ∷ [] }
     {
         self.mini_sector_ids.push_reserved(mini_sector_id);

@@ -28,8 +28,8 @@ pub struct MiniAllocator<F: ReadMedium> {
 }
 
 impl<F: ReadMedium> MiniAllocator<F> {
-    ghost use Rattle.cfb_mini.specs.Views.{allocator_of, directory_of, mini_content_of, mini_fat_ids, mini_fat_of, mini_stream_ids, mini_stream_len, IsMini, Rests};
-    ghost use Rattle.cfb_directory.specs.Views.{allocator_of as layer_of, Rests as DirectoryRests};
+    ghost use Rattle.cfb_mini.specs.Views.{allocator_of, directory_of, mini_content_of, mini_fat_ids, mini_fat_of, mini_stream_ids, mini_stream_len, IsMini, MiniRests};
+    ghost use Rattle.cfb_directory.specs.Views.{allocator_of as layer_of, DirectoryRests};
 
     /// Reads the mini FAT from the chain of its first sector, and finds the sectors of the mini stream, which the root's entry
     /// tells. `InvalidData` where there is no such chain. A refusal gives the medium back.
@@ -135,7 +135,7 @@ impl<F: ReadMedium> MiniAllocator<F> {
 }
 
 impl<F: ReadMedium> MiniAllocator<F> {
-    ghost use Rattle.cfb_mini.specs.Views.{allocator_of, mini_content_of, mini_fat_of, mini_stream_len, IsMini, Rests};
+    ghost use Rattle.cfb_mini.specs.Views.{allocator_of, mini_content_of, mini_fat_of, mini_stream_len, IsMini, MiniRests};
 
     /// The mini sectors of the chain from a start in the mini FAT. `InvalidData` where there is none, or the mini stream
     /// hasn't one of them ([MS-CFB] 2.4).
@@ -174,7 +174,7 @@ impl<F: ReadMedium> MiniAllocator<F> {
         ensures refused { IsErrOf result InvalidData → IsTrue (is_honest (allocator_of self.old))
             → IsMini self.old → AreInside (mini_stream_len self.old) (minis_of links.now) → ⊥ }
         ensures failed { has_failed_here (allocator_of self.old) ≡ true → IsErrOf result Failed }
-        ensures rests { Rests self.old self.new }
+        ensures rests { MiniRests self.old self.new }
         ensures cause { IfErr result (HasCauseBelow (allocator_of self.old)
             (allocator_of self.new)) }
         ensures fault { IfErr result (λ e. IsFaultUnless ⊥ e ⊎ IsInvalidPlace e) }

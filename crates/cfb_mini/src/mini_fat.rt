@@ -100,7 +100,7 @@ pub(crate) fn read_mini_fat<F: ReadMedium>(
 }
 
 impl MiniFat {
-    ghost use Rattle.cfb_mini.specs.Taking.{HasNoneBelow, IsFreeInside};
+    ghost use Rattle.cfb_mini.specs.NextSector.{HasNoneBelow, IsFreeInside};
 
     // The first free mini sector, where the mini stream has it.
     pub(crate) fn find_inside(&mut self) -> Option<u32>

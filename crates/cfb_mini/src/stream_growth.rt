@@ -1,17 +1,17 @@
 //! The mini stream, made longer ([MS-CFB] 2.6.2).
 ghost use Rattle.cfb_chains.specs.ChainCalls.{IsInvalidOrFull};
-ghost use Rattle.cfb_fat.specs.Calls.{Answers};
+ghost use Rattle.cfb_fat.specs.Calls.{FatAnswers};
 ghost use Rattle.cfb_fat.specs.Tables.{has_failed_here, orderly_of, version_of};
 ghost use Rattle.cfb_medium.specs.Versions.{sector_len, stream_len_mask};
 ghost use Rattle.cfb_medium.specs.declared.error.Error.TheVariants.{Full, InvalidData};
 ghost use Rattle.cfb_mini.specs.Changing.{GrowsMiniStream, HasOwners};
-ghost use Rattle.cfb_mini.specs.Growing.{LacksMore};
-ghost use Rattle.cfb_mini.specs.Views.{allocator_of, mini_stream_ids, mini_stream_len, IsMini, Rests};
+ghost use Rattle.cfb_mini.specs.FatGrowth.{LacksMore};
+ghost use Rattle.cfb_mini.specs.Views.{allocator_of, mini_stream_ids, mini_stream_len, IsMini, MiniRests};
 ghost use Rattle.cfb_owned.specs.Chains.{GoesOn};
 ghost use Rattle.std.specs.Prelude.{false, length, true, IsErrOf, IsTrue, List, OnErr, OnOk, ℕ, ◌+◌, ◌<◌, ◌≡◌, ◌⊎◌};
 
 use crate::MiniAllocator;
-use crate::growing::start_of;
+use crate::fat_growth::start_of;
 use crate::places::stream_len;
 use cfb_directory::EntryChange;
 use cfb_medium::{Error, Medium};
@@ -34,9 +34,9 @@ impl<F: Medium> MiniAllocator<F> {
             ⊎ (stream_len_mask (version_of (allocator_of self.old))
             < mini_stream_len self.old + sector_len (version_of (allocator_of self.old))) }
         ensures rests { OnErr result ((has_failed_here (allocator_of self.new) ≡ true)
-            ⊎ Rests self.old self.new) }
+            ⊎ MiniRests self.old self.new) }
         ensures goes_on { GoesOn (allocator_of self.old) (allocator_of self.new) }
-        ensures answers { Answers IsInvalidOrFull result (allocator_of self.old)
+        ensures answers { FatAnswers IsInvalidOrFull result (allocator_of self.old)
             (allocator_of self.new) }
     {
         if self.directory.allocator().is_failed() {

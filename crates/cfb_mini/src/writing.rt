@@ -1,7 +1,7 @@
 //! The bytes of a mini chain, written over.
 ghost use Rattle.cfb_chains.specs.ChainCalls.{IsInvalidPlace};
 ghost use Rattle.cfb_chains.specs.Changes.{AreOnce};
-ghost use Rattle.cfb_fat.specs.Calls.{Answers};
+ghost use Rattle.cfb_fat.specs.Calls.{FatAnswers};
 ghost use Rattle.cfb_fat.specs.Tables.{has_failed_here, AllRests, HasCauseBelow};
 ghost use Rattle.cfb_medium.specs.Calls.{IsFaultUnless};
 ghost use Rattle.cfb_medium.specs.declared.error.Error.TheVariants.{InvalidData, InvalidInput};
@@ -72,7 +72,7 @@ pub(crate) fn overwrite_minis<F: Medium>(
     ensures unchanged { IsErrOf result InvalidInput → AllRests allocator.old allocator.new }
     ensures faulted { IfErr result (λ e. (e ≡ InvalidInput)
         ⊎ (has_failed_here allocator.new ≡ true)) }
-    ensures answers { Answers IsInvalidPlace result allocator.old allocator.new }
+    ensures answers { FatAnswers IsInvalidPlace result allocator.old allocator.new }
 {
     if allocator.is_failed() {
         return Err(Error::Failed);

@@ -19,7 +19,7 @@ use Rattle.cfb_fat.specs.Tables.{version_of}
 use Rattle.cfb_fat.specs.declared.allocator.Allocator.{Allocator}
 use Rattle.cfb_owned.specs.Chains.{GoesOn}
 use Rattle.cfb_directory.specs.Views as directory
-use Rattle.cfb_mini.specs.Changing.{mini_seen, HasOwners, Lengthens, Overwrites, Shortens, TellsStream}
+use Rattle.cfb_mini.specs.Changing.{mini_seen, HasOwners, Lengthens, MiniOverwrites, Shortens, TellsStream}
 use Rattle.cfb_mini.specs.LinkViews.{minis_of}
 use Rattle.cfb_mini.specs.Minis.{mini_joined, mini_sector, AreInside, IsMiniChain}
 use Rattle.cfb_mini.specs.Views.{allocator_of, directory_of, mini_content_of, mini_fat_ids, mini_fat_of, mini_stream_ids, mini_stream_len, mini_stream_of, IsMini}
@@ -28,7 +28,7 @@ use Rattle.cfb_mini.specs.declared.mini_allocator.MiniAllocator.{MiniAllocator}
 use Rattle.cfb_mini.proofs.KeptFile.{file_then}
 use Rattle.cfb_mini.proofs.Longer.{lengthened_owners, now_other, own_now, stream_size}
 use Rattle.cfb_mini.proofs.MiniParts.{length-mini_joined}
-use Rattle.cfb_mini_chains.specs.MiniGrowing.{Appends}
+use Rattle.cfb_mini_chains.specs.MiniGrowing.{MiniAppends}
 
 -- what holds of bytes that a call took holds of so many as it tells
 pub took : {E : Type 0} (r : Result ℕ E) (P : ℕ → List ℕ → Type 0) (bytes : List ℕ) (k : ℕ) → k ≤ length bytes → OnOk r (P (length (take k bytes)) (take k bytes)) → IfOk r (λ n. n ≡ length (take k bytes)) → IfOk r (λ n. P n (take n bytes))
@@ -119,7 +119,7 @@ module _ {F : Type 0} {g : Ghosts F} where
   len_kept a b own goes h now = len_same a b goes.version h.memory now.memory (sym now.mini_stream ∙ h.mini_stream)
 
   -- the mini FAT has the chain that was written over, and the one that became shorter
-  pub chain_over : (a b : MiniAllocator F g) (links : MiniLinks) (own : ℕ → List ℕ) (at : ℕ) (bytes : List ℕ) → GoesOn (allocator_of a) (allocator_of b) → HasOwners a own → IsMiniChain (mini_fat_of a) (mini_stream_len a) (minis_of links) → Overwrites at bytes a b links own
+  pub chain_over : (a b : MiniAllocator F g) (links : MiniLinks) (own : ℕ → List ℕ) (at : ℕ) (bytes : List ℕ) → GoesOn (allocator_of a) (allocator_of b) → HasOwners a own → IsMiniChain (mini_fat_of a) (mini_stream_len a) (minis_of links) → MiniOverwrites at bytes a b links own
       → IsMiniChain (mini_fat_of b) (mini_stream_len b) (minis_of links)
   unfolding mini_seen
   chain_over a b links own at bytes goes h chain over =
@@ -150,7 +150,7 @@ module _ {F : Type 0} {g : Ghosts F} where
   -- LAW: a chain became longer, and then all that it took in was written
   module _ (a m b : MiniAllocator F g) (before after : MiniLinks) (own : ℕ → List ℕ) (bytes : List ℕ) (at : ℕ) (h : HasOwners a own) (chain : IsMiniChain (mini_fat_of a) (mini_stream_len a) (minis_of before))
       (first : GoesOn (allocator_of a) (allocator_of m)) (grown : Lengthens a m (minis_of before) (minis_of after) own)
-      (written : (then : ℕ → List ℕ) → HasOwners m then → IsMiniChain (mini_fat_of m) (mini_stream_len m) (minis_of after) → Overwrites at bytes m b after then)
+      (written : (then : ℕ → List ℕ) → HasOwners m then → IsMiniChain (mini_fat_of m) (mini_stream_len m) (minis_of after) → MiniOverwrites at bytes m b after then)
       (second : GoesOn (allocator_of m) (allocator_of b)) (end : at ≡ 64 * length (minis_of before)) (whole : at + length bytes ≡ 64 * length (minis_of after)) where
     abbrev now : ℕ → List ℕ
     now = own_now m own
@@ -161,7 +161,7 @@ module _ {F : Type 0} {g : Ghosts F} where
     has : IsMiniChain (mini_fat_of m) (mini_stream_len m) (minis_of after)
     has = chain_then a m (minis_of before) (minis_of after) own h chain grown
 
-    over : Overwrites at bytes m b after now
+    over : MiniOverwrites at bytes m b after now
     over = written now mid has
 
     fat_ids : mini_fat_ids b ≡ mini_fat_ids m
@@ -189,7 +189,7 @@ module _ {F : Type 0} {g : Ghosts F} where
     none_of : (n : ℕ) → IsNoneOf (minis_of after) n → IsNoneOf (minis_of after ++ []) n
     none_of n none = subst (λ l. IsNoneOf l n) (sym (append-nil (minis_of after))) none
 
-    pub appended : Appends bytes a b before after own
+    pub appended : MiniAppends bytes a b before after own
     unfolding mini_seen
     appended =
         let leaves = over.changes.becomes.leaves in

@@ -3,7 +3,7 @@ use Rattle.std.specs.Prelude.{◌≡◌, ℕ, ◌+◌, ◌-◌, ◌/◌, ◌%◌
 use Rattle.cfb_fat.specs.Tables.{has_failed_here, orderly_of}
 use Rattle.cfb_medium.specs.declared.error.Error.{Error}
 use Rattle.cfb_medium.specs.declared.medium.ReadMedium.{Ghosts}
-use Rattle.cfb_mini.specs.Views.{Rests}
+use Rattle.cfb_mini.specs.Views.{MiniRests}
 use Rattle.cfb_mini_chains.specs.MiniChainViews.{allocator_under, mini_of, mini_sectors_of, position_of, HasChain}
 use Rattle.cfb_mini_chains.specs.declared.chain.MiniChain.{MiniChain}
 
@@ -24,7 +24,7 @@ module _ {F : Type 0} {g : Ghosts F} where
   pub record Refuses {T : Type 0} (result : Result T Error) (old new : MiniChain F g) : Type 0 where
     pub position : OnErr result (position_of new ≡ position_of old)
     pub sectors : OnErr result (has_failed_here (allocator_under new) ≡ false → mini_sectors_of new ≡ mini_sectors_of old)
-    pub rests : OnErr result ((has_failed_here (allocator_under new) ≡ true) ⊎ Rests (mini_of old) (mini_of new))
+    pub rests : OnErr result ((has_failed_here (allocator_under new) ≡ true) ⊎ MiniRests (mini_of old) (mini_of new))
 
   -- the mini FAT hasn't the chain, or sectors have two owners
   abbrev pub IsLost : MiniChain F g → Type 0

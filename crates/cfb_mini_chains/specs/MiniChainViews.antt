@@ -49,6 +49,6 @@ module _ {F : Type 0} {g : Ghosts F} where
     pub chain : IsMiniChain (mini_fat_of (mini_of it)) (mini_stream_len (mini_of it)) (mini_sectors_of it)
 
   -- the same chain, lent by the same layer and links
-  pub record IsSame (old new : MiniChain F g) : Type 0 where
+  pub record IsSameMiniChain (old new : MiniChain F g) : Type 0 where
     pub mini : new.mini.ghost_name ≡ old.mini.ghost_name
     pub links : new.links.ghost_name ≡ old.links.ghost_name

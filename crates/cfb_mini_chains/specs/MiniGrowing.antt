@@ -19,7 +19,7 @@ module _ {F : Type 0} {g : Ghosts F} where
   -- The mini chain took in mini sectors that were in no use, behind its last one, and has these bytes behind its own. Mini FAT and
   -- mini stream may have become longer for them; all other mini sectors keep their numbers and bytes, and all other owners of
   -- sectors what they had, with its bytes.
-  pub record Appends (bytes : List ℕ) (old new : MiniAllocator F g) (before after : MiniLinks) (own : ℕ → List ℕ) : Type 0 where
+  pub record MiniAppends (bytes : List ℕ) (old new : MiniAllocator F g) (before after : MiniLinks) (own : ℕ → List ℕ) : Type 0 where
     pub taken : List ℕ
     pub minis_are : minis_of after ≡ minis_of before ++ taken
     pub were_free : AllByRecursion (IsFreeIn (mini_fat_of old)) taken

@@ -3,7 +3,7 @@ ghost use Rattle.cfb_chains.specs.ChainCalls.{IsInvalidPlace};
 ghost use Rattle.cfb_fat.specs.Tables.{has_failed_here, HasCauseBelow};
 ghost use Rattle.cfb_medium.specs.Calls.{IsFaultUnless};
 ghost use Rattle.cfb_medium.specs.declared.error.Error.TheVariants.{Failed, InvalidData, InvalidInput};
-ghost use Rattle.cfb_mini.specs.Views.{Rests};
+ghost use Rattle.cfb_mini.specs.Views.{MiniRests};
 ghost use Rattle.cfb_sectors.specs.Sectors.{end_of_chain};
 ghost use Rattle.cfb_sectors.specs.Seeking.{Finds, IsNotFound};
 ghost use Rattle.std.specs.Prelude.{drop, false, length, min, slice_index_or, take, true, IfErr, IfOk, IsErrOf, OnErr, OnOk, ℕ, ◌+◌, ◌-◌, ◌<◌, ◌≡◌, ◌⊎◌};
@@ -24,7 +24,7 @@ pub struct MiniChain<'a, F: ReadMedium> {
 }
 
 impl<'a, F: ReadMedium> MiniChain<'a, F> {
-    ghost use Rattle.cfb_mini_chains.specs.MiniChainViews.{allocator_under, content_of, len_of, links_of, mini_of, mini_sectors_of, position_of, IsReadable, IsSame};
+    ghost use Rattle.cfb_mini_chains.specs.MiniChainViews.{allocator_under, content_of, len_of, links_of, mini_of, mini_sectors_of, position_of, IsReadable, IsSameMiniChain};
 
     /// The chain of these mini sectors, at its first byte. The links follow what it takes in and frees.
     pub fn new(
@@ -77,12 +77,12 @@ impl<'a, F: ReadMedium> MiniChain<'a, F> {
             ≡ min (length buffer.old) (len_of self.old - position_of self.old)) }
         ensures moved { IfOk result (λ n. position_of self.new ≡ position_of self.old + n) }
         ensures stays { OnErr result (position_of self.new ≡ position_of self.old) }
-        ensures same { IsSame self.old self.new × (links_of self.new ≡ links_of self.old) }
+        ensures same { IsSameMiniChain self.old self.new × (links_of self.new ≡ links_of self.old) }
         ensures past { IsErrOf result InvalidInput → len_of self.old < position_of self.old }
         ensures refused { IsErrOf result InvalidData → IsReadable self.old → ⊥ }
         ensures failed { has_failed_here (allocator_under self.old) ≡ true
             → IsErrOf result Failed }
-        ensures rests { Rests (mini_of self.old) (mini_of self.new) }
+        ensures rests { MiniRests (mini_of self.old) (mini_of self.new) }
         ensures cause { IfErr result (HasCauseBelow (allocator_under self.old)
             (allocator_under self.new)) }
         ensures fault { IfErr result (λ e. IsFaultUnless ⊥ e ⊎ IsInvalidPlace e) }
@@ -109,7 +109,7 @@ impl<'a, F: ReadMedium> MiniChain<'a, F> {
         ensures error { IfErr result (IsNotFound (has_failed_here (allocator_under self.old)) from
             (len_of self.old) (position_of self.old)) }
         ensures stays { OnErr result (position_of self.new ≡ position_of self.old) }
-        ensures same { IsSame self.old self.new }
+        ensures same { IsSameMiniChain self.old self.new }
         ensures layer { (mini_of self.new ≡ mini_of self.old)
             × (links_of self.new ≡ links_of self.old) }
     {

@@ -1,12 +1,12 @@
 //! Chains of mini sectors that become longer and shorter.
 ghost use Rattle.cfb_chains.specs.ChainCalls.{IsInvalid, IsInvalidOrFull};
-ghost use Rattle.cfb_fat.specs.Calls.{Answers};
+ghost use Rattle.cfb_fat.specs.Calls.{FatAnswers};
 ghost use Rattle.cfb_fat.specs.Tables.{has_failed_here};
 ghost use Rattle.cfb_medium.specs.declared.error.Error.TheVariants.{Full, InvalidData};
 ghost use Rattle.cfb_mini.specs.Changing.{Frees, LacksMini, Shortens};
 ghost use Rattle.cfb_mini.specs.Views.{IsMini};
 ghost use Rattle.cfb_mini_chains.specs.MiniChainCalls.{minis_for, IsLost, IsUnlinked, Refuses};
-ghost use Rattle.cfb_mini_chains.specs.MiniGrowing.{Appends};
+ghost use Rattle.cfb_mini_chains.specs.MiniGrowing.{MiniAppends};
 ghost use Rattle.cfb_owned.specs.Chains.{GoesOn};
 ghost use Rattle.cfb_sectors.specs.Sectors.{greatest_regular};
 ghost use Rattle.std.specs.Prelude.{false, length, min, replicate, IsErrOf, List, OnErr, OnOk, [], ℕ, ◌*◌, ◌+◌, ◌-◌, ◌<◌, ◌≡◌, ◌≤◌, ◌⊎◌};
@@ -20,7 +20,7 @@ use cfb_sectors::{MAX_REGULAR_SECTOR, MINI_SECTOR_LEN};
 const MOST: u64 = MAX_REGULAR_SECTOR as u64 + 1;
 
 impl<'a, F: Medium> MiniChain<'a, F> {
-    ghost use Rattle.cfb_mini_chains.specs.MiniChainViews.{allocator_under, len_of, links_of, mini_of, mini_sectors_of, position_of, HasChain, IsSame};
+    ghost use Rattle.cfb_mini_chains.specs.MiniChainViews.{allocator_under, len_of, links_of, mini_of, mini_sectors_of, position_of, HasChain, IsSameMiniChain};
 
     /// Frees the mini sectors of the chain; it has none then, and the position is 0. `InvalidData` where the mini FAT hasn't one of
     /// them, and then nothing is changed, or where the FAT hasn't the mini FAT's chain. After an error nothing is changed, or the
@@ -30,11 +30,11 @@ impl<'a, F: Medium> MiniChain<'a, F> {
             → Frees (mini_sectors_of self.old) (mini_of self.old) (mini_of self.new) own) }
         ensures emptied { OnOk result ((mini_sectors_of self.new ≡ [])
             × (position_of self.new ≡ 0)) }
-        ensures same { IsSame self.old self.new }
+        ensures same { IsSameMiniChain self.old self.new }
         ensures refused { IsErrOf result InvalidData → IsLost self.old }
         ensures refuses { Refuses result self.old self.new }
         ensures goes_on { GoesOn (allocator_under self.old) (allocator_under self.new) }
-        ensures answers { Answers IsInvalid result (allocator_under self.old)
+        ensures answers { FatAnswers IsInvalid result (allocator_under self.old)
             (allocator_under self.new) }
     {
         if let Err(error) = self.mini.free_mini_chain(self.links) {
@@ -51,11 +51,11 @@ impl<'a, F: Medium> MiniChain<'a, F> {
             (mini_sectors_of self.new) own × HasChain self.new own) }
         ensures position { OnOk result (position_of self.new
             ≡ min (position_of self.old) (len_of self.new)) }
-        ensures same { IsSame self.old self.new }
+        ensures same { IsSameMiniChain self.old self.new }
         ensures refused { IsErrOf result InvalidData → IsLost self.old }
         ensures refuses { Refuses result self.old self.new }
         ensures goes_on { GoesOn (allocator_under self.old) (allocator_under self.new) }
-        ensures answers { Answers IsInvalid result (allocator_under self.old)
+        ensures answers { FatAnswers IsInvalid result (allocator_under self.old)
             (allocator_under self.new) }
     {
         let place = self.position;
@@ -72,18 +72,18 @@ impl<'a, F: Medium> MiniChain<'a, F> {
         requires few { count ≤ greatest_regular + 1 }
         requires live { has_failed_here (allocator_under self.old) ≡ false }
         ensures appended { OnOk result ((own : ℕ → List ℕ) → HasChain self.old own
-            → Appends (replicate (64 * (count - length (mini_sectors_of self.old))) 0)
+            → MiniAppends (replicate (64 * (count - length (mini_sectors_of self.old))) 0)
             (mini_of self.old) (mini_of self.new) (links_of self.old) (links_of self.new) own) }
         ensures position { OnOk result (position_of self.new
             ≡ min (position_of self.old) (len_of self.new)) }
-        ensures same { IsSame self.old self.new }
+        ensures same { IsSameMiniChain self.old self.new }
         ensures refused { IsErrOf result InvalidData → IsUnlinked self.old }
         ensures full { IsErrOf result Full → has_failed_here (allocator_under self.new) ≡ false
             → IsMini (mini_of self.old) → LacksMini (mini_of self.old)
             ⊎ (greatest_regular < length (mini_sectors_of self.old)) }
         ensures refuses { Refuses result self.old self.new }
         ensures goes_on { GoesOn (allocator_under self.old) (allocator_under self.new) }
-        ensures answers { Answers IsInvalidOrFull result (allocator_under self.old)
+        ensures answers { FatAnswers IsInvalidOrFull result (allocator_under self.old)
             (allocator_under self.new) }
     {
         let place = self.position;
@@ -103,7 +103,7 @@ impl<'a, F: Medium> MiniChain<'a, F> {
     pub fn set_len(&mut self, len: u64) -> Result<(), Error>
         ensures longer { length (mini_sectors_of self.old) < minis_for len → OnOk result ((own : ℕ
             → List ℕ) → HasChain self.old own
-            → Appends (replicate (64 * (minis_for len - length (mini_sectors_of self.old))) 0)
+            → MiniAppends (replicate (64 * (minis_for len - length (mini_sectors_of self.old))) 0)
             (mini_of self.old) (mini_of self.new) (links_of self.old) (links_of self.new) own) }
         ensures shorter { minis_for len ≤ length (mini_sectors_of self.old)
             → OnOk result ((own : ℕ → List ℕ) → HasChain self.old own
@@ -111,14 +111,14 @@ impl<'a, F: Medium> MiniChain<'a, F> {
             (mini_sectors_of self.old) (mini_sectors_of self.new) own × HasChain self.new own) }
         ensures position { OnOk result (position_of self.new
             ≡ min (position_of self.old) (len_of self.new)) }
-        ensures same { IsSame self.old self.new }
+        ensures same { IsSameMiniChain self.old self.new }
         ensures refused { IsErrOf result InvalidData → IsUnlinked self.old }
         ensures full { IsErrOf result Full → has_failed_here (allocator_under self.new) ≡ false
             → IsMini (mini_of self.old) → LacksMini (mini_of self.old)
             ⊎ (greatest_regular + 1 < minis_for len) }
         ensures refuses { Refuses result self.old self.new }
         ensures goes_on { GoesOn (allocator_under self.old) (allocator_under self.new) }
-        ensures answers { Answers IsInvalidOrFull result (allocator_under self.old)
+        ensures answers { FatAnswers IsInvalidOrFull result (allocator_under self.old)
             (allocator_under self.new) }
     {
         let count = len.div_ceil(MINI_SECTOR_LEN as u64);

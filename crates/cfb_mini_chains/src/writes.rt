@@ -1,12 +1,12 @@
 //! Chains of mini sectors that are written.
 ghost use Rattle.cfb_chains.specs.ChainCalls.{IsInvalidOrFull, IsInvalidPlace};
-ghost use Rattle.cfb_fat.specs.Calls.{Answers};
+ghost use Rattle.cfb_fat.specs.Calls.{FatAnswers};
 ghost use Rattle.cfb_fat.specs.Tables.{has_failed_here};
 ghost use Rattle.cfb_medium.specs.declared.error.Error.TheVariants.{Full, InvalidData, InvalidInput};
-ghost use Rattle.cfb_mini.specs.Changing.{LacksMini, Overwrites};
+ghost use Rattle.cfb_mini.specs.Changing.{LacksMini, MiniOverwrites};
 ghost use Rattle.cfb_mini.specs.Views.{IsMini};
 ghost use Rattle.cfb_mini_chains.specs.MiniChainCalls.{mini_tail_in, taken_count, IsLost, IsUnlinked, Refuses};
-ghost use Rattle.cfb_mini_chains.specs.MiniGrowing.{Appends};
+ghost use Rattle.cfb_mini_chains.specs.MiniGrowing.{MiniAppends};
 ghost use Rattle.cfb_owned.specs.Chains.{GoesOn, IsInvalidPlaceOrFull};
 ghost use Rattle.cfb_sectors.specs.Sectors.{greatest_regular};
 ghost use Rattle.std.specs.Prelude.{false, length, replicate, take, IfOk, IsErrOf, List, OnErr, OnOk, ℕ, ◌*◌, ◌+◌, ◌++◌, ◌-◌, ◌<◌, ◌≡◌, ◌≤◌, ◌↔◌, ◌⊎◌};
@@ -20,23 +20,23 @@ use cfb_sectors::MINI_SECTOR_LEN;
 const EACH: u64 = MINI_SECTOR_LEN as u64;
 
 impl<'a, F: Medium> MiniChain<'a, F> {
-    ghost use Rattle.cfb_mini_chains.specs.MiniChainViews.{allocator_under, len_of, links_of, mini_of, mini_sectors_of, position_of, HasChain, IsSame};
+    ghost use Rattle.cfb_mini_chains.specs.MiniChainViews.{allocator_under, len_of, links_of, mini_of, mini_sectors_of, position_of, HasChain, IsSameMiniChain};
 
     // Writes these bytes over those from the position on, and moves the position behind them.
     fn write_inside(&mut self, bytes: &[u8]) -> Result<usize, Error>
         ensures written { OnOk result ((own : ℕ → List ℕ) → HasChain self.old own
-            → Overwrites (position_of self.old) bytes.now (mini_of self.old) (mini_of self.new)
+            → MiniOverwrites (position_of self.old) bytes.now (mini_of self.old) (mini_of self.new)
             (links_of self.old) own × HasChain self.new own) }
         ensures there { IfOk result (λ n. (n ≡ length bytes.now)
             × (position_of self.new ≡ position_of self.old + n)
             × (position_of self.old + n ≤ len_of self.old)) }
-        ensures same { IsSame self.old self.new × (links_of self.new ≡ links_of self.old) }
+        ensures same { IsSameMiniChain self.old self.new × (links_of self.new ≡ links_of self.old) }
         ensures past { IsErrOf result InvalidInput
             → len_of self.old < position_of self.old + length bytes.now }
         ensures refused { IsErrOf result InvalidData → IsLost self.old }
         ensures refuses { Refuses result self.old self.new }
         ensures goes_on { GoesOn (allocator_under self.old) (allocator_under self.new) }
-        ensures answers { Answers IsInvalidPlace result (allocator_under self.old)
+        ensures answers { FatAnswers IsInvalidPlace result (allocator_under self.old)
             (allocator_under self.new) }
     {
         let place = self.position;
@@ -52,18 +52,18 @@ impl<'a, F: Medium> MiniChain<'a, F> {
         requires end { position_of self.old ≡ len_of self.old }
         requires fits { length bytes.now ≤ 64 }
         ensures written { OnOk result ((own : ℕ → List ℕ) → HasChain self.old own
-            → Appends (bytes.now ++ replicate (64 - length bytes.now) 0) (mini_of self.old)
+            → MiniAppends (bytes.now ++ replicate (64 - length bytes.now) 0) (mini_of self.old)
             (mini_of self.new) (links_of self.old) (links_of self.new) own) }
         ensures count { IfOk result (λ n. (n ≡ length bytes.now)
             × (position_of self.new ≡ position_of self.old + n)) }
-        ensures same { IsSame self.old self.new }
+        ensures same { IsSameMiniChain self.old self.new }
         ensures refused { IsErrOf result InvalidData → IsUnlinked self.old }
         ensures full { IsErrOf result Full → has_failed_here (allocator_under self.new) ≡ false
             → IsMini (mini_of self.old) → LacksMini (mini_of self.old)
             ⊎ (greatest_regular < length (mini_sectors_of self.old)) }
         ensures refuses { Refuses result self.old self.new }
         ensures goes_on { GoesOn (allocator_under self.old) (allocator_under self.new) }
-        ensures answers { Answers IsInvalidOrFull result (allocator_under self.old)
+        ensures answers { FatAnswers IsInvalidOrFull result (allocator_under self.old)
             (allocator_under self.new) }
     {
         let place = self.position;
@@ -85,17 +85,17 @@ impl<'a, F: Medium> MiniChain<'a, F> {
     pub fn write(&mut self, bytes: &[u8]) -> Result<usize, Error>
         ensures inside { position_of self.old + taken_count bytes.now self.old ≤ len_of self.old
             → IfOk result (λ n. (own : ℕ → List ℕ) → HasChain self.old own
-            → Overwrites (position_of self.old) (take n bytes.now) (mini_of self.old)
+            → MiniOverwrites (position_of self.old) (take n bytes.now) (mini_of self.old)
             (mini_of self.new) (links_of self.old) own × HasChain self.new own) }
         ensures behind { len_of self.old < position_of self.old + taken_count bytes.now self.old
             → IfOk result (λ n. (own : ℕ → List ℕ) → HasChain self.old own
-            → Appends (take n bytes.now ++ replicate (64 - n) 0) (mini_of self.old)
+            → MiniAppends (take n bytes.now ++ replicate (64 - n) 0) (mini_of self.old)
             (mini_of self.new) (links_of self.old) (links_of self.new) own) }
         ensures kept { position_of self.old + taken_count bytes.now self.old ≤ len_of self.old
             → mini_sectors_of self.new ≡ mini_sectors_of self.old }
         ensures took { IfOk result (λ n. (n ≡ taken_count bytes.now self.old)
             × (position_of self.new ≡ position_of self.old + n)) }
-        ensures same { IsSame self.old self.new }
+        ensures same { IsSameMiniChain self.old self.new }
         ensures past { IsErrOf result InvalidInput → len_of self.old < position_of self.old }
         ensures refused { IsErrOf result InvalidData → IsUnlinked self.old }
         ensures full { IsErrOf result Full → has_failed_here (allocator_under self.new) ≡ false
@@ -103,7 +103,7 @@ impl<'a, F: Medium> MiniChain<'a, F> {
             ⊎ (greatest_regular < length (mini_sectors_of self.old)) }
         ensures refuses { Refuses result self.old self.new }
         ensures goes_on { GoesOn (allocator_under self.old) (allocator_under self.new) }
-        ensures answers { Answers IsInvalidPlaceOrFull result (allocator_under self.old)
+        ensures answers { FatAnswers IsInvalidPlaceOrFull result (allocator_under self.old)
             (allocator_under self.new) }
     {
         let left = (EACH - self.position % EACH) as usize;
@@ -122,17 +122,17 @@ impl<'a, F: Medium> MiniChain<'a, F> {
     /// memory tells of. After an error nothing is changed, or the layer has failed. The position stays ([MS-CFB] 2.4).
     pub fn zero_tail(&mut self, len: u64) -> Result<(), Error>
         ensures zeroed { OnOk result ((own : ℕ → List ℕ) → HasChain self.old own
-            → Overwrites len (replicate (mini_tail_in len) 0) (mini_of self.old)
+            → MiniOverwrites len (replicate (mini_tail_in len) 0) (mini_of self.old)
             (mini_of self.new) (links_of self.old) own × HasChain self.new own) }
         ensures there { OnOk result (len ≤ len_of self.old) }
         ensures past { IsErrOf result InvalidInput
             ↔ ((has_failed_here (allocator_under self.old) ≡ false) × (len_of self.old < len)) }
         ensures refused { IsErrOf result InvalidData → IsLost self.old }
-        ensures same { IsSame self.old self.new × (links_of self.new ≡ links_of self.old)
+        ensures same { IsSameMiniChain self.old self.new × (links_of self.new ≡ links_of self.old)
             × (position_of self.new ≡ position_of self.old) }
         ensures refuses { Refuses result self.old self.new }
         ensures goes_on { GoesOn (allocator_under self.old) (allocator_under self.new) }
-        ensures answers { Answers IsInvalidPlace result (allocator_under self.old)
+        ensures answers { FatAnswers IsInvalidPlace result (allocator_under self.old)
             (allocator_under self.new) }
     {
         let tail = ((EACH - len % EACH) % EACH) as usize;

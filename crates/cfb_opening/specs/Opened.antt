@@ -32,7 +32,7 @@ module _ {F : Type 0} {g : Ghosts F} where
 
   -- The layout is that which memory shows, of a file of these bytes: where its parts lie, and what FAT, mini FAT and directory
   -- have. Memory has the FAT's numbers of the file's sectors alone ([MS-CFB] 2.3, 2.4, 2.6).
-  pub record Shows (it : MiniAllocator F g) (bytes : List ℕ) (l : Layout) : Type 0 where
+  pub record MemoryShows (it : MiniAllocator F g) (bytes : List ℕ) (l : Layout) : Type 0 where
     pub version : version_of (allocator_of it) ≡ l.version
     pub difat_sectors : difat_sectors_of (allocator_of it) ≡ l.difat_sectors
     pub fat_sectors : fat_sectors_of (allocator_of it) ≡ l.fat_sectors
@@ -47,6 +47,6 @@ module _ {F : Type 0} {g : Ghosts F} where
   -- memory shows the layout in which the bytes mean the tree, where of a stream's bytes it matters alone how many they are; and a
   -- strict reader takes them ([MS-CFB] 2)
   pub record IsOpened (validation : Validation) (letters : Letters) (bytes : List ℕ) (it : MiniAllocator F g) (l : Layout) (tree : Tree) : Type 0 where
-    pub shows : Shows it bytes l
+    pub shows : MemoryShows it bytes l
     pub means : MeansBy l HasSize letters bytes tree
     pub strict : validation ≡ Strict → IsStrict bytes l

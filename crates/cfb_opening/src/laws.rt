@@ -2,7 +2,7 @@
 ghost use Rattle.cfb_directory.specs.Taken.{HasSize};
 ghost use Rattle.cfb_meaning.specs.Means.{HasBytes, IsStrict, Layout, MeansBy};
 ghost use Rattle.cfb_medium.specs.declared.version.Version.{Version};
-ghost use Rattle.cfb_mini.specs.Views.{Rests};
+ghost use Rattle.cfb_mini.specs.Views.{MiniRests};
 ghost use Rattle.cfb_opening.specs.Opened.{CanOpen, IsOpened, OpensAt};
 ghost use Rattle.cfb_sectors.specs.Sectors.{sectors_in, AreInFile, Chain};
 ghost use Rattle.cfb_sectors.specs.declared.validation.Validation.TheVariants.{Strict};
@@ -33,10 +33,10 @@ pub fn opened_files_can_be_opened()
 
 /// What opening tells stays while the file is only read.
 pub fn reads_keep_what_opening_tells<F: ReadMedium>()
-    ensures opens { (medium : F) (old new : MiniAllocator F F.ReadMedium) → Rests old new
+    ensures opens { (medium : F) (old new : MiniAllocator F F.ReadMedium) → MiniRests old new
         → OpensAt medium old → OpensAt medium new }
     ensures opened { (validation : Validation) (letters : Letters) (bytes : List ℕ) (l : Layout)
-        (tree : Tree) (old new : MiniAllocator F F.ReadMedium) → Rests old new
+        (tree : Tree) (old new : MiniAllocator F F.ReadMedium) → MiniRests old new
         → IsOpened validation letters bytes old l tree
         → IsOpened validation letters bytes new l tree }
 {}

@@ -1,6 +1,6 @@
 //! The header's numbers that layers above may change ([MS-CFB] 2.2).
 ghost use Rattle.cfb_chains.specs.Owned.{Leaves};
-ghost use Rattle.cfb_fat.specs.Calls.{Answers};
+ghost use Rattle.cfb_fat.specs.Calls.{FatAnswers};
 ghost use Rattle.cfb_fat.specs.HeaderWords.{word_place};
 ghost use Rattle.cfb_fat.specs.Seeing.{seen_of};
 ghost use Rattle.cfb_fat.specs.Tables.{bytes_of, is_honest, version_of};
@@ -26,7 +26,7 @@ pub fn write_word<F: Medium>(
         → Leaves (sector (version_of allocator.old)) (word_place word ∷ []) []
         (seen_of allocator.old) (seen_of allocator.new)) }
     ensures goes_on { GoesOn allocator.old allocator.new }
-    ensures answers { Answers (λ _. ⊥) result allocator.old allocator.new }
+    ensures answers { FatAnswers (λ _. ⊥) result allocator.old allocator.new }
 {
     allocator.write_header_word(word, number)
 }

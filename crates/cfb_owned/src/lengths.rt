@@ -2,7 +2,7 @@
 ghost use Rattle.cfb_chains.specs.ChainCalls.{IsInvalid, IsInvalidOrFull};
 ghost use Rattle.cfb_chains.specs.LinkViews.{ids_of, links_version};
 ghost use Rattle.cfb_chains.specs.Positions.{sectors_for};
-ghost use Rattle.cfb_fat.specs.Calls.{Answers};
+ghost use Rattle.cfb_fat.specs.Calls.{FatAnswers};
 ghost use Rattle.cfb_fat.specs.Tables.{has_failed_here, orderly_of, AllRests};
 ghost use Rattle.cfb_medium.specs.declared.error.Error.TheVariants.{Full, InvalidData};
 ghost use Rattle.cfb_owned.specs.Chains.{GoesOn, HasChain, LacksSectors, Resizes};
@@ -40,7 +40,7 @@ pub fn set_chain_len<F: Medium>(
     ensures kept { OnErr result (has_failed_here allocator.new ≡ false
         → ids_of links.new ≡ ids_of links.old) }
     ensures goes_on { GoesOn allocator.old allocator.new }
-    ensures answers { Answers IsInvalidOrFull result allocator.old allocator.new }
+    ensures answers { FatAnswers IsInvalidOrFull result allocator.old allocator.new }
 {
     let mut chain = Chain::new(allocator, links, init);
     chain.set_len(len)
@@ -58,7 +58,7 @@ pub fn free_chain<F: Medium>(allocator: &mut Allocator<F>, links: &mut Links) ->
     ensures kept { OnErr result (has_failed_here allocator.new ≡ false
         → ids_of links.new ≡ ids_of links.old) }
     ensures goes_on { GoesOn allocator.old allocator.new }
-    ensures answers { Answers IsInvalid result allocator.old allocator.new }
+    ensures answers { FatAnswers IsInvalid result allocator.old allocator.new }
 {
     let mut chain = Chain::new(allocator, links, SectorInit::Zero);
     chain.free()

@@ -2,7 +2,7 @@
 ghost use Rattle.cfb_chains.specs.ChainCalls.{IsInvalidPlace};
 ghost use Rattle.cfb_chains.specs.LinkViews.{ids_of, links_version};
 ghost use Rattle.cfb_chains.specs.Positions.{sectors_for};
-ghost use Rattle.cfb_fat.specs.Calls.{Answers};
+ghost use Rattle.cfb_fat.specs.Calls.{FatAnswers};
 ghost use Rattle.cfb_fat.specs.Tables.{has_failed_here, orderly_of};
 ghost use Rattle.cfb_medium.specs.declared.error.Error.TheVariants.{Full, InvalidData, InvalidInput};
 ghost use Rattle.cfb_owned.specs.Chains.{len_of, GoesOn, HasChain, IsInvalidPlaceOrFull, LacksSectors, Overwrites, Writes};
@@ -33,7 +33,7 @@ pub fn overwrite_chain<F: Medium>(
     ensures goes_on { GoesOn allocator.old allocator.new }
     ensures faulted { IfErr result (λ e. (e ≡ InvalidInput)
         ⊎ (has_failed_here allocator.new ≡ true)) }
-    ensures answers { Answers IsInvalidPlace result allocator.old allocator.new }
+    ensures answers { FatAnswers IsInvalidPlace result allocator.old allocator.new }
 {
     if allocator.is_failed() {
         return Err(Error::Failed);
@@ -85,7 +85,7 @@ pub fn write_chain<F: Medium>(
     ensures kept { OnErr result (has_failed_here allocator.new ≡ false
         → ids_of links.new ≡ ids_of links.old) }
     ensures goes_on { GoesOn allocator.old allocator.new }
-    ensures answers { Answers IsInvalidPlaceOrFull result allocator.old allocator.new }
+    ensures answers { FatAnswers IsInvalidPlaceOrFull result allocator.old allocator.new }
 {
     if allocator.is_failed() {
         return Err(Error::Failed);

@@ -21,7 +21,7 @@ abbrev pub mini_places_of : LiveFile → Owners → List ℕ → List ℕ
 mini_places_of s who minis = flat_map (λ n. slice_range (places s.version (who.sectors mini_stream_owner)) (64 * n) (64 * n + 64)) minis
 
 -- the entry's chain is that of these numbers, and the stream is the first of their bytes, which lie in the file
-pub record LiesIn (file : List ℕ) (e : Entry) (ids bytes all content : List ℕ) : Type 0 where
+pub record EntryLiesIn (file : List ℕ) (e : Entry) (ids bytes all content : List ℕ) : Type 0 where
   pub start : e.start ≡ first_of ids
   pub content_is : content ≡ take e.size bytes
   pub whole : length content ≡ e.size
@@ -30,9 +30,9 @@ pub record LiesIn (file : List ℕ) (e : Entry) (ids bytes all content : List �
 -- the stream of entry `id` has these bytes: below 4096 they lie in its mini sectors alone, else in its sectors alone
 pub record HasStream (s : LiveFile) (who : Owners) (id : ℕ) (e : Entry) (content : List ℕ) : Type 0 where
   pub short : e.size < mini_cutoff → (who.sectors (stream_owner id) ≡ [])
-      × LiesIn s.bytes e (who.minis (stream_owner id)) (mini_joined s who (who.minis (stream_owner id))) (mini_places_of s who (who.minis (stream_owner id))) content
+      × EntryLiesIn s.bytes e (who.minis (stream_owner id)) (mini_joined s who (who.minis (stream_owner id))) (mini_places_of s who (who.minis (stream_owner id))) content
   pub long : mini_cutoff ≤ e.size → (who.minis (stream_owner id) ≡ [])
-      × LiesIn s.bytes e (who.sectors (stream_owner id)) (joined s.version s.bytes (who.sectors (stream_owner id))) (places s.version (who.sectors (stream_owner id))) content
+      × EntryLiesIn s.bytes e (who.sectors (stream_owner id)) (joined s.version s.bytes (who.sectors (stream_owner id))) (places s.version (who.sectors (stream_owner id))) content
 
 -- the entries `ids` are the content, and `Reads id e bytes` says that the stream of entry `id`, which is e, has these bytes
 abbrev pub HoldsAt : List Entry → (ℕ → Entry → List ℕ → Type 0) → List ℕ → Content → List ℕ → Type 0

@@ -9,7 +9,7 @@ use Rattle.cfb_tree.specs.Directory.{Entry, Siblings, Holds}
 use Rattle.cfb_tree.specs.Objects.{Object, a_stream, a_storage, name_of, root_object, tree_of, object_at, IsObject, HoldsTree}
 use Rattle.cfb_tree.specs.Changes.{changed}
 use Rattle.cfb_tree.proofs.OneContent.{Some_same}
-use Rattle.cfb_siblings.specs.Changes.{IsApart, HasSameLinks, Becomes, KeepBytes, HoldsOn}
+use Rattle.cfb_siblings.specs.Changes.{IsApart, HasSameLinks, ObjectBecomes, KeepBytes, HoldsOn}
 use Rattle.cfb_siblings.specs.Places.{LeadsTo}
 use Rattle.cfb_siblings.proofs.Parts.{Stays, AllStay, LinksStay}
 use Rattle.cfb_siblings.proofs.Lists.{all_parts, apart_in, apart_turned}
@@ -46,7 +46,7 @@ module _ (old : List Entry) (Reads Reads' : Entry → List ℕ → Type 0) (id :
       let is : e ≡ g = Some_same (sym found ∙ g_found) in
       (f, now, same.left ∙ ap (λ y. y.left) is, same.right ∙ ap (λ y. y.right) is)
 
-  became : (o other : Object) (own : List ℕ) → IsObject old Reads id o own → Becomes Reads' f o other → AllStay old new Reads Reads' own
+  became : (o other : Object) (own : List ℕ) → IsObject old Reads id o own → ObjectBecomes Reads' f o other → AllStay old new Reads Reads' own
       → IsObject new Reads' id other own
   became (a_stream n b x) (a_stream n' b' x') own is (named, bits, reads) stay =
       subst (λ m. IsObject new Reads' id (a_stream m b' x') own) (sym named)
@@ -63,13 +63,13 @@ module _ (old : List Entry) (Reads Reads' : Entry → List ℕ → Type 0) (id :
   became (a_stream n b x) (a_storage n' h' i') own is never stay = absurd never
   became (a_storage n h i) (a_stream n' b' x') own is never stay = absurd never
 
-name_stays : (Reads : Entry → List ℕ → Type 0) (f : Entry) (o other : Object) → Becomes Reads f o other → name_of other ≡ name_of o
+name_stays : (Reads : Entry → List ℕ → Type 0) (f : Entry) (o other : Object) → ObjectBecomes Reads f o other → name_of other ≡ name_of o
 name_stays Reads f (a_stream n b x) (a_stream n' b' x') is = is.0
 name_stays Reads f (a_storage n h i) (a_storage n' h' i') is = is.0
 name_stays Reads f (a_stream n b x) (a_storage n' h' i') is = absurd is
 name_stays Reads f (a_storage n h i) (a_stream n' b' x') is = absurd is
 
-order_stays : (letters : Letters) (Reads : Entry → List ℕ → Type 0) (f : Entry) (o other : Object) → Becomes Reads f o other
+order_stays : (letters : Letters) (Reads : Entry → List ℕ → Type 0) (f : Entry) (o other : Object) → ObjectBecomes Reads f o other
     → IsOrderedObject letters o → IsOrderedObject letters other
 order_stays letters Reads f (a_stream n b x) (a_stream n' b' x') is h = tt
 order_stays letters Reads f (a_storage n h' i) (a_storage n' h'' i') is h = subst (IsOrdered letters) (sym is.2) h
@@ -82,7 +82,7 @@ once_parts ids once = (once.0, once.1)
 
 module _ (letters : Letters) (Reads Reads' : Entry → List ℕ → Type 0) (old : List Entry) (tree : Tree) (f : Entry) (h : HoldsTree letters Reads old tree) where
   -- the root's facts
-  root_became : (other : Object) (e : Entry) → slice_get old 0 ≡ Some e → HasSameLinks e f → Becomes Reads' f (root_object tree) other
+  root_became : (other : Object) (e : Entry) → slice_get old 0 ≡ Some e → HasSameLinks e f → ObjectBecomes Reads' f (root_object tree) other
       → KeepBytes Reads Reads' old 0 h.ids → HoldsOn letters Reads' (slice_set old 0 f) (tree_of tree other) h.ids
   root_became (a_stream n b x) e found same never keep = absurd never
   root_became (a_storage n g i) e found same (named, facts, is) keep =
@@ -109,17 +109,17 @@ module _ (letters : Letters) (Reads Reads' : Entry → List ℕ → Type 0) (old
 
   -- LAW: the tree with the object changed
   pub edited : (path : Path) (id : ℕ) (change : Object → Object) (object : Object) (e : Entry) → LeadsTo letters old 0 path id
-      → object_at letters tree path ≡ Some object → slice_get old id ≡ Some e → HasSameLinks e f → Becomes Reads' f object (change object)
+      → object_at letters tree path ≡ Some object → slice_get old id ≡ Some e → HasSameLinks e f → ObjectBecomes Reads' f object (change object)
       → KeepBytes Reads Reads' old id h.ids → HoldsOn letters Reads' (slice_set old id f) (changed letters change path tree) h.ids
   edited [] id change object e leads at found same is keep =
       subst (λ k. HoldsOn letters Reads' (slice_set old k f) (changed letters change [] tree) h.ids) (sym leads)
       (root_became (change (root_object tree)) e (subst (λ k. slice_get old k ≡ Some e) leads found) same
-      (subst (λ o. Becomes Reads' f o (change o)) (sym (Some_same at)) is)
+      (subst (λ o. ObjectBecomes Reads' f o (change o)) (sym (Some_same at)) is)
       (subst (λ k. KeepBytes Reads Reads' old k h.ids) leads keep))
   edited (wanted ∷ names) id change object e leads at found same is keep =
       let s = spot old Reads Reads' letters names wanted 0 h.root h.children tree.content h.ids id h.root_found h.siblings h.holds h.ordered leads in
       let one : object ≡ s.object = Some_same (sym at ∙ s.found (codes "Root Entry") tree.root) in
-      let becomes : Becomes Reads' f s.object (change s.object) = subst (λ o. Becomes Reads' f o (change o)) one is in
+      let becomes : ObjectBecomes Reads' f s.object (change s.object) = subst (λ o. ObjectBecomes Reads' f o (change o)) one is in
       let once = (once_parts h.ids h.once).1 in
       let apart = apart_in s.sooner id (s.own ++ s.further) (subst (IsDistinct nat_eq) s.all_is once) in
       let behind = all_parts (λ k. nat_eq id k ≡ false) s.own s.further apart.1 in

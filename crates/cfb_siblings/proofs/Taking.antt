@@ -12,7 +12,7 @@ use Rattle.cfb_tree.specs.Entries.{IsBlackAt}
 use Rattle.cfb_tree.proofs.OneContent.{Some_same}
 use Rattle.cfb_siblings.specs.Changes.{IsApart, IsColored, HoldsOneLess, TakesOut}
 use Rattle.cfb_siblings.specs.Links.{holder, relinked}
-use Rattle.cfb_siblings.specs.Places.{HasEntry, Hangs, IsStorageAt, IsTaken, LeadsBy, path_to}
+use Rattle.cfb_siblings.specs.Places.{HasEntry, Hangs, IsStorageAt, NameIsTaken, LeadsBy, path_to}
 use Rattle.cfb_siblings.specs.declared.links.Link.{Link}
 use Rattle.cfb_siblings.specs.declared.links.Link.TheVariants.{Child, Left, Right}
 use Rattle.cfb_siblings.proofs.Parts.{AllStay, ReadsByPlace, Relinks, root_after, IsOutside, IsPlaced}
@@ -44,7 +44,7 @@ outside_one (Right id) p within is apart = tt
 
 module _ (letters : Letters) (Reads : Entry → List ℕ → Type 0) (by_place : ReadsByPlace Reads) (old : List Entry) (tree : Tree) (path : Path) (p : ℕ)
     (link : Link) (at : ℕ) (wanted : List ℕ) (h : HoldsTree letters Reads old tree) (s : IsStorageAt letters old path p)
-    (taken : IsTaken letters old p wanted link at) where
+    (taken : NameIsTaken letters old p wanted link at) where
   pub st : Storing old Reads Reads letters tree path p h.ids
   st = storing old Reads Reads letters tree h path p s
 

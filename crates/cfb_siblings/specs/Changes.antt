@@ -86,12 +86,12 @@ pub record HasSameLinks (e f : Entry) : Type 0 where
   pub child : f.child ≡ e.child
 
 -- as entry f says it, one object becomes another of its name: a stream gets state bits and bytes, a storage facts ([MS-CFB] 2.6.1)
-abbrev pub Becomes : (Entry → List ℕ → Type 0) → Entry → Object → Object → Type 0
-Becomes Reads f (a_stream name state_bits bytes) (a_stream name' state_bits' bytes') =
+abbrev pub ObjectBecomes : (Entry → List ℕ → Type 0) → Entry → Object → Object → Type 0
+ObjectBecomes Reads f (a_stream name state_bits bytes) (a_stream name' state_bits' bytes') =
     (name' ≡ name) × (f.facts.state_bits ≡ state_bits') × Reads f bytes'
-Becomes Reads f (a_storage name facts inside) (a_storage name' facts' inside') = (name' ≡ name) × (f.facts ≡ facts') × (inside' ≡ inside)
-Becomes Reads f (a_stream name state_bits bytes) (a_storage name' facts' inside') = ⊥
-Becomes Reads f (a_storage name facts inside) (a_stream name' state_bits' bytes') = ⊥
+ObjectBecomes Reads f (a_storage name facts inside) (a_storage name' facts' inside') = (name' ≡ name) × (f.facts ≡ facts') × (inside' ≡ inside)
+ObjectBecomes Reads f (a_stream name state_bits bytes) (a_storage name' facts' inside') = ⊥
+ObjectBecomes Reads f (a_storage name facts inside) (a_stream name' state_bits' bytes') = ⊥
 
 -- the streams of these entries but `id` keep their bytes ([MS-CFB] 2.6.3)
 abbrev pub KeepBytes : (Entry → List ℕ → Type 0) → (Entry → List ℕ → Type 0) → List Entry → ℕ → List ℕ → Type 0

@@ -83,7 +83,7 @@ pub record IsFree (letters : Letters) (directory : List Entry) (parent : ℕ) (w
   pub after : AllByRecursion (IsNamed letters directory wanted Less) back
 
 -- the link leads to entry `id`, the child of this name of entry `parent` ([MS-CFB] 2.6.4)
-pub record IsTaken (letters : Letters) (directory : List Entry) (parent : ℕ) (wanted : List ℕ) (link : Link) (id : ℕ) : Type 0 where
+pub record NameIsTaken (letters : Letters) (directory : List Entry) (parent : ℕ) (wanted : List ℕ) (link : Link) (id : ℕ) : Type 0 where
   pub owner : IsOwner directory parent
   pub front : List ℕ
   pub back : List ℕ
@@ -99,7 +99,7 @@ path_to path name = path ++ name ∷ []
 -- entry; where it is free, the tree has none ([MS-CFB] 2.6.4)
 abbrev pub IsPlace : (Entry → List ℕ → Type 0) → Letters → List Entry → Tree → Path → ℕ → List ℕ → Place → Type 0
 IsPlace Reads letters directory tree path parent name (Taken link id) =
-    IsTaken letters directory parent name link id × LeadsTo letters directory 0 (path_to path name) id
+    NameIsTaken letters directory parent name link id × LeadsTo letters directory 0 (path_to path name) id
     × (object : Object) × (object_at letters tree (path_to path name) ≡ Some object) × (own : List ℕ) × IsObject directory Reads id object own
 IsPlace Reads letters directory tree path parent name (Free link) =
     IsFree letters directory parent name link × HasEntry directory (holder link) × (object_at letters tree (path_to path name) ≡ None)

@@ -1,5 +1,5 @@
 //! Laws of the definitions, each of a function that does nothing.
-ghost use Rattle.cfb_siblings.specs.Changes.{AreColored, Becomes, HasSameLinks, HoldsOn, HoldsOneMore, IsAlone, IsApart, IsUnused, KeepBytes};
+ghost use Rattle.cfb_siblings.specs.Changes.{AreColored, ObjectBecomes, HasSameLinks, HoldsOn, HoldsOneMore, IsAlone, IsApart, IsUnused, KeepBytes};
 ghost use Rattle.cfb_siblings.specs.Links.{relinked};
 ghost use Rattle.cfb_siblings.specs.Places.{path_to, IsFree, IsStorageAt, LeadsTo};
 ghost use Rattle.cfb_siblings.specs.Reading.{ReadBy};
@@ -68,7 +68,7 @@ pub fn changed_entries_change_the_tree()
         → (h : HoldsTree letters (ReadBy reads) directory tree)
         → LeadsTo letters directory 0 path id → object_at letters tree path ≡ Some object
         → slice_get directory id ≡ Some e → HasSameLinks e f
-        → Becomes (ReadBy reads') f object (change object)
+        → ObjectBecomes (ReadBy reads') f object (change object)
         → KeepBytes (ReadBy reads) (ReadBy reads') directory id h.ids
         → HoldsOn letters (ReadBy reads') (slice_set directory id f)
         (changed letters change path tree) h.ids }

@@ -1,6 +1,6 @@
 //! What to link when an entry is taken out of its siblings.
 ghost use Rattle.cfb_siblings.specs.Changes.{TakesOut};
-ghost use Rattle.cfb_siblings.specs.Places.{path_to, Hangs, IsStorageAt, IsTaken};
+ghost use Rattle.cfb_siblings.specs.Places.{path_to, Hangs, IsStorageAt, NameIsTaken};
 ghost use Rattle.cfb_siblings.specs.Reading.{ReadBy};
 ghost use Rattle.cfb_siblings.specs.declared.links.Link.TheVariants.{Right};
 ghost use Rattle.cfb_tree.specs.Directory.{no_entry, Siblings};
@@ -52,7 +52,7 @@ pub fn plan_removal(entries: &[DirEntry], link: Link, id: u32) -> Option<Removal
         (parent : ℕ) (name : List ℕ)
         → (h : HoldsTree letters (ReadBy reads) (map entry_in entries.now) tree)
         → IsStorageAt letters (map entry_in entries.now) path parent
-        → IsTaken letters (map entry_in entries.now) parent name link id
+        → NameIsTaken letters (map entry_in entries.now) parent name link id
         → MatchOption result ⊥ (λ removal. TakesOut letters (ReadBy reads)
         (map entry_in entries.now) tree h.ids (path_to path name) id removal) }
 {

@@ -13,7 +13,7 @@ use Rattle.cfb_chains.specs.LinkViews.{links_version}
 use Rattle.cfb_fat.specs.Tables.{bytes_of, has_failed_here, is_honest, version_of}
 use Rattle.cfb_mini.specs.LinkViews.{minis_of}
 use Rattle.cfb_mini.specs.Minis.{mini_joined, AreInside}
-use Rattle.cfb_mini.specs.Views.{allocator_of, mini_content_of, mini_stream_ids, mini_stream_len, mini_stream_of, IsMini, Rests}
+use Rattle.cfb_mini.specs.Views.{allocator_of, mini_content_of, mini_stream_ids, mini_stream_len, mini_stream_of, IsMini, MiniRests}
 use Rattle.cfb_mini.specs.declared.links.MiniLinks.{MiniLinks}
 use Rattle.cfb_mini.specs.declared.mini_allocator.MiniAllocator.{MiniAllocator}
 use Rattle.cfb_mini.proofs.Resting.{has_yet, same_content}
@@ -36,28 +36,28 @@ on_ok P Q (Ok done) so h = so h
 on_ok P Q (Err e) so h = tt
 
 module _ {F : Type 0} {g : Ghosts F} where
-  same_minis : (a b : MiniAllocator F g) → Rests a b → IsTrue (is_honest (allocator_of a)) → mini_stream_of b ≡ mini_stream_of a
+  same_minis : (a b : MiniAllocator F g) → MiniRests a b → IsTrue (is_honest (allocator_of a)) → mini_stream_of b ≡ mini_stream_of a
   same_minis a b rests is =
       ap (λ v. joined v (bytes_of (allocator_of b)) (mini_stream_ids b)) rests.directory.allocator.sectors.version
       ∙ ap (λ l. joined (version_of (allocator_of a)) l (mini_stream_ids b)) (rests.directory.allocator.sectors.bytes is)
       ∙ ap (joined (version_of (allocator_of a)) (bytes_of (allocator_of a))) rests.mini_stream_ids
 
-  same_len : (a b : MiniAllocator F g) → Rests a b → IsMini a → mini_stream_len b ≡ mini_stream_len a
+  same_len : (a b : MiniAllocator F g) → MiniRests a b → IsMini a → mini_stream_len b ≡ mini_stream_len a
   same_len a b rests is =
       let version : links_version b.mini_fat.stream ≡ links_version a.mini_fat.stream =
       (rests.kept is).over.stream_version ∙ rests.directory.allocator.sectors.version ∙ sym is.over.stream_version in
       ap (λ v. length (mini_stream_ids b) * sector_len v) version ∙ ap (λ ids. length ids * sector_len (links_version a.mini_fat.stream)) rests.mini_stream_ids
 
-  sectors_stay : (a b : MiniAllocator F g) (links : StreamLinks) → Rests a b → HasSectorsOf a links → HasSectorsOf b links
+  sectors_stay : (a b : MiniAllocator F g) (links : StreamLinks) → MiniRests a b → HasSectorsOf a links → HasSectorsOf b links
   sectors_stay a b (Short minis) rests (is, inside) = (rests.kept is, subst (λ n. AreInside n (minis_of minis)) (sym (same_len a b rests is)) inside)
   sectors_stay a b (Long links) rests has = has_yet (allocator_of a) (allocator_of b) links rests.directory.allocator has
 
-  same_joined : (a b : MiniAllocator F g) (links : StreamLinks) → Rests a b → IsTrue (is_honest (allocator_of a)) → HasSectorsOf a links → joined_in b links ≡ joined_in a links
+  same_joined : (a b : MiniAllocator F g) (links : StreamLinks) → MiniRests a b → IsTrue (is_honest (allocator_of a)) → HasSectorsOf a links → joined_in b links ≡ joined_in a links
   same_joined a b (Short minis) rests is has = ap (λ s. mini_joined s (minis_of minis)) (same_minis a b rests is)
   same_joined a b (Long links) rests is has = same_content (allocator_of a) (allocator_of b) links rests.directory.allocator has
 
   -- a stream has its bytes yet
-  pub content_stays : (a b : MiniAllocator F g) (links : StreamLinks) (len : ℕ) (content : List ℕ) → Rests a b → HasContent a links len content → HasContent b links len content
+  pub content_stays : (a b : MiniAllocator F g) (links : StreamLinks) (len : ℕ) (content : List ℕ) → MiniRests a b → HasContent a links len content → HasContent b links len content
   content_stays a b links len content rests has = record {
     honest = subst IsTrue (sym rests.directory.allocator.sectors.honest) has.honest;
     sectors = sectors_stay a b links rests has.sectors;

@@ -27,7 +27,7 @@ len_in (Long links) = length (ids_of links) * sector_len (links_version links)
 module _ {F : Type 0} {g : Ghosts F} where
   -- a stream of so many bytes that begins there lies in these sectors: below 4096 bytes they are the mini FAT's chain, which the
   -- mini stream has, and else the FAT's; they have room for its bytes ([MS-CFB] 2.4, 2.6.3)
-  pub record LiesIn (it : MiniAllocator F g) (start size : ℕ) (sectors : List ℕ) : Type 0 where
+  pub record StreamLiesIn (it : MiniAllocator F g) (start size : ℕ) (sectors : List ℕ) : Type 0 where
     pub short : size < mini_cutoff → Chain (mini_fat_of it) start sectors × AreInside (mini_stream_len it) sectors × (size ≤ 64 * length sectors)
     pub long : mini_cutoff ≤ size → Chain (fat_of (allocator_of it)) start sectors × (size ≤ length sectors * sector_len (version_of (allocator_of it)))
 

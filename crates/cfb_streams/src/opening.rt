@@ -8,7 +8,7 @@ ghost use Rattle.cfb_mini.specs.Views.{allocator_of, mini_fat_of, mini_stream_le
 ghost use Rattle.cfb_medium.specs.Versions.{sector_len};
 ghost use Rattle.cfb_owned.specs.Chains.{len_of};
 ghost use Rattle.cfb_sectors.specs.Sectors.{Chain};
-ghost use Rattle.cfb_streams.specs.Streams.{sectors_in, IsOfLevel, LiesIn};
+ghost use Rattle.cfb_streams.specs.Streams.{sectors_in, IsOfLevel, StreamLiesIn};
 ghost use Rattle.std.specs.Prelude.{length, true, IfErr, IfOk, IsErrOf, List, ℕ, ◌*◌, ◌≡◌, ◌≤◌, ◌⊎◌, OnOk, ◌<◌, ◌^◌};
 
 use cfb_chains::Links;
@@ -87,11 +87,11 @@ pub fn open_stream<F: ReadMedium>(
     start: u32,
     size: u64,
 ) -> Result<StreamLinks, Error>
-    ensures sectors { IfOk result (λ links. LiesIn mini.now start size (sectors_in links)) }
+    ensures sectors { IfOk result (λ links. StreamLiesIn mini.now start size (sectors_in links)) }
     ensures level { IfOk result (λ links. IsOfLevel mini.now size links) }
     ensures small { OnOk result (size < 2 ^ 63) }
     ensures none { IsErrOf result InvalidData → (sectors : List ℕ)
-        → LiesIn mini.now start size sectors → ⊥ }
+        → StreamLiesIn mini.now start size sectors → ⊥ }
     ensures error { IfErr result (λ e. ((e ≡ Failed)
         × (has_failed_here (allocator_of mini.now) ≡ true)) ⊎ (e ≡ InvalidData) ⊎ (e ≡ Memory)) }
 {

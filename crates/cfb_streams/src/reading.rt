@@ -3,7 +3,7 @@ ghost use Rattle.cfb_chains.specs.ChainCalls.{IsInvalidPlace};
 ghost use Rattle.cfb_fat.specs.Tables.{has_failed_here, is_honest, HasCauseBelow};
 ghost use Rattle.cfb_medium.specs.Calls.{IsFaultUnless};
 ghost use Rattle.cfb_medium.specs.declared.error.Error.TheVariants.{Failed, InvalidData, InvalidInput};
-ghost use Rattle.cfb_mini.specs.Views.{allocator_of, Rests};
+ghost use Rattle.cfb_mini.specs.Views.{allocator_of, MiniRests};
 ghost use Rattle.cfb_owned.specs.Chains.{content_of, len_of, HasLinks};
 ghost use Rattle.cfb_streams.specs.Content.{HasContent, ReadsPart};
 ghost use Rattle.cfb_streams.specs.Streams.{joined_in, len_in, HasSectorsOf};
@@ -32,7 +32,7 @@ fn read_long<F: ReadMedium>(
     ensures refused { IsErrOf result InvalidData
         → HasLinks (allocator_of mini.old) links.now → ⊥ }
     ensures failed { has_failed_here (allocator_of mini.old) ≡ true → IsErrOf result Failed }
-    ensures rests { Rests mini.old mini.new }
+    ensures rests { MiniRests mini.old mini.new }
     ensures cause { IfErr result (HasCauseBelow (allocator_of mini.old) (allocator_of mini.new)) }
     ensures fault { IfErr result (λ e. IsFaultUnless ⊥ e ⊎ IsInvalidPlace e) }
 {
@@ -61,7 +61,7 @@ pub fn read_stream<F: ReadMedium>(
         → HasContent mini.new links.now len content
         × (at + length buffer.old ≤ len → ReadsPart content at buffer.old buffer.new result) }
     ensures failed { has_failed_here (allocator_of mini.old) ≡ true → IsErrOf result Failed }
-    ensures rests { Rests mini.old mini.new }
+    ensures rests { MiniRests mini.old mini.new }
     ensures cause { IfErr result (HasCauseBelow (allocator_of mini.old) (allocator_of mini.new)) }
     ensures fault { IfErr result (λ e. IsFaultUnless ⊥ e ⊎ IsInvalidPlace e) }
 {

@@ -2,7 +2,7 @@
 ghost use Rattle.cfb_chains.specs.ChainCalls.{IsInvalidPlace};
 ghost use Rattle.cfb_fat.specs.Tables.{HasCauseBelow};
 ghost use Rattle.cfb_medium.specs.Calls.{IsFaultUnless};
-ghost use Rattle.cfb_mini.specs.Views.{allocator_of, Rests};
+ghost use Rattle.cfb_mini.specs.Views.{allocator_of, MiniRests};
 ghost use Rattle.cfb_streams.specs.Content.{count_from, most_of, HasContent, IsAheadOf};
 ghost use Rattle.std.specs.Prelude.{min, IfErr, List, OnOk, ℕ, ◌-◌, ◌<◌, ◌≡◌, ◌≤◌, ◌⊎◌};
 
@@ -30,7 +30,7 @@ pub fn read_ahead<F: ReadMedium>(
         → IsAheadOf content ahead.old → IsAheadOf content ahead.new }
     ensures kept { (content : List ℕ) → HasContent mini.old links.now len content
         → HasContent mini.new links.now len content }
-    ensures rests { Rests mini.old mini.new }
+    ensures rests { MiniRests mini.old mini.new }
     ensures cause { IfErr result (HasCauseBelow (allocator_of mini.old) (allocator_of mini.new)) }
     ensures fault { IfErr result (λ e. IsFaultUnless ⊥ e ⊎ (IsInvalidPlace e × ((content : List ℕ)
         → HasContent mini.old links.now len content → ⊥))) }

@@ -49,7 +49,7 @@ fn first_char(units: &[u16]) -> Option<(char, usize)>
 }
 
 // The characters that some units spell, and how many they are, where the units are UTF-16.
-fn decoded(units: &[u16]) -> Option<([char; MOST_UNITS], usize)>
+fn decoded_units(units: &[u16]) -> Option<([char; MOST_UNITS], usize)>
     requires { length units.now ≤ 31 }
     ensures { MatchOption result ((name : List ℕ) → utf16_chars units.now ≡ map Some name → ⊥)
         (λ it. (utf16_chars units.now ≡ map Some (take it.1 it.0)) × (it.1 ≤ 31)
@@ -102,7 +102,7 @@ impl DirEntry {
         let Some(units) = self.units() else {
             return None;
         };
-        let Some(found) = decoded(units) else {
+        let Some(found) = decoded_units(units) else {
             return None;
         };
         let own = &found.0[..found.1];

@@ -11,7 +11,7 @@ use Rattle.cfb_mini.specs.declared.mini_allocator.MiniAllocator.{MiniAllocator}
 use Rattle.cfb_owned.specs.Chains.{len_of}
 use Rattle.cfb_owners.specs.Owners.{stream_owner}
 use Rattle.cfb_sectors.specs.Header.{mini_cutoff}
-use Rattle.cfb_streams.specs.Streams.{IsOfLevel, LiesIn}
+use Rattle.cfb_streams.specs.Streams.{IsOfLevel, StreamLiesIn}
 use Rattle.cfb_streams.specs.declared.opening.StreamLinks.TheVariants.{Long}
 use Rattle.cfb_tree.specs.Names.{Letters}
 use Rattle.cfb_tree.specs.Paths.{Path}
@@ -21,7 +21,7 @@ use Rattle.cfb_writing.proofs.LongLinks.{owns_links}
 use Rattle.cfb_writing.proofs.Placed.{entry_of, found_at}
 
 module _ {F : Type 0} {g : Ghosts F} (letters : Letters) (it : MiniAllocator F g) (tree : Tree) (path : Path) (id : ℕ) (content : List ℕ) (at : IsStreamAt letters it tree path id content) (links : Links) (are : AreLinksOf id (Long links) it) where
-  lies_so : LiesIn it (entry_of letters it tree path id content at).entry.start (entry_of letters it tree path id content at).entry.size (ids_of links) × IsOfLevel it (entry_of letters it tree path id content at).entry.size (Long links)
+  lies_so : StreamLiesIn it (entry_of letters it tree path id content at).entry.start (entry_of letters it tree path id content at).entry.size (ids_of links) × IsOfLevel it (entry_of letters it tree path id content at).entry.size (Long links)
   lies_so = are (entry_of letters it tree path id content at).entry (found_at letters it tree path id content at)
 
   pub long_up : mini_cutoff ≤ (entry_of letters it tree path id content at).entry.size

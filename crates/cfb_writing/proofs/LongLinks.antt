@@ -15,11 +15,11 @@ use Rattle.cfb_medium.specs.declared.medium.ReadMedium.{Ghosts}
 use Rattle.cfb_mini.specs.Views.{allocator_of}
 use Rattle.cfb_mini.specs.declared.mini_allocator.MiniAllocator.{MiniAllocator}
 use Rattle.cfb_owned.specs.Chains.{Overwrites}
-use Rattle.cfb_owners.specs.Held.{HasStream, LiesIn as LiesThere}
+use Rattle.cfb_owners.specs.Held.{HasStream, EntryLiesIn}
 use Rattle.cfb_owners.specs.Owners.{stream_owner, Owners}
 use Rattle.cfb_sectors.specs.Header.{mini_cutoff}
 use Rattle.cfb_sectors.specs.Sectors.{end_of_chain, joined, places, Chain}
-use Rattle.cfb_streams.specs.Streams.{IsOfLevel, LiesIn}
+use Rattle.cfb_streams.specs.Streams.{IsOfLevel, StreamLiesIn}
 use Rattle.cfb_streams.specs.declared.opening.StreamLinks.TheVariants.{Long}
 use Rattle.cfb_tree.specs.Directory.{Entry}
 use Rattle.cfb_writing.specs.Moving.{MovesLong}
@@ -32,7 +32,7 @@ all_more few many (p ∷ xs) most all = ((let first = all.0 in omega (arith, fir
 
 -- what is written over a stream's bytes inside of it
 pub lies_over : (old new : List ℕ) (e : Entry) (ids ids' bytes bytes' all all' content written : List ℕ) (at : ℕ) → length old ≤ length new → ids' ≡ ids → bytes' ≡ overwritten bytes at written → all' ≡ all → at + length written ≤ e.size
-    → LiesThere old e ids bytes all content → LiesThere new e ids' bytes' all' (overwritten content at written)
+    → EntryLiesIn old e ids bytes all content → EntryLiesIn new e ids' bytes' all' (overwritten content at written)
 lies_over old new e ids ids' bytes bytes' all all' content written at longer same over same_all within h =
     let fits = fits_in e.size content bytes h.content_is h.whole in record {
       start = h.start ∙ ap (λ l. slice_index_or l 0 end_of_chain) (sym same);
@@ -44,7 +44,7 @@ lies_over old new e ids ids' bytes bytes' all all' content written at longer sam
 module _ {F : Type 0} {g : Ghosts F} where
   -- the stream lies in the sectors that it owns
   pub long_links : (it : MiniAllocator F g) (who : Owners) (m : Stands it who) (id : ℕ) (e : Entry) (content : List ℕ) (links : Links) → HasStream (live_of it) who id e content → mini_cutoff ≤ e.size
-      → who.sectors (stream_owner id) ≡ ids_of links → links_version links ≡ version_of (allocator_of it) → LiesIn it e.start e.size (ids_of links) × IsOfLevel it e.size (Long links)
+      → who.sectors (stream_owner id) ≡ ids_of links → links_version links ≡ version_of (allocator_of it) → StreamLiesIn it e.start e.size (ids_of links) × IsOfLevel it e.size (Long links)
   unfolding live_of
   long_links it who m id e content links has up is version =
       let lay = (has.long up).1 in
@@ -61,7 +61,7 @@ module _ {F : Type 0} {g : Ghosts F} where
 
   -- and the other way round
   pub owns_links : (it : MiniAllocator F g) (who : Owners) (m : Stands it who) (id : ℕ) (e : Entry) (content : List ℕ) (links : Links) → HasStream (live_of it) who id e content
-      → LiesIn it e.start e.size (ids_of links) × IsOfLevel it e.size (Long links) → who.sectors (stream_owner id) ≡ ids_of links
+      → StreamLiesIn it e.start e.size (ids_of links) × IsOfLevel it e.size (Long links) → who.sectors (stream_owner id) ≡ ids_of links
   unfolding live_of
   owns_links it who m id e content links has (lies, level) =
       let up = level.0 in

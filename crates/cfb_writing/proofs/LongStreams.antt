@@ -14,7 +14,7 @@ use Rattle.cfb_medium.specs.declared.version.Version.{Version}
 use Rattle.cfb_mini.specs.Views.{allocator_of}
 use Rattle.cfb_mini.specs.declared.mini_allocator.MiniAllocator.{MiniAllocator}
 use Rattle.cfb_owned.specs.Chains.{content_of, place_of, Overwrites, Resizes}
-use Rattle.cfb_owners.specs.Held.{HasStream, LiesIn}
+use Rattle.cfb_owners.specs.Held.{HasStream, EntryLiesIn}
 use Rattle.cfb_owners.specs.Owners.{first_of, stream_owner, Owners}
 use Rattle.cfb_sectors.specs.Header.{mini_cutoff}
 use Rattle.cfb_sectors.specs.Sectors.{joined, places}
@@ -62,7 +62,7 @@ module _ {F : Type 0} {g : Ghosts F} where
     long_up : mini_cutoff ≤ e.size
     long_up = subst (λ n. mini_cutoff ≤ n) (sym is_size) up
 
-    lay : LiesIn (bytes_of (allocator_of m0)) e (who.sectors (stream_owner id)) (joined v (bytes_of (allocator_of m0)) (who.sectors (stream_owner id))) (places v (who.sectors (stream_owner id))) content
+    lay : EntryLiesIn (bytes_of (allocator_of m0)) e (who.sectors (stream_owner id)) (joined v (bytes_of (allocator_of m0)) (who.sectors (stream_owner id))) (places v (who.sectors (stream_owner id))) content
     unfolding live_of
     lay = (has.long long_up).1
 

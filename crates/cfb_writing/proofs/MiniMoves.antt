@@ -19,7 +19,7 @@ use Rattle.cfb_medium.specs.Versions.{sector_len}
 use Rattle.cfb_medium.specs.declared.medium.ReadMedium.{Ghosts}
 use Rattle.cfb_medium.specs.declared.version.Version.{Version}
 use Rattle.cfb_medium.specs.declared.version.Version.TheVariants.{V3, V4}
-use Rattle.cfb_mini.specs.Changing.{mini_seen, HasOwners, Lengthens, Overwrites, TellsStream}
+use Rattle.cfb_mini.specs.Changing.{mini_seen, HasOwners, Lengthens, MiniOverwrites, TellsStream}
 use Rattle.cfb_mini.specs.Files.{HasHeader, LeavesFile}
 use Rattle.cfb_mini.specs.LinkViews.{minis_of}
 use Rattle.cfb_mini.specs.Minis.{all_words, mini_joined, mini_sector, AreInside}
@@ -212,7 +212,7 @@ root_moved old new root found tells = ⊎_elim (λ same. inl same.0) (λ told. i
 
 module _ {F : Type 0} {g : Ghosts F} (old new : MiniAllocator F g) (who : Owners) (id : ℕ) (m : Stands old who) (goes : GoesOn (allocator_of old) (allocator_of new)) (live : has_failed_here (allocator_of new) ≡ false) where
   -- a stream's mini sectors were written over
-  pub moves_over : (at : ℕ) (bytes : List ℕ) (links : MiniLinks) → who.minis (stream_owner id) ≡ minis_of links → Overwrites at bytes old new links who.sectors → (it : Moves id old new who) × (it.now ≡ who)
+  pub moves_over : (at : ℕ) (bytes : List ℕ) (links : MiniLinks) → who.minis (stream_owner id) ≡ minis_of links → MiniOverwrites at bytes old new links who.sectors → (it : Moves id old new who) × (it.now ≡ who)
   unfolding mini_seen
   moves_over at bytes links mine over =
       let key = stream_owner id in

@@ -4,7 +4,7 @@ use Rattle.std.specs.Prelude.{slice_index_or, slice_range}
 use Rattle.std.specs.List.{flat_map, AllByRecursion}
 use Rattle.cfb_sectors.specs.Sectors.{end_of_chain, joined, places}
 use Rattle.cfb_tree.specs.Directory.{Entry}
-use Rattle.cfb_owners.specs.Held.{mini_joined, mini_places_of, HasStream, LiesIn}
+use Rattle.cfb_owners.specs.Held.{mini_joined, mini_places_of, HasStream, EntryLiesIn}
 use Rattle.cfb_owners.specs.LiveFile.{LiveFile}
 use Rattle.cfb_owners.specs.Owners.{mini_stream_owner, stream_owner, Owners}
 use Rattle.cfb_live.specs.Freeing.{CarriesBut}
@@ -16,7 +16,7 @@ all_there few many (p ∷ places) most all = ((let first = all.0 in omega (arith
 
 -- what lies in a file lies in a longer one
 pub lies_still : (old new : List ℕ) (e f : Entry) (ids ids' bytes bytes' all all' content : List ℕ) → length old ≤ length new → f.start ≡ e.start → f.size ≡ e.size → ids' ≡ ids → bytes' ≡ bytes → all' ≡ all
-    → LiesIn old e ids bytes all content → LiesIn new f ids' bytes' all' content
+    → EntryLiesIn old e ids bytes all content → EntryLiesIn new f ids' bytes' all' content
 lies_still old new e f ids ids' bytes bytes' all all' content longer start size same_ids same_bytes same_all h = record {
   start = start ∙ h.start ∙ ap (λ l. slice_index_or l 0 end_of_chain) (sym same_ids);
   content_is = h.content_is ∙ ap (λ n. take n bytes) (sym size) ∙ ap (take f.size) (sym same_bytes);

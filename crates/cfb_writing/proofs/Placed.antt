@@ -26,7 +26,7 @@ use Rattle.cfb_mini.proofs.Keeping.{pick_other}
 use Rattle.cfb_mini.proofs.KeptFile.{sizes_set}
 use Rattle.cfb_sectors.specs.Header.{mini_cutoff}
 use Rattle.cfb_sectors.specs.Sectors.{end_of_chain}
-use Rattle.cfb_streams.specs.Streams.{IsOfLevel, LiesIn}
+use Rattle.cfb_streams.specs.Streams.{IsOfLevel, StreamLiesIn}
 use Rattle.cfb_streams.specs.declared.opening.StreamLinks.TheVariants.{Long, Short}
 use Rattle.cfb_siblings.specs.Changes.{HasSameLinks}
 use Rattle.cfb_siblings.specs.Places.{LeadsTo}
@@ -201,14 +201,14 @@ module _ {F : Type 0} {g : Ghosts F} (letters : Letters) (old mid new : MiniAllo
   pub placed_links : (links : Links) → moved.now.sectors (stream_owner id) ≡ ids_of links → links_version links ≡ version_of (allocator_of mid) → mini_cutoff ≤ size → AreLinksOf id (Long links) new
   placed_links links mine version up e found =
       let one : f ≡ e = Some_same (sym new_at ∙ found) in
-      subst (λ (x : Entry). LiesIn new x.start x.size (ids_of links) × IsOfLevel new x.size (Long links)) one
+      subst (λ (x : Entry). StreamLiesIn new x.start x.size (ids_of links) × IsOfLevel new x.size (Long links)) one
       (long_links new now stands_new id f content' links has_now up (pick_other moved.now.sectors 0 (directory_ids (directory_of new)) (stream_owner id) (λ is. omega (arith, is)) ∙ mine) (version ∙ sym goes.version))
 
   -- or in its mini sectors
   pub placed_minis : (links : MiniLinks) → moved.now.minis (stream_owner id) ≡ minis_of links → size < mini_cutoff → AreLinksOf id (Short links) new
   placed_minis links mine below e found =
       let one : f ≡ e = Some_same (sym new_at ∙ found) in
-      subst (λ (x : Entry). LiesIn new x.start x.size (minis_of links) × IsOfLevel new x.size (Short links)) one (short_links new now stands_new id f content' links has_now below mine)
+      subst (λ (x : Entry). StreamLiesIn new x.start x.size (minis_of links) × IsOfLevel new x.size (Short links)) one (short_links new now stands_new id f content' links has_now below mine)
 
 set_same : (xs : List Entry) (id : ℕ) (e : Entry) → slice_get xs id ≡ Some e → xs ≡ slice_set xs id e
 set_same [] id e found = refl

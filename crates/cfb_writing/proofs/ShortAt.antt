@@ -18,7 +18,7 @@ use Rattle.cfb_sectors.specs.Header.{mini_cutoff}
 use Rattle.cfb_sectors.specs.Sectors.{joined}
 use Rattle.cfb_siblings.specs.Places.{LeadsTo}
 use Rattle.cfb_streams.specs.Content.{HasContent}
-use Rattle.cfb_streams.specs.Streams.{IsOfLevel, LiesIn}
+use Rattle.cfb_streams.specs.Streams.{IsOfLevel, StreamLiesIn}
 use Rattle.cfb_streams.specs.declared.opening.StreamLinks.{StreamLinks}
 use Rattle.cfb_streams.specs.declared.opening.StreamLinks.TheVariants.{Long, Short}
 use Rattle.cfb_tree.specs.Names.{Letters}
@@ -31,7 +31,7 @@ use Rattle.cfb_writing.proofs.ShortLinks.{owns_minis}
 use Rattle.cfb_writing.proofs.ShortStreams.{held_is}
 
 module _ {F : Type 0} {g : Ghosts F} (letters : Letters) (it : MiniAllocator F g) (tree : Tree) (path : Path) (id : ℕ) (content : List ℕ) (at : IsStreamAt letters it tree path id content) (links : MiniLinks) (are : AreLinksOf id (Short links) it) where
-  lies_so : LiesIn it (entry_of letters it tree path id content at).entry.start (entry_of letters it tree path id content at).entry.size (minis_of links) × IsOfLevel it (entry_of letters it tree path id content at).entry.size (Short links)
+  lies_so : StreamLiesIn it (entry_of letters it tree path id content at).entry.start (entry_of letters it tree path id content at).entry.size (minis_of links) × IsOfLevel it (entry_of letters it tree path id content at).entry.size (Short links)
   lies_so = are (entry_of letters it tree path id content at).entry (found_at letters it tree path id content at)
 
   pub short_below : (entry_of letters it tree path id content at).entry.size < mini_cutoff

@@ -14,7 +14,7 @@ use Rattle.cfb_owners.specs.Held.{mini_joined as held_joined, HasStream}
 use Rattle.cfb_owners.specs.Owners.{stream_owner, Owners}
 use Rattle.cfb_sectors.specs.Header.{mini_cutoff}
 use Rattle.cfb_sectors.specs.Sectors.{Chain}
-use Rattle.cfb_streams.specs.Streams.{IsOfLevel, LiesIn}
+use Rattle.cfb_streams.specs.Streams.{IsOfLevel, StreamLiesIn}
 use Rattle.cfb_streams.specs.declared.opening.StreamLinks.TheVariants.{Short}
 use Rattle.cfb_tree.specs.Directory.{Entry}
 use Rattle.cfb_writing.proofs.LongStreams.{fits_in}
@@ -23,7 +23,7 @@ use Rattle.cfb_writing.proofs.ShortStreams.{held_is}
 module _ {F : Type 0} {g : Ghosts F} where
   -- the stream lies in the mini sectors that it owns
   pub short_links : (it : MiniAllocator F g) (who : Owners) (m : Stands it who) (id : ℕ) (e : Entry) (content : List ℕ) (links : MiniLinks) → HasStream (live_of it) who id e content → e.size < mini_cutoff
-      → who.minis (stream_owner id) ≡ minis_of links → LiesIn it e.start e.size (minis_of links) × IsOfLevel it e.size (Short links)
+      → who.minis (stream_owner id) ≡ minis_of links → StreamLiesIn it e.start e.size (minis_of links) × IsOfLevel it e.size (Short links)
   short_links it who m id e content links has below is =
       let lay = (has.short below).1 in
       let own = who.minis (stream_owner id) in
@@ -40,7 +40,7 @@ module _ {F : Type 0} {g : Ghosts F} where
 
   -- and the other way round
   pub owns_minis : (it : MiniAllocator F g) (who : Owners) (m : Stands it who) (id : ℕ) (e : Entry) (content : List ℕ) (links : MiniLinks) → HasStream (live_of it) who id e content
-      → LiesIn it e.start e.size (minis_of links) × IsOfLevel it e.size (Short links) → who.minis (stream_owner id) ≡ minis_of links
+      → StreamLiesIn it e.start e.size (minis_of links) × IsOfLevel it e.size (Short links) → who.minis (stream_owner id) ≡ minis_of links
   owns_minis it who m id e content links has (lies, below) =
       let lay = (has.short below).1 in
       let own = who.minis (stream_owner id) in

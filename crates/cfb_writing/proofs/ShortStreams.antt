@@ -8,7 +8,7 @@ use Rattle.cfb_live.proofs.Freed.{own_minis}
 use Rattle.cfb_medium.specs.Bytes.{overwritten}
 use Rattle.cfb_medium.specs.Versions.{sector_len}
 use Rattle.cfb_medium.specs.declared.medium.ReadMedium.{Ghosts}
-use Rattle.cfb_mini.specs.Changing.{Lengthens, Overwrites}
+use Rattle.cfb_mini.specs.Changing.{Lengthens, MiniOverwrites}
 use Rattle.cfb_mini.specs.LinkViews.{minis_of}
 use Rattle.cfb_mini.specs.Minis.{mini_joined, mini_place, AreInside, IsMiniChain}
 use Rattle.cfb_mini.specs.Views.{allocator_of, mini_content_of, mini_fat_of, mini_stream_ids, mini_stream_len, mini_stream_of}
@@ -65,7 +65,7 @@ module _ {F : Type 0} {g : Ghosts F} where
 
   module _ (m0 m1 m2 : MiniAllocator F g) (who : Owners) (id : ℕ) (links : MiniLinks) (bytes : List ℕ) (short : length bytes < mini_cutoff) (fits : length bytes ≤ 64 * length (minis_of links))
       (one : Moves id m0 m1 who) (nothing : one.now.sectors (stream_owner id) ≡ []) (mine : one.now.minis (stream_owner id) ≡ minis_of links)
-      (two : Moves id m1 m2 one.now) (same : two.now ≡ one.now) (over : Overwrites 0 bytes m1 m2 links one.now.sectors) where
+      (two : Moves id m1 m2 one.now) (same : two.now ≡ one.now) (over : MiniOverwrites 0 bytes m1 m2 links one.now.sectors) where
     abbrev key : ℕ
     key = stream_owner id
 
@@ -130,7 +130,7 @@ module _ {F : Type 0} {g : Ghosts F} where
 
   -- a short stream was written over
   pub short_over : (old new : MiniAllocator F g) (who : Owners) (id : ℕ) (e : Entry) (content : List ℕ) (links : MiniLinks) (at : ℕ) (bytes : List ℕ) → (m : Stands old who) → HasStream (live_of old) who id e content → e.size < mini_cutoff
-      → who.minis (stream_owner id) ≡ minis_of links → at + length bytes ≤ e.size → (moved : Moves id old new who) → moved.now ≡ who → Overwrites at bytes old new links who.sectors
+      → who.minis (stream_owner id) ≡ minis_of links → at + length bytes ≤ e.size → (moved : Moves id old new who) → moved.now ≡ who → MiniOverwrites at bytes old new links who.sectors
       → HasStream (live_of new) moved.now id e (overwritten content at bytes)
   unfolding live_of
   short_over old new who id e content links at bytes m has below is within moved same over =

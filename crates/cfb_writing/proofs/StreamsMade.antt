@@ -3,7 +3,7 @@ use Rattle.std.proofs.Common.{◌≡◌, ℕ, List, [], inl, inr, refl, ap, sym,
 use Rattle.std.specs.Prelude.{Err, None, Ok, Option, Result, Some}
 use Rattle.cfb_entries.specs.Rules.{answer_at}
 use Rattle.cfb_live.specs.Doing.{Does}
-use Rattle.cfb_live.specs.Live.{Means}
+use Rattle.cfb_live.specs.Live.{MeansLive}
 use Rattle.cfb_live.specs.Making.{making}
 use Rattle.cfb_live.specs.declared.making.NewObject.TheVariants.{Stream}
 use Rattle.cfb_meaning.specs.TreeRules.{create_new_stream, create_stream, done, refused, tree_step}
@@ -29,7 +29,7 @@ module _ (letters : Letters) (tree : Tree) (path : Path) where
   step_emptied name bits bytes at = rw at refl
 
 module _ {F : Type 0} {g : Ghosts F} (letters : Letters) (old new : MiniAllocator F g) (names : Option Path) (path : Path) (is : names ≡ Some path)
-    (free : (tree : Tree) → Means letters old tree → object_at letters tree path ≡ None) where
+    (free : (tree : Tree) → MeansLive letters old tree → object_at letters tree path ≡ None) where
   -- where nothing is, a stream is made as a new one is
   pub does_new : {T : Type 0} (result : Result T Error) → Does letters names (making Stream) result old new → Does letters names (λ p. create_stream p) result old new
   does_new {T} (Ok x) d = record {
@@ -40,7 +40,7 @@ module _ {F : Type 0} {g : Ghosts F} (letters : Letters) (old new : MiniAllocato
           names = it.names;
           at_path = it.at_path;
           accepted = ap (λ o. o.1) (sym step) ∙ it.accepted;
-          means = subst (Means letters new) (ap (λ o. o.0) step) it.means;
+          means = subst (MeansLive letters new) (ap (λ o. o.0) step) it.means;
         };
     refused = tt;
     rests = tt;

@@ -5,7 +5,7 @@ use Rattle.cfb_chains.specs.Positions.{sectors_for}
 use Rattle.cfb_directory.specs.Views.{entries_held}
 use Rattle.cfb_fat.specs.Growing.{LacksNumbers}
 use Rattle.cfb_fat.specs.Tables.{version_of}
-use Rattle.cfb_live.specs.Live.{Means}
+use Rattle.cfb_live.specs.Live.{MeansLive}
 use Rattle.cfb_medium.specs.declared.medium.ReadMedium.{Ghosts}
 use Rattle.cfb_medium.specs.declared.version.Version.{Version}
 use Rattle.cfb_mini.specs.LinkViews.{minis_of}
@@ -13,7 +13,7 @@ use Rattle.cfb_mini.specs.Views.{allocator_of, directory_of}
 use Rattle.cfb_mini.specs.declared.mini_allocator.MiniAllocator.{MiniAllocator}
 use Rattle.cfb_sectors.specs.Sectors.{greatest_regular}
 use Rattle.cfb_siblings.specs.Places.{LeadsTo}
-use Rattle.cfb_streams.specs.Streams.{sectors_in, IsOfLevel, LiesIn}
+use Rattle.cfb_streams.specs.Streams.{sectors_in, IsOfLevel, StreamLiesIn}
 use Rattle.cfb_streams.specs.declared.opening.StreamLinks.{StreamLinks}
 use Rattle.cfb_streams.specs.declared.opening.StreamLinks.TheVariants.{Long, Short}
 use Rattle.cfb_tree.specs.Changes.{changed, with_bytes}
@@ -46,7 +46,7 @@ AreAlike (Long before) (Short after) = ⊥
 module _ {F : Type 0} {g : Ghosts F} where
   -- the live file means the tree, and the path leads to entry `id`: the object there is a stream with these bytes
   pub record IsStreamAt (letters : Letters) (it : MiniAllocator F g) (tree : Tree) (path : Path) (id : ℕ) (content : List ℕ) : Type 0 where
-    pub means : Means letters it tree
+    pub means : MeansLive letters it tree
     pub leads : LeadsTo letters (entries_held (directory_of it)) 0 path id
     pub name : List ℕ
     pub bits : ℕ
@@ -63,7 +63,7 @@ module _ {F : Type 0} {g : Ghosts F} where
 
   -- these are the sectors of the stream that entry `id` tells of
   abbrev pub AreLinksOf : ℕ → StreamLinks → MiniAllocator F g → Type 0
-  AreLinksOf id links it = (e : Entry) → slice_get (entries_held (directory_of it)) id ≡ Some e → LiesIn it e.start e.size (sectors_in links) × IsOfLevel it e.size links
+  AreLinksOf id links it = (e : Entry) → slice_get (entries_held (directory_of it)) id ≡ Some e → StreamLiesIn it e.start e.size (sectors_in links) × IsOfLevel it e.size links
 
   -- so `Rewrites` does where these are its sectors, and then those are
   abbrev pub RewritesIn : ℕ → (List ℕ → List ℕ) → StreamLinks → StreamLinks → MiniAllocator F g → MiniAllocator F g → Type 0

@@ -1,7 +1,7 @@
 //! Streams that are made, or emptied where they are ([MS-CFB] 2.6.3).
 ghost use Rattle.cfb_entries.specs.Rules.{names_in};
 ghost use Rattle.cfb_directory.specs.Growth.{LacksEntries};
-ghost use Rattle.cfb_fat.specs.Calls.{Answers};
+ghost use Rattle.cfb_fat.specs.Calls.{FatAnswers};
 ghost use Rattle.cfb_fat.specs.Tables.{has_failed_here};
 ghost use Rattle.cfb_live.specs.Doing.{Does};
 ghost use Rattle.cfb_live.specs.Making.{IsRefusedMade};
@@ -49,7 +49,7 @@ pub fn create_stream<F: Medium>(
     ensures full { IsErrOf result Full → has_failed_here (allocator_of mini.new) ≡ false
         → LacksEntries (directory_of mini.old) }
     ensures goes_on { GoesOn (allocator_of mini.old) (allocator_of mini.new) }
-    ensures answers { Answers IsRefusedMade result (allocator_of mini.old)
+    ensures answers { FatAnswers IsRefusedMade result (allocator_of mini.old)
         (allocator_of mini.new) }
 {
     if mini.directory().allocator().is_failed() {

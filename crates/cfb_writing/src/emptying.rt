@@ -1,6 +1,6 @@
 //! Streams that are emptied ([MS-CFB] 2.6.3).
 ghost use Rattle.cfb_chains.specs.ChainCalls.{IsInvalid};
-ghost use Rattle.cfb_fat.specs.Calls.{Answers};
+ghost use Rattle.cfb_fat.specs.Calls.{FatAnswers};
 ghost use Rattle.cfb_fat.specs.Tables.{has_failed_here};
 ghost use Rattle.cfb_medium.specs.declared.error.Error.TheVariants.{InvalidData};
 ghost use Rattle.cfb_mini.specs.Changing.{KeepsOwners};
@@ -25,7 +25,7 @@ pub fn empty_stream<F: Medium>(mini: &mut MiniAllocator<F>, id: u32) -> Result<(
     ensures rests { OnErr result ((has_failed_here (allocator_of mini.new) ≡ true)
         ⊎ KeepsOwners mini.old mini.new) }
     ensures goes_on { GoesOn (allocator_of mini.old) (allocator_of mini.new) }
-    ensures answers { Answers IsInvalid result (allocator_of mini.old) (allocator_of mini.new) }
+    ensures answers { FatAnswers IsInvalid result (allocator_of mini.old) (allocator_of mini.new) }
 {
     if mini.directory().allocator().is_failed() {
         return Err(Error::Failed);

@@ -2,7 +2,7 @@
 ghost use Rattle.cfb_chains.specs.ChainCalls.{IsInvalidOrFull, IsInvalidPlace};
 ghost use Rattle.cfb_chains.specs.LinkViews.{ids_of, links_version};
 ghost use Rattle.cfb_chains.specs.Positions.{sectors_for, tail_in};
-ghost use Rattle.cfb_fat.specs.Calls.{Answers};
+ghost use Rattle.cfb_fat.specs.Calls.{FatAnswers};
 ghost use Rattle.cfb_fat.specs.Tables.{has_failed_here, version_of};
 ghost use Rattle.cfb_live.specs.Freeing.{Stands};
 ghost use Rattle.cfb_medium.specs.declared.error.Error.TheVariants.{Full, InvalidData, InvalidInput};
@@ -49,7 +49,7 @@ pub(crate) fn resize_chain<F: Medium>(
         → LacksSectors (allocator_of mini.old) links.old
         (sectors_for (links_version links.old) len) }
     ensures goes_on { GoesOn (allocator_of mini.old) (allocator_of mini.new) }
-    ensures answers { Answers IsInvalidOrFull result (allocator_of mini.old)
+    ensures answers { FatAnswers IsInvalidOrFull result (allocator_of mini.old)
         (allocator_of mini.new) }
 {
     set_chain_len(mini.allocator_mut(), links, len, SectorInit::Zero)
@@ -68,7 +68,7 @@ fn zero_tail<F: Medium>(mini: &mut MiniAllocator<F>, links: &Links, size: u64) -
     ensures past { IsErrOf result InvalidInput
         → len_of links.now < size + tail_in (links_version links.now) size }
     ensures goes_on { GoesOn (allocator_of mini.old) (allocator_of mini.new) }
-    ensures answers { Answers IsInvalidPlace result (allocator_of mini.old)
+    ensures answers { FatAnswers IsInvalidPlace result (allocator_of mini.old)
         (allocator_of mini.new) }
 {
     let len = links.version().sector_len();
@@ -96,7 +96,7 @@ fn cut_and_lengthen<F: Medium>(
         → LacksSectors (allocator_of mini.old) links.old
         (sectors_for (links_version links.old) size) }
     ensures goes_on { GoesOn (allocator_of mini.old) (allocator_of mini.new) }
-    ensures answers { Answers IsInvalidOrFull result (allocator_of mini.old)
+    ensures answers { FatAnswers IsInvalidOrFull result (allocator_of mini.old)
         (allocator_of mini.new) }
 {
     if let Err(error) = resize_chain(mini, links, size) {
@@ -134,7 +134,7 @@ fn lengthen_long<F: Medium>(
         → LacksSectors (allocator_of mini.old) links.old
         (sectors_for (links_version links.old) len) }
     ensures goes_on { GoesOn (allocator_of mini.old) (allocator_of mini.new) }
-    ensures answers { Answers IsInvalidOrFull result (allocator_of mini.old)
+    ensures answers { FatAnswers IsInvalidOrFull result (allocator_of mini.old)
         (allocator_of mini.new) }
 {
     if let Err(error) = resize_chain(mini, links, len) {
@@ -175,7 +175,7 @@ pub(crate) fn stretch_long<F: Medium>(
         → LacksSectors (allocator_of mini.old) links.old
         (sectors_for (links_version links.old) len) }
     ensures goes_on { GoesOn (allocator_of mini.old) (allocator_of mini.new) }
-    ensures answers { Answers IsInvalidOrFull result (allocator_of mini.old)
+    ensures answers { FatAnswers IsInvalidOrFull result (allocator_of mini.old)
         (allocator_of mini.new) }
 {
     if len <= size {

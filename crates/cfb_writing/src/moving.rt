@@ -1,13 +1,13 @@
 //! Streams that take another home, as where their size comes to 4096 or falls below ([MS-CFB] 2.4, 2.6.3).
 ghost use Rattle.cfb_chains.specs.ChainCalls.{IsInvalidPlace};
 ghost use Rattle.cfb_directory.specs.Views.{entries_held};
-ghost use Rattle.cfb_fat.specs.Calls.{Answers};
+ghost use Rattle.cfb_fat.specs.Calls.{FatAnswers};
 ghost use Rattle.cfb_fat.specs.Tables.{has_failed_here, version_of, HasCauseBelow};
 ghost use Rattle.cfb_medium.specs.Calls.{IsFaultUnless};
 ghost use Rattle.cfb_medium.specs.Versions.{stream_len_mask};
 ghost use Rattle.cfb_medium.specs.declared.error.Error.TheVariants.{Full, InvalidData, InvalidInput};
 ghost use Rattle.cfb_mini.specs.Changing.{KeepsOwners};
-ghost use Rattle.cfb_mini.specs.Views.{allocator_of, directory_of, Rests};
+ghost use Rattle.cfb_mini.specs.Views.{allocator_of, directory_of, MiniRests};
 ghost use Rattle.cfb_owned.specs.Chains.{GoesOn, IsInvalidPlaceOrFull};
 ghost use Rattle.cfb_owners.specs.Owners.{first_of};
 ghost use Rattle.cfb_sectors.specs.Header.{mini_cutoff};
@@ -60,7 +60,7 @@ fn read_first<F: Medium>(
         → bytes.items ≡ take count content) }
     ensures refused { IsErrOf result InvalidData → (size : ℕ) (content : List ℕ)
         → HasContent mini.old links.now size content → count ≤ size → ⊥ }
-    ensures rests { Rests mini.old mini.new }
+    ensures rests { MiniRests mini.old mini.new }
     ensures cause { IfErr result (HasCauseBelow (allocator_of mini.old) (allocator_of mini.new)) }
     ensures fault { IfErr result (λ e. IsFaultUnless ⊥ e ⊎ IsInvalidPlace e) }
     ensures large { IsErrOf result InvalidInput → (size : ℕ) (content : List ℕ)
@@ -87,7 +87,7 @@ fn read_front<F: Medium>(
     ensures len { IfOk result (λ bytes. length bytes.items ≡ count) }
     ensures refused { IsErrOf result InvalidData → (content : List ℕ)
         → HasContent mini.old links.now size content → ⊥ }
-    ensures rests { Rests mini.old mini.new }
+    ensures rests { MiniRests mini.old mini.new }
     ensures cause { IfErr result (HasCauseBelow (allocator_of mini.old) (allocator_of mini.new)) }
     ensures fault { IfErr result (λ e. IsFaultUnless ⊥ e ⊎ (e ≡ InvalidData)) }
 {
@@ -121,7 +121,7 @@ fn replace_stream<F: Medium>(
         ⊎ KeepsOwners mini.old mini.new) }
     ensures full { IsErrOf result Full → has_failed_here (allocator_of mini.new) ≡ true }
     ensures goes_on { GoesOn (allocator_of mini.old) (allocator_of mini.new) }
-    ensures answers { Answers IsInvalidPlaceOrFull result (allocator_of mini.old)
+    ensures answers { FatAnswers IsInvalidPlaceOrFull result (allocator_of mini.old)
         (allocator_of mini.new) }
 {
     if let Err(error) = free_stream(mini, id) {
@@ -158,7 +158,7 @@ pub(crate) fn move_stream<F: Medium>(
         ⊎ KeepsOwners mini.old mini.new) }
     ensures full { IsErrOf result Full → has_failed_here (allocator_of mini.new) ≡ true }
     ensures goes_on { GoesOn (allocator_of mini.old) (allocator_of mini.new) }
-    ensures answers { Answers IsInvalidPlaceOrFull result (allocator_of mini.old)
+    ensures answers { FatAnswers IsInvalidPlaceOrFull result (allocator_of mini.old)
         (allocator_of mini.new) }
 {
     if mini.directory().allocator().is_failed() {

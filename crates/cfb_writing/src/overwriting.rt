@@ -1,7 +1,7 @@
 //! The bytes of a stream, written over ([MS-CFB] 2.6.3).
 ghost use Rattle.cfb_chains.specs.ChainCalls.{IsInvalidPlace};
 ghost use Rattle.cfb_chains.specs.LinkViews.{ids_of, links_version};
-ghost use Rattle.cfb_fat.specs.Calls.{Answers};
+ghost use Rattle.cfb_fat.specs.Calls.{FatAnswers};
 ghost use Rattle.cfb_fat.specs.Tables.{has_failed_here, version_of};
 ghost use Rattle.cfb_live.specs.Freeing.{Stands};
 ghost use Rattle.cfb_medium.specs.declared.error.Error.TheVariants.{InvalidData, InvalidInput};
@@ -37,7 +37,7 @@ pub(crate) fn overwrite_long<F: Medium>(
     ensures rests { OnErr result ((has_failed_here (allocator_of mini.new) ≡ true)
         ⊎ KeepsOwners mini.old mini.new) }
     ensures goes_on { GoesOn (allocator_of mini.old) (allocator_of mini.new) }
-    ensures answers { Answers IsInvalidPlace result (allocator_of mini.old)
+    ensures answers { FatAnswers IsInvalidPlace result (allocator_of mini.old)
         (allocator_of mini.new) }
 {
     overwrite_chain(mini.allocator_mut(), links, at, bytes)

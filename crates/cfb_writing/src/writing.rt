@@ -1,7 +1,7 @@
 //! Long streams, written over and made longer or shorter ([MS-CFB] 2.6.3).
 ghost use Rattle.cfb_chains.specs.ChainCalls.{IsInvalidPlace};
 ghost use Rattle.cfb_chains.specs.LinkViews.{ids_of};
-ghost use Rattle.cfb_fat.specs.Calls.{Answers};
+ghost use Rattle.cfb_fat.specs.Calls.{FatAnswers};
 ghost use Rattle.cfb_fat.specs.Tables.{has_failed_here, version_of};
 ghost use Rattle.cfb_medium.specs.Bytes.{overwritten};
 ghost use Rattle.cfb_medium.specs.Versions.{stream_len_mask};
@@ -52,7 +52,7 @@ pub fn overwrite_long_stream<F: Medium>(
     ensures rests { OnErr result ((has_failed_here (allocator_of mini.new) ≡ true)
         ⊎ KeepsOwners mini.old mini.new) }
     ensures goes_on { GoesOn (allocator_of mini.old) (allocator_of mini.new) }
-    ensures answers { Answers IsInvalidPlace result (allocator_of mini.old)
+    ensures answers { FatAnswers IsInvalidPlace result (allocator_of mini.old)
         (allocator_of mini.new) }
 {
     if mini.directory().allocator().is_failed() {
@@ -104,7 +104,7 @@ pub fn resize_long_stream<F: Medium>(
     ensures full { IsErrOf result Full → has_failed_here (allocator_of mini.new) ≡ false
         → LacksRoomFor id (Long links.old) len mini.old }
     ensures goes_on { GoesOn (allocator_of mini.old) (allocator_of mini.new) }
-    ensures answers { Answers IsInvalidPlaceOrFull result (allocator_of mini.old)
+    ensures answers { FatAnswers IsInvalidPlaceOrFull result (allocator_of mini.old)
         (allocator_of mini.new) }
 {
     if mini.directory().allocator().is_failed() {

@@ -113,11 +113,11 @@ fn column_from(alloc: Global, json: &Json) -> Result<Column, Error>
     let foreign = foreign_of(json)?;
     let category = category_of(json)?;
     let choices = choices_of(alloc, json)?;
-    let builder = keyed(Column::build(alloc, name)?, is_key);
-    let builder = localized(nulled(builder, is_nullable), is_localizable);
-    let builder = referring(alloc, ranged(builder, range), foreign)?;
-    let builder = categorized(builder, category).enum_values(alloc, &choices)?;
-    Ok(typed(builder, kind))
+    let builder = with_key(Column::build(alloc, name)?, is_key);
+    let builder = with_localizable(with_null(builder, is_nullable), is_localizable);
+    let builder = with_foreign(alloc, with_range(builder, range), foreign)?;
+    let builder = with_category(builder, category).enum_values(alloc, &choices)?;
+    Ok(with_type(builder, kind))
 }
 
 // The type; a text has a length.
@@ -200,7 +200,7 @@ fn choices_of<'a>(alloc: Global, json: &'a Json) -> Result<Vec<&'a str>, Error>
     }
 }
 
-fn keyed(builder: ColumnBuilder, is_key: bool) -> ColumnBuilder
+fn with_key(builder: ColumnBuilder, is_key: bool) -> ColumnBuilder
     ensures { Builds result (λ column. if is_key then as_key column else column) builder }
 {
     if is_key {
@@ -210,7 +210,7 @@ fn keyed(builder: ColumnBuilder, is_key: bool) -> ColumnBuilder
     }
 }
 
-fn nulled(builder: ColumnBuilder, is_nullable: bool) -> ColumnBuilder
+fn with_null(builder: ColumnBuilder, is_nullable: bool) -> ColumnBuilder
     ensures { Builds result (λ column. if is_nullable then but_null column else column) builder }
 {
     if is_nullable {
@@ -220,7 +220,7 @@ fn nulled(builder: ColumnBuilder, is_nullable: bool) -> ColumnBuilder
     }
 }
 
-fn localized(builder: ColumnBuilder, is_localizable: bool) -> ColumnBuilder
+fn with_localizable(builder: ColumnBuilder, is_localizable: bool) -> ColumnBuilder
     ensures { Builds result (λ column. if is_localizable then as_localizable column else column)
         builder }
 {
@@ -231,7 +231,7 @@ fn localized(builder: ColumnBuilder, is_localizable: bool) -> ColumnBuilder
     }
 }
 
-fn ranged(builder: ColumnBuilder, range: Option<(i32, i32)>) -> ColumnBuilder
+fn with_range(builder: ColumnBuilder, range: Option<(i32, i32)>) -> ColumnBuilder
     ensures { Builds result (changed_by range (λ r. from_to r.0 r.1)) builder }
 {
     match range {
@@ -240,7 +240,7 @@ fn ranged(builder: ColumnBuilder, range: Option<(i32, i32)>) -> ColumnBuilder
     }
 }
 
-fn referring(
+fn with_foreign(
     alloc: Global,
     builder: ColumnBuilder,
     foreign: Option<(&str, i32)>,
@@ -254,7 +254,7 @@ fn referring(
     }
 }
 
-fn categorized(builder: ColumnBuilder, category: Option<Category>) -> ColumnBuilder
+fn with_category(builder: ColumnBuilder, category: Option<Category>) -> ColumnBuilder
     ensures { Builds result (changed_by category of_category) builder }
 {
     match category {
@@ -263,7 +263,7 @@ fn categorized(builder: ColumnBuilder, category: Option<Category>) -> ColumnBuil
     }
 }
 
-fn typed(builder: ColumnBuilder, kind: ColumnType) -> Column
+fn with_type(builder: ColumnBuilder, kind: ColumnType) -> Column
     ensures { column_of result ≡ built builder kind }
 {
     match kind {

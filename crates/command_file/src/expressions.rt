@@ -52,7 +52,7 @@ fn operation_of(alloc: Global, json: &Json) -> Result<Expr, Error>
 {
     let op = text_at(json, "op")?;
     let args = operands_of(alloc, json)?;
-    applied(alloc, op, args)
+    operator_on(alloc, op, args)
 }
 
 // The operands.
@@ -79,7 +79,7 @@ fn expressions_of(alloc: Global, list: &[Json]) -> Result<Vec<Expr>, Error>
 }
 
 // An operator on as many expressions as it takes.
-fn applied(alloc: Global, op: &str, args: Vec<Expr>) -> Result<Expr, Error>
+fn operator_on(alloc: Global, op: &str, args: Vec<Expr>) -> Result<Expr, Error>
     ensures { Gives formula_of result (applied op.now (map formula_of args.items)) }
 {
     let mut args = args.into_iter();

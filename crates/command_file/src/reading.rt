@@ -75,31 +75,31 @@ pub(crate) fn command_of(alloc: Global, json: &Json) -> Result<Command, Error>
 {
     match text_at(json, "op")? {
         "create_table" => create_of(alloc, json),
-        "drop_table" => Ok(Command::DropTable(named(alloc, json, "table")?)),
-        "columns" => Ok(Command::Columns(named(alloc, json, "table")?)),
+        "drop_table" => Ok(Command::DropTable(text_of_key(alloc, json, "table")?)),
+        "columns" => Ok(Command::Columns(text_of_key(alloc, json, "table")?)),
         "insert" => insert_of(alloc, json),
         "update" => update_of(alloc, json),
         "delete" => delete_of(alloc, json),
         "select" => query_of(alloc, json),
-        "read_stream" => Ok(Command::ReadStream(named(alloc, json, "name")?)),
-        "remove_stream" => Ok(Command::RemoveStream(named(alloc, json, "name")?)),
+        "read_stream" => Ok(Command::ReadStream(text_of_key(alloc, json, "name")?)),
+        "remove_stream" => Ok(Command::RemoveStream(text_of_key(alloc, json, "name")?)),
         "write_stream" => write_of(alloc, json),
         "set_summary" => set_summary_of(alloc, json),
         "set_codepage" => codepage_of(json),
-        "tables" => alone(json, Command::Tables),
-        "streams" => alone(json, Command::Streams),
-        "has_signature" => alone(json, Command::HasSignature),
-        "remove_signature" => alone(json, Command::RemoveSignature),
-        "summary" => alone(json, Command::Summary),
-        "codepage" => alone(json, Command::Codepage),
-        "flush" => alone(json, Command::Flush),
-        "commit" => alone(json, Command::Commit),
+        "tables" => keyless_command(json, Command::Tables),
+        "streams" => keyless_command(json, Command::Streams),
+        "has_signature" => keyless_command(json, Command::HasSignature),
+        "remove_signature" => keyless_command(json, Command::RemoveSignature),
+        "summary" => keyless_command(json, Command::Summary),
+        "codepage" => keyless_command(json, Command::Codepage),
+        "flush" => keyless_command(json, Command::Flush),
+        "commit" => keyless_command(json, Command::Commit),
         _ => Err(Error::InvalidInput),
     }
 }
 
 // A command without keys.
-fn alone(json: &Json, command: Command) -> Result<Command, Error>
+fn keyless_command(json: &Json, command: Command) -> Result<Command, Error>
     ensures { Gives said result (alone (said command) (view json.now)) }
 {
     if has_only(json, &["op"]) {
@@ -110,7 +110,7 @@ fn alone(json: &Json, command: Command) -> Result<Command, Error>
 }
 
 // The text of the one key.
-fn named(alloc: Global, json: &Json, key: &str) -> Result<String, Error>
+fn text_of_key(alloc: Global, json: &Json, key: &str) -> Result<String, Error>
     ensures { (ask : List ℕ → Request) → Gives (λ text. ask (string_bytes text)) result
         (of_text key.now ask (view json.now)) }
 {

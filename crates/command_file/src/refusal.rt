@@ -163,13 +163,13 @@ fn are_sets(alloc: Global, value: &Json) -> bool {
 // Whether it is the name of a field of the summary: each but the code page's takes null.
 fn is_field(alloc: Global, value: &Json) -> bool {
     match value.as_str() {
-        Some(name) => name == "codepage" || cleared(alloc, name).is_ok(),
+        Some(name) => name == "codepage" || clearing_edit(alloc, name).is_ok(),
         None => false,
     }
 }
 
 // The change that clears a field.
-fn cleared(alloc: Global, name: &str) -> Result<SummaryEdit, Error> {
+fn clearing_edit(alloc: Global, name: &str) -> Result<SummaryEdit, Error> {
     let field = Json::String(String::from_str(alloc, name)?);
     let edit = json!(in alloc; {"field": field, "value": null})?;
     edit_of(alloc, &edit)

@@ -84,7 +84,7 @@ fn join_of(alloc: Global, json: &Json) -> Result<Select, Error>
     let right = side_at(alloc, json, "right")?;
     let on = expression_at(alloc, json, "on")?;
     let kind = text_at(json, "join")?;
-    joined(alloc, kind, left, right, on)
+    joined_select(alloc, kind, left, right, on)
 }
 
 // A side of a join.
@@ -108,7 +108,13 @@ fn side_of(alloc: Global, json: &Json) -> Result<Select, Error>
 }
 
 // Two selects joined.
-fn joined(alloc: Global, kind: &str, left: Select, right: Select, on: Expr) -> Result<Select, Error>
+fn joined_select(
+    alloc: Global,
+    kind: &str,
+    left: Select,
+    right: Select,
+    on: Expr,
+) -> Result<Select, Error>
     ensures { Gives query_of result (option_map all_of
         (joined (Some kind.now) (query_of left) (query_of right) (formula_of on))) }
 {

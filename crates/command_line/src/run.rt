@@ -30,13 +30,13 @@ pub fn msidb<R: Files<File = File> + AllocGlobal + Clock, O: Write, E: Write>(
     ensures { result ≤ 3 }
 {
     match read_words(rt.alloc(), words) {
-        Ok(line) => done(rt, line, out, err, shows_progress),
-        Err(refusal) => refused(&refusal, out, err),
+        Ok(line) => carry_out(rt, line, out, err, shows_progress),
+        Err(refusal) => tell_refusal(&refusal, out, err),
     }
 }
 
 // Tells why the words were refused, or the help.
-fn refused<O: Write, E: Write>(refusal: &clap::Error, out: &mut O, err: &mut E) -> u8
+fn tell_refusal<O: Write, E: Write>(refusal: &clap::Error, out: &mut O, err: &mut E) -> u8
     ensures { result ≤ 3 }
 {
     if !refusal.use_stderr() {
@@ -54,7 +54,7 @@ fn refused<O: Write, E: Write>(refusal: &clap::Error, out: &mut O, err: &mut E) 
 }
 
 // Does what a line asks for.
-fn done<R: Files<File = File> + AllocGlobal + Clock, O: Write, E: Write>(
+fn carry_out<R: Files<File = File> + AllocGlobal + Clock, O: Write, E: Write>(
     rt: &R,
     line: Line<'_>,
     out: &mut O,

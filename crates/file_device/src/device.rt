@@ -61,7 +61,7 @@ impl FileDevice {
         ensures writes { IfOk result (λ device. (which : Which) → writes_of device which ≡ 0) }
         ensures refusal { IfErr result IsOpenRefusal }
     {
-        opened(rt, home, log, false)
+        open_both(rt, home, log, false)
     }
 
     /// The files of these paths; each that is missing is made. Both are on the disk with their folders then. `NotFound` where a folder is missing,
@@ -71,7 +71,7 @@ impl FileDevice {
         ensures writes { IfOk result (λ device. (which : Which) → writes_of device which ≡ 0) }
         ensures refusal { IfErr result IsOpenRefusal }
     {
-        opened(rt, home, log, true)
+        open_both(rt, home, log, true)
     }
 
     /// Which of two files another program has, if it has one: a reason why `open` and `create` answer `Device`.
@@ -87,7 +87,7 @@ impl FileDevice {
 }
 
 // Opens both files.
-fn opened<R: Files<File = File>>(
+fn open_both<R: Files<File = File>>(
     rt: &R,
     home: &str,
     log: &str,

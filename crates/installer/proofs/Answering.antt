@@ -1,7 +1,7 @@
 -- How one command goes.
 use Rattle.std.proofs.Common.{arith, ◌≤◌, ◌≡◌, ◌⊎◌, inl, inr, ⊎_elim, Bool, true, false, List, [], refl, sym, ap, ◌∙◌}
 use Rattle.std.specs.Prelude.{Result, Ok, Err, OnOk, IfErr}
-use Rattle.msi_meaning.specs.Package.{Package}
+use Rattle.msi_meaning.specs.Package.{Packed}
 use Rattle.one_table.specs.Answers.{Meets}
 use Rattle.command_file.specs.Request.{Request, is_commit, is_reading}
 use Rattle.command_file.specs.Request as command
@@ -33,8 +33,8 @@ commit_is command.commit is = refl
 commit_is request is = absurd (cc)
 
 -- a change that meets its rule is answered
-pub meets_replies : (P Q : Package) (request : Request) (reply : Reply) (Call : Package → Result (Unit {0}) Error → Type 0) (outcome : Result (Unit {0}) Error)
-    → ((R : Package) (r : Reply) → Tells Call R r → LimitedStep P request r R) → Meets Call P Q outcome → reply ≡ told_of outcome → Replies P request reply Q
+pub meets_replies : (P Q : Packed) (request : Request) (reply : Reply) (Call : Packed → Result (Unit {0}) Error → Type 0) (outcome : Result (Unit {0}) Error)
+    → ((R : Packed) (r : Reply) → Tells Call R r → LimitedStep P request r R) → Meets Call P Q outcome → reply ≡ told_of outcome → Replies P request reply Q
 meets_replies P Q request reply Call (Ok u) step meets is = inl (step Q reply (Ok tt, meets, is))
 meets_replies P Q request reply Call (Err e) step meets is =
     ⊎_elim (λ memory. inr (is ∙ ap (λ x. told.refused x) memory.0, memory.1)) (λ call. inl (step Q reply (Err e, call, is))) meets

@@ -5,7 +5,7 @@ use Rattle.std.proofs.lemmas.List.{append-nil, map-append}
 use Rattle.std.proofs.Math.Seq.{take-suc}
 use Rattle.std.proofs.Math.ListN.{get_or}
 use Rattle.std.specs.Prelude.{Option}
-use Rattle.msi_meaning.specs.Package.{Package}
+use Rattle.msi_meaning.specs.Package.{Packed}
 use Rattle.staged.specs.declared.device.Device.{Ghosts}
 use Rattle.command_file.specs.Request.{Request}
 use Rattle.installer.specs.Reply.{Reply}
@@ -61,9 +61,9 @@ module _ {D : Type 0} {g : Ghosts D} where
 
   pub reaches_more : (first last next : Session D g) (start : Course) (requests : List Request) (replies : List Reply) (request : Request) (reply : Reply)
       → Reaches first last requests replies start
-      → ((committed : Option Package) → Goes (course_of last committed) request reply (course_of next (committed_after (course_of last committed) request reply)))
-      → ((committed : Option Package) → Survives g (device_below last) (device_below next) (marks_of (course_of last committed) request reply))
-      → (has_failed next ≡ false → (committed : Option Package) → FoundAtReturn g (device_below last) (device_below next) (marks_of (course_of last committed) request reply))
+      → ((committed : Option Packed) → Goes (course_of last committed) request reply (course_of next (committed_after (course_of last committed) request reply)))
+      → ((committed : Option Packed) → Survives g (device_below last) (device_below next) (marks_of (course_of last committed) request reply))
+      → (has_failed next ≡ false → (committed : Option Packed) → FoundAtReturn g (device_below last) (device_below next) (marks_of (course_of last committed) request reply))
       → Reaches first next (requests ++ request ∷ []) (replies ++ reply ∷ []) start
   reaches_more first last next start requests replies request reply reached goes survives found =
       let mid = reached.0 in

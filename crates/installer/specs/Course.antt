@@ -1,6 +1,6 @@
 -- How a session goes along a list of commands.
 use Rattle.std.specs.Prelude.{◌≡◌, ◌⊎◌, ◌<◌, ◌≤◌, ◌-◌, ◌^◌, ℕ, Bool, true, false, List, [], ◌∷◌, ◌++◌, Option, Some, Result, Ok, Err}
-use Rattle.msi_meaning.specs.Package.{Package}
+use Rattle.msi_meaning.specs.Package.{Packed}
 use Rattle.command_file.specs.Request.{Request, is_reading}
 use Rattle.command_file.specs.Request as command
 use Rattle.installer.specs.Reply.{Reply}
@@ -16,16 +16,16 @@ pub data Phase : Type 0 where
 
 -- where a session is
 pub record Course : Type 0 where
-  pub held : Package
+  pub held : Packed
   -- that of the last commit that was answered Ok, else none
-  pub committed : Option Package
+  pub committed : Option Packed
   -- how often the device has failed
   pub failures : ℕ
   pub phase : Phase
 
 -- a commit that was begun: its package, and whether it was answered Ok
 pub record Mark : Type 0 where
-  pub held : Package
+  pub held : Packed
   pub done : Bool
 
 -- want of memory, or a fault of the device that was counted
@@ -33,7 +33,7 @@ abbrev pub IsFault : Course → Error → Course → Type 0
 IsFault old e new = (e ≡ Memory) ⊎ ((e ≡ Device) × (old.failures < 2 ^ 64 - 1 → old.failures < new.failures))
 
 -- the package that was committed last, after this request and its reply
-abbrev pub committed_after : Course → Request → Reply → Option Package
+abbrev pub committed_after : Course → Request → Reply → Option Packed
 committed_after old command.commit told.done = Some old.held
 committed_after old request reply = old.committed
 
@@ -56,7 +56,7 @@ marks_of old command.commit reply = record { held = old.held; done = false } ∷
 marks_of old request reply = []
 
 -- the commit that a call of its own begins, unless the session has failed before
-abbrev pub commit_marks : Bool → Package → Result (Unit {0}) Error → List Mark
+abbrev pub commit_marks : Bool → Packed → Result (Unit {0}) Error → List Mark
 commit_marks true held outcome = []
 commit_marks false held (Ok u) = record { held = held; done = true } ∷ []
 commit_marks false held (Err e) = record { held = held; done = false } ∷ []

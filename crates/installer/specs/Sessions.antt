@@ -1,6 +1,6 @@
 -- A session as what is seen of it.
 use Rattle.std.specs.Prelude.{◌≡◌, ◌⊎◌, ◌<◌, ◌-◌, ◌^◌, Bool, true, false, Option}
-use Rattle.msi_meaning.specs.Package.{Package}
+use Rattle.msi_meaning.specs.Package.{Packed}
 use Rattle.staged.specs.Staged.{device_of, is_failed}
 use Rattle.staged.specs.declared.device.Device.{Ghosts}
 use Rattle.one_table.specs.Held.{package_in}
@@ -18,7 +18,7 @@ abbrev pub has_failed : {D : Type 0} {g : Ghosts D} → Session D g → Bool
 has_failed s = is_failed s.medium
 
 -- the package that it holds
-abbrev pub package_of : {D : Type 0} {g : Ghosts D} → Session D g → Package
+abbrev pub package_of : {D : Type 0} {g : Ghosts D} → Session D g → Packed
 package_of s = package_in s.contents
 
 abbrev pub phase_of : Bool → Phase
@@ -26,7 +26,7 @@ phase_of true = failed
 phase_of false = running
 
 -- where it is, after a commit of such a package, or none
-abbrev pub course_of : {D : Type 0} {g : Ghosts D} → Session D g → Option Package → Course
+abbrev pub course_of : {D : Type 0} {g : Ghosts D} → Session D g → Option Packed → Course
 course_of {D} {g} s committed =
     record { held = package_of s; committed = committed; failures = g.failures (device_below s); phase = phase_of (has_failed s) }
 

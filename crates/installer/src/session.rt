@@ -4,8 +4,8 @@ ghost use Rattle.cfb_medium.specs.Calls.{Extends};
 ghost use Rattle.cfb_medium.specs.Stops.{LeavesOnly};
 ghost use Rattle.cfb_medium.specs.declared.error.Error.TheVariants as error;
 ghost use Rattle.cfb_tree.specs.Names.{ascii_letters};
-ghost use Rattle.msi_meaning.specs.Package.{Package, MeansPackage};
-ghost use Rattle.staged.specs.Device.{Rests, IsDeviceFault, IsMemoryOrFault};
+ghost use Rattle.msi_meaning.specs.Package.{Packed, MeansPackage};
+ghost use Rattle.staged.specs.Device.{DeviceRests, IsDeviceFault, IsMemoryOrFault};
 ghost use Rattle.staged.specs.Log.{recovered, logged, MalformedLog, IsPublished};
 ghost use Rattle.staged.specs.Steps.{GivesAlike};
 ghost use Rattle.staged.specs.Settled.{IsSettled, HasPublished};
@@ -130,14 +130,14 @@ impl<D: Device> Session<D> {
 
     // Runs one command.
     fn answer(&mut self, command: &Command) -> Answer
-        ensures goes { (committed : Option Package)
+        ensures goes { (committed : Option Packed)
             → Goes (course_of self.old committed) (said command.now) (told_by result)
             (course_of self.new (committed_after (course_of self.old committed) (said command.now)
             (told_by result))) }
-        ensures survives { (committed : Option Package)
+        ensures survives { (committed : Option Packed)
             → Survives D.Device (device_below self.old) (device_below self.new)
             (marks_of (course_of self.old committed) (said command.now) (told_by result)) }
-        ensures found { has_failed self.new ≡ false → (committed : Option Package)
+        ensures found { has_failed self.new ≡ false → (committed : Option Packed)
             → FoundAtReturn D.Device (device_below self.old) (device_below self.new)
             (marks_of (course_of self.old committed) (said command.now) (told_by result)) }
     {

@@ -2,7 +2,7 @@
 use Rattle.std.proofs.Common.{◌≡◌, ◌∙◌, ◌⊎◌, IsTrue, ap, false, inl, inr, map, subst, sym, true}
 use Rattle.std.specs.Prelude.{Err, IfErr, Ok, OnErr, OnOk, Result, ◌||◌}
 use Rattle.cfb.proofs.LiveMeaning.{holds_meant}
-use Rattle.cfb.specs.Doing.{Means as MeansTree}
+use Rattle.cfb.specs.Doing.{FileMeans}
 use Rattle.cfb.specs.Putting.{KeepsMeant}
 use Rattle.cfb.specs.Views.{letters_in, mini_of}
 use Rattle.cfb.specs.declared.compound_file.CompoundFile.{CompoundFile}
@@ -15,14 +15,14 @@ use Rattle.cfb_tree.specs.Tree.{Tree}
 use Rattle.msi_edits.specs.Edited.{Edits, IsEdited}
 use Rattle.msi_edits.specs.Edited as edited
 use Rattle.msi_meaning.specs.Opening.{may_use}
-use Rattle.msi_meaning.specs.Package.{Package as Packed}
+use Rattle.msi_meaning.specs.Package.{Packed}
 use Rattle.msi_meaning.specs.Split.{HasPool, HasSummary, Stores}
 use Rattle.msi_parts.specs.Parts.{heading}
 use Rattle.msi_pool.specs.Pool.{Pool}
 use Rattle.msi_pool.specs.PoolState.{PoolState}
-use Rattle.msi_stored.specs.Changing.{ChangesBy, IsChanged, PackageRule, StoresSound}
-use Rattle.msi.specs.Changing.{Changes, KeepsHeld, failed_in}
-use Rattle.msi.specs.Opened.{Holds, file_in, kind_in, pool_in, sound_in, store_in, summary_in, tables_in, written_in}
+use Rattle.msi_stored.specs.Changing.{ChangesBy, StoreIsChanged, PackageRule, StoresSound}
+use Rattle.msi.specs.Changing.{PackageChanges, KeepsHeld, failed_in}
+use Rattle.msi.specs.Opened.{PackageHolds, file_in, kind_in, pool_in, sound_in, store_in, summary_in, tables_in, written_in}
 use Rattle.msi.specs.declared.package.Package.{Package}
 
 -- two packages in memory that differ by their files and pools alone
@@ -63,8 +63,8 @@ module _ {F : Type 0} {g : Ghosts F} (old new : Package F g) (d : DifferByFile o
   }
 
   -- what the rule gives is held
-  next_held : (rule : PackageRule) (P : Packed) (h : Holds old P) (c : IsChanged rule h.tree P (file_in old) (file_in new)) → c.next.kind ≡ P.kind → c.next.summary ≡ P.summary
-      → (pool_in new).pool ≡ c.next.pool → tables_in new ≡ map (heading (pool_in new).pool.long) c.next.tables → ((pool_in new).modified ≡ false → HasPool (letters_in (file_in old)) c.after c.next.pool) → Holds new c.next
+  next_held : (rule : PackageRule) (P : Packed) (h : PackageHolds old P) (c : StoreIsChanged rule h.tree P (file_in old) (file_in new)) → c.next.kind ≡ P.kind → c.next.summary ≡ P.summary
+      → (pool_in new).pool ≡ c.next.pool → tables_in new ≡ map (heading (pool_in new).pool.long) c.next.tables → ((pool_in new).modified ≡ false → HasPool (letters_in (file_in old)) c.after c.next.pool) → PackageHolds new c.next
   next_held rule P h c kind summary pool tables has = record {
     tree = c.after;
     file = holds_meant (file_in new) c.after c.means;
@@ -91,7 +91,7 @@ pub record LeavesTables (rule : PackageRule) : Type 0 where
 module _ {F : Type 0} {g : Ghosts F} (rule : PackageRule) (leaves : LeavesTables rule) (old new : Package F g) (d : DifferByFile old new) (same : pool_in new ≡ pool_in old)
     (live : failed_in old ≡ false) (sound : sound_in old ≡ true) where
   -- a call on the file's streams is one of the package
-  pub streams_changed : (r : Result (Unit {0}) Error) → ChangesBy rule r (file_in old) (file_in new) → Changes rule r old new
+  pub streams_changed : (r : Result (Unit {0}) Error) → ChangesBy rule r (file_in old) (file_in new) → PackageChanges rule r old new
   streams_changed r c = record {
     failed = λ yes. let never : true ≡ false = sym yes ∙ live in absurd (cc);
     unsound = λ no wrong. let never : true ≡ false = sym sound ∙ wrong in absurd (cc);
@@ -104,8 +104,8 @@ module _ {F : Type 0} {g : Ghosts F} (rule : PackageRule) (leaves : LeavesTables
       yes : IsTrue (sound_in old)
       yes = sound
 
-      done : (r : Result (Unit {0}) Error) → OnOk r ((tree : Tree) (P : Packed) → MeansTree (file_in old) tree → StoresSound (letters_in (file_in old)) tree P → IsChanged rule tree P (file_in old) (file_in new))
-          → OnOk r ((P : Packed) → Holds old P → (Q : Packed) × rule P Q (Ok tt) × Holds new Q)
+      done : (r : Result (Unit {0}) Error) → OnOk r ((tree : Tree) (P : Packed) → FileMeans (file_in old) tree → StoresSound (letters_in (file_in old)) tree P → StoreIsChanged rule tree P (file_in old) (file_in new))
+          → OnOk r ((P : Packed) → PackageHolds old P → (Q : Packed) × rule P Q (Ok tt) × PackageHolds new Q)
       done (Ok u) told = λ P h.
           let both = h.sound yes in
           let c = told h.tree P both.0 both.1 in
@@ -120,8 +120,8 @@ module _ {F : Type 0} {g : Ghosts F} (rule : PackageRule) (leaves : LeavesTables
       done (Err e) told = tt
 
       refused : (r : Result (Unit {0}) Error)
-          → IfErr r (λ e. (tree : Tree) (P : Packed) → MeansTree (file_in old) tree → StoresSound (letters_in (file_in old)) tree P → IsFault e ⊎ (rule P P (Err e) × KeepsMeant (file_in old) (file_in new)))
-          → IfErr r (λ e. (P : Packed) → Holds old P → IsTrue (sound_in old) → IsFault e ⊎ (rule P P (Err e) × KeepsHeld old new))
+          → IfErr r (λ e. (tree : Tree) (P : Packed) → FileMeans (file_in old) tree → StoresSound (letters_in (file_in old)) tree P → IsFault e ⊎ (rule P P (Err e) × KeepsMeant (file_in old) (file_in new)))
+          → IfErr r (λ e. (P : Packed) → PackageHolds old P → IsTrue (sound_in old) → IsFault e ⊎ (rule P P (Err e) × KeepsHeld old new))
       refused (Ok u) told = tt
       refused (Err e) told = λ P h is. let both = h.sound is in elim (told h.tree P both.0 both.1) [ inl fault ↦ inl fault | inr rule ↦ inr (rule.0, keeps_held old new d is same rule.1) ]
 
@@ -132,7 +132,7 @@ module _ {F : Type 0} {g : Ghosts F} (rule : PackageRule) (leaves : LeavesTables
 -- a call on the rows of a table, and on the pool beside it, is one of the package
 module _ {F : Type 0} {g : Ghosts F} (rule : PackageRule) (kind : (P Q : Packed) → rule P Q (Ok tt) → Q.kind ≡ P.kind) (summary : (P Q : Packed) → rule P Q (Ok tt) → Q.summary ≡ P.summary)
     (old new : Package F g) (d : DifferByFile old new) (live : failed_in old ≡ false) (sound : sound_in old ≡ true) where
-  pub rows_changed : (r : Result (Unit {0}) Error) → Edits rule r (store_in old) (store_in new) (pool_in old) (pool_in new) → Changes rule r old new
+  pub rows_changed : (r : Result (Unit {0}) Error) → Edits rule r (store_in old) (store_in new) (pool_in old) (pool_in new) → PackageChanges rule r old new
   rows_changed r c = record {
     failed = λ yes. let never : true ≡ false = sym yes ∙ live in absurd (cc);
     unsound = λ no wrong. let never : true ≡ false = sym sound ∙ wrong in absurd (cc);
@@ -145,18 +145,18 @@ module _ {F : Type 0} {g : Ghosts F} (rule : PackageRule) (kind : (P Q : Packed)
       yes : IsTrue (sound_in old)
       yes = sound
 
-      memory : (P : Packed) → Holds old P → edited.IsMemoryOf (store_in old) (pool_in old).pool P
+      memory : (P : Packed) → PackageHolds old P → edited.IsMemoryOf (store_in old) (pool_in old).pool P
       memory P h = record { pool = h.memory.pool; tables = h.memory.tables ∙ ap (λ (p : Pool). map (heading p.long) P.tables) h.memory.pool }
 
-      has : ((pool_in new).modified ≡ false → pool_in new ≡ pool_in old) → (P : Packed) (h : Holds old P) (c : IsChanged rule h.tree P (file_in old) (file_in new)) → (pool_in new).pool ≡ c.next.pool
+      has : ((pool_in new).modified ≡ false → pool_in new ≡ pool_in old) → (P : Packed) (h : PackageHolds old P) (c : StoreIsChanged rule h.tree P (file_in old) (file_in new)) → (pool_in new).pool ≡ c.next.pool
           → (pool_in new).modified ≡ false → HasPool (letters_in (file_in old)) c.after c.next.pool
       has marked P h c pool unmodified =
           let same = marked unmodified in
           subst (λ p. HasPool (letters_in (file_in old)) c.after p) (sym h.memory.pool ∙ sym (ap (λ (p : PoolState). p.pool) same) ∙ pool) (c.keeps.pool P.pool (h.pool (sym (ap (λ (p : PoolState). p.modified) same) ∙ unmodified)))
 
       done : ((pool_in new).modified ≡ false → pool_in new ≡ pool_in old) → (r : Result (Unit {0}) Error)
-          → OnOk r ((tree : Tree) (P : Packed) → MeansTree (file_in old) tree → StoresSound (letters_in (file_in old)) tree P → edited.IsMemoryOf (store_in old) (pool_in old).pool P → IsEdited rule tree P (file_in old) (file_in new) (pool_in new))
-          → OnOk r ((P : Packed) → Holds old P → (Q : Packed) × rule P Q (Ok tt) × Holds new Q)
+          → OnOk r ((tree : Tree) (P : Packed) → FileMeans (file_in old) tree → StoresSound (letters_in (file_in old)) tree P → edited.IsMemoryOf (store_in old) (pool_in old).pool P → IsEdited rule tree P (file_in old) (file_in new) (pool_in new))
+          → OnOk r ((P : Packed) → PackageHolds old P → (Q : Packed) × rule P Q (Ok tt) × PackageHolds new Q)
       done marked (Err e) told = tt
       done marked (Ok u) told = λ P h.
           let both = h.sound yes in
@@ -170,9 +170,9 @@ module _ {F : Type 0} {g : Ghosts F} (rule : PackageRule) (kind : (P Q : Packed)
           )
 
       refused : (r : Result (Unit {0}) Error)
-          → IfErr r (λ e. (tree : Tree) (P : Packed) → MeansTree (file_in old) tree → StoresSound (letters_in (file_in old)) tree P → edited.IsMemoryOf (store_in old) (pool_in old).pool P
+          → IfErr r (λ e. (tree : Tree) (P : Packed) → FileMeans (file_in old) tree → StoresSound (letters_in (file_in old)) tree P → edited.IsMemoryOf (store_in old) (pool_in old).pool P
           → IsFault e ⊎ (rule P P (Err e) × KeepsMeant (file_in old) (file_in new)))
-          → OnErr r (pool_in new ≡ pool_in old) → IfErr r (λ e. (P : Packed) → Holds old P → IsTrue (sound_in old) → IsFault e ⊎ (rule P P (Err e) × KeepsHeld old new))
+          → OnErr r (pool_in new ≡ pool_in old) → IfErr r (λ e. (P : Packed) → PackageHolds old P → IsTrue (sound_in old) → IsFault e ⊎ (rule P P (Err e) × KeepsHeld old new))
       refused (Ok u) told same = tt
       refused (Err e) told same = λ P h is. let both = h.sound is in elim (told h.tree P both.0 both.1 (memory P h)) [ inl fault ↦ inl fault | inr rule ↦ inr (rule.0, keeps_held old new d is same rule.1) ]
 

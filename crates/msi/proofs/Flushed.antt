@@ -12,7 +12,7 @@ use Rattle.cfb_medium.specs.declared.medium.ReadMedium.{Ghosts}
 use Rattle.cfb_tree.specs.Names.{Letters}
 use Rattle.msi_meaning.proofs.Splitting.{joined}
 use Rattle.msi_meaning.specs.Opening.{may_use}
-use Rattle.msi_meaning.specs.Package.{Package as Packed, Packs}
+use Rattle.msi_meaning.specs.Package.{Packed, Packs}
 use Rattle.msi_meaning.specs.Split.{HasPool, HasSummary, Stores}
 use Rattle.msi_parts.specs.Parts.{heading}
 use Rattle.msi_pool.proofs.PoolRoundTrip.{written_pool_is_read}
@@ -22,8 +22,8 @@ use Rattle.msi_props.specs.Props.{Props, props_bytes}
 use Rattle.msi_streams.specs.Parts.{HasParts, PartBytes, bytes_of_parts}
 use Rattle.msi_stored.specs.Changing.{StoresSound}
 use Rattle.msi.proofs.Changed.{DifferByFile, keeps_held}
-use Rattle.msi.specs.Changing.{IsFit, IsWritten, KeepsHeld, Writes, failed_in}
-use Rattle.msi.specs.Opened.{Holds, file_in, kind_in, pool_in, sound_in, summary_in, tables_in, written_in}
+use Rattle.msi.specs.Changing.{PackageIsFit, PackageIsWritten, KeepsHeld, PackageWrites, failed_in}
+use Rattle.msi.specs.Opened.{PackageHolds, file_in, kind_in, pool_in, sound_in, summary_in, tables_in, written_in}
 use Rattle.msi.specs.declared.package.Package.{Package}
 
 both_written : (m w : Bool) → not m && w ≡ true → (m ≡ false) × (w ≡ true)
@@ -41,7 +41,7 @@ on_err (Err e) a = a
 
 module _ {F : Type 0} {g : Ghosts F} where
   -- nothing is to be written where memory has nothing ahead
-  pub written_already : (it : Package F g) → not (pool_in it).modified && written_in it ≡ true → (P : Packed) → Holds it P → IsTrue (sound_in it) → IsWritten it P
+  pub written_already : (it : Package F g) → not (pool_in it).modified && written_in it ≡ true → (P : Packed) → PackageHolds it P → IsTrue (sound_in it) → PackageIsWritten it P
   written_already it is P h sound =
       let both = both_written (pool_in it).modified (written_in it) is in record {
         holds = h;
@@ -50,15 +50,15 @@ module _ {F : Type 0} {g : Ghosts F} where
         packs = joined (letters_in (file_in it)) h.tree P h.stores (h.pool both.0) (h.summary both.1);
       }
 
-  meant_yet : (old new : Package F g) → read.Rests (file_in old) (file_in new) → KeepsMeant (file_in old) (file_in new)
+  meant_yet : (old new : Package F g) → read.FileRests (file_in old) (file_in new) → KeepsMeant (file_in old) (file_in new)
   meant_yet old new rests = record { means = λ tree m. means_read (file_in old) (file_in new) tree rests m }
 
-  module _ (old new : Package F g) (d : DifferByFile old new) (same : pool_in new ≡ pool_in old) (rests : read.Rests (file_in old) (file_in new)) (sound : IsTrue (sound_in old)) where
+  module _ (old new : Package F g) (d : DifferByFile old new) (same : pool_in new ≡ pool_in old) (rests : read.FileRests (file_in old) (file_in new)) (sound : IsTrue (sound_in old)) where
     -- a flush of the file alone
     pub keeps_flushed : KeepsHeld old new
     keeps_flushed = keeps_held old new d sound same (meant_yet old new rests)
 
-    pub written_yet : (P : Packed) → IsWritten old P → IsWritten new P
+    pub written_yet : (P : Packed) → PackageIsWritten old P → PackageIsWritten new P
     written_yet P w = record {
       holds = keeps_flushed.holds P w.holds;
       tree = w.tree;
@@ -66,7 +66,7 @@ module _ {F : Type 0} {g : Ghosts F} where
       packs = subst (λ l. Packs l w.tree P) (sym d.letters) w.packs;
     }
 
-  parts_yet : (old new : CompoundFile F g) (letters : Letters) (P : Packed) (parts : PartBytes) → read.Rests old new → HasParts letters P parts old → HasParts letters P parts new
+  parts_yet : (old new : CompoundFile F g) (letters : Letters) (P : Packed) (parts : PartBytes) → read.FileRests old new → HasParts letters P parts old → HasParts letters P parts new
   parts_yet old new letters P parts rests p = record {
     after = p.after;
     means = means_read old new p.after rests p.means;
@@ -78,8 +78,8 @@ module _ {F : Type 0} {g : Ghosts F} where
 
   -- the parts were written, the file was flushed, and memory notes it
   pub parts_written : (old new : Package F g) (mid : CompoundFile F g) → letters_in (file_in new) ≡ letters_in (file_in old) → tables_in new ≡ tables_in old → kind_in new ≡ kind_in old
-      → summary_in new ≡ summary_in old → (pool_in new).pool ≡ (pool_in old).pool → read.Rests mid (file_in new) → (P : Packed) (h : Holds old P) → IsFit P
-      → HasParts (letters_in (file_in old)) P (bytes_of_parts (pool_in old).pool (summary_in old).props) mid → IsWritten new P
+      → summary_in new ≡ summary_in old → (pool_in new).pool ≡ (pool_in old).pool → read.FileRests mid (file_in new) → (P : Packed) (h : PackageHolds old P) → PackageIsFit P
+      → HasParts (letters_in (file_in old)) P (bytes_of_parts (pool_in old).pool (summary_in old).props) mid → PackageIsWritten new P
   parts_written old new mid same_letters tables kind summary pool rests P h fit written =
       let letters = letters_in (file_in old) in
       let parts = parts_yet mid (file_in new) letters P (bytes_of_parts (pool_in old).pool (summary_in old).props) rests written in
@@ -116,7 +116,7 @@ module _ {F : Type 0} {g : Ghosts F} where
 
   -- ---- what a flush answers
 
-  pub failed_writes : (it : Package F g) → failed_in it ≡ true → Writes (Err Failed) it it
+  pub failed_writes : (it : Package F g) → failed_in it ≡ true → PackageWrites (Err Failed) it it
   failed_writes it is = record {
     failed = λ yes. refl;
     unsound = λ no wrong. let never : true ≡ false = sym is ∙ no in absurd (cc);
@@ -124,7 +124,7 @@ module _ {F : Type 0} {g : Ghosts F} where
     rests = inr (record { holds = λ P h. h });
   }
 
-  pub unsound_writes : (it : Package F g) → failed_in it ≡ false → sound_in it ≡ false → Writes (Ok tt) it it
+  pub unsound_writes : (it : Package F g) → failed_in it ≡ false → sound_in it ≡ false → PackageWrites (Ok tt) it it
   unsound_writes it live wrong = record {
     failed = λ yes. let never : true ≡ false = sym yes ∙ live in absurd (cc);
     unsound = λ no is. (refl, refl);
@@ -133,7 +133,7 @@ module _ {F : Type 0} {g : Ghosts F} where
   }
 
   pub sound_writes : (old new : Package F g) (r : Result (Unit {0}) Error) → failed_in old ≡ false → sound_in old ≡ true
-      → OnOk r ((P : Packed) → Holds old P → IsTrue (sound_in old) → IsFit P → IsWritten new P) → OnErr r ((failed_in new ≡ true) ⊎ (IsTrue (sound_in old) → KeepsHeld old new)) → Writes r old new
+      → OnOk r ((P : Packed) → PackageHolds old P → IsTrue (sound_in old) → PackageIsFit P → PackageIsWritten new P) → OnErr r ((failed_in new ≡ true) ⊎ (IsTrue (sound_in old) → KeepsHeld old new)) → PackageWrites r old new
   sound_writes old new r live sound done rests = record {
     failed = λ yes. let never : true ≡ false = sym yes ∙ live in absurd (cc);
     unsound = λ no wrong. let never : true ≡ false = sym sound ∙ wrong in absurd (cc);

@@ -8,7 +8,7 @@ use Rattle.cfb_tree.specs.Paths.{path_names}
 use Rattle.cfb_tree.specs.Tree.{Tree, child_names}
 use Rattle.msi_meaning.specs.Opening.{may_use}
 use Rattle.msi_meaning.specs.Split.{Stores}
-use Rattle.msi_meaning.specs.Package.{Package as Packed, objects, stream_at}
+use Rattle.msi_meaning.specs.Package.{Packed, objects, stream_at}
 use Rattle.msi_meaning.specs.Streams.{may_name, plain_stream_name, signature_name}
 use Rattle.msi.proofs.Owned.{stream_found, taken_free}
 use Rattle.msi_streams.proofs.Taken.{taken_special, taken_unmarked}

@@ -4,9 +4,9 @@ use Rattle.std.specs.Prelude.{Err, Ok, Result, is_none, nat_le}
 use Rattle.cfb_medium.specs.declared.error.Error.{Error}
 use Rattle.cfb_medium.specs.declared.error.Error.TheVariants.{AlreadyExists, InvalidInput}
 use Rattle.cfb_tree.specs.Names.{Letters}
-use Rattle.msi_meaning.specs.Calls.{Change, Ends, Inserts, Puts, change, may_insert}
+use Rattle.msi_meaning.specs.Calls.{Change, Ends, Inserts, PackagePuts, change, may_insert}
 use Rattle.msi_changes.specs.Changes.{inserted}
-use Rattle.msi_meaning.specs.Package.{Package as Packed, at_name}
+use Rattle.msi_meaning.specs.Package.{Packed, at_name}
 use Rattle.msi_meaning.specs.Streams.{may_name, plain_stream_name, stream_put, stream_read, stream_removed, stream_written, unsigned, without_stream}
 use Rattle.msi_streams.specs.Writing.{Makes, written_within}
 use Rattle.msi_tables.specs.Rows.{Row}
@@ -79,6 +79,6 @@ pub insert_keeps : (name : List ℕ) (rows : List (List Datum)) (P Q : Packed) �
 insert_keeps name rows P Q told = by (change P name (λ t. inserted (may_insert name) P.pool t rows)) told
   where
     by : (r : Result Change Error)
-        → Ends r P Q (Ok tt) (λ x. (stored : List Row) × IsStoredByKeys x.pool x.table.columns x.rows stored × Puts P name x stored Q) → (Q.kind ≡ P.kind) × (Q.summary ≡ P.summary)
+        → Ends r P Q (Ok tt) (λ x. (stored : List Row) × IsStoredByKeys x.pool x.table.columns x.rows stored × PackagePuts P name x stored Q) → (Q.kind ≡ P.kind) × (Q.summary ≡ P.summary)
     by (Err e) told = let never : Ok tt ≡ Err e = told.1 in absurd (cc)
     by (Ok x) told = let puts = told.1.2 in (ap (λ (X : Packed). X.kind) puts, ap (λ (X : Packed). X.summary) puts)

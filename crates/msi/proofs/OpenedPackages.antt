@@ -3,10 +3,10 @@ use Rattle.std.proofs.Common.{◌≡◌, ◌∙◌, ◌⊎◌, ℕ, Bool, true, 
 use Rattle.std.specs.Prelude.{◌↔◌, ◌||◌, Err, IfErr, IfOk, IsTrue, Ok, Result}
 use Rattle.cfb.proofs.Holding.{holds_opened, holds_yet}
 use Rattle.cfb.proofs.LiveMeaning.{holds_meant, means_read}
-use Rattle.cfb.specs.Doing.{Means as MeansTree}
+use Rattle.cfb.specs.Doing.{FileMeans}
 use Rattle.cfb.specs.Opened.{IsOpenedAs}
-use Rattle.cfb.specs.Streams.{Holds}
-use Rattle.cfb.specs.Views.{letters_in, mini_of, sound_of, Rests}
+use Rattle.cfb.specs.Streams.{FileHolds}
+use Rattle.cfb.specs.Views.{letters_in, mini_of, sound_of, FileRests}
 use Rattle.cfb.specs.declared.compound_file.CompoundFile.{CompoundFile}
 use Rattle.cfb_directory.specs.Entries.{SizesFit}
 use Rattle.cfb_directory.specs.Views.{entries_held}
@@ -26,7 +26,7 @@ use Rattle.cfb_tree.specs.Directory.{Entry}
 use Rattle.cfb_tree.specs.Names.{Letters}
 use Rattle.cfb_tree.specs.Tree.{Tree}
 use Rattle.msi_meaning.specs.Opening.{may_use, opened}
-use Rattle.msi_meaning.specs.Package.{Package as Packed, Packs}
+use Rattle.msi_meaning.specs.Package.{Packed, Packs}
 use Rattle.msi_meaning.proofs.PacksOnce.{packs_once}
 use Rattle.msi_meaning.proofs.SoundAnyway.{sound_anyway}
 use Rattle.msi_meaning.proofs.Splitting.{parted}
@@ -38,7 +38,7 @@ use Rattle.msi_parts.proofs.Memory.{memory_is}
 use Rattle.msi_parts.specs.Held.{AreHeld}
 use Rattle.msi_parts.specs.Parts.{AreParts, IsSoundIn}
 use Rattle.msi_parts.specs.declared.parts.PackageParts.{PackageParts}
-use Rattle.msi.specs.Opened.{Holds as HoldsPackage, IsOpenedPackage, IsRefused, IsSoundFile, file_in, kind_in, pool_in, sound_in, summary_in, tables_in}
+use Rattle.msi.specs.Opened.{PackageHolds, IsOpenedPackage, IsRefused, IsSoundFile, file_in, kind_in, pool_in, sound_in, summary_in, tables_in}
 use Rattle.msi_store.proofs.ShownTrees.{means_shown, shown_opened}
 use Rattle.msi_stored.specs.Shown.{FindsPart, HoldsShown, IsLostPart, ShowsTree, bytes_in}
 use Rattle.msi.specs.Steps.{IsFound, IsGivenUp}
@@ -50,7 +50,7 @@ Refuses letters bytes e = (tree : Tree) → ShowsTree letters bytes tree → IsL
 
 module _ {F : Type 0} {g : Ghosts F} (medium : F) (a : CompoundFile F g) (opens : OpensAt medium (mini_of a)) where
   -- a file that was only read since it was opened was opened so
-  pub opens_yet : (b : CompoundFile F g) → Rests a b → OpensAt medium (mini_of b)
+  pub opens_yet : (b : CompoundFile F g) → FileRests a b → OpensAt medium (mini_of b)
   opens_yet b rests =
       let sectors = rests.mini.directory.allocator.sectors in
       record {
@@ -71,7 +71,7 @@ module _ {F : Type 0} {g : Ghosts F} (medium : F) (a : CompoundFile F g) (opens 
       record { device = here.device; earlier = λ is. subst (λ f. IsTrue (f || g.failed start)) opens.live (here.earlier is) }
 
   module _ (letters : Letters) (named : letters_in a ≡ letters) (may : may_use letters ≡ true) (honest : IsTrue (g.honest medium)) (as_opened : IsOpenedAs Permissive letters (g.bytes medium) a) where
-    held : (tree : Tree) → Means letters (g.bytes medium) tree → Holds a tree
+    held : (tree : Tree) → Means letters (g.bytes medium) tree → FileHolds a tree
     held tree means = holds_opened Permissive letters medium a tree honest opens named as_opened means
 
     shown : (tree : Tree) → ShowsTree letters (g.bytes medium) tree → HoldsShown a tree
@@ -93,7 +93,7 @@ module _ {F : Type 0} {g : Ghosts F} (medium : F) (a : CompoundFile F g) (opens 
 
       -- of a sound package the file means its tree, which stores a sound one
       sound_yet : (tree : Tree) (P : Packed) → Means letters (g.bytes medium) tree → Packs letters tree P → IsTrue (sound_in it)
-          → MeansTree (file_in it) tree × StoresSound (letters_in (file_in it)) tree P
+          → FileMeans (file_in it) tree × StoresSound (letters_in (file_in it)) tree P
       sound_yet tree P means packs is =
           let so = (judged tree means).0 is in
           let meant = as_opened.means so.0 in
@@ -101,11 +101,11 @@ module _ {F : Type 0} {g : Ghosts F} (medium : F) (a : CompoundFile F g) (opens 
           let there : Means letters (g.bytes medium) meant.0 = subst (λ b. Means letters b meant.0) (opens.bytes honest) (subst (λ l. Means l (bytes_in a) meant.0) named (h.layout, h.means)) in
           let same : meant.0 ≡ tree = tree_unique letters (g.bytes medium) meant.0 tree there means in
           let sound = subst (λ (Q : Packed). IsSoundPart letters tree Q) (packs_once letters tree so.1 P so.2 packs) (sound_anyway letters tree so.1 so.2 so.3) in (
-            subst (λ t. MeansTree (file_in it) t) same (means_read a (file_in it) meant.0 found.rests meant.1),
+            subst (λ t. FileMeans (file_in it) t) same (means_read a (file_in it) meant.0 found.rests meant.1),
             subst (λ l. StoresSound l tree P) (sym named_here) (record { usable = may; stores = (parted letters tree P packs).0; counted = sound.counted; free = sound.free; named = sound.named }),
           )
 
-      yet : (tree : Tree) (P : Packed) → Means letters (g.bytes medium) tree → Packs letters tree P → HoldsPackage it P
+      yet : (tree : Tree) (P : Packed) → Means letters (g.bytes medium) tree → Packs letters tree P → PackageHolds it P
       yet tree P means packs =
           let here = parts tree (means_shown letters (g.bytes medium) tree means) in
           let three = parted letters tree P packs in
@@ -208,7 +208,7 @@ module _ {F : Type 0} {g : Ghosts F} (medium : F) (a : CompoundFile F g) (opens 
         by (Err e) given = λ honest. given_refused medium a opens letters named may honest (as_opened honest) e.0 e.1 given
 
 -- what was judged of the file after it was read is so of the file before
-pub judged_before : {F : Type 0} {g : Ghosts F} (a b : CompoundFile F g) → Rests a b → (tree : Tree) (r : Result (PackageParts × Bool) Error)
+pub judged_before : {F : Type 0} {g : Ghosts F} (a b : CompoundFile F g) → FileRests a b → (tree : Tree) (r : Result (PackageParts × Bool) Error)
     → IfOk r (λ found. IsTrue found.1 ↔ IsSoundIn (letters_in b) tree (sound_of b)) → IfOk r (λ found. IsTrue found.1 ↔ IsSoundIn (letters_in a) tree (sound_of a))
 judged_before a b rests tree (Ok found) told =
     subst (λ s. IsTrue found.1 ↔ IsSoundIn (letters_in a) tree s) rests.sound (subst (λ l. IsTrue found.1 ↔ IsSoundIn l tree (sound_of b)) rests.letters told)

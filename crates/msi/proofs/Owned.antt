@@ -13,7 +13,7 @@ use Rattle.cfb_tree.specs.Objects.{is_same_name}
 use Rattle.cfb_tree.specs.Tree.{Content, Tree, child_names, nothing, storage, stream}
 use Rattle.msi_meaning.specs.Opening.{may_use}
 use Rattle.msi_meaning.specs.Split.{Stores}
-use Rattle.msi_meaning.specs.Package.{Package as Packed, data_name, is_own, is_stream, object_bytes, objects, pool_name, stream_at, stream_name, summary_name}
+use Rattle.msi_meaning.specs.Package.{Packed, data_name, is_own, is_stream, object_bytes, objects, pool_name, stream_at, stream_name, summary_name}
 use Rattle.msi_meaning.specs.Streams.{document_summary_name, is_special, signature_ex_name, signature_name, stream_names}
 use Rattle.msi_texts.specs.StreamName.{is_marked}
 use Rattle.msi_texts.specs.StreamName.{name_of as decoded_name}

@@ -4,7 +4,7 @@ use Rattle.cfb.specs.Views.{letters_in}
 use Rattle.cfb_medium.specs.declared.medium.ReadMedium.{Ghosts}
 use Rattle.cfb_tree.specs.Names.{Letters}
 use Rattle.cfb_tree.specs.Tree.{Tree}
-use Rattle.msi_meaning.specs.Package.{Package as Packed}
+use Rattle.msi_meaning.specs.Package.{Packed}
 use Rattle.msi_meaning.specs.Split.{Stores}
 use Rattle.msi_parts.specs.Parts.{heading}
 use Rattle.msi_pool.specs.Pool.{Pool}
@@ -13,7 +13,7 @@ use Rattle.msi_props.specs.Held.{SetState}
 use Rattle.msi_stored.specs.Changing.{StoresSound}
 use Rattle.msi_texts.specs.declared.codepage.CodePage.{CodePage}
 use Rattle.msi.specs.Changing.{with_page}
-use Rattle.msi.specs.Opened.{Holds, file_in, kind_in, pool_in, sound_in, summary_in, tables_in, written_in}
+use Rattle.msi.specs.Opened.{PackageHolds, file_in, kind_in, pool_in, sound_in, summary_in, tables_in, written_in}
 use Rattle.msi.specs.declared.package.Package.{Package}
 
 module _ (letters : Letters) (tree : Tree) (page : CodePage) (P : Packed) where
@@ -51,7 +51,7 @@ module _ (letters : Letters) (tree : Tree) (page : CodePage) (P : Packed) where
 -- it is held where the pool in memory is changed so
 pub holds_paged : {F : Type 0} {g : Ghosts F} (old new : Package F g) (page : CodePage) (P : Packed) → file_in new ≡ file_in old → tables_in new ≡ tables_in old → kind_in new ≡ kind_in old
     → summary_in new ≡ summary_in old → sound_in new ≡ sound_in old → written_in new ≡ written_in old
-    → pool_in new ≡ record { pool = record (pool_in old).pool { page = page }; modified = true } → Holds old P → Holds new (with_page page P)
+    → pool_in new ≡ record { pool = record (pool_in old).pool { page = page }; modified = true } → PackageHolds old P → PackageHolds new (with_page page P)
 holds_paged old new page P file tables kind summary sound written pool h = record {
   tree = h.tree;
   file = rw file h.file;

@@ -6,7 +6,7 @@ use Rattle.cfb_medium.specs.declared.error.Error.{Error}
 use Rattle.cfb_medium.specs.declared.error.Error.TheVariants.{Failed, InvalidData}
 use Rattle.cfb_medium.specs.declared.medium.ReadMedium.{Ghosts}
 use Rattle.msi_stored.specs.Changing.{PackageRule}
-use Rattle.msi.specs.Changing.{Changes, KeepsHeld, failed_in, permission}
+use Rattle.msi.specs.Changing.{PackageChanges, KeepsHeld, failed_in, permission}
 use Rattle.msi.specs.Opened.{sound_in}
 use Rattle.msi.specs.declared.package.Package.{Package}
 
@@ -15,13 +15,13 @@ permitted true sound is = absurd (cc)
 permitted false false is = absurd (cc)
 permitted false true is = (refl, refl)
 
-pub not_permitted : {F : Type 0} {g : Ghosts F} (rule : PackageRule) (it : Package F g) (e : Error) → permission (failed_in it) (sound_in it) ≡ Err e → Changes rule (Err e) it it
+pub not_permitted : {F : Type 0} {g : Ghosts F} (rule : PackageRule) (it : Package F g) (e : Error) → permission (failed_in it) (sound_in it) ≡ Err e → PackageChanges rule (Err e) it it
 not_permitted {F} {g} rule it e is = by (failed_in it) refl (sound_in it) refl is
   where
     keeps : KeepsHeld it it
     keeps = record { holds = λ P h. h }
 
-    by : (f : Bool) → failed_in it ≡ f → (s : Bool) → sound_in it ≡ s → permission f s ≡ Err e → Changes rule (Err e) it it
+    by : (f : Bool) → failed_in it ≡ f → (s : Bool) → sound_in it ≡ s → permission f s ≡ Err e → PackageChanges rule (Err e) it it
     by true failed s sound is =
         let same : e ≡ Failed = cc in
         record {

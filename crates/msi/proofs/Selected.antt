@@ -12,7 +12,7 @@ use Rattle.cfb_medium.specs.declared.medium.ReadMedium.{Ghosts}
 use Rattle.cfb_tree.specs.Names.{Letters}
 use Rattle.cfb_tree.specs.Tree.{Tree}
 use Rattle.msi_meaning.specs.Calls.{selected_in}
-use Rattle.msi_meaning.specs.Package.{Package as Packed}
+use Rattle.msi_meaning.specs.Package.{Packed}
 use Rattle.msi_parts.proofs.Shapes.{wide_selected}
 use Rattle.msi_parts.specs.Parts.{heading}
 use Rattle.msi_parts.specs.Whole.{IsWhole, Wide}
@@ -32,10 +32,10 @@ use Rattle.msi_query.specs.Said.{query_of}
 use Rattle.msi_query.specs.declared.select.Select.{Select}
 use Rattle.msi_tables.specs.Rows.{Row, kinds_of}
 use Rattle.std.proofs.lemmas.List.{length-map}
-use Rattle.cfb.specs.Streams.{Holds as HoldsTree}
+use Rattle.cfb.specs.Streams.{FileHolds}
 use Rattle.msi.specs.Selected.{AnswersAt, as_read, selected_by, shown_of, tables_at}
 use Rattle.msi.proofs.HeldTables.{are_tables, option_then, rows_whole, tables_whole}
-use Rattle.msi.specs.Opened.{Holds, file_in, pool_in, store_in, tables_in}
+use Rattle.msi.specs.Opened.{PackageHolds, file_in, pool_in, store_in, tables_in}
 use Rattle.msi.specs.Rows.{rows_shown}
 use Rattle.msi.specs.declared.package.Package.{Package}
 
@@ -98,7 +98,7 @@ module _ {F : Type 0} {g : Ghosts F} (it : Package F g) (tables : Tables) (has :
   refused_by new e (inr (inr told)) = inr (inr (ap (λ r. r >>= λ t. Ok (shown_of (pool_in it).pool t)) (told tables has)))
 
 -- of a tree that the file holds
-module _ {F : Type 0} {g : Ghosts F} (it : Package F g) (tree : Tree) (held : HoldsTree (file_in it) tree) where
+module _ {F : Type 0} {g : Ghosts F} (it : Package F g) (tree : Tree) (held : FileHolds (file_in it) tree) where
   pub read_tables : HasTables (stored_in (store_in it)) (tables_at (letters_in (file_in it)) tree (tables_in it))
   read_tables = (tree, held, tables_read (letters_in (file_in it)) tree (tables_in it))
 
@@ -118,7 +118,7 @@ module _ {F : Type 0} {g : Ghosts F} (it : Package F g) (tree : Tree) (held : Ho
   read_refused query e (inr (inr refuses)) = inr (inr refuses)
 
 -- of a package that is held
-module _ {F : Type 0} {g : Ghosts F} (it : Package F g) (P : Packed) (h : Holds it P) where
+module _ {F : Type 0} {g : Ghosts F} (it : Package F g) (P : Packed) (h : PackageHolds it P) where
   abbrev long : Bool
   long = (pool_in it).pool.long
 

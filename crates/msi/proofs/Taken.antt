@@ -7,7 +7,7 @@ use Rattle.cfb_meaning.specs.TreeRules.{Object, a_storage, a_stream, is_stream, 
 use Rattle.cfb_tree.specs.Names.{Letters}
 use Rattle.cfb_tree.specs.Tree.{Tree}
 use Rattle.msi_meaning.proofs.UnderRoot.{at_path}
-use Rattle.msi_meaning.specs.Package.{Package as Packed, at_name, object_bytes, objects, stream_at}
+use Rattle.msi_meaning.specs.Package.{Packed, at_name, object_bytes, objects, stream_at}
 use Rattle.msi_meaning.specs.Streams.{has_stream, may_name, plain_stream_name, stream_read}
 use Rattle.msi_texts.specs.Results.{◌>>=◌, or_refused}
 

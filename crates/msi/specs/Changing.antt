@@ -1,6 +1,6 @@
 -- What a call that changes a package does.
 use Rattle.std.specs.Prelude.{◌≡◌, ◌⊎◌, Bool, true, false, Err, IfErr, IsErrOf, IsTrue, Ok, OnErr, OnOk, Result, if◌then◌else◌}
-use Rattle.cfb.specs.Doing.{Means as MeansTree}
+use Rattle.cfb.specs.Doing.{FileMeans}
 use Rattle.cfb.specs.Views.{letters_in, mini_of}
 use Rattle.cfb_fat.specs.Tables.{has_failed}
 use Rattle.cfb_live.specs.Doing.{IsFault}
@@ -9,13 +9,13 @@ use Rattle.cfb_medium.specs.declared.error.Error.TheVariants.{Failed, InvalidDat
 use Rattle.cfb_medium.specs.declared.medium.ReadMedium.{Ghosts}
 use Rattle.cfb_mini.specs.Views.{allocator_of}
 use Rattle.cfb_tree.specs.Tree.{Tree}
-use Rattle.msi_meaning.specs.Package.{Package as Packed, Packs}
+use Rattle.msi_meaning.specs.Package.{Packed, Packs}
 use Rattle.msi_pool.specs.PoolKept.{IsWritable}
-use Rattle.msi_props.specs.Kept.{IsWritable as IsWritableSet}
+use Rattle.msi_props.specs.Kept.{SetIsWritable}
 use Rattle.msi_stored.specs.Changing.{PackageRule}
 use Rattle.msi_summary.specs.Summary.{summary_format}
 use Rattle.msi_texts.specs.declared.codepage.CodePage.{CodePage}
-use Rattle.msi.specs.Opened.{Holds, file_in, sound_in}
+use Rattle.msi.specs.Opened.{PackageHolds, file_in, sound_in}
 use Rattle.msi.specs.declared.package.Package.{Package}
 
 -- the package whose texts are written under another page
@@ -31,9 +31,9 @@ abbrev pub setting_page : CodePage → PackageRule
 setting_page page P Q answer = (Q ≡ with_page page P) × (answer ≡ Ok tt)
 
 -- pool and summary can be written, and are then read as they are
-pub record IsFit (P : Packed) : Type 0 where
+pub record PackageIsFit (P : Packed) : Type 0 where
   pub pool : IsWritable P.pool
-  pub summary : IsWritableSet P.summary
+  pub summary : SetIsWritable P.summary
   pub format : P.summary.format ≡ summary_format
 
 module _ {F : Type 0} {g : Ghosts F} where
@@ -43,30 +43,30 @@ module _ {F : Type 0} {g : Ghosts F} where
 
   -- each package that it held it holds still
   pub record KeepsHeld (old new : Package F g) : Type 0 where
-    pub holds : (P : Packed) → Holds old P → Holds new P
+    pub holds : (P : Packed) → PackageHolds old P → PackageHolds new P
 
   -- `Failed` after a fault; `InvalidData` where it isn't sound, and it is as it was. Of a sound package that is held the call does what
   -- the rule says, and the new one is held; or it is refused just as the rule refuses, and the package is held still; or there was a fault.
   -- After any error it has failed, or holds what it held.
-  pub record Changes (rule : PackageRule) (result : Result (Unit {0}) Error) (old new : Package F g) : Type 0 where
+  pub record PackageChanges (rule : PackageRule) (result : Result (Unit {0}) Error) (old new : Package F g) : Type 0 where
     pub failed : failed_in old ≡ true → IsErrOf result Failed
     pub unsound : failed_in old ≡ false → sound_in old ≡ false → IsErrOf result InvalidData × KeepsHeld old new
-    pub done : OnOk result ((P : Packed) → Holds old P → (Q : Packed) × rule P Q (Ok tt) × Holds new Q)
-    pub refused : IfErr result (λ e. (P : Packed) → Holds old P → IsTrue (sound_in old) → IsFault e ⊎ (rule P P (Err e) × KeepsHeld old new))
+    pub done : OnOk result ((P : Packed) → PackageHolds old P → (Q : Packed) × rule P Q (Ok tt) × PackageHolds new Q)
+    pub refused : IfErr result (λ e. (P : Packed) → PackageHolds old P → IsTrue (sound_in old) → IsFault e ⊎ (rule P P (Err e) × KeepsHeld old new))
     pub rests : OnErr result ((failed_in new ≡ true) ⊎ KeepsHeld old new)
     pub seen : (letters_in (file_in new) ≡ letters_in (file_in old)) × (sound_in new ≡ sound_in old)
 
   -- it holds the package, and its file means a tree that packs it
-  pub record IsWritten (it : Package F g) (P : Packed) : Type 0 where
-    pub holds : Holds it P
+  pub record PackageIsWritten (it : Package F g) (P : Packed) : Type 0 where
+    pub holds : PackageHolds it P
     pub tree : Tree
-    pub means : MeansTree (file_in it) tree
+    pub means : FileMeans (file_in it) tree
     pub packs : Packs (letters_in (file_in it)) tree P
 
   -- `Failed` after a fault. Where it isn't sound it is done, and nothing was touched. Each sound package that was held and can be written
   -- is packed by the file. After any error it has failed, or holds what it held.
-  pub record Writes (result : Result (Unit {0}) Error) (old new : Package F g) : Type 0 where
+  pub record PackageWrites (result : Result (Unit {0}) Error) (old new : Package F g) : Type 0 where
     pub failed : failed_in old ≡ true → IsErrOf result Failed
     pub unsound : failed_in old ≡ false → sound_in old ≡ false → (result ≡ Ok tt) × (new ≡ old)
-    pub done : OnOk result ((P : Packed) → Holds old P → IsTrue (sound_in old) → IsFit P → IsWritten new P)
+    pub done : OnOk result ((P : Packed) → PackageHolds old P → IsTrue (sound_in old) → PackageIsFit P → PackageIsWritten new P)
     pub rests : OnErr result ((failed_in new ≡ true) ⊎ KeepsHeld old new)

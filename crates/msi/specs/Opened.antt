@@ -1,7 +1,7 @@
 -- A package in memory, whose rows and streams lie in its file, and what opening tells.
 use Rattle.std.specs.Prelude.{◌≡◌, ◌⊎◌, ◌↔◌, ℕ, false, true, Bool, List, Ok, Err, IsTrue}
-use Rattle.cfb.specs.Doing.{Means as MeansTree}
-use Rattle.cfb.specs.Streams.{Holds as HoldsTree}
+use Rattle.cfb.specs.Doing.{FileMeans}
+use Rattle.cfb.specs.Streams.{FileHolds}
 use Rattle.cfb.specs.Views.{letters_in}
 use Rattle.cfb.specs.Views as read
 use Rattle.cfb.specs.declared.compound_file.CompoundFile.{CompoundFile}
@@ -13,7 +13,7 @@ use Rattle.cfb_medium.specs.declared.medium.ReadMedium.{Ghosts}
 use Rattle.cfb_tree.specs.Names.{Letters}
 use Rattle.cfb_tree.specs.Tree.{Tree}
 use Rattle.msi_meaning.specs.Opening.{may_use, opened}
-use Rattle.msi_meaning.specs.Package.{Package as Packed, Packs}
+use Rattle.msi_meaning.specs.Package.{Packed, Packs}
 use Rattle.msi_meaning.specs.Sound.{IsSoundPackage}
 use Rattle.msi_meaning.specs.Split.{HasPool, HasSummary, Stores}
 use Rattle.msi_meaning.specs.declared.kind.PackageType.{PackageType}
@@ -68,8 +68,8 @@ module _ {F : Type 0} {g : Ghosts F} where
   written_in it = it.is_summary_written
 
   -- it was only read
-  pub record Rests (old new : Package F g) : Type 0 where
-    pub file : read.Rests (file_in old) (file_in new)
+  pub record PackageRests (old new : Package F g) : Type 0 where
+    pub file : read.FileRests (file_in old) (file_in new)
     pub tables : tables_in new ≡ tables_in old
     pub kind : kind_in new ≡ kind_in old
     pub pool : pool_in new ≡ pool_in old
@@ -79,15 +79,15 @@ module _ {F : Type 0} {g : Ghosts F} where
 
   -- THE PACKAGE IN MEMORY IS THIS ONE: a tree that its file holds stores it, and memory has its other parts, which are those of their
   -- streams unless they were changed. Of a sound package the file means the tree, which stores a sound one.
-  pub record Holds (it : Package F g) (P : Packed) : Type 0 where
+  pub record PackageHolds (it : Package F g) (P : Packed) : Type 0 where
     pub tree : Tree
-    pub file : HoldsTree (file_in it) tree
+    pub file : FileHolds (file_in it) tree
     pub usable : may_use (letters_in (file_in it)) ≡ true
     pub stores : Stores (letters_in (file_in it)) tree P
     pub memory : IsMemoryOf (kind_in it) (summary_in it).props (pool_in it).pool (tables_in it) P
     pub pool : (pool_in it).modified ≡ false → HasPool (letters_in (file_in it)) tree P.pool
     pub summary : written_in it ≡ true → HasSummary (letters_in (file_in it)) tree P.summary
-    pub sound : IsTrue (sound_in it) → MeansTree (file_in it) tree × StoresSound (letters_in (file_in it)) tree P
+    pub sound : IsTrue (sound_in it) → FileMeans (file_in it) tree × StoresSound (letters_in (file_in it)) tree P
 
   -- Opened over these bytes under this letter table: kind, summary and pool are those that each tree tells that they show, and so are the
   -- tables; each package that the tree packs that they mean is held; and it was judged exactly whether they hold a sound package.
@@ -95,5 +95,5 @@ module _ {F : Type 0} {g : Ghosts F} where
     pub compared : letters_in (file_in it) ≡ letters
     pub told : (tree : Tree) → ShowsTree letters bytes tree → opened letters tree ≡ Ok (kind_in it, ((summary_in it).props, (pool_in it).pool))
     pub schema : (tree : Tree) → ShowsTree letters bytes tree → HasSchema letters tree (pool_in it).pool (tables_in it)
-    pub holds : (tree : Tree) (P : Packed) → Means letters bytes tree → Packs letters tree P → Holds it P
+    pub holds : (tree : Tree) (P : Packed) → Means letters bytes tree → Packs letters tree P → PackageHolds it P
     pub sound : IsTrue (sound_in it) ↔ IsSoundFile letters bytes

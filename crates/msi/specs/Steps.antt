@@ -1,6 +1,6 @@
 -- What is found in a file that was opened, on the way to its package: steps of private functions.
 use Rattle.std.specs.Prelude.{◌≡◌, ◌⊎◌, ◌↔◌, false, true, Bool, Err, IsTrue}
-use Rattle.cfb.specs.Streams.{Holds as HoldsTree}
+use Rattle.cfb.specs.Streams.{FileHolds}
 use Rattle.cfb.specs.Views.{letters_in, mini_of, sound_of}
 use Rattle.cfb.specs.Views as read
 use Rattle.cfb.specs.declared.compound_file.CompoundFile.{CompoundFile}
@@ -18,16 +18,16 @@ use Rattle.msi.specs.declared.package.Package.{Package}
 module _ {F : Type 0} {g : Ghosts F} where
   -- the package of the file, which was only read
   pub record IsFound (file : CompoundFile F g) (it : Package F g) : Type 0 where
-    pub rests : read.Rests file (file_in it)
+    pub rests : read.FileRests file (file_in it)
     pub parts : (tree : Tree) → HoldsShown file tree → may_use (letters_in file) ≡ true
         → (gives_back : Bool) × AreParts (letters_in file) tree (kind_in it) (summary_in it) (pool_in it).pool gives_back (tables_in it)
-    pub judged : (tree : Tree) → HoldsTree file tree → may_use (letters_in file) ≡ true → IsTrue (sound_in it) ↔ IsSoundIn (letters_in file) tree (sound_of file)
+    pub judged : (tree : Tree) → FileHolds file tree → may_use (letters_in file) ≡ true → IsTrue (sound_in it) ↔ IsSoundIn (letters_in file) tree (sound_of file)
     pub unsound : sound_of file ≡ false → sound_in it ≡ false
 
   -- the medium of the file, which was only read, with the refusal of each tree that it shows
   pub record IsGivenUp (file : CompoundFile F g) (medium : F) (e : Error) : Type 0 where
     pub new : CompoundFile F g
-    pub rests : read.Rests file new
+    pub rests : read.FileRests file new
     pub medium_is : medium ≡ medium_of (allocator_of (mini_of new))
     pub cause : HasCauseBelow (allocator_of (mini_of file)) (allocator_of (mini_of new)) e
     pub told : (tree : Tree) → HoldsShown file tree → may_use (letters_in file) ≡ true → IsLostPart (letters_in file) (bytes_in file) e ⊎ (opened (letters_in file) tree ≡ Err e)

@@ -3,7 +3,7 @@ ghost use Rattle.std.specs.Prelude.{◌≡◌, Ok};
 ghost use Rattle.cfb.specs.Views.{letters_in, mini_of};
 ghost use Rattle.cfb_mini.specs.Views.{allocator_of};
 ghost use Rattle.cfb_owned.specs.Chains.{GoesOn};
-ghost use Rattle.msi.specs.Changing.{failed_in, permission, setting_page, Changes};
+ghost use Rattle.msi.specs.Changing.{failed_in, permission, setting_page, PackageChanges};
 ghost use Rattle.msi.specs.Opened.{file_in, sound_in};
 ghost use Rattle.msi_changes.specs.Said.{insert_name, insert_rows};
 ghost use Rattle.msi_meaning.specs.Calls.{Inserts};
@@ -32,7 +32,7 @@ impl<F: Medium> Package<F> {
     /// Sets the page under which texts are written. `Failed` after an earlier fault, `InvalidData` where the package isn't sound. The
     /// file isn't touched before a flush; a text that the page lacks is then written with `?` in it.
     pub fn set_database_codepage(&mut self, codepage: CodePage) -> Result<(), Error>
-        ensures changes { Changes (setting_page codepage) result self.old self.new }
+        ensures changes { PackageChanges (setting_page codepage) result self.old self.new }
         ensures file { file_in self.new ≡ file_in self.old }
     {
         if let Err(error) = self.may_change() {
@@ -47,7 +47,7 @@ impl<F: Medium> Package<F> {
     /// `InvalidInput` where a stream of the file's version has fewer bytes. `Full` where numbers of entries or sectors are missing. The
     /// other errors are faults. After an error nothing is changed, or the package has failed.
     pub fn write_stream(&mut self, name: &str, bytes: &[u8]) -> Result<(), Error>
-        ensures changes { Changes (Makes (written_within (letters_in (file_in self.old))
+        ensures changes { PackageChanges (Makes (written_within (letters_in (file_in self.old))
             (most_bytes (file_in self.old)) name.now bytes.now)) result self.old self.new }
         ensures goes_on { GoesOn (allocator_of (mini_of (file_in self.old)))
             (allocator_of (mini_of (file_in self.new))) }
@@ -62,7 +62,7 @@ impl<F: Medium> Package<F> {
     /// where no stream can have the name, `NotFound` where none has. The other errors are faults. After an error nothing is changed, or
     /// the package has failed.
     pub fn remove_stream(&mut self, name: &str) -> Result<(), Error>
-        ensures changes { Changes (Makes (λ P. stream_removed (letters_in (file_in self.old)) P
+        ensures changes { PackageChanges (Makes (λ P. stream_removed (letters_in (file_in self.old)) P
             name.now)) result self.old self.new }
         ensures goes_on { GoesOn (allocator_of (mini_of (file_in self.old)))
             (allocator_of (mini_of (file_in self.new))) }
@@ -76,7 +76,7 @@ impl<F: Medium> Package<F> {
     /// Removes the two streams of the digital signature, those of them that are there. `Failed` after an earlier fault, `InvalidData`
     /// where the package isn't sound. The other errors are faults. After an error nothing is changed, or the package has failed.
     pub fn remove_digital_signature(&mut self) -> Result<(), Error>
-        ensures changes { Changes (Makes (λ P. Ok (unsigned (letters_in (file_in self.old)) P)))
+        ensures changes { PackageChanges (Makes (λ P. Ok (unsigned (letters_in (file_in self.old)) P)))
             result self.old self.new }
         ensures goes_on { GoesOn (allocator_of (mini_of (file_in self.old)))
             (allocator_of (mini_of (file_in self.new))) }
@@ -92,7 +92,7 @@ impl<F: Medium> Package<F> {
     /// The other errors are faults. The rows are written to the file; their texts are counted in memory, and written by a flush. After
     /// an error nothing is changed, or the package has failed.
     pub fn insert_rows(&mut self, query: &Insert) -> Result<(), Error>
-        ensures changes { Changes (λ P Q answer. Inserts P (insert_name query.now)
+        ensures changes { PackageChanges (λ P Q answer. Inserts P (insert_name query.now)
             (insert_rows query.now) Q answer) result self.old self.new }
         ensures goes_on { GoesOn (allocator_of (mini_of (file_in self.old)))
             (allocator_of (mini_of (file_in self.new))) }

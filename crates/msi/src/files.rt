@@ -28,13 +28,13 @@ pub fn open<R: Files<File = File>>(
     ensures error { IfErr result (λ e. IsOpenRefusal e ⊎ IsOpeningError e) }
 {
     match FileMedium::open(rt, path) {
-        Ok(medium) => opened(alloc, medium, letters),
+        Ok(medium) => package_in_medium(alloc, medium, letters),
         Err(error) => Err(error),
     }
 }
 
 // The package in a medium that is let go where it is refused.
-fn opened(
+fn package_in_medium(
     alloc: Global,
     medium: FileMedium,
     letters: CaseMapper,

@@ -1,8 +1,8 @@
 //! Packages whose pool and summary are written to their streams.
 ghost use Rattle.std.specs.Prelude.{◌≡◌, ◌⊎◌, ◌&&◌, not, true, IsTrue, OnErr, OnOk};
-ghost use Rattle.msi.specs.Changing.{failed_in, IsFit, IsWritten, KeepsHeld, Writes};
-ghost use Rattle.msi.specs.Opened.{pool_in, sound_in, written_in, Holds};
-ghost use Rattle.msi_meaning.specs.Package.{Package as Packed};
+ghost use Rattle.msi.specs.Changing.{failed_in, PackageIsFit, PackageIsWritten, KeepsHeld, PackageWrites};
+ghost use Rattle.msi.specs.Opened.{pool_in, sound_in, written_in, PackageHolds};
+ghost use Rattle.msi_meaning.specs.Package.{Packed};
 
 use crate::package::Package;
 use cfb_medium::{Error, Medium};
@@ -14,7 +14,7 @@ impl<F: Medium> Package<F> {
     /// or a stream would be too long; the other errors are faults. After an error nothing is changed, or the package has failed. A
     /// text that its page lacks is written with `?` in it.
     pub fn flush(&mut self) -> Result<(), Error>
-        ensures writes { Writes result self.old self.new }
+        ensures writes { PackageWrites result self.old self.new }
     {
         if self.store.file.has_failed() {
             return Err(Error::Failed);
@@ -37,8 +37,8 @@ impl<F: Medium> Package<F> {
 
     // Writes both, and flushes the file.
     fn write_memory(&mut self) -> Result<(), Error>
-        ensures written { OnOk result ((P : Packed) → Holds self.old P → IsTrue (sound_in self.old)
-            → IsFit P → IsWritten self.new P) }
+        ensures written { OnOk result ((P : Packed) → PackageHolds self.old P → IsTrue (sound_in self.old)
+            → PackageIsFit P → PackageIsWritten self.new P) }
         ensures rests { OnErr result ((failed_in self.new ≡ true)
             ⊎ (IsTrue (sound_in self.old) → KeepsHeld self.old self.new)) }
     {

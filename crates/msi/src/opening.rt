@@ -1,7 +1,7 @@
 //! Packages that are opened.
 ghost use Rattle.std.specs.Prelude.{◌≡◌, ◌⊎◌, ◌↔◌, false, true, IfErr, IfOk, IsTrue};
-ghost use Rattle.cfb.specs.Streams.{Holds};
-ghost use Rattle.cfb.specs.Views.{letters_in, mini_of, sound_of, Rests};
+ghost use Rattle.cfb.specs.Streams.{FileHolds};
+ghost use Rattle.cfb.specs.Views.{letters_in, mini_of, sound_of, FileRests};
 ghost use Rattle.cfb_fat.specs.Tables.{HasCauseBelow};
 ghost use Rattle.cfb_medium.specs.Calls.{HasCauseSince, IsFaultUnless};
 ghost use Rattle.cfb_mini.specs.Views.{allocator_of};
@@ -53,14 +53,17 @@ impl<F: ReadMedium> Package<F> {
             return Err((medium, Error::InvalidInput));
         }
         match CompoundFile::open(alloc, medium, letters) {
-            Ok(file) => opened(alloc, file),
+            Ok(file) => opened_package(alloc, file),
             Err(refusal) => Err(refusal),
         }
     }
 }
 
 // The package of a file that was opened.
-fn opened<F: ReadMedium>(alloc: Global, mut file: CompoundFile<F>) -> Result<Package<F>, (F, Error)>
+fn opened_package<F: ReadMedium>(
+    alloc: Global,
+    mut file: CompoundFile<F>,
+) -> Result<Package<F>, (F, Error)>
     ensures ok { IfOk result (IsFound file) }
     ensures err { IfErr result (λ e. IsGivenUp file e.0 e.1) }
     ensures kinds { IfErr result (λ e. IsOpeningError e.1) }
@@ -80,33 +83,33 @@ fn judged_parts<F: ReadMedium>(
         → FindsPart (letters_in file.old) (bytes_in file.old)
         (λ found. AreHeld (letters_in file.old) tree found.0) (opened (letters_in file.old) tree)
         result }
-    ensures judged { (tree : Tree) → Holds file.old tree → may_use (letters_in file.old) ≡ true
+    ensures judged { (tree : Tree) → FileHolds file.old tree → may_use (letters_in file.old) ≡ true
         → IfOk result (λ found. IsTrue found.1
         ↔ IsSoundIn (letters_in file.old) tree (sound_of file.old)) }
     ensures unsound { IfOk result (λ found. sound_of file.old ≡ false → found.1 ≡ false) }
-    ensures rests { Rests file.old file.new }
+    ensures rests { FileRests file.old file.new }
     ensures cause { IfErr result (HasCauseBelow (allocator_of (mini_of file.old))
         (allocator_of (mini_of file.new))) }
     ensures kinds { IfErr result IsOpeningError }
 {
     match read_parts(alloc, file) {
-        Ok(parts) => judged(alloc, file, parts),
+        Ok(parts) => parts_and_soundness(alloc, file, parts),
         Err(error) => Err(error),
     }
 }
 
 // The parts, and whether they and their file are a sound package's.
-fn judged<F: ReadMedium>(
+fn parts_and_soundness<F: ReadMedium>(
     alloc: Global,
     file: &mut CompoundFile<F>,
     parts: PackageParts,
 ) -> Result<(PackageParts, bool), Error>
     ensures parts { IfOk result (λ found. found.0 ≡ parts) }
-    ensures judged { (tree : Tree) → Holds file.old tree → may_use (letters_in file.old) ≡ true
+    ensures judged { (tree : Tree) → FileHolds file.old tree → may_use (letters_in file.old) ≡ true
         → AreHeld (letters_in file.old) tree parts → IfOk result (λ found. IsTrue found.1
         ↔ IsSoundIn (letters_in file.old) tree (sound_of file.old)) }
     ensures unsound { IfOk result (λ found. sound_of file.old ≡ false → found.1 ≡ false) }
-    ensures rests { Rests file.old file.new }
+    ensures rests { FileRests file.old file.new }
     ensures cause { IfErr result (HasCauseBelow (allocator_of (mini_of file.old))
         (allocator_of (mini_of file.new))) }
     ensures fault { IfErr result (IsFaultUnless ⊥) }

@@ -7,9 +7,9 @@ ghost use Rattle.cfb_medium.specs.Calls.{IsFaultUnless};
 ghost use Rattle.cfb_medium.specs.declared.error.Error.TheVariants.{InvalidInput, Memory};
 ghost use Rattle.cfb_mini.specs.Views.{allocator_of};
 ghost use Rattle.msi.specs.Lists.{streams_left, tables_left};
-ghost use Rattle.msi.specs.Opened.{file_in, kind_in, pool_in, sound_in, summary_in, tables_in, Holds, Rests};
+ghost use Rattle.msi.specs.Opened.{file_in, kind_in, pool_in, sound_in, summary_in, tables_in, PackageHolds, PackageRests};
 ghost use Rattle.msi_meaning.specs.Calls.{table_names};
-ghost use Rattle.msi_meaning.specs.Package.{Package as Packed};
+ghost use Rattle.msi_meaning.specs.Package.{Packed};
 ghost use Rattle.msi_meaning.specs.Streams.{has_stream, is_signed, may_name, stream_names, stream_read};
 ghost use Rattle.msi_parts.specs.Judged.{heading_named};
 ghost use Rattle.msi_stored.specs.Reading.{TellsOrFault};
@@ -106,7 +106,7 @@ impl<F: ReadMedium> Package<F> {
 
     /// The names of all tables, by their bytes; `_Tables` and `_Columns` are among them. The one error is `Memory`.
     pub fn tables(&self) -> Result<Tables, Error>
-        ensures held { (P : Packed) → Holds self.now P → IfOk result (λ it.
+        ensures held { (P : Packed) → PackageHolds self.now P → IfOk result (λ it.
             map string_bytes (tables_left it) ≡ table_names P) }
         ensures names { IfOk result (λ it. map string_bytes (tables_left it)
             ≡ map (λ h. h.name) (tables_in self.now)) }
@@ -118,7 +118,7 @@ impl<F: ReadMedium> Package<F> {
     /// The names of the streams that belong to no table and are neither a summary nor a signature, in the container's order. Errors
     /// are faults, where a package is held. The package is only looked at.
     pub fn streams(&self) -> Result<Streams, Error>
-        ensures told { (P : Packed) → Holds self.now P → MatchResult result (λ it.
+        ensures told { (P : Packed) → PackageHolds self.now P → MatchResult result (λ it.
             map string_bytes (streams_left it) ≡ stream_names (letters_in (file_in self.now)) P)
             (IsFaultUnless ⊥) }
         ensures cause { IfErr result (HasCauseBelow (allocator_of (mini_of (file_in self.now)))
@@ -129,7 +129,7 @@ impl<F: ReadMedium> Package<F> {
 
     /// Whether there is a stream of this name; none of a name that reading refuses. It takes no memory.
     pub fn has_stream(&self, name: &str) -> bool
-        ensures { (P : Packed) → Holds self.now P
+        ensures { (P : Packed) → PackageHolds self.now P
             → result ≡ has_stream (letters_in (file_in self.now)) P name.now }
     {
         reading::has_stream(&self.store.file, name)
@@ -138,11 +138,11 @@ impl<F: ReadMedium> Package<F> {
     /// A stream that belongs to no table, at its first byte. `InvalidInput` where no stream can have the name, `NotFound` where none
     /// has. Other errors are faults, where a package is held. The package is only read.
     pub fn read_stream(&mut self, name: &str) -> Result<StreamReader, Error>
-        ensures told { (P : Packed) → Holds self.old P → TellsOrFault (λ it. it.bytes)
+        ensures told { (P : Packed) → PackageHolds self.old P → TellsOrFault (λ it. it.bytes)
             (stream_read (letters_in (file_in self.old)) P name.now) result }
         ensures refused { may_name (letters_in (file_in self.old)) name.now ≡ Err InvalidInput
             → IsErrOf result InvalidInput }
-        ensures rests { Rests self.old self.new }
+        ensures rests { PackageRests self.old self.new }
         ensures cause { IfErr result (HasCauseBelow (allocator_of (mini_of (file_in self.old)))
             (allocator_of (mini_of (file_in self.new)))) }
     {
@@ -151,7 +151,7 @@ impl<F: ReadMedium> Package<F> {
 
     /// Whether there is a digital signature. It takes no memory.
     pub fn has_digital_signature(&self) -> bool
-        ensures { (P : Packed) → Holds self.now P
+        ensures { (P : Packed) → PackageHolds self.now P
             → result ≡ is_signed (letters_in (file_in self.now)) P }
     {
         reading::has_digital_signature(&self.store.file)

@@ -1,14 +1,14 @@
 //! Streams of a package's file by their names.
 ghost use Rattle.std.specs.Prelude.{◌≡◌, ◌⊎◌, true, Err, IfErr, IfOk, IsErrOf};
-ghost use Rattle.cfb.specs.Streams.{Holds};
-ghost use Rattle.cfb.specs.Views.{letters_in, mini_of, Rests};
+ghost use Rattle.cfb.specs.Streams.{FileHolds};
+ghost use Rattle.cfb.specs.Views.{letters_in, mini_of, FileRests};
 ghost use Rattle.cfb_fat.specs.Tables.{HasCauseBelow};
 ghost use Rattle.cfb_medium.specs.Calls.{IsFaultUnless};
 ghost use Rattle.cfb_medium.specs.declared.error.Error.TheVariants.{InvalidData, InvalidInput, NotFound};
 ghost use Rattle.cfb_mini.specs.Views.{allocator_of};
 ghost use Rattle.cfb_tree.specs.Tree.{Tree};
 ghost use Rattle.msi_meaning.specs.Opening.{may_use};
-ghost use Rattle.msi_meaning.specs.Package.{Package as Packed};
+ghost use Rattle.msi_meaning.specs.Package.{Packed};
 ghost use Rattle.msi_meaning.specs.Split.{Stores};
 ghost use Rattle.msi_meaning.specs.Streams.{has_stream, is_signed, may_name, stream_read};
 ghost use Rattle.msi_stored.specs.Reading.{TellsOrFault};
@@ -22,7 +22,7 @@ use msi_texts::{DIGITAL_SIGNATURE_STREAM_NAME, SUMMARY_INFO_STREAM_NAME};
 
 /// Whether there is a stream of this name; none where reading refuses the name. It takes no memory.
 pub(crate) fn has_stream<F: ReadMedium>(file: &CompoundFile<F>, name: &str) -> bool
-    ensures { (tree : Tree) → Holds file.now tree → (P : Packed)
+    ensures { (tree : Tree) → FileHolds file.now tree → (P : Packed)
         → Stores (letters_in file.now) tree P → may_use (letters_in file.now) ≡ true
         → result ≡ has_stream (letters_in file.now) P name.now }
 {
@@ -38,13 +38,13 @@ pub(crate) fn read_stream<F: ReadMedium>(
     file: &mut CompoundFile<F>,
     name: &str,
 ) -> Result<StreamReader, Error>
-    ensures told { (tree : Tree) → Holds file.old tree → (P : Packed)
+    ensures told { (tree : Tree) → FileHolds file.old tree → (P : Packed)
         → Stores (letters_in file.old) tree P → may_use (letters_in file.old) ≡ true
         → TellsOrFault (λ it. it.bytes) (stream_read (letters_in file.old) P name.now) result }
     ensures at_start { IfOk result (λ it. it.position ≡ 0) }
     ensures refused { may_name (letters_in file.old) name.now ≡ Err InvalidInput
         → IsErrOf result InvalidInput }
-    ensures rests { Rests file.old file.new }
+    ensures rests { FileRests file.old file.new }
     ensures cause { IfErr result (HasCauseBelow (allocator_of (mini_of file.old))
         (allocator_of (mini_of file.new))) }
     ensures error { IfErr result (λ e. IsFaultUnless ⊥ e ⊎ (e ≡ InvalidData)
@@ -63,7 +63,7 @@ pub(crate) fn read_stream<F: ReadMedium>(
 
 /// Whether there is a digital signature. A letter table under which its name is the summary's leaves it none. It takes no memory.
 pub(crate) fn has_digital_signature<F: ReadMedium>(file: &CompoundFile<F>) -> bool
-    ensures { (tree : Tree) → Holds file.now tree → (P : Packed)
+    ensures { (tree : Tree) → FileHolds file.now tree → (P : Packed)
         → Stores (letters_in file.now) tree P → may_use (letters_in file.now) ≡ true
         → result ≡ is_signed (letters_in file.now) P }
 {

@@ -1,16 +1,16 @@
 //! Rows that a query asks of a package.
 ghost use Rattle.std.specs.Prelude.{◌≡◌, ◌==◌, ◌⊎◌, ◌↔◌, length, true, IfErr, IsErrOf, IsTrue};
-ghost use Rattle.cfb.specs.Streams.{Holds as HoldsTree};
+ghost use Rattle.cfb.specs.Streams.{FileHolds};
 ghost use Rattle.cfb.specs.Views.{mini_of};
 ghost use Rattle.cfb_tree.specs.Tree.{Tree};
 ghost use Rattle.cfb_fat.specs.Tables.{has_failed_here, HasCauseBelow};
 ghost use Rattle.cfb_medium.specs.declared.error.Error.TheVariants.{Failed};
 ghost use Rattle.cfb_mini.specs.Views.{allocator_of};
-ghost use Rattle.msi.specs.Opened.{file_in, Holds, Rests};
+ghost use Rattle.msi.specs.Opened.{file_in, PackageHolds, PackageRests};
 ghost use Rattle.msi.specs.Rows.{rows_shown};
 ghost use Rattle.msi.specs.Selected.{AnswersAt, IsRefusedQuery};
 ghost use Rattle.msi_meaning.specs.Calls.{selected_in};
-ghost use Rattle.msi_meaning.specs.Package.{Package as Packed};
+ghost use Rattle.msi_meaning.specs.Package.{Packed};
 ghost use Rattle.msi_parts.specs.Whole.{Wide};
 ghost use Rattle.msi_query.specs.Said.{query_of};
 ghost use Rattle.msi_stored.specs.Reading.{TellsOrFault};
@@ -31,29 +31,29 @@ impl<F: ReadMedium> Package<F> {
     /// names has too many rows or its chain breaks. Other errors are faults. The package is only read. It needn't be sound, and a table
     /// that the query doesn't name may have what it likes.
     pub fn select_rows(&mut self, query: &Select) -> Result<Rows, Error>
-        ensures answer { (P : Packed) → Holds self.old P → TellsOrFault rows_shown
+        ensures answer { (P : Packed) → PackageHolds self.old P → TellsOrFault rows_shown
             (selected_in P (query_of query.now)) result }
-        ensures read { (tree : Tree) → HoldsTree (file_in self.old) tree
+        ensures read { (tree : Tree) → FileHolds (file_in self.old) tree
             → AnswersAt self.old tree query.now result }
-        ensures rests { Rests self.old self.new }
+        ensures rests { PackageRests self.old self.new }
         ensures failed { has_failed_here (allocator_of (mini_of (file_in self.old))) ≡ true
             → IsErrOf result Failed }
         ensures cause { IfErr result (λ e. HasCauseBelow (allocator_of (mini_of (file_in self.old)))
             (allocator_of (mini_of (file_in self.new))) e ⊎ IsRefusedQuery self.old query.now e) }
     {
         match self.store.file.root_entry() {
-            Ok(_root) => self.selected(query),
+            Ok(_root) => self.selected_rows(query),
             Err(error) => Err(error),
         }
     }
 
     // The same of a file that has met no fault in a write.
-    fn selected(&mut self, query: &Select) -> Result<Rows, Error>
-        ensures answer { (P : Packed) → Holds self.old P → TellsOrFault rows_shown
+    fn selected_rows(&mut self, query: &Select) -> Result<Rows, Error>
+        ensures answer { (P : Packed) → PackageHolds self.old P → TellsOrFault rows_shown
             (selected_in P (query_of query.now)) result }
-        ensures read { (tree : Tree) → HoldsTree (file_in self.old) tree
+        ensures read { (tree : Tree) → FileHolds (file_in self.old) tree
             → AnswersAt self.old tree query.now result }
-        ensures rests { Rests self.old self.new }
+        ensures rests { PackageRests self.old self.new }
         ensures cause { IfErr result (λ e. HasCauseBelow (allocator_of (mini_of (file_in self.old)))
             (allocator_of (mini_of (file_in self.new))) e ⊎ IsRefusedQuery self.old query.now e) }
     {

@@ -5,7 +5,7 @@ ghost use Rattle.std.specs.Iterator.{YieldsFirst, item_count};
 ghost use Rattle.std.specs.List.{flat_map};
 ghost use Rattle.std.specs.Prelude.{◌≡◌, ◌++◌, ◌⊎◌, map, string_bytes, true, IfErr, IfOk, MatchResult, OnOk};
 ghost use Rattle.cfb.specs.Putting.{IsRefusedOpening};
-ghost use Rattle.cfb.specs.Streams.{Holds};
+ghost use Rattle.cfb.specs.Streams.{FileHolds};
 ghost use Rattle.cfb.specs.Views.{letters_in, mini_of};
 ghost use Rattle.cfb_entries.specs.Listed.{listed_in};
 ghost use Rattle.cfb_entries.specs.Lists.{entries_left};
@@ -16,7 +16,7 @@ ghost use Rattle.cfb_mini.specs.Views.{allocator_of};
 ghost use Rattle.cfb_tree.specs.LetterViews.{letters_of};
 ghost use Rattle.cfb_tree.specs.Tree.{Tree};
 ghost use Rattle.msi_meaning.specs.Opening.{may_use};
-ghost use Rattle.msi_meaning.specs.Package.{Package as Packed};
+ghost use Rattle.msi_meaning.specs.Package.{Packed};
 ghost use Rattle.msi_meaning.specs.Split.{Stores};
 ghost use Rattle.msi_meaning.specs.Streams.{stream_names};
 ghost use Rattle.msi.specs.Lists.{name_listed, streams_left};
@@ -42,7 +42,7 @@ impl Streams {
         alloc: Global,
         file: &CompoundFile<F>,
     ) -> Result<Streams, Error>
-        ensures told { (tree : Tree) → Holds file.now tree → (P : Packed)
+        ensures told { (tree : Tree) → FileHolds file.now tree → (P : Packed)
             → Stores (letters_in file.now) tree P → may_use (letters_in file.now) ≡ true
             → MatchResult result (λ it. map string_bytes (streams_left it)
             ≡ stream_names (letters_in file.now) P) (IsFaultUnless ⊥) }

@@ -11,7 +11,7 @@ use Rattle.msi_pool.specs.Pool.{Pool}
 use Rattle.msi_columns.specs.Column.{Column, are_valid}
 use Rattle.msi_tables.specs.Rows.{Row, max_rows}
 use Rattle.msi_tables.specs.Table.{Table, are_distinct, key_values, keys_of, row_data}
-use Rattle.msi_changes.specs.Laws.{AreCounted, AddsRows}
+use Rattle.msi_changes.specs.Laws.{RowsAreCounted, AddsRows}
 use Rattle.msi_changes.specs.Changes.{inserted, new_keys, rows_counted}
 use Rattle.msi_changes.proofs.DistinctKeys.{passed, distinct_behind}
 use Rattle.msi_changes.proofs.InsertedRows.{Keeps, row_ok, rows_given, rows_stay}
@@ -20,7 +20,7 @@ pub keys_are : (columns : List Column) (p : Pool) (rows : List Row) → map (λ 
 keys_are columns p [] = refl
 keys_are columns p (r ∷ rs) = ap (λ ks. key_values columns (row_data p r) ∷ ks) (keys_are columns p rs)
 
-module _ (may : Bool) (pool : Pool) (t : Table) (new_rows : List (List Datum)) (is_counted : AreCounted pool t.rows) where
+module _ (may : Bool) (pool : Pool) (t : Table) (new_rows : List (List Datum)) (is_counted : RowsAreCounted pool t.rows) where
   -- what is known of the new cells
   abbrev Given : List Row × Pool → Type 0
   Given r = Keeps pool r.1 × (map (row_data r.1) r.0 ≡ new_rows) × (list_all (row_ok r.1) r.0 ≡ true)

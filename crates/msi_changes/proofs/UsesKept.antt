@@ -11,7 +11,7 @@ use Rattle.msi_pool.specs.declared.stringref.ValueRef.{ValueRef}
 use Rattle.msi_pool.specs.declared.stringref.ValueRef.TheVariants as cell
 use Rattle.msi_columns.specs.Column.{Column}
 use Rattle.msi_tables.specs.Rows.{Row}
-use Rattle.msi_changes.specs.Laws.{AreCounted, AreUses, KeepsUses, uses_in}
+use Rattle.msi_changes.specs.Laws.{RowsAreCounted, AreUses, KeepsUses, uses_in}
 use Rattle.msi_changes.proofs.CellUses.{HasUses, IsPlaced, Stays, use_of}
 use Rattle.msi_changes.proofs.RowUses.{IsWhole, row_uses}
 use Rattle.msi_changes.proofs.TurnUses.{All-head, uses_all}
@@ -55,12 +55,12 @@ module _ (columns : List Column) (others : ℕ → ℕ) where
       let rest : list_all (is_counted pool) vs ≡ true = counted_row pool vs (All-tail IsPlaced v vs placed) (λ n at is. some n at (omega (arith, sum_by-cons (λ x. use_of x n) v vs, is))) in
       rw (here, rest) refl
 
-  counted_rows : (pool : Pool) (rows : List Row) → All IsRow rows → ((n : ℕ) → 0 < n → 0 < uses_in rows n → 0 < (at_place pool.places n).count) → AreCounted pool rows
+  counted_rows : (pool : Pool) (rows : List Row) → All IsRow rows → ((n : ℕ) → 0 < n → 0 < uses_in rows n → 0 < (at_place pool.places n).count) → RowsAreCounted pool rows
   counted_rows pool [] whole some = refl
   counted_rows pool (row ∷ rows) whole some =
       let here : list_all (is_counted pool) row ≡ true = counted_row pool row (All-head IsRow row rows whole).placed (λ n at is. some n at (omega (arith, sum_by-cons (λ x. row_uses x n) row rows, is))) in
-      let rest : AreCounted pool rows = counted_rows pool rows (All-tail IsRow row rows whole) (λ n at is. some n at (omega (arith, sum_by-cons (λ x. row_uses x n) row rows, is))) in
+      let rest : RowsAreCounted pool rows = counted_rows pool rows (All-tail IsRow row rows whole) (λ n at is. some n at (omega (arith, sum_by-cons (λ x. row_uses x n) row rows, is))) in
       rw (here, rest) refl
 
-  pub used_are_counted : (pool : Pool) (rows : List Row) → AreUses columns others pool rows → AreCounted pool rows
+  pub used_are_counted : (pool : Pool) (rows : List Row) → AreUses columns others pool rows → RowsAreCounted pool rows
   used_are_counted pool rows uses = counted_rows pool rows (are_whole pool rows uses) (λ n at is. (let h = uses.counts n at in omega (arith, h, is)))

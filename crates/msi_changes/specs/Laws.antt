@@ -26,8 +26,8 @@ pub record KeepsShape (pool : Pool) (t : Table) (after : List Row × Pool) : Typ
   pub kept : KeepsPlaces pool after.1
 
 -- each text of these rows has a use in the pool
-abbrev pub AreCounted : Pool → List Row → Type 0
-AreCounted pool rows = list_all (λ row. list_all (is_counted pool) row) rows ≡ true
+abbrev pub RowsAreCounted : Pool → List Row → Type 0
+RowsAreCounted pool rows = list_all (λ row. list_all (is_counted pool) row) rows ≡ true
 
 -- the table is read with these rows behind its own, and no key stands twice
 pub record AddsRows (pool : Pool) (t : Table) (new_rows : List (List Datum)) (after : List Row × Pool) : Type 0 where

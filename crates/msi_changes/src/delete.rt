@@ -13,7 +13,7 @@ ghost use Rattle.msi_tables.specs.Rows.{AreWritable};
 
 use crate::counting::take_back;
 use cfb_medium::Error;
-use msi_expr::{Expr, fmt_condition, knows_condition, matches, narrowed};
+use msi_expr::{Expr, fmt_condition, knows_condition, matches, narrowed_condition};
 use msi_pool::{Draft, PoolChanges, StringPool, ValueRef};
 use msi_tables::Table;
 use std::alloc::Global;
@@ -45,7 +45,7 @@ impl Delete {
         ensures condition { Answers delete_condition result
             (Ok (narrowed (delete_condition self) (formula_of condition))) }
     {
-        let condition = narrowed(alloc, self.condition, condition)?;
+        let condition = narrowed_condition(alloc, self.condition, condition)?;
         Ok(Delete {
             table_name: self.table_name,
             condition,
@@ -78,7 +78,7 @@ impl Delete {
             → IfOk result (λ r. AreWritable pool.now.pool.long
             (heading_of (rc_value table.now)).columns (rows_held r.0.items)) }
     {
-        self.prepared(alloc, table, rows, pool)
+        self.prepared_rows(alloc, table, rows, pool)
     }
 
     /// The same, and the pool takes the changes over. After an error, `Memory` among them, it is as it was.
@@ -110,7 +110,7 @@ impl Delete {
     }
 
     // The same without a word on which rows can be written.
-    fn prepared(
+    fn prepared_rows(
         &self,
         alloc: Global,
         table: &Rc<Table>,

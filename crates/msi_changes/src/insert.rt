@@ -112,7 +112,7 @@ impl Insert {
             → IfOk result (λ r. AreWritable pool.now.pool.long (heading_of table.now).columns
             (rows_held r.0.items)) }
     {
-        self.prepared(alloc, table, rows, pool)
+        self.prepared_rows(alloc, table, rows, pool)
     }
 
     /// The same, and the pool takes the changes over. After an error, `Memory` among them, it is as it was.
@@ -144,7 +144,7 @@ impl Insert {
     }
 
     // The same without a word on which rows can be written.
-    fn prepared(
+    fn prepared_rows(
         &self,
         alloc: Global,
         table: &Table,

@@ -68,19 +68,19 @@ pub(crate) fn values_of<'a>(
 {
     let mut values = Vec::new(alloc);
     for cell in row {
-        values.push(cell.borrowed(pool))?;
+        values.push(cell.as_borrowed(pool))?;
     }
     Ok(values)
 }
 
 // The values of a row of values. The one error is `Memory`.
-fn borrowed<'a>(alloc: Global, row: &'a [Value]) -> Result<Vec<BorrowedValue<'a>>, Error>
+fn borrowed_row<'a>(alloc: Global, row: &'a [Value]) -> Result<Vec<BorrowedValue<'a>>, Error>
     ensures ok { IfOk result (λ values. borrowed_data values.items ≡ data_of row.now) }
     ensures err { IfErr result (λ e. e ≡ Memory) }
 {
     let mut values = Vec::new(alloc);
     for value in row {
-        values.push(value.borrowed())?;
+        values.push(value.as_borrowed())?;
     }
     Ok(values)
 }
@@ -117,7 +117,7 @@ pub(crate) fn keys_of_values<'a>(
 {
     let mut keys = Vec::new(alloc);
     for row in rows {
-        let values = borrowed(alloc, row)?;
+        let values = borrowed_row(alloc, row)?;
         keys.push(key_of(alloc, columns, &values)?)?;
     }
     Ok(keys)

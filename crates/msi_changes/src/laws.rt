@@ -3,7 +3,7 @@ ghost use Rattle.cfb_medium.specs.declared.error.Error.TheVariants.{InvalidInput
 ghost use Rattle.msi_expr.specs.Formula.{Formula};
 ghost use Rattle.msi_values.specs.Datum.{Datum};
 ghost use Rattle.msi_pool.specs.Pool.{Pool};
-ghost use Rattle.msi_changes.specs.Laws.{AddsRows, AreCounted, AreUses, KeepsShape, KeepsUses, LeavesRows, SetsCells, StoredAlike};
+ghost use Rattle.msi_changes.specs.Laws.{AddsRows, RowsAreCounted, AreUses, KeepsShape, KeepsUses, LeavesRows, SetsCells, StoredAlike};
 ghost use Rattle.msi_changes.specs.Changes.{deleted, inserted, updated};
 ghost use Rattle.msi_columns.specs.Column.{Column};
 ghost use Rattle.msi_tables.specs.Rows.{IsStored, Row};
@@ -15,7 +15,7 @@ ghost use Rattle.std.specs.Prelude.{◌≡◌, Bool, Err, IfOk, List, MatchResul
 #[tactic(auto, using(crate::proofs::InsertLaw::adds_rows))]
 pub fn inserts_add_their_rows()
     ensures { (may : Bool) (pool : Pool) (t : Table) (new_rows : List (List Datum))
-        → AreCounted pool t.rows → IfOk (inserted may pool t new_rows) (AddsRows pool t new_rows) }
+        → RowsAreCounted pool t.rows → IfOk (inserted may pool t new_rows) (AddsRows pool t new_rows) }
 {}
 
 /// An update that is accepted sets exactly its cells, and keys are distinct after it where they were before it or a column of the
@@ -46,7 +46,7 @@ pub fn inserts_count_their_texts()
         (others : ℕ → ℕ) → AreUses t.columns others pool t.rows
         → IfOk (inserted may pool t new_rows) (KeepsUses pool t.columns others) }
     ensures counted { (columns : List Column) (others : ℕ → ℕ) (pool : Pool) (rows : List Row)
-        → AreUses columns others pool rows → AreCounted pool rows }
+        → AreUses columns others pool rows → RowsAreCounted pool rows }
 {}
 
 /// The order in which rows are stored, after an update or delete and after an insert, changes neither which keys stand twice nor

@@ -81,7 +81,7 @@ pub(crate) fn set_values<'a>(
 {
     for (name, value) in sets {
         let place = table.index_for_column_name(name).unwrap_or(0);
-        put(values, place, value.borrowed());
+        put(values, place, value.as_borrowed());
     }
 }
 

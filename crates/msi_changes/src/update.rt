@@ -19,7 +19,7 @@ use crate::keys::{key_of, key_set, values_of};
 use crate::printing::fmt_sets;
 use crate::setting::{are_sets, set_cells, set_values, sets_key};
 use cfb_medium::Error;
-use msi_expr::{Expr, fmt_condition, knows_condition, matches, narrowed};
+use msi_expr::{Expr, fmt_condition, knows_condition, matches, narrowed_condition};
 use msi_pool::{Draft, PoolChanges, StringPool, ValueRef};
 use msi_tables::Table;
 use msi_values::{BorrowedValue, Value};
@@ -77,7 +77,7 @@ impl Update {
         ensures condition { Answers update_condition result
             (Ok (narrowed (update_condition self) (formula_of condition))) }
     {
-        let condition = narrowed(alloc, self.condition, condition)?;
+        let condition = narrowed_condition(alloc, self.condition, condition)?;
         Ok(Update {
             table_name: self.table_name,
             updates: self.updates,
@@ -113,7 +113,7 @@ impl Update {
             → IfOk result (λ r. AreWritable pool.now.pool.long
             (heading_of (rc_value table.now)).columns (rows_held r.0.items)) }
     {
-        self.prepared(alloc, table, rows, pool)
+        self.prepared_rows(alloc, table, rows, pool)
     }
 
     /// The same, and the pool takes the changes over. After an error, `Memory` among them, it is as it was.
@@ -145,7 +145,7 @@ impl Update {
     }
 
     // The same without a word on which rows can be written.
-    fn prepared(
+    fn prepared_rows(
         &self,
         alloc: Global,
         table: &Rc<Table>,

@@ -3,8 +3,8 @@ use Rattle.std.proofs.Common.{◌≡◌, ◌∙◌, ◌⊎◌, ℕ, Bool, true, 
 use Rattle.std.specs.Prelude.{bytes_eq, option_map, IfErr, MatchResult}
 use Rattle.std.specs.declared.alloc.Global.{Global}
 use Rattle.cfb.specs.Putting.{KeepsMeant}
-use Rattle.cfb.specs.Streams.{Holds}
-use Rattle.cfb.specs.Views.{letters_in, mini_of, sound_of, Rests}
+use Rattle.cfb.specs.Streams.{FileHolds}
+use Rattle.cfb.specs.Views.{letters_in, mini_of, sound_of, FileRests}
 use Rattle.cfb.specs.declared.compound_file.CompoundFile.{CompoundFile}
 use Rattle.cfb.proofs.LiveMeaning.{holds_meant, means_read}
 use Rattle.cfb_fat.specs.Keeping.{own_cause}
@@ -26,7 +26,7 @@ use Rattle.msi_tables.specs.Rows.{Row}
 use Rattle.msi_tables.specs.Table.{table_named, Heading, Table}
 use Rattle.msi_values.specs.Datum.{Datum}
 use Rattle.msi_meaning.specs.Calls.{may_insert, Inserts}
-use Rattle.msi_meaning.specs.Package.{Package as Packed}
+use Rattle.msi_meaning.specs.Package.{Packed}
 use Rattle.msi_meaning.proofs.SystemRows.{same_bytes}
 use Rattle.msi_parts.specs.Judged.{heading_named}
 use Rattle.msi_parts.specs.Parts.{heading}
@@ -59,12 +59,12 @@ abbrev pub rule : List ℕ → List (List Datum) → PackageRule
 rule name news P Q answer = Inserts P name news Q answer
 
 module _ {F : Type 0} {g : Ghosts F} (h : Heading) (news : List (List Datum)) where
-  read_keeps : (old new : CompoundFile F g) → Rests old new → KeepsMeant old new
+  read_keeps : (old new : CompoundFile F g) → FileRests old new → KeepsMeant old new
   read_keeps old new rests = record { means = λ tree m. means_read old new tree rests m }
 
   -- refused, or a fault, where the file was only read
-  pub edit_refused : (old new : CompoundFile F g) (pool : PoolState) (e : Error) → Rests old new
-      → ((tree : Tree) → Holds old tree → pool.pool.long ≡ h.long → (rows : List Row) → rows_in (letters_in old) tree h ≡ Some rows
+  pub edit_refused : (old new : CompoundFile F g) (pool : PoolState) (e : Error) → FileRests old new
+      → ((tree : Tree) → FileHolds old tree → pool.pool.long ≡ h.long → (rows : List Row) → rows_in (letters_in old) tree h ≡ Some rows
       → IsFaultUnless ⊥ e ⊎ (inserted (may_insert h.name) pool.pool (with_rows h rows) news ≡ Err e))
       → EditsTable {T = Unit {0}} (rule h.name news) h (Err e) old new pool pool
   edit_refused old new pool e rests told = record {
@@ -80,7 +80,7 @@ module _ {F : Type 0} {g : Ghosts F} (h : Heading) (news : List (List Datum)) wh
   }
 
   -- the file was read, and then put
-  module _ (old mid new : CompoundFile F g) (rests : Rests old mid) (bytes : List ℕ) (pool : PoolState) where
+  module _ (old mid new : CompoundFile F g) (rests : FileRests old mid) (bytes : List ℕ) (pool : PoolState) where
     keeps_then : KeepsMeant mid new → KeepsMeant old new
     keeps_then k = record { means = λ tree m. k.means tree (means_read old mid tree rests m) }
 
@@ -95,7 +95,7 @@ module _ {F : Type 0} {g : Ghosts F} (h : Heading) (news : List (List Datum)) wh
     }
 
     pub edit_done : (after : PoolState) → (after.modified ≡ false → after ≡ pool)
-        → ((tree : Tree) → Holds old tree → pool.pool.long ≡ h.long → (rows : List Row) → rows_in (letters_in old) tree h ≡ Some rows
+        → ((tree : Tree) → FileHolds old tree → pool.pool.long ≡ h.long → (rows : List Row) → rows_in (letters_in old) tree h ≡ Some rows
         → IsInsert (may_insert h.name) pool.pool (with_rows h rows) news bytes after.pool)
         → PutsTable {T = Unit {0}} h.name bytes (Ok tt) mid new → EditsTable {T = Unit {0}} (rule h.name news) h (Ok tt) old new pool after
     edit_done after marked told p = record {

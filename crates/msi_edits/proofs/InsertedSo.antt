@@ -3,7 +3,7 @@ use Rattle.std.proofs.Common.{◌≡◌, ◌∙◌, ℕ, Bool, true, false, List
 use Rattle.std.specs.Prelude.{not, slice_get, unwrap_or, MatchResult}
 use Rattle.std.specs.List.{remove}
 use Rattle.std.proofs.lemmas.Option.{get_or_from_slice_get, slice_get-get_or, slice_get_within}
-use Rattle.cfb.specs.Doing.{Means}
+use Rattle.cfb.specs.Doing.{FileMeans}
 use Rattle.cfb.specs.Views.{letters_in}
 use Rattle.cfb.specs.declared.compound_file.CompoundFile.{CompoundFile}
 use Rattle.cfb_medium.specs.declared.error.Error.{Error}
@@ -22,9 +22,9 @@ use Rattle.msi_tables.specs.Table.{table_named, Heading, IsStoredByKeys, Table}
 use Rattle.msi_values.specs.Datum.{Datum}
 use Rattle.msi_texts.specs.Results.{◌>>=◌, or_refused}
 use Rattle.msi_meaning.specs.Back.{ComeBack}
-use Rattle.msi_meaning.specs.Calls.{change, changed, is_system, may_insert, rows_put, with_rows, Change, Ends, Inserts, Puts}
+use Rattle.msi_meaning.specs.Calls.{change, changed, is_system, may_insert, rows_put, with_rows, Change, Ends, Inserts, PackagePuts}
 use Rattle.msi_meaning.specs.Package.{at_name, objects, stream_name, table_stream}
-use Rattle.msi_meaning.specs.Package.{Package as Packed}
+use Rattle.msi_meaning.specs.Package.{Packed}
 use Rattle.msi_meaning.specs.Sound.{is_free_table_name, uses_of}
 use Rattle.msi_parts.specs.Parts.{heading}
 use Rattle.msi_stored.specs.Changing.{StoresSound}
@@ -66,17 +66,17 @@ module _ (P : Packed) (t : Table) (news : List (List Datum)) (name : List ℕ) (
   pub insert_done : (rows stored : List Row) (next : Pool) → inserted (may_insert name) P.pool t news ≡ Ok (rows, next) → IsStoredByKeys next t.columns rows stored
       → Inserts P name news (rewritten P name stored next) (Ok tt)
   insert_done rows stored next is by_keys =
-      let Accepted : Change → Type 0 = λ x. (s : List Row) × IsStoredByKeys x.pool x.table.columns x.rows s × Puts P name x s (rewritten P name stored next) in
+      let Accepted : Change → Type 0 = λ x. (s : List Row) × IsStoredByKeys x.pool x.table.columns x.rows s × PackagePuts P name x s (rewritten P name stored next) in
       subst (λ (r : Result Change Error). Ends r P (rewritten P name stored next) (Ok tt) Accepted) (sym (change_is (Ok (rows, next)) is)) (refl, (stored, by_keys, refl))
 
   pub insert_refused : (e : Error) → inserted (may_insert name) P.pool t news ≡ Err e → Inserts P name news P (Err e)
   insert_refused e is =
-      let Accepted : Change → Type 0 = λ x. (s : List Row) × IsStoredByKeys x.pool x.table.columns x.rows s × Puts P name x s P in
+      let Accepted : Change → Type 0 = λ x. (s : List Row) × IsStoredByKeys x.pool x.table.columns x.rows s × PackagePuts P name x s P in
       subst (λ (r : Result Change Error). Ends r P P (Err e) Accepted) (sym (change_is (Err e) is)) (refl, refl)
 
 pub not_found : (P : Packed) (name : List ℕ) (news : List (List Datum)) → table_named P.tables name ≡ None → Inserts P name news P (Err NotFound)
 not_found P name news none =
-    let Accepted : Change → Type 0 = λ x. (s : List Row) × IsStoredByKeys x.pool x.table.columns x.rows s × Puts P name x s P in
+    let Accepted : Change → Type 0 = λ x. (s : List Row) × IsStoredByKeys x.pool x.table.columns x.rows s × PackagePuts P name x s P in
     let is : change P name (λ t. inserted (may_insert name) P.pool t news) ≡ Err NotFound = ap (λ o. or_refused o NotFound >>= λ t. changed t (inserted (may_insert name) P.pool t news)) none in
     subst (λ (r : Result Change Error). Ends r P P (Err NotFound) Accepted) (sym is) (refl, refl)
 
@@ -135,7 +135,7 @@ module _ {F : Type 0} {g : Ghosts F} (old new : CompoundFile F g) (tree : Tree) 
         insert_refused P t news h.name of_it.named e (ap₂ (λ p u. inserted (may_insert h.name) p u news) (sym of_it.pool) (sym (rows_same rows read)) ∙ is)
 
     pub inserted_here : (rows : List Row) (bytes : List ℕ) (after : PoolState) → rows_in letters tree h ≡ Some rows
-        → IsInsert (may_insert h.name) pool (rows_given h rows) news bytes after.pool → (next : Tree) → Means new next → HasPut letters h.name bytes tree next
+        → IsInsert (may_insert h.name) pool (rows_given h rows) news bytes after.pool → (next : Tree) → FileMeans new next → HasPut letters h.name bytes tree next
         → IsEdited (λ P Q answer. Inserts P h.name news Q answer) tree P old new after
     inserted_here rows bytes after read insert next means put =
         let k = place.0 in

@@ -5,8 +5,8 @@ use Rattle.std.specs.Char.Escape.{encode_utf16}
 use Rattle.std.specs.List.{flat_map, list_all}
 use Rattle.std.proofs.lemmas.Bool.{and_parts, or_parts}
 use Rattle.std.proofs.lemmas.Bool.Decides.{nat_tests}
-use Rattle.cfb.specs.Doing.{Means}
-use Rattle.cfb.specs.Putting.{answer_by, put_over, putting, Puts}
+use Rattle.cfb.specs.Doing.{FileMeans}
+use Rattle.cfb.specs.Putting.{answer_by, put_over, putting, FilePuts}
 use Rattle.cfb.specs.Views.{letters_in}
 use Rattle.cfb.specs.declared.compound_file.CompoundFile.{CompoundFile}
 use Rattle.cfb.proofs.PutStreams.{means_shown}
@@ -119,14 +119,14 @@ module _ (letters : Letters) (tree : Tree) (name bytes : List ℕ) (can : CanPut
 
 module _ {F : Type 0} {g : Ghosts F} where
   pub put_table : (name bytes text : List ℕ) → text ≡ encode_utf8_all (stream_name name) → IsUtf8 name → (old new : CompoundFile F g) (r : Result (Unit {0}) Error)
-      → Puts (putting bytes) (names_in text) r old new → PutsTable name bytes r old new
+      → FilePuts (putting bytes) (names_in text) r old new → PutsTable name bytes r old new
   put_table name bytes text is utf8 old new (Ok x) p = record {
     done = λ tree m can.
         let rule = is_put (letters_in old) tree name bytes can (means_shown old tree m).ordered in
         let d = p.done tree m in
         let same : d.names ≡ stream_name name ∷ [] = Some_same (sym d.at_path ∙ ap names_in is ∙ path_of name utf8 can.free) in
         let after_is : (putting bytes (letters_in old) tree d.names).0 ≡ rule.after = ap (λ (o : Outcome). o.0) (ap (putting bytes (letters_in old) tree) same ∙ rule.is) in
-        (rule.after, subst (Means new) after_is d.means, rule.put);
+        (rule.after, subst (FileMeans new) after_is d.means, rule.put);
     refused = tt;
     rests = tt;
     seen = p.seen;

@@ -1,6 +1,6 @@
 -- Calls that change the rows of a table of a package in a file, with the pool beside it.
 use Rattle.std.specs.Prelude.{◌≡◌, ◌⊎◌, ℕ, true, false, not, filter, map, List, None, Some, Result, Err, IfErr, IsErrOf, OnErr, OnOk}
-use Rattle.cfb.specs.Doing.{Means}
+use Rattle.cfb.specs.Doing.{FileMeans}
 use Rattle.cfb.specs.Putting.{KeepsMeant}
 use Rattle.cfb.specs.Views.{letters_in, mini_of, sound_of, validation_of}
 use Rattle.cfb.specs.declared.compound_file.CompoundFile.{CompoundFile}
@@ -13,7 +13,7 @@ use Rattle.cfb_mini.specs.Views.{allocator_of}
 use Rattle.cfb_tree.specs.Names.{Letters}
 use Rattle.cfb_tree.specs.Tree.{Tree}
 use Rattle.msi_meaning.specs.Package.{at_name, is_stream, objects, stream_name}
-use Rattle.msi_meaning.specs.Package.{Package as Packed}
+use Rattle.msi_meaning.specs.Package.{Packed}
 use Rattle.msi_meaning.specs.Sound.{is_free_table_name}
 use Rattle.msi_parts.specs.Parts.{heading}
 use Rattle.msi_pool.specs.Pool.{Pool}
@@ -21,7 +21,7 @@ use Rattle.msi_pool.specs.PoolState.{PoolState}
 use Rattle.msi_rewritten.specs.Rewriting.{HasPut}
 use Rattle.msi_store.specs.Stores.{file_in, tables_in}
 use Rattle.msi_store.specs.declared.store.Store.{Store}
-use Rattle.msi_stored.specs.Changing.{IsChanged, PackageRule, StoresSound}
+use Rattle.msi_stored.specs.Changing.{StoreIsChanged, PackageRule, StoresSound}
 use Rattle.msi_tables.specs.Table.{table_named, Heading, Table}
 
 -- a table can have the name, and no storage of the tree stands where its stream would
@@ -39,21 +39,21 @@ module _ {F : Type 0} {g : Ghosts F} where
   -- The table's stream is put with these bytes. Where it can be put, what comes in between is a fault. After an error the file has
   -- failed, or means what it meant.
   pub record PutsTable {T : Type 0} (name bytes : List ℕ) (result : Result T Error) (old new : CompoundFile F g) : Type 0 where
-    pub done : OnOk result ((tree : Tree) → Means old tree → CanPut (letters_in old) name tree → (after : Tree) × Means new after × HasPut (letters_in old) name bytes tree after)
-    pub refused : IfErr result (λ e. (tree : Tree) → Means old tree → CanPut (letters_in old) name tree → IsFault e)
+    pub done : OnOk result ((tree : Tree) → FileMeans old tree → CanPut (letters_in old) name tree → (after : Tree) × FileMeans new after × HasPut (letters_in old) name bytes tree after)
+    pub refused : IfErr result (λ e. (tree : Tree) → FileMeans old tree → CanPut (letters_in old) name tree → IsFault e)
     pub rests : OnErr result ((has_failed_here (allocator_of (mini_of new)) ≡ true) ⊎ KeepsMeant old new)
     pub seen : (letters_in new ≡ letters_in old) × (sound_of new ≡ sound_of old) × (validation_of new ≡ validation_of old)
 
   -- the rule gives a package whose pool this is, with the tables that were there, but for rows, and the file means a tree that stores it
   pub record IsEdited (rule : PackageRule) (tree : Tree) (P : Packed) (old new : CompoundFile F g) (after : PoolState) : Type 0 where
-    pub changed : IsChanged rule tree P old new
+    pub changed : StoreIsChanged rule tree P old new
     pub pool : after.pool ≡ changed.next.pool
     pub tables : map (heading changed.next.pool.long) changed.next.tables ≡ map (heading P.pool.long) P.tables
 
   -- a call on the rows of one table, as `Edits` has it
   pub record EditsTable {T : Type 0} (rule : PackageRule) (h : Heading) (result : Result T Error) (old new : CompoundFile F g) (before after : PoolState) : Type 0 where
-    pub done : OnOk result ((tree : Tree) (P : Packed) (t : Table) → Means old tree → StoresSound (letters_in old) tree P → IsTableOf before.pool h P t → IsEdited rule tree P old new after)
-    pub refused : IfErr result (λ e. (tree : Tree) (P : Packed) (t : Table) → Means old tree → StoresSound (letters_in old) tree P → IsTableOf before.pool h P t
+    pub done : OnOk result ((tree : Tree) (P : Packed) (t : Table) → FileMeans old tree → StoresSound (letters_in old) tree P → IsTableOf before.pool h P t → IsEdited rule tree P old new after)
+    pub refused : IfErr result (λ e. (tree : Tree) (P : Packed) (t : Table) → FileMeans old tree → StoresSound (letters_in old) tree P → IsTableOf before.pool h P t
         → IsFault e ⊎ (rule P P (Err e) × KeepsMeant old new))
     pub rests : OnErr result ((has_failed_here (allocator_of (mini_of new)) ≡ true) ⊎ KeepsMeant old new)
     pub pool : OnErr result (after ≡ before)
@@ -72,9 +72,9 @@ module _ {F : Type 0} {g : Ghosts F} where
   pub record Edits {T : Type 0} (rule : PackageRule) (result : Result T Error) (old new : Store F g) (before after : PoolState) : Type 0 where
     pub failed : has_failed_here (allocator_of (mini_of (file_in old))) ≡ true → IsErrOf result Failed
     pub unsound : has_failed_here (allocator_of (mini_of (file_in old))) ≡ false → sound_of (file_in old) ≡ false → IsErrOf result InvalidData
-    pub done : OnOk result ((tree : Tree) (P : Packed) → Means (file_in old) tree → StoresSound (letters_in (file_in old)) tree P → IsMemoryOf old before.pool P
+    pub done : OnOk result ((tree : Tree) (P : Packed) → FileMeans (file_in old) tree → StoresSound (letters_in (file_in old)) tree P → IsMemoryOf old before.pool P
         → IsEdited rule tree P (file_in old) (file_in new) after)
-    pub refused : IfErr result (λ e. (tree : Tree) (P : Packed) → Means (file_in old) tree → StoresSound (letters_in (file_in old)) tree P → IsMemoryOf old before.pool P
+    pub refused : IfErr result (λ e. (tree : Tree) (P : Packed) → FileMeans (file_in old) tree → StoresSound (letters_in (file_in old)) tree P → IsMemoryOf old before.pool P
         → IsFault e ⊎ (rule P P (Err e) × KeepsMeant (file_in old) (file_in new)))
     pub rests : OnErr result ((has_failed_here (allocator_of (mini_of (file_in new))) ≡ true) ⊎ KeepsMeant (file_in old) (file_in new))
     pub pool : OnErr result (after ≡ before)

@@ -5,7 +5,7 @@ use Rattle.cfb_medium.specs.declared.error.Error.{Error}
 use Rattle.cfb_medium.specs.declared.error.Error.TheVariants.{Memory}
 use Rattle.msi_columns.specs.Column.{Column}
 use Rattle.msi_changes.specs.Changes.{inserted}
-use Rattle.msi_changes.specs.Laws.{AreCounted}
+use Rattle.msi_changes.specs.Laws.{RowsAreCounted}
 use Rattle.msi_pool.specs.Pool.{Pool}
 use Rattle.msi_tables.specs.Rows.{has_place, kinds_of, rows_bytes, AreWritable, IsStored, Row}
 use Rattle.msi_tables.specs.Table.{IsStoredByKeys, Table}
@@ -19,7 +19,7 @@ pub record IsInsert (may : Bool) (pool : Pool) (t : Table) (new_rows : List (Lis
   pub places : All (λ row. IsTrue (list_all has_place row)) rows
   pub writable : AreWritable pool.long t.columns rows
   pub stored : List Row
-  pub by_keys : AreCounted pool t.rows → IsStoredByKeys next t.columns rows stored
+  pub by_keys : RowsAreCounted pool t.rows → IsStoredByKeys next t.columns rows stored
   pub written : rows_bytes pool.long (kinds_of t.columns) stored ≡ Some bytes
 
 -- the bytes are those of the rows in their stored order

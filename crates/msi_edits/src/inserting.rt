@@ -1,7 +1,7 @@
 //! Inserts into tables of a package.
 ghost use Rattle.std.specs.Prelude.{◌≡◌, ◌⊎◌, false, true, Err, IfErr, IfOk, List, MatchResult, OnOk, Some};
-ghost use Rattle.cfb.specs.Streams.{Holds};
-ghost use Rattle.cfb.specs.Views.{letters_in, mini_of, sound_of, Rests};
+ghost use Rattle.cfb.specs.Streams.{FileHolds};
+ghost use Rattle.cfb.specs.Views.{letters_in, mini_of, sound_of, FileRests};
 ghost use Rattle.cfb_fat.specs.Tables.{has_failed_here, HasCauseBelow};
 ghost use Rattle.cfb_medium.specs.Calls.{IsFaultUnless};
 ghost use Rattle.cfb_medium.specs.declared.error.Error.TheVariants.{Failed, InvalidData};
@@ -34,14 +34,14 @@ use std::mem::replace;
 
 // What an insert makes of a table, whose rows are read: the bytes of those that it leaves, and what the pool has to take over. The
 // file is only read. `InvalidData` where the table has too many rows, or its references aren't as wide as the pool's.
-fn prepared<F: ReadMedium>(
+fn prepared_insert<F: ReadMedium>(
     alloc: Global,
     file: &mut CompoundFile<F>,
     table: &Table,
     pool: &StringPool,
     insert: &Insert,
 ) -> Result<(Vec<u8>, PoolChanges), Error>
-    ensures told { (tree : Tree) → Holds file.old tree → pool.now.pool.long
+    ensures told { (tree : Tree) → FileHolds file.old tree → pool.now.pool.long
         ≡ (heading_of table.now).long → (rows : List Row)
         → rows_in (letters_in file.old) tree (heading_of table.now) ≡ Some rows
         → MatchResult result (λ r. IsInsert (may_insert (heading_of table.now).name) pool.now.pool
@@ -50,7 +50,7 @@ fn prepared<F: ReadMedium>(
         ⊎ (inserted (may_insert (heading_of table.now).name) pool.now.pool
         (with_rows (heading_of table.now) rows) (insert_rows insert.now) ≡ Err e)) }
     ensures changes { IfOk result (λ r. AreChangesFor pool.now r.1) }
-    ensures rests { Rests file.old file.new }
+    ensures rests { FileRests file.old file.new }
     ensures cause { IfErr result (HasCauseBelow (allocator_of (mini_of file.old))
         (allocator_of (mini_of file.new))) }
 {
@@ -102,7 +102,7 @@ fn insert_into<F: Medium>(
     ensures cause { IfErr result.1 (HasCauseBelow (allocator_of (mini_of file.old))
         (allocator_of (mini_of file.new))) }
 {
-    let (bytes, changes) = match prepared(alloc, file, table, &pool, insert) {
+    let (bytes, changes) = match prepared_insert(alloc, file, table, &pool, insert) {
         Err(error) => return (pool, Err(error)),
         Ok(it) => it,
     };

@@ -31,19 +31,19 @@ fn values_of<'a>(
 {
     let mut values = Vec::new(alloc);
     for cell in row {
-        values.push(cell.borrowed(pool))?;
+        values.push(cell.as_borrowed(pool))?;
     }
     Ok(values)
 }
 
 // The values of a new row.
-fn borrowed<'a>(alloc: Global, row: &'a [Value]) -> Result<Vec<BorrowedValue<'a>>, Error>
+fn borrowed_row<'a>(alloc: Global, row: &'a [Value]) -> Result<Vec<BorrowedValue<'a>>, Error>
     ensures ok { IfOk result (λ values. borrowed_data values.items ≡ data_of row.now) }
     ensures err { IfErr result (λ e. e ≡ Memory) }
 {
     let mut values = Vec::new(alloc);
     for value in row {
-        values.push(value.borrowed())?;
+        values.push(value.as_borrowed())?;
     }
     Ok(values)
 }
@@ -77,13 +77,13 @@ pub(crate) fn with_new_values<'a>(
 {
     let mut values = stored;
     for row in new_rows {
-        values.push(borrowed(alloc, row)?)?;
+        values.push(borrowed_row(alloc, row)?)?;
     }
     Ok(values)
 }
 
 // Rows beside their values.
-fn paired<'a>(
+fn pairs_of<'a>(
     alloc: Global,
     values: Vec<Vec<BorrowedValue<'a>>>,
     rows: Vec<Vec<ValueRef>>,
@@ -104,7 +104,7 @@ fn rows_alone<'a>(
 }
 
 // The rows, whose values are given, in the order of their keys. The one error is `Memory`.
-pub(crate) fn listed<'a>(
+pub(crate) fn rows_in_order<'a>(
     alloc: Global,
     columns: &[Column],
     values: Vec<Vec<BorrowedValue<'a>>>,
@@ -118,7 +118,7 @@ pub(crate) fn listed<'a>(
         (rows_held listed.items)) }
     ensures err { IfErr result (λ e. e ≡ Memory) }
 {
-    let mut pairs = paired(alloc, values, rows)?;
+    let mut pairs = pairs_of(alloc, values, rows)?;
     sort_by_keys(&mut pairs, columns)?;
     Ok(rows_alone(alloc, pairs)?)
 }

@@ -11,7 +11,7 @@ ghost use Rattle.msi_meaning.specs.Calls.{is_system, may_insert};
 ghost use Rattle.msi_tables.specs.Held.{heading_of, rows_held};
 ghost use Rattle.msi_tables.specs.Rows.{has_place, AreWritable, HaveCells, IsWritten};
 
-use crate::listing::{listed, stored_values, with_new_values};
+use crate::listing::{rows_in_order, stored_values, with_new_values};
 use cfb_medium::Error;
 use msi_changes::Insert;
 use msi_pool::{PoolChanges, StringPool, ValueRef};
@@ -49,8 +49,8 @@ pub(crate) fn inserted_rows(
     }
     let values = with_new_values(alloc, values, insert.new_rows())?;
     have_places(&rows);
-    let rows = listed(alloc, table.columns(), values, rows)?;
-    match written(alloc, table, rows) {
+    let rows = rows_in_order(alloc, table.columns(), values, rows)?;
+    match bytes_of_table(alloc, table, rows) {
         Err(error) => Err(error),
         Ok(bytes) => Ok((bytes, changes)),
     }
@@ -64,7 +64,7 @@ fn is_system(name: &str) -> bool
 }
 
 // The bytes of rows.
-fn written(alloc: Global, table: &Table, rows: Vec<Vec<ValueRef>>) -> Result<Vec<u8>, Error>
+fn bytes_of_table(alloc: Global, table: &Table, rows: Vec<Vec<ValueRef>>) -> Result<Vec<u8>, Error>
     requires { HaveCells (length (heading_of table.now).columns) (rows_held rows.items) }
     ensures { MatchResult result (λ bytes. IsWrittenAs (heading_of table.now).long
         (heading_of table.now).columns (rows_held rows.items) bytes.items)

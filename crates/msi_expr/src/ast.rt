@@ -37,16 +37,16 @@ impl Ast {
         ensures { Answers worth_said result (Ok (worth (R.cells row.now) (ast_formula self.now))) }
     {
         match self {
-            Ast::Literal(value) => Ok(Worth::Borrowed(value.borrowed())),
+            Ast::Literal(value) => Ok(Worth::Borrowed(value.as_borrowed())),
             Ast::Column(name) => Ok(Worth::Borrowed(row.value(name.as_str()).unwrap())),
             Ast::UnOp(op, arg) => {
                 let value = arg.eval(alloc, row)?;
-                Ok(Worth::Made(op.apply(value.borrowed())))
+                Ok(Worth::Made(op.apply(value.as_borrowed())))
             }
             Ast::BinOp(op, arg1, arg2) => {
                 let value1 = arg1.eval(alloc, row)?;
                 let value2 = arg2.eval(alloc, row)?;
-                Ok(Worth::Made(op.apply(alloc, value1.borrowed(), value2.borrowed())?))
+                Ok(Worth::Made(op.apply(alloc, value1.as_borrowed(), value2.as_borrowed())?))
             }
             Ast::And(arg1, arg2) => {
                 let holds = arg1.eval(alloc, row)?.to_bool() && arg2.eval(alloc, row)?.to_bool();
@@ -107,7 +107,7 @@ impl Ast {
     }
 
     // The names of two columns, where it asks whether they are equal, and nothing else.
-    pub(crate) fn equated(&self) -> Option<(&str, &str)>
+    pub(crate) fn equated_columns(&self) -> Option<(&str, &str)>
         ensures { option_map (λ names. (names.0.now, names.1.now)) result
             ≡ equated_in (ast_formula self.now) }
     {

@@ -228,7 +228,7 @@ impl Expr {
     {
         match self.ast {
             Ast::Literal(value) => Ok(Expr {
-                ast: Ast::Literal(op.apply(value.borrowed())),
+                ast: Ast::Literal(op.apply(value.as_borrowed())),
             }),
             arg => Ok(Expr {
                 ast: Ast::UnOp(op, Box::new(alloc, arg)?),
@@ -242,7 +242,7 @@ impl Expr {
     {
         match (self.ast, rhs.ast) {
             (Ast::Literal(value1), Ast::Literal(value2)) => Ok(Expr {
-                ast: Ast::Literal(op.apply(alloc, value1.borrowed(), value2.borrowed())?),
+                ast: Ast::Literal(op.apply(alloc, value1.as_borrowed(), value2.as_borrowed())?),
             }),
             (arg1, arg2) => {
                 let left = Box::new(alloc, arg1)?;

@@ -13,7 +13,11 @@ use std::fmt;
 
 /// The condition, which must hold together with one more; that alone, where there was none. The one error is `Memory`, which
 /// spends both.
-pub fn narrowed(alloc: Global, condition: Option<Expr>, more: Expr) -> Result<Option<Expr>, Error>
+pub fn narrowed_condition(
+    alloc: Global,
+    condition: Option<Expr>,
+    more: Expr,
+) -> Result<Option<Expr>, Error>
     ensures { Answers condition_of result
         (Ok (narrowed (condition_of condition) (formula_of more))) }
 {

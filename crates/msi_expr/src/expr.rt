@@ -38,11 +38,11 @@ impl Expr {
     }
 
     /// The names of two columns, where it asks whether they are equal, and nothing else.
-    pub fn equated(&self) -> Option<(&str, &str)>
+    pub fn equated_columns(&self) -> Option<(&str, &str)>
         ensures { option_map (λ names. (names.0.now, names.1.now)) result
             ≡ equated_in (formula_of self.now) }
     {
-        self.ast.equated()
+        self.ast.equated_columns()
     }
 }
 

@@ -10,7 +10,7 @@ mod matching;
 mod operators;
 mod record;
 
-pub use condition::{fmt_condition, narrowed};
+pub use condition::{fmt_condition, narrowed_condition};
 pub use expr::Expr;
 pub use laws::folding_keeps_the_worth;
 pub use matching::{holds, knows, knows_condition, matches};

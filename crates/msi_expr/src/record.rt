@@ -24,12 +24,12 @@ pub(crate) enum Worth<'a> {
 
 impl Worth<'_> {
     // The value where it stands.
-    pub(crate) fn borrowed(&self) -> BorrowedValue<'_>
+    pub(crate) fn as_borrowed(&self) -> BorrowedValue<'_>
         ensures { borrowed_datum result ≡ worth_said self.now }
     {
         match self {
             Worth::Borrowed(value) => *value,
-            Worth::Made(value) => value.borrowed(),
+            Worth::Made(value) => value.as_borrowed(),
         }
     }
 
@@ -37,7 +37,7 @@ impl Worth<'_> {
     pub(crate) fn to_bool(&self) -> bool
         ensures { result ≡ counts_as_true (worth_said self.now) }
     {
-        self.borrowed().to_bool()
+        self.as_borrowed().to_bool()
     }
 
     // A value of its own.
@@ -65,7 +65,7 @@ impl Record for Row {
 
     fn value(&self, name: &str) -> Option<BorrowedValue<'_>> {
         match self.get(name) {
-            Some(value) => Some(value.borrowed()),
+            Some(value) => Some(value.as_borrowed()),
             None => None,
         }
     }
@@ -98,5 +98,5 @@ fn value_at<'a>(pool: &'a StringPool, cells: &[ValueRef], place: usize) -> Borro
         .get(place)
         .copied()
         .unwrap_or(ValueRef::Null)
-        .borrowed(pool)
+        .as_borrowed(pool)
 }

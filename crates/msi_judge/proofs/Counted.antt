@@ -6,7 +6,7 @@ use Rattle.std.proofs.lemmas.List.Elements.{All-cons, All-head, All-tail}
 use Rattle.cfb_tree.specs.Names.{Letters}
 use Rattle.cfb_tree.specs.Tree.{Tree}
 use Rattle.msi_meaning.specs.Known.{HaveRows}
-use Rattle.msi_meaning.specs.Uses.{AreCounted}
+use Rattle.msi_meaning.specs.Uses.{TextsAreCounted}
 use Rattle.msi_parts.proofs.Judging.{named_heading}
 use Rattle.msi_parts.specs.Judged.{AreSoundRows, IsUnlisted, heading_named, list_system}
 use Rattle.msi_parts.specs.Parts.{heading}
@@ -16,7 +16,7 @@ use Rattle.msi_tables.specs.Rows.{Row, kinds_of, rows_of}
 use Rattle.msi_tables.specs.Schema.{begins_with, columns_name, tables_name}
 use Rattle.msi_tables.specs.Table.{Heading, Table, data_rows, row_data, table_named}
 use Rattle.msi_values.specs.Datum.{Datum}
-use Rattle.msi_judge.specs.Counting.{AreCountedAt, IsRead, IsUnlistedAt, table_at}
+use Rattle.msi_judge.specs.Counting.{AreCountedAt, TableIsRead, IsUnlistedAt, table_at}
 
 -- ---- rows that name no system table, by a test and by a fact of each
 
@@ -77,10 +77,10 @@ module _ (letters : Letters) (tree : Tree) (pool : Pool) where
       ap (λ rs. record { name = t.name; columns = t.columns; rows = rs } ∷ map (table_at letters tree) (map (heading pool.long) ts)) here
       ∙ ap (λ us. t ∷ us) (own ts (All-tail (λ t. rows_in letters tree (heading pool.long t) ≡ Some t.rows) t ts all))
 
-  all_read : (ts : List Table) → HaveRows letters tree pool ts → All (IsRead letters tree) (map (heading pool.long) ts)
+  all_read : (ts : List Table) → HaveRows letters tree pool ts → All (TableIsRead letters tree) (map (heading pool.long) ts)
   all_read [] all = λ k d l. absurd (omega (arith, l))
   all_read (t ∷ ts) all =
-      All-cons (IsRead letters tree) (heading pool.long t) (map (heading pool.long) ts)
+      All-cons (TableIsRead letters tree) (heading pool.long t) (map (heading pool.long) ts)
       (is_some_of (rows_in letters tree (heading pool.long t)) t.rows (All-head (λ t. rows_in letters tree (heading pool.long t) ≡ Some t.rows) t ts all))
       (all_read ts (All-tail (λ t. rows_in letters tree (heading pool.long t) ≡ Some t.rows) t ts all))
 
@@ -91,13 +91,13 @@ module _ (letters : Letters) (tree : Tree) (pool : Pool) where
       ap (λ l. record { name = h.name; columns = h.columns; long = l } ∷ map (heading pool.long) (map (table_at letters tree) hs)) (sym (All-head (λ h. h.long ≡ pool.long) h hs wide))
       ∙ ap (λ ks. h ∷ ks) (headings_back hs (All-tail (λ h. h.long ≡ pool.long) h hs wide))
 
-  rows_back : (hs : List Heading) → All (λ h. h.long ≡ pool.long) hs → All (IsRead letters tree) hs → HaveRows letters tree pool (map (table_at letters tree) hs)
+  rows_back : (hs : List Heading) → All (λ h. h.long ≡ pool.long) hs → All (TableIsRead letters tree) hs → HaveRows letters tree pool (map (table_at letters tree) hs)
   rows_back [] wide all = λ k d l. absurd (omega (arith, l))
   rows_back (h ∷ hs) wide all =
       All-cons (λ t. rows_in letters tree (heading pool.long t) ≡ Some t.rows) (table_at letters tree h) (map (table_at letters tree) hs)
       (ap (λ l. rows_in letters tree (record { name = h.name; columns = h.columns; long = l })) (sym (All-head (λ h. h.long ≡ pool.long) h hs wide))
-      ∙ whole (rows_in letters tree h) [] (All-head (IsRead letters tree) h hs all))
-      (rows_back hs (All-tail (λ h. h.long ≡ pool.long) h hs wide) (All-tail (IsRead letters tree) h hs all))
+      ∙ whole (rows_in letters tree h) [] (All-head (TableIsRead letters tree) h hs all))
+      (rows_back hs (All-tail (λ h. h.long ≡ pool.long) h hs wide) (All-tail (TableIsRead letters tree) h hs all))
 
   named_back : (hs : List Heading) (name : List ℕ) → table_named (map (table_at letters tree) hs) name ≡ option_map (table_at letters tree) (heading_named hs name)
   named_back [] name = refl
@@ -127,8 +127,8 @@ module _ (letters : Letters) (tree : Tree) (pool : Pool) where
 
     pub sound_counted : AreSoundRows letters tree pool hs → AreCountedAt letters tree pool hs
     sound_counted s = (
-      subst (λ (ks : List Heading). All (IsRead letters tree) ks) s.same (all_read s.tables s.rows),
-      subst (λ (us : List Table). AreCounted pool us) (sym (own s.tables s.rows) ∙ ap (map (table_at letters tree)) s.same) s.counted,
+      subst (λ (ks : List Heading). All (TableIsRead letters tree) ks) s.same (all_read s.tables s.rows),
+      subst (λ (us : List Table). TextsAreCounted pool us) (sym (own s.tables s.rows) ∙ ap (map (table_at letters tree)) s.same) s.counted,
     )
 
     -- and back

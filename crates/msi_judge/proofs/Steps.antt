@@ -4,8 +4,8 @@ use Rattle.std.specs.Prelude.{Err, IfErr, Ok, Result}
 use Rattle.std.specs.Rc.{rc_value}
 use Rattle.std.specs.declared.alloc.Global.{Global}
 use Rattle.std.specs.declared.rc.Rc.{Rc}
-use Rattle.cfb.specs.Streams.{Holds}
-use Rattle.cfb.specs.Views.{letters_in, mini_of, Rests}
+use Rattle.cfb.specs.Streams.{FileHolds}
+use Rattle.cfb.specs.Views.{letters_in, mini_of, FileRests}
 use Rattle.cfb.specs.declared.compound_file.CompoundFile.{CompoundFile}
 use Rattle.cfb_fat.specs.Tables.{HasCauseBelow}
 use Rattle.cfb_medium.specs.declared.error.Error.{Error}
@@ -20,15 +20,15 @@ use Rattle.msi_judge.specs.Counting.{TakesRows}
 
 module _ {F : Type 0} {g : Ghosts F} where
   -- an error of a later step has its cause since the first
-  pub cause_then : (a b c : CompoundFile F g) (r : Result Bool Error) → Rests a b → IfErr r (HasCauseBelow (allocator_of (mini_of b)) (allocator_of (mini_of c)))
+  pub cause_then : (a b c : CompoundFile F g) (r : Result Bool Error) → FileRests a b → IfErr r (HasCauseBelow (allocator_of (mini_of b)) (allocator_of (mini_of c)))
       → IfErr r (HasCauseBelow (allocator_of (mini_of a)) (allocator_of (mini_of c)))
   cause_then a b c (Ok is) rests cause = tt
   cause_then a b c (Err e) rests cause = file_cause a b c e rests cause
 
   -- what taking the uses of a table tells, of the file before
-  pub takes_so : (a b : CompoundFile F g) → Rests a b → (held : HeldTable) (table : Rc HeldTable Global) → held ≡ rc_value table → (slice left new : List ℕ) → slice ≡ left
-      → (is answer : Bool) → is ≡ answer → ((tree : Tree) → Holds b tree → TakesRows (letters_in b) tree (heading_of held) slice new is)
-      → (tree : Tree) → Holds a tree → TakesRows (letters_in a) tree (heading_of (rc_value table)) left new answer
+  pub takes_so : (a b : CompoundFile F g) → FileRests a b → (held : HeldTable) (table : Rc HeldTable Global) → held ≡ rc_value table → (slice left new : List ℕ) → slice ≡ left
+      → (is answer : Bool) → is ≡ answer → ((tree : Tree) → FileHolds b tree → TakesRows (letters_in b) tree (heading_of held) slice new is)
+      → (tree : Tree) → FileHolds a tree → TakesRows (letters_in a) tree (heading_of (rc_value table)) left new answer
   takes_so a b rests held table same slice left new whole is answer test told = later a b (λ n t. TakesRows n t (heading_of (rc_value table)) left new answer) rests
       (λ tree holds. subst (TakesRows (letters_in b) tree (heading_of (rc_value table)) left new) test
       (subst (λ l. TakesRows (letters_in b) tree (heading_of (rc_value table)) l new is) whole

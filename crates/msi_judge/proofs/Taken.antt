@@ -18,7 +18,7 @@ use Rattle.msi_stored.specs.Stored.{rows_in}
 use Rattle.msi_tables.specs.Rows.{Row, kinds_of}
 use Rattle.msi_tables.specs.Table.{Heading, Table}
 use Rattle.msi_judge.proofs.Counted.{whole}
-use Rattle.msi_judge.specs.Counting.{AreCountedAt, IsRead, TakesRows, rows_at, table_at}
+use Rattle.msi_judge.specs.Counting.{AreCountedAt, TableIsRead, TakesRows, rows_at, table_at}
 
 -- ---- nothing is left
 
@@ -40,7 +40,7 @@ each_none (n ∷ ns) h = ap (λ b. b && has_none ns) (zero_is n (h 0)) ∙ each_
 module _ (letters : Letters) (tree : Tree) where
   -- the rows of tables are read, and what is left is just what their cells use
   pub record AreLeft (left : List ℕ) (hs : List Heading) : Type 0 where
-    pub read : All (IsRead letters tree) hs
+    pub read : All (TableIsRead letters tree) hs
     pub uses : (k : ℕ) → left_at left k ≡ uses_of (map (table_at letters tree) hs) (suc k)
 
   -- behind the last table
@@ -57,7 +57,7 @@ module _ (letters : Letters) (tree : Tree) where
     uses = λ _. subst (λ (rs : List Row). TakesUses (uses_in rs) old new is) (sym (ap (λ o. unwrap_or o []) read)) took;
   }
 
-  pub unread_taken : (h : Heading) (old new : List ℕ) → (IsRead letters tree h → ⊥) → TakesRows letters tree h old new false
+  pub unread_taken : (h : Heading) (old new : List ℕ) → (TableIsRead letters tree h → ⊥) → TakesRows letters tree h old new false
   unread_taken h old new none = record { read = λ e. absurd (cc); uses = λ some. absurd (none some) }
 
   -- one table after the other
@@ -68,30 +68,30 @@ module _ (letters : Letters) (tree : Tree) where
     pub one_taken : TakesRows letters tree h old new true → AreLeft old (h ∷ hs) ↔ AreLeft new hs
     one_taken t = (
       λ a. record {
-        read = All-tail (IsRead letters tree) h hs a.read;
+        read = All-tail (TableIsRead letters tree) h hs a.read;
         uses = λ k. (let took = (t.uses (t.read refl)).taken refl k in let all = a.uses k in let parts = parted (suc k) in omega (arith, took, all, parts));
       },
       λ a. record {
-        read = All-cons (IsRead letters tree) h hs (t.read refl) a.read;
+        read = All-cons (TableIsRead letters tree) h hs (t.read refl) a.read;
         uses = λ k. (let took = (t.uses (t.read refl)).taken refl k in let rest = a.uses k in let parts = parted (suc k) in omega (arith, took, rest, parts));
       },
     )
 
     pub one_short : TakesRows letters tree h old new false → AreLeft old (h ∷ hs) → ⊥
     one_short t a =
-        let short = (t.uses (All-head (IsRead letters tree) h hs a.read)).short refl in
+        let short = (t.uses (All-head (TableIsRead letters tree) h hs a.read)).short refl in
         let few = short.1 in let all = a.uses short.0 in let parts = parted (suc short.0) in
         omega (arith, few, all, parts)
 
   -- ---- the pool's counts
 
   -- no cell of rows that are read names place 0
-  none_named : (hs : List Heading) → All (IsRead letters tree) hs → uses_of (map (table_at letters tree) hs) 0 ≡ 0
+  none_named : (hs : List Heading) → All (TableIsRead letters tree) hs → uses_of (map (table_at letters tree) hs) 0 ≡ 0
   none_named [] all = refl
   none_named (h ∷ hs) all =
       let here = (rows_read h.long (kinds_of h.columns) (unwrap_or (table_stream letters (objects tree.content) h.name) []) (rows_at letters tree h)
-      (whole (rows_in letters tree h) [] (All-head (IsRead letters tree) h hs all))).1 in
-      let later = none_named hs (All-tail (IsRead letters tree) h hs all) in
+      (whole (rows_in letters tree h) [] (All-head (TableIsRead letters tree) h hs all))).1 in
+      let later = none_named hs (All-tail (TableIsRead letters tree) h hs all) in
       let parts = sum_by-cons (λ (t : Table). uses_in t.rows 0) (table_at letters tree h) (map (table_at letters tree) hs) in
       omega (arith, here, later, parts)
 

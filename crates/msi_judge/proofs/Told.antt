@@ -17,7 +17,7 @@ use Rattle.msi_pool.specs.Pool.{Pool}
 use Rattle.msi_stored.specs.Stored.{rows_in}
 use Rattle.msi_tables.specs.Rows.{Row}
 use Rattle.msi_tables.specs.Table.{Heading}
-use Rattle.msi_judge.specs.Counting.{IsRead, IsUnlistedAt}
+use Rattle.msi_judge.specs.Counting.{TableIsRead, IsUnlistedAt}
 
 -- ---- answers
 
@@ -53,11 +53,11 @@ module _ (letters : Letters) (tree : Tree) (h : Heading) where
       not_true true e = absurd (cc)
       not_true false e = refl
 
-  unread_no : rows_in letters tree h ≡ None → IsRead letters tree h → ⊥
+  unread_no : rows_in letters tree h ≡ None → TableIsRead letters tree h → ⊥
   unread_no none some = let no : false ≡ true = sym (ap is_some none) ∙ some in absurd (cc)
 
   -- rows that can't be read
-  pub no_rows : (error : Error) → IsFaultUnless ⊥ error ⊎ ((error ≡ InvalidData) × (rows_in letters tree h ≡ None)) → (IsFaultUnless ⊥ error → ⊥) → IsRead letters tree h → ⊥
+  pub no_rows : (error : Error) → IsFaultUnless ⊥ error ⊎ ((error ≡ InvalidData) × (rows_in letters tree h ≡ None)) → (IsFaultUnless ⊥ error → ⊥) → TableIsRead letters tree h → ⊥
   no_rows error (inl fault) other some = other fault
   no_rows error (inr both) other some = unread_no both.1 some
 

@@ -3,7 +3,7 @@ use Rattle.std.specs.Prelude.{◌≡◌, ℕ, Bool, true, false, List, [], map, 
 use Rattle.cfb_tree.specs.Names.{Letters}
 use Rattle.cfb_tree.specs.Tree.{Tree}
 use Rattle.msi_changes.specs.Laws.{uses_in}
-use Rattle.msi_meaning.specs.Uses.{AreCounted, TakesUses}
+use Rattle.msi_meaning.specs.Uses.{TextsAreCounted, TakesUses}
 use Rattle.msi_parts.specs.Judged.{list_system}
 use Rattle.msi_pool.specs.Pool.{Pool}
 use Rattle.msi_stored.specs.Stored.{rows_in}
@@ -20,20 +20,20 @@ module _ (letters : Letters) (tree : Tree) where
   table_at h = record { name = h.name; columns = h.columns; rows = rows_at h }
 
   -- the rows can be read: they aren't too many
-  abbrev pub IsRead : Heading → Type 0
-  IsRead h = IsSome (rows_in letters tree h)
+  abbrev pub TableIsRead : Heading → Type 0
+  TableIsRead h = IsSome (rows_in letters tree h)
 
   -- the rows of _Tables, where there is such a table, can be read and list no system table
   abbrev pub IsUnlistedAt : Pool → Option Heading → Type 0
   IsUnlistedAt pool None = Unit {0}
-  IsUnlistedAt pool (Some h) = IsRead h × (list_system pool (rows_at h) ≡ false)
+  IsUnlistedAt pool (Some h) = TableIsRead h × (list_system pool (rows_at h) ≡ false)
 
   -- the rows of all tables can be read, and the pool counts their texts
   abbrev pub AreCountedAt : Pool → List Heading → Type 0
-  AreCountedAt pool hs = All IsRead hs × AreCounted pool (map table_at hs)
+  AreCountedAt pool hs = All TableIsRead hs × TextsAreCounted pool (map table_at hs)
 
   -- The uses that the rows of a table make were taken: at a yes they were read, and at a no, where they can be read, some place
   -- had too few.
   pub record TakesRows (h : Heading) (old new : List ℕ) (result : Bool) : Type 0 where
-    pub read : result ≡ true → IsRead h
-    pub uses : IsRead h → TakesUses (uses_in (rows_at h)) old new result
+    pub read : result ≡ true → TableIsRead h
+    pub uses : TableIsRead h → TakesUses (uses_in (rows_at h)) old new result

@@ -1,7 +1,7 @@
 //! Whether a pool counts the uses that the cells of all tables make, counted down one table after the other.
 ghost use Rattle.std.specs.Prelude.{◌↔◌, IfErr, IfOk, IsTrue};
-ghost use Rattle.cfb.specs.Streams.{Holds};
-ghost use Rattle.cfb.specs.Views.{letters_in, mini_of, Rests};
+ghost use Rattle.cfb.specs.Streams.{FileHolds};
+ghost use Rattle.cfb.specs.Views.{letters_in, mini_of, FileRests};
 ghost use Rattle.cfb_fat.specs.Tables.{HasCauseBelow};
 ghost use Rattle.cfb_medium.specs.Calls.{IsFaultUnless};
 ghost use Rattle.cfb_mini.specs.Views.{allocator_of};
@@ -28,9 +28,9 @@ pub(crate) fn are_uses_counted<F: ReadMedium>(
     pool: &StringPool,
     tables: &[Rc<Table>],
 ) -> Result<bool, Error>
-    ensures told { (tree : Tree) → Holds file.old tree → IfOk result (λ are. IsTrue are
+    ensures told { (tree : Tree) → FileHolds file.old tree → IfOk result (λ are. IsTrue are
         ↔ AreCountedAt (letters_in file.old) tree pool.now.pool (headings_in tables.now)) }
-    ensures rests { Rests file.old file.new }
+    ensures rests { FileRests file.old file.new }
     ensures cause { IfErr result (HasCauseBelow (allocator_of (mini_of file.old))
         (allocator_of (mini_of file.new))) }
     ensures fault { IfErr result (IsFaultUnless ⊥) }
@@ -54,9 +54,9 @@ fn take_uses<F: ReadMedium>(
     table: &Table,
     left: &mut [u16],
 ) -> Result<bool, Error>
-    ensures told { (tree : Tree) → Holds file.old tree → IfOk result
+    ensures told { (tree : Tree) → FileHolds file.old tree → IfOk result
         (TakesRows (letters_in file.old) tree (heading_of table.now) left.old left.new) }
-    ensures rests { Rests file.old file.new }
+    ensures rests { FileRests file.old file.new }
     ensures cause { IfErr result (HasCauseBelow (allocator_of (mini_of file.old))
         (allocator_of (mini_of file.new))) }
     ensures fault { IfErr result (IsFaultUnless ⊥) }

@@ -1,7 +1,7 @@
 //! Whether a package is sound, part by part.
 ghost use Rattle.std.specs.Prelude.{◌≡◌, ◌↔◌, false, true, All, IfErr, IfOk, IsTrue, Ok};
-ghost use Rattle.cfb.specs.Streams.{Holds};
-ghost use Rattle.cfb.specs.Views.{letters_in, mini_of, sound_of, Rests};
+ghost use Rattle.cfb.specs.Streams.{FileHolds};
+ghost use Rattle.cfb.specs.Views.{letters_in, mini_of, sound_of, FileRests};
 ghost use Rattle.cfb_fat.specs.Tables.{HasCauseBelow};
 ghost use Rattle.cfb_medium.specs.Calls.{IsFaultUnless};
 ghost use Rattle.cfb_mini.specs.Views.{allocator_of};
@@ -35,11 +35,11 @@ pub fn is_sound_package<F: ReadMedium>(
     file: &mut CompoundFile<F>,
     parts: &PackageParts,
 ) -> Result<bool, Error>
-    ensures told { (tree : Tree) → Holds file.old tree → may_use (letters_in file.old) ≡ true
+    ensures told { (tree : Tree) → FileHolds file.old tree → may_use (letters_in file.old) ≡ true
         → AreHeld (letters_in file.old) tree parts.now → IfOk result (λ is. IsTrue is
         ↔ IsSoundIn (letters_in file.old) tree (sound_of file.old)) }
     ensures unsound { sound_of file.old ≡ false → result ≡ Ok false }
-    ensures rests { Rests file.old file.new }
+    ensures rests { FileRests file.old file.new }
     ensures cause { IfErr result (HasCauseBelow (allocator_of (mini_of file.old))
         (allocator_of (mini_of file.new))) }
     ensures fault { IfErr result (IsFaultUnless ⊥) }
@@ -63,7 +63,7 @@ fn are_objects_in_place<F: ReadMedium>(
     file: &CompoundFile<F>,
     tables: &[Rc<Table>],
 ) -> Result<bool, Error>
-    ensures told { (tree : Tree) → Holds file.now tree → IfOk result (λ are. IsTrue are
+    ensures told { (tree : Tree) → FileHolds file.now tree → IfOk result (λ are. IsTrue are
         ↔ All (λ o. IsTrue (is_in_place (letters_in file.now) (headings_in tables.now) o))
         (objects tree.content)) }
     ensures cause { IfErr result (HasCauseBelow (allocator_of (mini_of file.now))
@@ -83,11 +83,11 @@ fn are_rows_sound<F: ReadMedium>(
     pool: &StringPool,
     tables: &[Rc<Table>],
 ) -> Result<bool, Error>
-    ensures told { (tree : Tree) → Holds file.old tree
+    ensures told { (tree : Tree) → FileHolds file.old tree
         → All (λ h. h.long ≡ pool.now.pool.long) (headings_in tables.now) → IfOk result
         (λ are. IsTrue are ↔ AreSoundRows (letters_in file.old) tree pool.now.pool
         (headings_in tables.now)) }
-    ensures rests { Rests file.old file.new }
+    ensures rests { FileRests file.old file.new }
     ensures cause { IfErr result (HasCauseBelow (allocator_of (mini_of file.old))
         (allocator_of (mini_of file.new))) }
     ensures fault { IfErr result (IsFaultUnless ⊥) }

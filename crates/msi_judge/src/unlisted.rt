@@ -1,7 +1,7 @@
 //! Whether the rows of _Tables leave out the tables that need no listing.
 ghost use Rattle.std.specs.Prelude.{◌↔◌, IfErr, IfOk, IsTrue, Some};
-ghost use Rattle.cfb.specs.Streams.{Holds};
-ghost use Rattle.cfb.specs.Views.{letters_in, mini_of, Rests};
+ghost use Rattle.cfb.specs.Streams.{FileHolds};
+ghost use Rattle.cfb.specs.Views.{letters_in, mini_of, FileRests};
 ghost use Rattle.cfb_fat.specs.Tables.{HasCauseBelow};
 ghost use Rattle.cfb_medium.specs.Calls.{IsFaultUnless};
 ghost use Rattle.cfb_mini.specs.Views.{allocator_of};
@@ -29,10 +29,10 @@ pub(crate) fn is_unlisted<F: ReadMedium>(
     pool: &StringPool,
     tables: &[Rc<Table>],
 ) -> Result<bool, Error>
-    ensures told { (tree : Tree) → Holds file.old tree → IfOk result (λ is. IsTrue is
+    ensures told { (tree : Tree) → FileHolds file.old tree → IfOk result (λ is. IsTrue is
         ↔ IsUnlistedAt (letters_in file.old) tree pool.now.pool
         (heading_named (headings_in tables.now) tables_name)) }
-    ensures rests { Rests file.old file.new }
+    ensures rests { FileRests file.old file.new }
     ensures cause { IfErr result (HasCauseBelow (allocator_of (mini_of file.old))
         (allocator_of (mini_of file.new))) }
     ensures fault { IfErr result (IsFaultUnless ⊥) }
@@ -50,9 +50,9 @@ fn lists_no_system_table<F: ReadMedium>(
     pool: &StringPool,
     table: &Table,
 ) -> Result<bool, Error>
-    ensures told { (tree : Tree) → Holds file.old tree → IfOk result (λ is. IsTrue is
+    ensures told { (tree : Tree) → FileHolds file.old tree → IfOk result (λ is. IsTrue is
         ↔ IsUnlistedAt (letters_in file.old) tree pool.now.pool (Some (heading_of table.now))) }
-    ensures rests { Rests file.old file.new }
+    ensures rests { FileRests file.old file.new }
     ensures cause { IfErr result (HasCauseBelow (allocator_of (mini_of file.old))
         (allocator_of (mini_of file.new))) }
     ensures fault { IfErr result (IsFaultUnless ⊥) }

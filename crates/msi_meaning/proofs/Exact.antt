@@ -14,7 +14,7 @@ use Rattle.msi_changes.specs.Laws.{names_place, uses_in}
 use Rattle.msi_tables.specs.Rows.{Row}
 use Rattle.msi_tables.specs.Table.{Table}
 use Rattle.msi_meaning.specs.Sound.{IsUsed, uses_of}
-use Rattle.msi_meaning.specs.Uses.{AreCounted, CountsDown, cell_uses, counts_of, left_at}
+use Rattle.msi_meaning.specs.Uses.{TextsAreCounted, CountsDown, cell_uses, counts_of, left_at}
 
 mapped : (places : List Place) (k : ℕ) → left_at (counts_of places) k ≡ (get_or places k no_place).count
 mapped [] k = refl
@@ -65,7 +65,7 @@ module _ (pool : Pool) (n : ℕ) (free : (at_place pool.places n).count ≡ 0) w
       omega (arith, sum_by-cons (λ t. uses_in t.rows n) t ts, here, later)
 
 -- counted as the clauses say, nothing is left
-counted_ends : (pool : Pool) (ts : List Table) → AreCounted pool ts → (k : ℕ) → left_at (counts_of pool.places) k ≡ uses_of ts (suc k)
+counted_ends : (pool : Pool) (ts : List Table) → TextsAreCounted pool ts → (k : ℕ) → left_at (counts_of pool.places) k ≡ uses_of ts (suc k)
 counted_ends pool ts h k = counts_at pool.places k ∙ by (cases_lt k (length pool.places))
   where
     by : (k < length pool.places) ⊎ (length pool.places ≤ k) → (at_place pool.places (suc k)).count ≡ uses_of ts (suc k)
@@ -73,7 +73,7 @@ counted_ends pool ts h k = counts_at pool.places k ∙ by (cases_lt k (length po
     by (inr le) = let none = past pool.places k le in none ∙ sym (tables_free pool (suc k) none ts h.references)
 
 -- nothing is left: the clauses hold, where no cell names place 0
-ends_counted : (pool : Pool) (ts : List Table) → uses_of ts 0 ≡ 0 → ((k : ℕ) → left_at (counts_of pool.places) k ≡ uses_of ts (suc k)) → AreCounted pool ts
+ends_counted : (pool : Pool) (ts : List Table) → uses_of ts 0 ≡ 0 → ((k : ℕ) → left_at (counts_of pool.places) k ≡ uses_of ts (suc k)) → TextsAreCounted pool ts
 ends_counted pool ts none h = record {
   references = λ i t below j row within k v inside. used i t below j row within k v inside (get_or (get_or (get_or ts i t).rows j row) k v) refl;
   counts = counts;
@@ -109,6 +109,6 @@ ends_counted pool ts none h = record {
     used i t below j row within k v inside (cell.Int z) e = tt
     used i t below j row within k v inside cell.Binary e = tt
 
-pub counted_down : (pool : Pool) (ts : List Table) (result : Bool) → uses_of ts 0 ≡ 0 → CountsDown pool ts result → IsTrue result ↔ AreCounted pool ts
+pub counted_down : (pool : Pool) (ts : List Table) (result : Bool) → uses_of ts 0 ≡ 0 → CountsDown pool ts result → IsTrue result ↔ TextsAreCounted pool ts
 counted_down pool ts true none c = (λ _. ends_counted pool ts none (c.taken refl), λ _. refl)
 counted_down pool ts false none c = (λ e. absurd (cc), λ h. absurd (let k = c.other refl in k.1 (counted_ends pool ts h k.0)))

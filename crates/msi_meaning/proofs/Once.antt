@@ -13,24 +13,24 @@ use Rattle.msi_pool.specs.Pool.{Pool}
 use Rattle.msi_columns.specs.Column.{Column}
 use Rattle.msi_tables.specs.Schema.{tables_name, columns_name, validation_name, tables_columns, columns_columns}
 use Rattle.cfb_tree.specs.Names.{Letters}
-use Rattle.msi_meaning.specs.Package.{Package, at_name, stream_name}
-use Rattle.msi_meaning.specs.Calls.{Ends, Change, Puts, rows_put, Inserts, Updates, Deletes, Creates, Drops, change, may_insert, may_update, created, dropped, own_columns, Rows3, new_table, table_put, rows_beside}
+use Rattle.msi_meaning.specs.Package.{Packed, at_name, stream_name}
+use Rattle.msi_meaning.specs.Calls.{Ends, Change, PackagePuts, rows_put, Inserts, Updates, Deletes, Creates, Drops, change, may_insert, may_update, created, dropped, own_columns, Rows3, new_table, table_put, rows_beside}
 use Rattle.cfb_medium.specs.declared.error.Error.{Error}
 
-module _ (P Q R : Package) (a b : Result (Unit {0}) Error) (name : List ℕ) where
+module _ (P Q R : Packed) (a b : Result (Unit {0}) Error) (name : List ℕ) where
   -- the same stored rows make the same package
-  same_put : (x : Change) (one other : List Row) → one ≡ other → Puts P name x one Q → Puts P name x other R → Q ≡ R
+  same_put : (x : Change) (one other : List Row) → one ≡ other → PackagePuts P name x one Q → PackagePuts P name x other R → Q ≡ R
   same_put x one other same h k = h ∙ ap (λ (stored : List Row). record P { pool = x.pool; tables = rows_put name stored P.tables }) same ∙ sym k
 
   by_keys : (r : Result Change Error) →
-      Ends r P Q a (λ x. (stored : List Row) × IsStoredByKeys x.pool x.table.columns x.rows stored × Puts P name x stored Q) →
-      Ends r P R b (λ x. (stored : List Row) × IsStoredByKeys x.pool x.table.columns x.rows stored × Puts P name x stored R) → (Q ≡ R) × (a ≡ b)
+      Ends r P Q a (λ x. (stored : List Row) × IsStoredByKeys x.pool x.table.columns x.rows stored × PackagePuts P name x stored Q) →
+      Ends r P R b (λ x. (stored : List Row) × IsStoredByKeys x.pool x.table.columns x.rows stored × PackagePuts P name x stored R) → (Q ≡ R) × (a ≡ b)
   by_keys (Err e) h k = (h.0 ∙ sym k.0, h.1 ∙ sym k.1)
   by_keys (Ok x) h k = (same_put x h.1.0 k.1.0 (stored_by_keys_once x.pool x.table.columns x.rows h.1.0 k.1.0 h.1.1 k.1.1) h.1.2 k.1.2, h.0 ∙ sym k.0)
 
   by_order : (r : Result Change Error) →
-      Ends r P Q a (λ x. (stored : List Row) × IsStored x.table.columns x.rows stored × Puts P name x stored Q) →
-      Ends r P R b (λ x. (stored : List Row) × IsStored x.table.columns x.rows stored × Puts P name x stored R) → (Q ≡ R) × (a ≡ b)
+      Ends r P Q a (λ x. (stored : List Row) × IsStored x.table.columns x.rows stored × PackagePuts P name x stored Q) →
+      Ends r P R b (λ x. (stored : List Row) × IsStored x.table.columns x.rows stored × PackagePuts P name x stored R) → (Q ≡ R) × (a ≡ b)
   by_order (Err e) h k = (h.0 ∙ sym k.0, h.1 ∙ sym k.1)
   by_order (Ok x) h k = (same_put x h.1.0 k.1.0 (stored_once x.table.columns x.rows h.1.0 k.1.0 h.1.1 k.1.1) h.1.2 k.1.2, h.0 ∙ sym k.0)
 
@@ -44,7 +44,7 @@ module _ (P Q R : Package) (a b : Result (Unit {0}) Error) (name : List ℕ) whe
   delete_once condition h k = by_order (change P name (λ t. deleted (may_insert name) P.pool t condition)) h k
 
   -- the same three lists of stored rows make the same package
-  same_three : (F : List Row → List Row → List Row → Package) (c c' t t' v v' : List Row) → c ≡ c' → t ≡ t' → v ≡ v' → Q ≡ F c t v → R ≡ F c' t' v' → Q ≡ R
+  same_three : (F : List Row → List Row → List Row → Packed) (c c' t t' v v' : List Row) → c ≡ c' → t ≡ t' → v ≡ v' → Q ≡ F c t v → R ≡ F c' t' v' → Q ≡ R
   same_three F c c' t t' v v' p q r h k = h ∙ ap (λ x. F x t v) p ∙ ap (λ x. F c' x v) q ∙ ap (λ x. F c' t' x) r ∙ sym k
 
   pub create_once : (letters : Letters) (columns : List Column) → Creates letters P name columns Q a → Creates letters P name columns R b → (Q ≡ R) × (a ≡ b)

@@ -14,7 +14,7 @@ use Rattle.msi_summary.specs.Summary.{summary_format}
 use Rattle.msi_tables.specs.Table.{row_data}
 use Rattle.msi_tables.specs.Schema.{columns_columns, columns_name, is_schema, tables_columns, tables_name, validation_columns, validation_name}
 use Rattle.msi_meaning.specs.Opening.{kind_of, may_use, opened, rows_by, summary_read}
-use Rattle.msi_meaning.specs.Package.{Package, Packs, class_of, data_name, objects, pool_name, rows_named, stream_at, summary_name, table_stream}
+use Rattle.msi_meaning.specs.Package.{Packed, Packs, class_of, data_name, objects, pool_name, rows_named, stream_at, summary_name, table_stream}
 use Rattle.cfb_medium.specs.declared.error.Error.{Error}
 use Rattle.cfb_medium.specs.declared.error.Error.TheVariants.{InvalidData, InvalidInput, NotFound}
 use Rattle.msi_meaning.specs.declared.kind.PackageType.{PackageType}
@@ -38,7 +38,7 @@ summary_back bytes s read format =
     then_ok (props_read bytes) s (λ s. unless_not (bytes_eq s.format summary_format) InvalidData >>= λ _. Ok s) read
     ∙ ap (λ b. unless_not b InvalidData >>= λ _. Ok s) (ap (λ f. bytes_eq f summary_format) format ∙ bytes_same summary_format)
 
-module _ (letters : Letters) (tree : Tree) (P : Package) (packs : Packs letters tree P) where
+module _ (letters : Letters) (tree : Tree) (P : Packed) (packs : Packs letters tree P) where
   abbrev pub read_rows : List ℕ → List Column → Result (List Row) Error
   read_rows name columns = rows_by letters (objects tree.content) P.pool name columns
 

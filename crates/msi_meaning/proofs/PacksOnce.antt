@@ -14,7 +14,7 @@ use Rattle.msi_props.specs.Props.{props_read}
 use Rattle.msi_tables.specs.Rows.{Row}
 use Rattle.msi_tables.specs.Table.{Table, row_data}
 use Rattle.msi_tables.specs.Schema.{begins_with, columns_columns, columns_in, columns_name, tables_columns, tables_name, validation_columns, validation_name}
-use Rattle.msi_meaning.specs.Package.{Package, Packs, class_of, is_own, is_stream, is_table_name, objects, rows_named, table_name_cmp}
+use Rattle.msi_meaning.specs.Package.{Packed, Packs, class_of, is_own, is_stream, is_table_name, objects, rows_named, table_name_cmp}
 use Rattle.msi_meaning.specs.Opening.{kind_of}
 use Rattle.cfb_medium.specs.declared.error.Error.{Error}
 use Rattle.msi_meaning.specs.declared.kind.PackageType.{PackageType}
@@ -70,7 +70,7 @@ module _ (letters : Letters) (tree : Tree) where
       ap (option_and_then (λ columns. option_map (λ rows. record { name = t.name; columns = columns; rows = rows }) (rows_at letters tree pool t.name columns))) known
       ∙ ap (option_map (λ rows. record { name = t.name; columns = t.columns; rows = rows })) rows
 
-  module _ (P Q : Package) (p : Packs letters tree P) (q : Packs letters tree Q) where
+  module _ (P Q : Packed) (p : Packs letters tree P) (q : Packs letters tree Q) where
     pools : P.pool ≡ Q.pool
     pools = pool_same p.pool_bytes p.data_bytes q.pool_bytes q.data_bytes P.pool Q.pool p.pool q.pool
         (some_same p.pool_bytes q.pool_bytes (sym p.pool_at ∙ q.pool_at)) (some_same p.data_bytes q.data_bytes (sym p.data_at ∙ q.data_at))

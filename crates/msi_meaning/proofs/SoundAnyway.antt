@@ -13,7 +13,7 @@ use Rattle.msi_pool.specs.Pool.{Stored}
 use Rattle.msi_pool.specs.PoolReading.{begun, gives_back, texts_give_back}
 use Rattle.msi_pool.proofs.PoolFound.{pool_is_begun, texts_are_stored, told}
 use Rattle.msi_props.specs.Props.{texts_give_back as summary_gives_back}
-use Rattle.msi_meaning.specs.Package.{Package, Packs}
+use Rattle.msi_meaning.specs.Package.{Packed, Packs}
 use Rattle.msi_meaning.specs.Sound.{IsSoundPackage}
 use Rattle.msi_meaning.specs.SoundParts.{IsSound}
 use Rattle.msi_meaning.proofs.PacksOnce.{ok_same, some_same}
@@ -36,7 +36,7 @@ give_all page (s ∷ ss) h =
     let here : gives_back page s.0 ≡ true = ap (λ b. bytes_eq b s.0) (All-head (Gives page) s ss h) ∙ bytes_same s.0 in
     ap (λ b. b && list_all (λ s. gives_back page s.0) ss) here ∙ give_all page ss (All-tail (Gives page) s ss h)
 
-module _ (letters : Letters) (tree : Tree) (P : Package) (packs : Packs letters tree P) where
+module _ (letters : Letters) (tree : Tree) (P : Packed) (packs : Packs letters tree P) where
   -- what the builder of these streams tells
   told_back : texts_give_back (told packs.pool_bytes packs.data_bytes P.pool packs.pool) packs.data_bytes ≡ Ok (list_all (λ s. gives_back P.pool.page s.0) packs.pool.stored)
   told_back = ap (λ r. r >>= λ stored. Ok (list_all (λ s. gives_back P.pool.page s.0) stored)) (texts_are_stored packs.pool_bytes packs.data_bytes P.pool packs.pool)

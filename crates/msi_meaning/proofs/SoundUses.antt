@@ -19,7 +19,7 @@ use Rattle.msi_columns.specs.declared.column.ColumnType.TheVariants as kind
 use Rattle.msi_changes.specs.Laws.{AreUses, names_place, uses_in}
 use Rattle.cfb_tree.specs.Names.{Letters}
 use Rattle.cfb_tree.specs.Tree.{Tree}
-use Rattle.msi_meaning.specs.Package.{Package, Packs}
+use Rattle.msi_meaning.specs.Package.{Packed, Packs}
 use Rattle.msi_meaning.specs.Sound.{IsSoundPackage, IsUsed, uses_of}
 use Rattle.msi_changes.proofs.UsesKept.{none_in}
 
@@ -92,7 +92,7 @@ module _ (pool : Pool) (n : ℕ) (past : length pool.places < n) where
 
 -- ---- the law
 
-module _ (letters : Letters) (tree : Tree) (P : Package) (packs : Packs letters tree P) (sound : IsSoundPackage letters tree P packs) where
+module _ (letters : Letters) (tree : Tree) (P : Packed) (packs : Packs letters tree P) (sound : IsSoundPackage letters tree P packs) where
   tables_unused : (n : ℕ) → length P.pool.places < n → uses_of P.tables n ≡ 0
   tables_unused n past = none_in (λ t. uses_in t.rows n) P.tables (λ k d within. rows_unused P.pool n past (get_or P.tables k d).rows (sound.references k d within))
 

@@ -1,10 +1,10 @@
 -- A tree packs a package where it holds the pool and the summary and stores all else.
 use Rattle.cfb_tree.specs.Names.{Letters}
 use Rattle.cfb_tree.specs.Tree.{Tree}
-use Rattle.msi_meaning.specs.Package.{Package, Packs}
+use Rattle.msi_meaning.specs.Package.{Packed, Packs}
 use Rattle.msi_meaning.specs.Split.{HasPool, HasSummary, Stores}
 
-module _ (letters : Letters) (tree : Tree) (P : Package) where
+module _ (letters : Letters) (tree : Tree) (P : Packed) where
   pub parted : Packs letters tree P → Stores letters tree P × HasPool letters tree P.pool × HasSummary letters tree P.summary
   parted p = (
     record { class = p.class; rising = p.rising; names = p.names; rows = p.rows; validation = p.validation; validation_is = p.validation_is; schema = p.schema; columns = p.columns; streams = p.streams; storages = p.storages },

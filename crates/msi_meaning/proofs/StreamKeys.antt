@@ -10,7 +10,7 @@ use Rattle.cfb_tree.proofs.NameOrder.{name_cmp_equal}
 use Rattle.cfb_meaning.specs.TreeRules.{Object, a_stream, a_storage, is_same_name}
 use Rattle.cfb_meaning.specs.TreeRules.{name_of as object_name}
 use Rattle.msi_texts.specs.Results.{◌>>=◌, unless_not, or_refused}
-use Rattle.msi_meaning.specs.Package.{Package, is_stream, object_bytes, at_name, stream_at}
+use Rattle.msi_meaning.specs.Package.{Packed, is_stream, object_bytes, at_name, stream_at}
 use Rattle.msi_meaning.specs.Calls.{bare_package}
 use Rattle.msi_meaning.specs.Streams.{plain_stream_name, may_name, stream_read, stream_removed, stream_written, stream_put, AreOneStream}
 use Rattle.msi_meaning.specs.declared.kind.PackageType.TheVariants.{Installer}
@@ -24,11 +24,11 @@ abbrev has_key : Letters → Key → Object → Bool
 has_key letters key o = is_eq (key_cmp key (name_key letters (object_name o)))
 
 -- what is read under an accepted name
-read_under : (letters : Letters) (name : List ℕ) → may_name letters name ≡ Ok tt → (P : Package) → stream_read letters P name ≡ or_refused (stream_at letters P.streams (plain_stream_name name)) NotFound
+read_under : (letters : Letters) (name : List ℕ) → may_name letters name ≡ Ok tt → (P : Packed) → stream_read letters P name ≡ or_refused (stream_at letters P.streams (plain_stream_name name)) NotFound
 read_under letters name may P = ap (λ m. m >>= λ _. or_refused (stream_at letters P.streams (plain_stream_name name)) NotFound) may
 
 -- a package with one stream
-abbrev only : List ℕ → Package
+abbrev only : List ℕ → Packed
 only name = record (bare_package Installer) { streams = a_stream name 0 [] ∷ [] }
 
 -- a name is the same as those of its key
@@ -80,11 +80,11 @@ put_found letters name other content same = put
             ap (λ b. option_and_then object_bytes (cond b (Some (a_stream key state_bits bytes)) (at_name letters (stream_put letters name content os) other))) (tested false e)
             ∙ behind
 
-abbrev package_in : Package → Result Package Error → Package
+abbrev package_in : Packed → Result Packed Error → Packed
 package_in P (Ok Q) = Q
 package_in P (Err e) = P
 
-wrote : (b : Bool) (P Q : Package) → (unless_not b AlreadyExists >>= λ _. Ok P) ≡ Ok Q → P ≡ Q
+wrote : (b : Bool) (P Q : Packed) → (unless_not b AlreadyExists >>= λ _. Ok P) ≡ Ok Q → P ≡ Q
 wrote true P Q e = ap (package_in P) e
 wrote false P Q e = absurd (cc)
 
@@ -92,19 +92,19 @@ pub one_stream : (letters : Letters) (one other : List ℕ) → may_name letters
     → name_key letters (plain_stream_name one) ≡ name_key letters (plain_stream_name other) → AreOneStream letters one other
 one_stream letters one other may also same = record { read = read; removed = removed; written = written }
   where
-    read : (P : Package) → stream_read letters P one ≡ stream_read letters P other
+    read : (P : Packed) → stream_read letters P one ≡ stream_read letters P other
     read P =
         read_under letters one may P
         ∙ ap (λ k. or_refused (option_and_then object_bytes (find (has_key letters k) P.streams)) NotFound) same
         ∙ sym (read_under letters other also P)
 
-    without : Package → Key → Package
+    without : Packed → Key → Packed
     without P key = record P { streams = filter (λ o. not (has_key letters key o)) P.streams }
 
-    removed : (P : Package) → stream_removed letters P one ≡ stream_removed letters P other
+    removed : (P : Packed) → stream_removed letters P one ≡ stream_removed letters P other
     removed P = ap₂ (λ r key. r >>= λ _. Ok (without P key)) (read P) same
 
-    written : (P Q : Package) (content : List ℕ) → list_all is_stream P.streams ≡ true → stream_written letters P one content ≡ Ok Q → stream_read letters Q other ≡ Ok content
+    written : (P Q : Packed) (content : List ℕ) → list_all is_stream P.streams ≡ true → stream_written letters P one content ≡ Ok Q → stream_read letters Q other ≡ Ok content
     written P Q content streams e =
         let put = record P { streams = stream_put letters (plain_stream_name one) content P.streams } in
         let free = is_none (at_name letters P.storages (plain_stream_name one)) in

@@ -14,7 +14,7 @@ use Rattle.msi_pool.specs.Pool.{Pool}
 use Rattle.msi_tables.specs.Rows.{Row, kinds_of, rows_of}
 use Rattle.msi_tables.specs.Table.{Table, data_rows, row_data, table_named}
 use Rattle.msi_tables.specs.Schema.{begins_with, columns_columns, columns_in, columns_name, schema_of, tables_columns, tables_name}
-use Rattle.msi_meaning.specs.Package.{Package, Packs, is_table_name, objects, rows_named, table_stream}
+use Rattle.msi_meaning.specs.Package.{Packed, Packs, is_table_name, objects, rows_named, table_stream}
 
 pub same_bytes : (xs ys : List ℕ) → bytes_eq xs ys ≡ true → xs ≡ ys
 same_bytes xs ys e = grind (arith, bytes_eq-Decides xs ys, e)
@@ -63,10 +63,10 @@ module _ (letters : Letters) (tree : Tree) where
       )
 
   -- the rows of a table of the package with these columns: they stand in its stream
-  abbrev pub HasRows : Package → List ℕ → List Column → Type 0
+  abbrev pub HasRows : Packed → List ℕ → List Column → Type 0
   HasRows P name columns = (rows : List Row) × (rows_at P.pool name columns ≡ Some rows) × (rows_named P name ≡ map (row_data P.pool) rows)
 
-  system_rows : (P : Package) → Packs letters tree P → (name : List ℕ) (columns : List Column) → is_table_name P name ≡ true
+  system_rows : (P : Packed) → Packs letters tree P → (name : List ℕ) (columns : List Column) → is_table_name P name ≡ true
       → ((cs vs : List (List Datum)) → columns_in cs vs name ≡ Some columns) → HasRows P name columns
   system_rows P packs name columns is fixed =
       let cs = rows_named P columns_name in
@@ -79,12 +79,12 @@ module _ (letters : Letters) (tree : Tree) where
   pub columns_fixed : (cs vs : List (List Datum)) → columns_in cs vs columns_name ≡ Some columns_columns
   columns_fixed cs vs = ap (λ b. cond b (Some columns_columns) (schema_of cs vs columns_name)) (bytes_same columns_name)
 
-  pub tables_rows : (P : Package) → Packs letters tree P → HasRows P tables_name tables_columns
+  pub tables_rows : (P : Packed) → Packs letters tree P → HasRows P tables_name tables_columns
   tables_rows P packs =
       system_rows P packs tables_name tables_columns (ap (λ b. b || bytes_eq tables_name columns_name || list_any (begins_with tables_name) (rows_named P tables_name)) (bytes_same tables_name))
       (λ cs vs. ap (λ b. cond b (Some tables_columns) (cond (bytes_eq tables_name columns_name) (Some columns_columns) (schema_of cs vs tables_name))) (bytes_same tables_name))
 
-  pub columns_rows : (P : Package) → Packs letters tree P → HasRows P columns_name columns_columns
+  pub columns_rows : (P : Packed) → Packs letters tree P → HasRows P columns_name columns_columns
   columns_rows P packs =
       system_rows P packs columns_name columns_columns (ap (λ b. bytes_eq columns_name tables_name || b || list_any (begins_with columns_name) (rows_named P tables_name)) (bytes_same columns_name))
       (λ cs vs. ap (λ b. cond b (Some columns_columns) (schema_of cs vs columns_name)) (bytes_same columns_name))

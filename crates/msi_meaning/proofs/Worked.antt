@@ -10,14 +10,14 @@ use Rattle.msi_tables.specs.Schema.{columns_rows, validation_row, validation_col
 use Rattle.msi_columns.specs.declared.column.ColumnType.TheVariants as kind
 use Rattle.cfb_tree.specs.Names.{Letters, ascii_letters, letter, name_key}
 use Rattle.cfb_meaning.specs.TreeRules.{a_stream}
-use Rattle.msi_meaning.specs.Package.{Package}
+use Rattle.msi_meaning.specs.Package.{Packed}
 use Rattle.msi_meaning.specs.Calls.{bare_package, created, dropped, described, may_update, Rows3, new_table}
 use Rattle.msi_meaning.specs.Streams.{stream_put, stream_names, has_stream, stream_read, stream_written, signature_name, is_signed, unsigned, plain_stream_name}
 use Rattle.msi_meaning.specs.declared.kind.PackageType.TheVariants.{Installer}
 use Rattle.cfb_medium.specs.declared.error.Error.{Error}
 use Rattle.cfb_medium.specs.declared.error.Error.TheVariants.{InvalidInput, NotFound, AlreadyExists}
 
-abbrev bare : Package
+abbrev bare : Packed
 bare = bare_package Installer
 
 abbrev pool_in : Result (Rows3 × Pool) Error → Pool
@@ -92,7 +92,7 @@ unfolding chars encode
 accepted = refl
 
 -- without _Validation a good table isn't found, and a bad one is told first
-abbrev without_validation : Package
+abbrev without_validation : Packed
 without_validation = record bare { tables = new_table (codes "_Columns") [] ∷ new_table (codes "_Tables") [] ∷ [] }
 
 no_validation : refusal_in (created true without_validation (codes "T") (id_column ∷ [])) ≡ Some NotFound
@@ -121,7 +121,7 @@ shorter_first : stream_put itself (plain_stream_name (codes "A")) (1 ∷ []) (a_
 unfolding chars encode letter name_key
 shorter_first = refl
 
-abbrev with_streams : Package
+abbrev with_streams : Packed
 with_streams = record bare { streams = a_stream (0x44CA ∷ 0x47B3 ∷ 0x46E8 ∷ 0x4828 ∷ []) 7 (1 ∷ 2 ∷ []) ∷ a_stream signature_name 0 [] ∷ [] }
 
 listed : stream_names itself with_streams ≡ codes "App.exe" ∷ []

@@ -16,14 +16,14 @@ use Rattle.msi_query.specs.Query.{Query, selected}
 use Rattle.msi_changes.specs.Changes.{inserted, updated, deleted, rows_counted, all_taken_back}
 use Rattle.msi_summary.specs.Summary.{new_summary, edited, set_text}
 use Rattle.cfb_tree.specs.Names.{Letters}
-use Rattle.msi_meaning.specs.Package.{Package, at_name, table_name_cmp, stream_name, pool_name, data_name}
+use Rattle.msi_meaning.specs.Package.{Packed, at_name, table_name_cmp, stream_name, pool_name, data_name}
 use Rattle.msi_meaning.specs.declared.kind.PackageType.{PackageType}
 use Rattle.msi_meaning.specs.declared.kind.PackageType.TheVariants.{Installer, Patch, Transform}
 use Rattle.cfb_medium.specs.declared.error.Error.{Error}
 use Rattle.cfb_medium.specs.declared.error.Error.TheVariants.{InvalidInput, NotFound, AlreadyExists}
 
 -- a refusal leaves the package; else what is accepted tells the rest
-abbrev pub Ends : {A : Type 0} → Result A Error → Package → Package → Result (Unit {0}) Error → (A → Type 0) → Type 0
+abbrev pub Ends : {A : Type 0} → Result A Error → Packed → Packed → Result (Unit {0}) Error → (A → Type 0) → Type 0
 Ends (Err e) P Q answer Accepted = (Q ≡ P) × (answer ≡ Err e)
 Ends (Ok x) P Q answer Accepted = (answer ≡ Ok tt) × Accepted x
 
@@ -34,7 +34,7 @@ abbrev pub is_system : List ℕ → Bool
 is_system name = bytes_eq name tables_name || bytes_eq name columns_name || bytes_eq name validation_name
 
 -- there is a table of the name
-abbrev pub has_table : Package → List ℕ → Bool
+abbrev pub has_table : Packed → List ℕ → Bool
 has_table P name = is_some (table_named P.tables name)
 
 -- the table of the name gets other rows
@@ -51,13 +51,13 @@ table_put t [] = t ∷ []
 table_put t (u ∷ us) = if is_lt (table_name_cmp t.name u.name) then t ∷ u ∷ us else u ∷ table_put t us
 
 -- the rows of a table; a table that isn't there has none
-abbrev pub stored_rows : Package → List ℕ → List Row
+abbrev pub stored_rows : Packed → List ℕ → List Row
 stored_rows P name = unwrap_or (option_map (λ t. t.rows) (table_named P.tables name)) []
 
 -- ---- insert, update, delete
 
 -- the table of the name
-abbrev pub found_table : Package → List ℕ → Result Table Error
+abbrev pub found_table : Packed → List ℕ → Result Table Error
 found_table P name = or_refused (table_named P.tables name) NotFound
 
 -- what a query makes of a table: its rows before they are arranged, and the pool
@@ -72,22 +72,22 @@ changed t (Err e) = Err e
 changed t (Ok r) = Ok (record { table = t; rows = r.0; pool = r.1 })
 
 -- the same of the table of a name
-abbrev pub change : Package → List ℕ → (Table → Result (List Row × Pool) Error) → Result Change Error
+abbrev pub change : Packed → List ℕ → (Table → Result (List Row × Pool) Error) → Result Change Error
 change P name query = found_table P name >>= λ t. changed t (query t)
 
 -- these rows stand in the table, and the pool counts them
-abbrev pub Puts : Package → List ℕ → Change → List Row → Package → Type 0
-Puts P name x stored Q = Q ≡ record P { pool = x.pool; tables = rows_put name stored P.tables }
+abbrev pub PackagePuts : Packed → List ℕ → Change → List Row → Packed → Type 0
+PackagePuts P name x stored Q = Q ≡ record P { pool = x.pool; tables = rows_put name stored P.tables }
 
 -- the rules of a query on the rows come before that on system tables; a full pool and too many rows come last
 abbrev pub may_insert : List ℕ → Bool
 may_insert name = not (is_system name)
 
 -- an insert: rows of values for a table
-abbrev pub Inserts : Package → List ℕ → List (List Datum) → Package → Result (Unit {0}) Error → Type 0
+abbrev pub Inserts : Packed → List ℕ → List (List Datum) → Packed → Result (Unit {0}) Error → Type 0
 Inserts P name new_rows Q answer =
     Ends (change P name (λ t. inserted (may_insert name) P.pool t new_rows)) P Q answer
-    (λ x. (stored : List Row) × IsStoredByKeys x.pool x.table.columns x.rows stored × Puts P name x stored Q)
+    (λ x. (stored : List Row) × IsStoredByKeys x.pool x.table.columns x.rows stored × PackagePuts P name x stored Q)
 
 -- the column of a name has this place
 abbrev pub is_column_at : ℕ → Option ℕ → Bool
@@ -99,16 +99,16 @@ abbrev pub may_update : List ℕ → List Column → List (List ℕ × Datum) �
 may_update name columns sets = not (is_system name) || (bytes_eq name validation_name && list_all (λ s. is_column_at 9 (column_place columns s.0)) sets)
 
 -- an update: values for columns, in the rows that the condition takes
-abbrev pub Updates : Package → List ℕ → List (List ℕ × Datum) → Option Formula → Package → Result (Unit {0}) Error → Type 0
+abbrev pub Updates : Packed → List ℕ → List (List ℕ × Datum) → Option Formula → Packed → Result (Unit {0}) Error → Type 0
 Updates P name sets condition Q answer =
     Ends (change P name (λ t. updated (may_update name t.columns sets) P.pool t sets condition)) P Q answer
-    (λ x. (stored : List Row) × IsStored x.table.columns x.rows stored × Puts P name x stored Q)
+    (λ x. (stored : List Row) × IsStored x.table.columns x.rows stored × PackagePuts P name x stored Q)
 
 -- a delete of the rows that the condition takes
-abbrev pub Deletes : Package → List ℕ → Option Formula → Package → Result (Unit {0}) Error → Type 0
+abbrev pub Deletes : Packed → List ℕ → Option Formula → Packed → Result (Unit {0}) Error → Type 0
 Deletes P name condition Q answer =
     Ends (change P name (λ t. deleted (may_insert name) P.pool t condition)) P Q answer
-    (λ x. (stored : List Row) × IsStored x.table.columns x.rows stored × Puts P name x stored Q)
+    (λ x. (stored : List Row) × IsStored x.table.columns x.rows stored × PackagePuts P name x stored Q)
 
 -- ---- create and drop
 
@@ -126,7 +126,7 @@ abbrev pub Rows3 : Type 0
 Rows3 = List Row × List Row × List Row
 
 -- the rows of the three system tables with the new ones behind, and the pool
-abbrev pub described : Package → List ℕ → List Column → Result (Rows3 × Pool) Error
+abbrev pub described : Packed → List ℕ → List Column → Result (Rows3 × Pool) Error
 described P name columns =
     unless_not (nat_le (length (stored_rows P columns_name) + length columns) max_rows
     && nat_lt (length (stored_rows P tables_name)) max_rows
@@ -137,7 +137,7 @@ described P name columns =
     Ok ((stored_rows P columns_name ++ c.0, stored_rows P tables_name ++ t.0, stored_rows P validation_name ++ v.0), v.1)
 
 -- the rows and the pool of a new table, or the first refusal, where at_free_name tells that no root storage stands at the encoded name
-abbrev pub created : Bool → Package → List ℕ → List Column → Result (Rows3 × Pool) Error
+abbrev pub created : Bool → Packed → List ℕ → List Column → Result (Rows3 × Pool) Error
 created at_free_name P name columns =
     unless_not (is_valid_table_name name && not (length columns == 0) && nat_le (length columns) 32
     && list_any (λ c. c.key) columns && list_all (λ c. is_identifier c.name) columns && names_distinct columns) InvalidInput >>= λ _.
@@ -150,7 +150,7 @@ created at_free_name P name columns =
     described P name columns
 
 -- the columns that the package itself has for _Validation
-abbrev pub own_columns : Package → List Column
+abbrev pub own_columns : Packed → List Column
 own_columns P = unwrap_or (option_map (λ t. t.columns) (table_named P.tables validation_name)) []
 
 -- a table without rows
@@ -158,7 +158,7 @@ abbrev pub new_table : List ℕ → List Column → Table
 new_table name columns = record { name = name; columns = columns; rows = [] }
 
 -- a new table: one of this name and these columns
-abbrev pub Creates : Letters → Package → List ℕ → List Column → Package → Result (Unit {0}) Error → Type 0
+abbrev pub Creates : Letters → Packed → List ℕ → List Column → Packed → Result (Unit {0}) Error → Type 0
 Creates letters P name columns Q answer =
     Ends (created (is_none (at_name letters P.storages (stream_name name))) P name columns) P Q answer
     (λ x. (c : List Row) × (t : List Row) × (v : List Row)
@@ -171,15 +171,15 @@ abbrev pub speaks_of : Pool → List ℕ → Row → Bool
 speaks_of pool name row = begins_with name (row_data pool row)
 
 -- the rows of a system table that speak of a table
-abbrev pub rows_about : Package → List ℕ → List ℕ → List Row
+abbrev pub rows_about : Packed → List ℕ → List ℕ → List Row
 rows_about P table name = filter (speaks_of P.pool name) (stored_rows P table)
 
 -- its other rows
-abbrev pub rows_beside : Package → List ℕ → List ℕ → List Row
+abbrev pub rows_beside : Packed → List ℕ → List ℕ → List Row
 rows_beside P table name = filter (λ row. not (speaks_of P.pool name row)) (stored_rows P table)
 
 -- the table, and the pool without the uses of its rows and of those that speak of it; or the first refusal
-abbrev pub dropped : Package → List ℕ → Result (Table × Pool) Error
+abbrev pub dropped : Packed → List ℕ → Result (Table × Pool) Error
 dropped P name =
     unless_not (not (is_system name) && is_valid_table_name name) InvalidInput >>= λ _.
     found_table P name >>= λ t.
@@ -188,7 +188,7 @@ dropped P name =
     Ok (t, pool)
 
 -- a table is dropped, and all rows that speak of it
-abbrev pub Drops : Package → List ℕ → Package → Result (Unit {0}) Error → Type 0
+abbrev pub Drops : Packed → List ℕ → Packed → Result (Unit {0}) Error → Type 0
 Drops P name Q answer =
     Ends (dropped P name) P Q answer
     (λ x. (c : List Row) × (t : List Row) × (v : List Row)
@@ -203,11 +203,11 @@ abbrev pub Shown : Type 0
 Shown = List (List ℕ) × List (List Datum)
 
 -- a select
-abbrev pub selected_in : Package → Query → Result Shown Error
+abbrev pub selected_in : Packed → Query → Result Shown Error
 selected_in P asked = selected (table_named P.tables) P.pool asked >>= λ t. Ok (map (λ c. c.name) t.columns, map (row_data P.pool) t.rows)
 
 -- the names of all tables, by their bytes
-abbrev pub table_names : Package → List (List ℕ)
+abbrev pub table_names : Packed → List (List ℕ)
 table_names P = map (λ t. t.name) P.tables
 
 -- ---- new packages
@@ -219,7 +219,7 @@ title_of Patch = codes "Patch"
 title_of Transform = codes "Transform"
 
 -- with the three system tables, before _Validation is described
-abbrev pub bare_package : PackageType → Package
+abbrev pub bare_package : PackageType → Packed
 bare_package kind = record {
   kind = kind;
   pool = record { page = page.Utf8; long = false; places = [] };
@@ -230,7 +230,7 @@ bare_package kind = record {
 }
 
 -- a new package: its _Validation describes itself, and nothing else is there
-abbrev pub IsNew : PackageType → Package → Type 0
+abbrev pub IsNew : PackageType → Packed → Type 0
 IsNew kind Q =
     (x : Rows3 × Pool) × (described (bare_package kind) validation_name validation_columns ≡ Ok x)
     × ((c : List Row) × (t : List Row) × (v : List Row)
@@ -240,5 +240,5 @@ IsNew kind Q =
 -- ---- one answer
 
 -- the rule gives one package and one answer
-abbrev pub HasOneAnswer : (Package → Result (Unit {0}) Error → Type 0) → Type 0
-HasOneAnswer rule = (Q R : Package) (a b : Result (Unit {0}) Error) → rule Q a → rule R b → (Q ≡ R) × (a ≡ b)
+abbrev pub HasOneAnswer : (Packed → Result (Unit {0}) Error → Type 0) → Type 0
+HasOneAnswer rule = (Q R : Packed) (a b : Result (Unit {0}) Error) → rule Q a → rule R b → (Q ≡ R) × (a ≡ b)

@@ -9,7 +9,7 @@ use Rattle.msi_props.specs.Props.{Props, Property}
 use Rattle.msi_props.specs.Props as property
 use Rattle.msi_props.specs.Props.{is_in_size as set_is_in_size}
 use Rattle.cfb_meaning.specs.TreeRules.{Object, a_stream, a_storage}
-use Rattle.msi_meaning.specs.Package.{Package}
+use Rattle.msi_meaning.specs.Package.{Packed}
 
 -- the pool's texts fit its page, and neither one of them nor the pool stream reaches 2^32 - 1 bytes
 abbrev pub is_fit_pool : Pool → Bool
@@ -35,7 +35,7 @@ is_short (a_stream name state_bits bytes) = nat_lt (length bytes) length_limit
 is_short (a_storage name facts inside) = true
 
 -- THE PREMISE ON TEXTS AND SIZES: pool and summary are fit, and in a container of version 3 each stream is short; a table's stream is by itself
-abbrev pub is_fit : Bool → Package → Bool
+abbrev pub is_fit : Bool → Packed → Bool
 is_fit version_3 P =
     is_fit_pool P.pool && is_fit_summary P.summary
     && (not version_3 || (nat_lt (length (data_stream P.pool)) length_limit && list_all is_short P.streams))

@@ -12,7 +12,7 @@ use Rattle.msi_tables.specs.Rows.{Row, kinds_of, rows_of}
 use Rattle.msi_tables.specs.Table.{Table, row_data}
 use Rattle.msi_tables.specs.Schema.{begins_with, columns_columns, columns_in, is_schema, columns_name, tables_columns, tables_name, validation_columns, validation_name}
 use Rattle.msi_meaning.specs.Opening.{rows_by, summary_read}
-use Rattle.msi_meaning.specs.Package.{Package, class_of, data_name, is_own, is_stream, objects, pool_name, stream_at, summary_name, table_name_cmp, table_stream}
+use Rattle.msi_meaning.specs.Package.{Packed, class_of, data_name, is_own, is_stream, objects, pool_name, stream_at, summary_name, table_name_cmp, table_stream}
 use Rattle.msi_meaning.specs.declared.kind.PackageType.{PackageType}
 
 -- a name of a table: one of the two with fixed columns, or one that a row of _Tables begins with
@@ -37,9 +37,9 @@ module _ (letters : Letters) (tree : Tree) (pool : Pool) where
   HaveRows ts = All (λ t. rows_of pool.long (kinds_of t.columns) (unwrap_or (table_stream letters (objects tree.content) t.name) []) ≡ Some t.rows) ts
 
 -- the package of these parts, with the other streams and the storages of the tree
-abbrev pub package_with : Letters → Tree → PackageType → Props → Pool → List Table → Package
+abbrev pub package_with : Letters → Tree → PackageType → Props → Pool → List Table → Packed
 package_with letters tree kind summary pool ts =
-    let bare : Package = record { kind = kind; pool = pool; tables = ts; summary = summary; streams = []; storages = [] } in
+    let bare : Packed = record { kind = kind; pool = pool; tables = ts; summary = summary; streams = []; storages = [] } in
     record bare {
       streams = filter (λ o. is_stream o && not (is_own letters bare o)) (objects tree.content);
       storages = filter (λ o. not (is_stream o)) (objects tree.content);

@@ -42,7 +42,7 @@ object_bytes (a_storage name facts inside) = None
 -- ---- the package
 
 -- What it is for; the pool; the tables by rising names; the summary; and the other streams of the root and its storages, by rising keys.
-pub record Package : Type 0 where
+pub record Packed : Type 0 where
   pub kind : PackageType
   pub pool : Pool
   pub tables : List Table
@@ -85,11 +85,11 @@ abbrev pub has_slash : List ℕ → Bool
 has_slash name = list_any (λ b. b == 47) name
 
 -- the rows of a table as values
-abbrev pub rows_named : Package → List ℕ → List (List Datum)
+abbrev pub rows_named : Packed → List ℕ → List (List Datum)
 rows_named P name = data_rows P.pool (table_named P.tables name)
 
 -- the tables are the two with fixed columns and those that _Tables names
-abbrev pub is_table_name : Package → List ℕ → Bool
+abbrev pub is_table_name : Packed → List ℕ → Bool
 is_table_name P name = bytes_eq name tables_name || bytes_eq name columns_name || list_any (begins_with name) (rows_named P tables_name)
 
 module _ (letters : Letters) where
@@ -106,12 +106,12 @@ module _ (letters : Letters) where
   table_stream objects name = if has_slash name then None else stream_at objects (stream_name name)
 
   -- the streams of the database itself
-  abbrev pub is_own : Package → Object → Bool
+  abbrev pub is_own : Packed → Object → Bool
   is_own P o = list_any (λ name. is_same_name letters name (object_name o))
       (summary_name ∷ stream_name pool_name ∷ stream_name data_name ∷ map (λ t. stream_name t.name) P.tables)
 
   -- The tree packs the package, under a letter table by which names are told apart.
-  pub record Packs (tree : Tree) (P : Package) : Type 0 where
+  pub record Packs (tree : Tree) (P : Packed) : Type 0 where
     pub class : tree.root.clsid ≡ class_of P.kind
     pub pool_bytes : List ℕ
     pub data_bytes : List ℕ
@@ -136,5 +136,5 @@ module _ (letters : Letters) where
     pub storages : P.storages ≡ filter (λ o. not (is_stream o)) (objects tree.content)
 
 -- THE MEANING OF A PACKAGE'S FILE: the bytes mean a tree, and the tree packs the package
-abbrev pub MeansPackage : Letters → List ℕ → Package → Type 0
+abbrev pub MeansPackage : Letters → List ℕ → Packed → Type 0
 MeansPackage letters bytes P = (tree : Tree) × Means letters bytes tree × Packs letters tree P

@@ -14,7 +14,7 @@ use Rattle.msi_props.specs.Props.{texts_give_back}
 use Rattle.cfb_tree.specs.Names.{Letters}
 use Rattle.cfb_tree.specs.Tree.{Tree}
 use Rattle.cfb_meaning.specs.TreeRules.{name_of as object_name}
-use Rattle.msi_meaning.specs.Package.{Package, Packs, at_name, stream_name, pool_name, data_name, rows_named}
+use Rattle.msi_meaning.specs.Package.{Packed, Packs, at_name, stream_name, pool_name, data_name, rows_named}
 
 -- how many cells of all tables name the place
 abbrev pub uses_of : List Table → ℕ → ℕ
@@ -32,7 +32,7 @@ abbrev pub is_free_table_name : List ℕ → Bool
 is_free_table_name name = is_identifier name && is_valid_name true (chars name) && not (bytes_eq name pool_name) && not (bytes_eq name data_name)
 
 -- The package that a tree packs is sound, beside the container.
-pub record IsSoundPackage (letters : Letters) (tree : Tree) (P : Package) (packs : Packs letters tree P) : Type 0 where
+pub record IsSoundPackage (letters : Letters) (tree : Tree) (P : Packed) (packs : Packs letters tree P) : Type 0 where
   -- texts and their counts
   pub references : All (λ t. All (All (IsUsed P.pool)) t.rows) P.tables
   pub counts : (n : ℕ) → 0 < n → n ≤ length P.pool.places → (at_place P.pool.places n).count ≡ uses_of P.tables n

@@ -11,12 +11,12 @@ use Rattle.msi_props.specs.Props.{texts_give_back}
 use Rattle.cfb_tree.specs.Names.{Letters}
 use Rattle.cfb_tree.specs.Tree.{Tree}
 use Rattle.cfb_meaning.specs.TreeRules.{name_of as object_name}
-use Rattle.msi_meaning.specs.Package.{Package, at_name, objects, stream_at, table_stream, stream_name, summary_name, pool_name, data_name, rows_named}
+use Rattle.msi_meaning.specs.Package.{Packed, at_name, objects, stream_at, table_stream, stream_name, summary_name, pool_name, data_name, rows_named}
 use Rattle.msi_meaning.specs.Sound.{is_free_table_name}
-use Rattle.msi_meaning.specs.Uses.{AreCounted}
+use Rattle.msi_meaning.specs.Uses.{TextsAreCounted}
 
 -- its names, its system tables and its summary: each stream that is named as a table's is one, and so on
-pub record IsNamed (letters : Letters) (P : Package) : Type 0 where
+pub record IsNamed (letters : Letters) (P : Packed) : Type 0 where
   pub one_section : P.summary.sections ≡ 1
   pub no_strays : All (λ o. IsTrue (not (is_marked (object_name o)))) P.streams
   pub table_names : All (λ t. IsTrue (is_free_table_name t.name)) P.tables
@@ -32,8 +32,8 @@ pub record GivesBack (letters : Letters) (tree : Tree) : Type 0 where
   pub summary : (bytes : List ℕ) → stream_at letters (objects tree.content) summary_name ≡ Some bytes → IsTrue (texts_give_back bytes)
 
 -- THE PARTS OF SOUNDNESS, whichever way the tree packs the package
-pub record IsSound (letters : Letters) (tree : Tree) (P : Package) : Type 0 where
-  pub counted : AreCounted P.pool P.tables
+pub record IsSound (letters : Letters) (tree : Tree) (P : Packed) : Type 0 where
+  pub counted : TextsAreCounted P.pool P.tables
   pub free : AreFreeEmpty P.pool.places
   pub named : IsNamed letters P
   pub gives_back : GivesBack letters tree

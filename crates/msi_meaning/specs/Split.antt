@@ -9,7 +9,7 @@ use Rattle.msi_summary.specs.Summary.{summary_format}
 use Rattle.msi_tables.specs.Rows.{Row, rows_of, kinds_of}
 use Rattle.msi_tables.specs.Table.{row_data}
 use Rattle.msi_tables.specs.Schema.{columns_in, is_schema, tables_name, columns_name, validation_name, validation_columns}
-use Rattle.msi_meaning.specs.Package.{Package, objects, is_stream, is_own, is_table_name, rows_named, stream_at, table_stream, table_name_cmp, class_of, summary_name, pool_name, data_name}
+use Rattle.msi_meaning.specs.Package.{Packed, objects, is_stream, is_own, is_table_name, rows_named, stream_at, table_stream, table_name_cmp, class_of, summary_name, pool_name, data_name}
 
 module _ (letters : Letters) (tree : Tree) where
   -- the pool's two streams hold the pool
@@ -28,7 +28,7 @@ module _ (letters : Letters) (tree : Tree) where
     pub of_kind : summary.format ≡ summary_format
 
   -- all else of the package lies in the tree
-  pub record Stores (P : Package) : Type 0 where
+  pub record Stores (P : Packed) : Type 0 where
     pub class : tree.root.clsid ≡ class_of P.kind
     pub rising : IsStrictlySortedBy table_name_cmp (map (λ t. t.name) P.tables)
     pub names : (name : List ℕ) → IsTrue (is_table_name P name) ↔ Contains (map (λ t. t.name) P.tables) name

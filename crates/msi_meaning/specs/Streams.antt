@@ -8,7 +8,7 @@ use Rattle.msi_texts.specs.StreamName.{name_of as decoded_name}
 use Rattle.cfb_tree.specs.Names.{Letters, name_cmp}
 use Rattle.cfb_meaning.specs.TreeRules.{Object, a_stream, a_storage, is_same_name}
 use Rattle.cfb_meaning.specs.TreeRules.{name_of as object_name}
-use Rattle.msi_meaning.specs.Package.{Package, is_stream, at_name, stream_at, summary_name}
+use Rattle.msi_meaning.specs.Package.{Packed, is_stream, at_name, stream_at, summary_name}
 use Rattle.cfb_medium.specs.declared.error.Error.{Error}
 use Rattle.cfb_medium.specs.declared.error.Error.TheVariants.{InvalidInput, NotFound, AlreadyExists}
 
@@ -46,7 +46,7 @@ module _ (letters : Letters) where
   may_name name = unless_not (is_valid_name false (chars name) && not (list_any is_separator name) && not (is_special (plain_stream_name name))) InvalidInput
 
   -- the bytes of a stream
-  abbrev pub stream_read : Package → List ℕ → Result (List ℕ) Error
+  abbrev pub stream_read : Packed → List ℕ → Result (List ℕ) Error
   stream_read P name = may_name name >>= λ _. or_refused (stream_at letters P.streams (plain_stream_name name)) NotFound
 
   -- the objects but the one of a name
@@ -72,31 +72,31 @@ module _ (letters : Letters) where
     pub new : (content : List ℕ) → keep (a_stream name 0 content) ≡ false
 
   -- the package with a stream of these bytes
-  abbrev pub stream_written : Package → List ℕ → List ℕ → Result Package Error
+  abbrev pub stream_written : Packed → List ℕ → List ℕ → Result Packed Error
   stream_written P name content =
       may_name name >>= λ _.
       unless_not (is_none (at_name letters P.storages (plain_stream_name name))) AlreadyExists >>= λ _.
       Ok (record P { streams = stream_put (plain_stream_name name) content P.streams })
 
   -- the package without a stream
-  abbrev pub stream_removed : Package → List ℕ → Result Package Error
+  abbrev pub stream_removed : Packed → List ℕ → Result Packed Error
   stream_removed P name = stream_read P name >>= λ _. Ok (record P { streams = without_stream (plain_stream_name name) P.streams })
 
   -- the names of the streams that belong to no table and aren't special, in the container's order
-  abbrev pub stream_names : Package → List (List ℕ)
+  abbrev pub stream_names : Packed → List (List ℕ)
   stream_names P = map (λ o. encode_utf8_all (decoded_name (object_name o)))
       (filter (λ o. not (is_special (object_name o)) && not (is_marked (object_name o))) P.streams)
 
   -- there is a signature
-  abbrev pub is_signed : Package → Bool
+  abbrev pub is_signed : Packed → Bool
   is_signed P = is_some (stream_at letters P.streams signature_name)
 
   -- the package without both signature streams
-  abbrev pub unsigned : Package → Package
+  abbrev pub unsigned : Packed → Packed
   unsigned P = record P { streams = without_stream signature_ex_name (without_stream signature_name P.streams) }
 
   -- there is such a stream; none of a name that reading refuses
-  abbrev pub has_stream : Package → List ℕ → Bool
+  abbrev pub has_stream : Packed → List ℕ → Bool
   has_stream P name = is_read (stream_read P name)
     where
       is_read : Result (List ℕ) Error → Bool
@@ -105,6 +105,6 @@ module _ (letters : Letters) where
 
   -- two names of one stream: in each package both are read and removed alike, and what is written under one is read under the other
   pub record AreOneStream (one other : List ℕ) : Type 0 where
-    pub read : (P : Package) → stream_read P one ≡ stream_read P other
-    pub removed : (P : Package) → stream_removed P one ≡ stream_removed P other
-    pub written : (P Q : Package) (content : List ℕ) → IsTrue (list_all is_stream P.streams) → stream_written P one content ≡ Ok Q → stream_read Q other ≡ Ok content
+    pub read : (P : Packed) → stream_read P one ≡ stream_read P other
+    pub removed : (P : Packed) → stream_removed P one ≡ stream_removed P other
+    pub written : (P Q : Packed) (content : List ℕ) → IsTrue (list_all is_stream P.streams) → stream_written P one content ≡ Ok Q → stream_read Q other ≡ Ok content

@@ -34,7 +34,7 @@ abbrev pub counts_of : List Place → List ℕ
 counts_of places = map (λ p. p.count) places
 
 -- the clauses of a sound package on texts: each reference has a use, and the counts are those of the cells
-pub record AreCounted (pool : Pool) (ts : List Table) : Type 0 where
+pub record TextsAreCounted (pool : Pool) (ts : List Table) : Type 0 where
   pub references : All (λ t. All (All (IsUsed pool)) t.rows) ts
   pub counts : (n : ℕ) → 0 < n → n ≤ length pool.places → (at_place pool.places n).count ≡ uses_of ts n
 

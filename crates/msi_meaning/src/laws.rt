@@ -27,12 +27,12 @@ ghost use Rattle.msi_meaning.specs.Calls.{is_kept, names_distinct, Creates, Dele
 ghost use Rattle.msi_meaning.specs.Fit.{is_fit_pool};
 ghost use Rattle.msi_meaning.specs.Known.{HaveColumns, HaveRows, package_with, Parts};
 ghost use Rattle.msi_meaning.specs.Opening.{is_encoded, may_use, opened};
-ghost use Rattle.msi_meaning.specs.Package.{at_name, is_stream, objects, stream_at, stream_name, Package, Packs};
+ghost use Rattle.msi_meaning.specs.Package.{at_name, is_stream, objects, stream_at, stream_name, Packed, Packs};
 ghost use Rattle.msi_meaning.specs.Sound.{uses_of, IsSoundPackage};
 ghost use Rattle.msi_meaning.specs.SoundParts.{IsSound};
 ghost use Rattle.msi_meaning.specs.Split.{HasPool, HasSummary, Stores};
 ghost use Rattle.msi_meaning.specs.Streams.{may_name, plain_stream_name, special_names, stream_put, AreOneStream, IsDropped};
-ghost use Rattle.msi_meaning.specs.Uses.{AreCounted, CountsDown};
+ghost use Rattle.msi_meaning.specs.Uses.{TextsAreCounted, CountsDown};
 ghost use Rattle.msi_meaning.specs.declared.kind.PackageType.{PackageType};
 
 /// Under any letter table two names that streams may have are of one stream exactly where their encoded
@@ -46,26 +46,26 @@ pub fn streams_are_told_by_keys()
 /// In a sound package each table has what the laws of changed tables ask for: its cells make the uses that the pool counts,
 /// beside those of the other tables.
 pub fn sound_packages_count_their_texts()
-    ensures { (letters : Letters) (tree : Tree) (P : Package) (packs : Packs letters tree P)
+    ensures { (letters : Letters) (tree : Tree) (P : Packed) (packs : Packs letters tree P)
         → IsSoundPackage letters tree P packs → (k : ℕ) (t : Table) → slice_get P.tables k ≡ Some t
         → AreUses t.columns (uses_of (remove P.tables k)) P.pool t.rows }
 {}
 
 /// A tree packs at most one package, whatever the letter table.
 pub fn trees_pack_one_package()
-    ensures { (letters : Letters) (tree : Tree) (P Q : Package) → Packs letters tree P
+    ensures { (letters : Letters) (tree : Tree) (P Q : Packed) → Packs letters tree P
         → Packs letters tree Q → P ≡ Q }
 {}
 
 /// A tree packs a package exactly where it holds the pool and the summary in their streams, and stores all else.
 pub fn packages_are_packed_in_three_parts()
-    ensures { (letters : Letters) (tree : Tree) (P : Package) → Packs letters tree P
+    ensures { (letters : Letters) (tree : Tree) (P : Packed) → Packs letters tree P
         ↔ (Stores letters tree P × HasPool letters tree P.pool × HasSummary letters tree P.summary) }
 {}
 
 /// A tree that packs a package is opened, with its kind, summary and pool, where the letter table leaves encoded names alone.
 pub fn packed_trees_are_opened()
-    ensures { (letters : Letters) (tree : Tree) (P : Package) → Packs letters tree P
+    ensures { (letters : Letters) (tree : Tree) (P : Packed) → Packs letters tree P
         → may_use letters ≡ true → opened letters tree ≡ Ok (P.kind, (P.summary, P.pool)) }
 {}
 
@@ -81,27 +81,27 @@ pub fn read_parts_pack_their_package()
 
 /// Each call that changes tables has one answer, and makes one package.
 pub fn answers_are_one()
-    ensures insert { (P : Package) (name : List ℕ) (new_rows : List (List Datum))
+    ensures insert { (P : Packed) (name : List ℕ) (new_rows : List (List Datum))
         → HasOneAnswer (Inserts P name new_rows) }
-    ensures update { (P : Package) (name : List ℕ) (sets : List (List ℕ × Datum))
+    ensures update { (P : Packed) (name : List ℕ) (sets : List (List ℕ × Datum))
         (condition : Option Formula) → HasOneAnswer (Updates P name sets condition) }
-    ensures delete { (P : Package) (name : List ℕ) (condition : Option Formula)
+    ensures delete { (P : Packed) (name : List ℕ) (condition : Option Formula)
         → HasOneAnswer (Deletes P name condition) }
-    ensures create { (letters : Letters) (P : Package) (name : List ℕ) (columns : List Column)
+    ensures create { (letters : Letters) (P : Packed) (name : List ℕ) (columns : List Column)
         → HasOneAnswer (Creates letters P name columns) }
-    ensures drop { (P : Package) (name : List ℕ) → HasOneAnswer (Drops P name) }
+    ensures drop { (P : Packed) (name : List ℕ) → HasOneAnswer (Drops P name) }
 {}
 
 /// The uses of all tables, taken from a pool's counts, leave nothing exactly where each reference has a use and the counts are
 /// those of the cells, given that no cell names place 0.
 pub fn counted_down_uses_are_counted()
     ensures { (pool : Pool) (tables : List Table) (result : Bool) → uses_of tables 0 ≡ 0
-        → CountsDown pool tables result → IsTrue result ↔ AreCounted pool tables }
+        → CountsDown pool tables result → IsTrue result ↔ TextsAreCounted pool tables }
 {}
 
 /// A package is sound exactly where its parts say so, whichever way the tree packs it.
 pub fn sound_packages_are_sound_in_parts()
-    ensures { (letters : Letters) (tree : Tree) (P : Package) (packs : Packs letters tree P)
+    ensures { (letters : Letters) (tree : Tree) (P : Packed) (packs : Packs letters tree P)
         → IsSoundPackage letters tree P packs ↔ IsSound letters tree P }
 {}
 

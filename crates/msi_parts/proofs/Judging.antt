@@ -14,12 +14,12 @@ use Rattle.msi_meaning.proofs.PacksOnce.{ok_same, some_same}
 use Rattle.msi_meaning.proofs.SoundAnyway.{sound_anyway, sound_so}
 use Rattle.msi_meaning.specs.Known.{HaveColumns, HaveRows, is_named, package_with}
 use Rattle.msi_meaning.specs.Opening.{may_use}
-use Rattle.msi_meaning.specs.Package.{Package as Packed, Packs, at_name, data_name, is_own, is_stream, objects, pool_name, stream_at, stream_name, summary_name, table_name_cmp, table_stream}
+use Rattle.msi_meaning.specs.Package.{Packed, Packs, at_name, data_name, is_own, is_stream, objects, pool_name, stream_at, stream_name, summary_name, table_name_cmp, table_stream}
 use Rattle.msi_meaning.specs.Sound.{IsSoundPackage, is_free_table_name}
 use Rattle.msi_meaning.specs.SoundParts.{IsSound}
 use Rattle.msi_meaning.specs.declared.kind.PackageType.{PackageType}
 use Rattle.msi_parts.proofs.Memory.{memory_is}
-use Rattle.msi_meaning.specs.Uses.{AreCounted}
+use Rattle.msi_meaning.specs.Uses.{TextsAreCounted}
 use Rattle.msi_parts.proofs.Marked.{summary_differs}
 use Rattle.msi_parts.specs.Judged.{IsJudged, IsUnlisted, IsUsual, are_free_names, heading_named, is_in_place, is_under, table_streams}
 use Rattle.msi_parts.specs.Parts.{AreParts, IsMemoryOf, heading}
@@ -317,7 +317,7 @@ module _ (letters : Letters) (tree : Tree) (kind : PackageType) (summary : SetSt
         tables = P.tables;
         same = sym memory.tables;
         rows = subst (λ (q : Pool). HaveRows letters tree q P.tables) (sym memory.pool) packs.rows;
-        counted = subst (λ (q : Pool). AreCounted q P.tables) (sym memory.pool) parts_sound.counted;
+        counted = subst (λ (q : Pool). TextsAreCounted q P.tables) (sym memory.pool) parts_sound.counted;
         unlisted = subst (λ (q : Pool). IsUnlisted q P.tables) (sym memory.pool) parts_sound.named.not_listed;
       };
     }

@@ -16,7 +16,7 @@ use Rattle.msi_tables.specs.Schema.{begins_with, columns_columns, columns_in, co
 use Rattle.msi_values.specs.Datum.{Datum}
 use Rattle.msi_meaning.specs.Known.{is_named}
 use Rattle.msi_meaning.specs.Opening.{kind_of, summary_read}
-use Rattle.msi_meaning.specs.Package.{Package as Packed, Packs, is_table_name, rows_named, table_name_cmp}
+use Rattle.msi_meaning.specs.Package.{Packed, Packs, is_table_name, rows_named, table_name_cmp}
 use Rattle.cfb_medium.specs.declared.error.Error.TheVariants.{InvalidData}
 use Rattle.msi_meaning.specs.declared.kind.PackageType.{PackageType}
 use Rattle.msi_meaning.proofs.OpenedIs.{builder_finds, kind_back, summary_back}

@@ -9,7 +9,7 @@ use Rattle.cfb_tree.specs.Tree.{Tree}
 use Rattle.msi_meaning.specs.Known.{HaveRows}
 use Rattle.msi_meaning.specs.Package.{data_name, is_stream, objects, pool_name, stream_name}
 use Rattle.msi_meaning.specs.Sound.{is_free_table_name}
-use Rattle.msi_meaning.specs.Uses.{AreCounted}
+use Rattle.msi_meaning.specs.Uses.{TextsAreCounted}
 use Rattle.msi_parts.specs.Parts.{heading}
 use Rattle.msi_pool.specs.Pool.{Pool}
 use Rattle.msi_pool.specs.PoolKept.{AreFreeEmpty}
@@ -59,7 +59,7 @@ pub record AreSoundRows (letters : Letters) (tree : Tree) (pool : Pool) (heading
   pub tables : List Table
   pub same : map (heading pool.long) tables ≡ headings
   pub rows : HaveRows letters tree pool tables
-  pub counted : AreCounted pool tables
+  pub counted : TextsAreCounted pool tables
   pub unlisted : IsUnlisted pool tables
 
 -- THE JUDGEMENT: every part is as a sound package has it

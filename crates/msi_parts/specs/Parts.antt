@@ -8,7 +8,7 @@ use Rattle.msi_meaning.specs.Known.{Parts, SystemTables}
 use Rattle.msi_meaning.specs.Opening.{rows_by, summary_read}
 use Rattle.msi_meaning.specs.declared.kind.PackageType.{PackageType}
 use Rattle.msi_meaning.specs.Sound.{IsSoundPackage}
-use Rattle.msi_meaning.specs.Package.{Package as Packed, Packs, data_name, objects, pool_name, stream_at, summary_name, table_stream}
+use Rattle.msi_meaning.specs.Package.{Packed, Packs, data_name, objects, pool_name, stream_at, summary_name, table_stream}
 use Rattle.msi_pool.specs.Pool.{Pool}
 use Rattle.msi_pool.specs.PoolReading.{Begun, begun, pool_of, texts_give_back as pool_texts_give_back}
 use Rattle.msi_props.specs.Held.{SetState}

@@ -3,7 +3,7 @@ ghost use Rattle.std.specs.Prelude.{◌≡◌, ◌↔◌, true, Bool, IfOk, IfSo
 ghost use Rattle.cfb_tree.specs.Names.{Letters};
 ghost use Rattle.cfb_tree.specs.Tree.{Tree};
 ghost use Rattle.msi_meaning.specs.Opening.{may_use};
-ghost use Rattle.msi_meaning.specs.Package.{Package as Packed, Packs};
+ghost use Rattle.msi_meaning.specs.Package.{Packed, Packs};
 ghost use Rattle.msi_meaning.specs.Sound.{IsSoundPackage};
 ghost use Rattle.msi_parts.specs.Judged.{IsJudged};
 ghost use Rattle.msi_meaning.specs.declared.kind.PackageType.{PackageType};

@@ -16,7 +16,7 @@ pub record Ready : Type 0 where
   pub next : List Place
 
 -- the set has the free places and those that become free, the map has every text that was touched, and the list has room for what is added
-pub record HasRoom (list : Vec (String Global × ℕ) Global) (free : BTreeSet ℕ Global) (room : BTreeMap (String Global) (BTreeSet ℕ Global) Global) (c : Changes) : Type 0 where
+pub record PlacesHaveRoom (list : Vec (String Global × ℕ) Global) (free : BTreeSet ℕ Global) (room : BTreeMap (String Global) (BTreeSet ℕ Global) Global) (c : Changes) : Type 0 where
   pub few : length list.items < 2 ^ 32
   pub changes : AreChangesOf (places_of list.items) c
   pub frees : (i : ℕ) → has_place free i ≡ (passes_at is_free (places_of list.items) i || has_place c.given i)

@@ -11,7 +11,7 @@ use std::alloc::Global;
 use std::collections::{BTreeMap, BTreeSet};
 
 // A list with its index. The one error is Memory.
-pub(crate) fn indexed(alloc: Global, list: Vec<(String, u16)>) -> Result<StdParts, Error>
+pub(crate) fn list_with_index(alloc: Global, list: Vec<(String, u16)>) -> Result<StdParts, Error>
     requires { length list.items < 2 ^ 32 }
     ensures list { IfOk result (λ parts. parts.list.items ≡ list.items) }
     ensures index { IfOk result (λ parts. IsIndexed

@@ -5,7 +5,7 @@ ghost use Rattle.msi_places.specs.Places.{at_place, no_place, place_among, place
 ghost use Rattle.msi_places.specs.PoolParts.{has_place};
 ghost use Rattle.msi_places.specs.PoolIndex.{IsIndexed, IsLeast, KeepsAll, Takes, is_free, is_roomy, passes_at};
 
-use crate::indexing::indexed;
+use crate::indexing::list_with_index;
 use crate::parts::{PoolParts, StdParts, least_with_room};
 use cfb_medium::Error;
 use std::alloc::Global;
@@ -48,7 +48,7 @@ impl Places {
         ensures ok { IfOk result (λ places. places.places ≡ places_of list.items) }
         ensures kinds { IfErr result (λ e. e ≡ Memory) }
     {
-        let parts = indexed(alloc, list)?;
+        let parts = list_with_index(alloc, list)?;
         Ok(Places { parts })
     }
 

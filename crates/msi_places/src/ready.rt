@@ -24,13 +24,13 @@ pub struct ReadyPlaces {
 impl Model for ReadyPlaces {
     ghost use Rattle.msi_places.specs.Places.{places_of};
     ghost use Rattle.msi_places.specs.PoolDraft.{taken_over};
-    ghost use Rattle.msi_places.specs.PoolReady.{HasRoom, Ready};
+    ghost use Rattle.msi_places.specs.PoolReady.{PlacesHaveRoom, Ready};
 
     ghost Value = { Ready };
 
     ghost view = { λ p. record { places = places_of p.parts.list.items; next = taken_over (places_of p.parts.list.items) p.changes } };
 
-    ghost invariant = { λ p. HasRoom p.parts.list p.parts.free p.parts.room p.changes };
+    ghost invariant = { λ p. PlacesHaveRoom p.parts.list p.parts.free p.parts.room p.changes };
 }
 
 impl Places {

@@ -11,7 +11,7 @@ use Rattle.msi_texts.specs.declared.codepage.CodePage.TheVariants as page
 use Rattle.msi_texts.specs.Numbers.{le_bytes}
 use Rattle.msi_texts.specs.Page.{encoded, decoded, page_id, id_of}
 use Rattle.msi_pool.specs.Pool.{Pool, Place, IsHead, AreHeads, Pooled, head_bytes, head_of, stored_place, stored_of, pool_stream, data_stream}
-use Rattle.msi_pool.specs.PoolKept.{IsKept, AreKept, IsWritable}
+use Rattle.msi_pool.specs.PoolKept.{IsKeptPlace, AreKept, IsWritable}
 use Rattle.msi_texts.proofs.PageRoundTrip.{fitting_text_comes_back}
 
 -- each page comes back from its number
@@ -42,7 +42,7 @@ unfolding chars
 empty_encoded page.Utf8 = refl
 empty_encoded _ = refl
 
-no_bytes : (page : CodePage) (p : Place) → IsKept page p → p.count ≡ 0 → length (encoded page p.text) ≡ 0
+no_bytes : (page : CodePage) (p : Place) → IsKeptPlace page p → p.count ≡ 0 → length (encoded page p.text) ≡ 0
 no_bytes page p kept e = rw (kept.free e, empty_encoded page) refl
 
 -- all heads

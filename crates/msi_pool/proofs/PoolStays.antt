@@ -7,7 +7,7 @@ use Rattle.std.proofs.lemmas.List.Elements.{All-cons, All-head, All-tail}
 use Rattle.msi_texts.specs.declared.codepage.CodePage.{CodePage}
 use Rattle.msi_texts.specs.Page.{is_utf8_page, encoded, fits}
 use Rattle.msi_pool.specs.Pool.{Place, takes, with_use, one_less, without_use}
-use Rattle.msi_pool.specs.PoolKept.{AreFreeEmpty, AreKept, CanBeKept, IsKept}
+use Rattle.msi_pool.specs.PoolKept.{AreFreeEmpty, AreKept, CanBeKept, IsKeptPlace}
 
 abbrev pub IsEmptyIfFree : Place → Type 0
 IsEmptyIfFree p = p.count ≡ 0 → p.text ≡ []
@@ -37,7 +37,7 @@ taken_stay_empty (suc zero) (p ∷ ps) h = All-cons IsEmptyIfFree (one_less p) p
 taken_stay_empty (suc (suc n)) (p ∷ ps) h = All-cons IsEmptyIfFree p (without_use (suc n) ps) (All-head IsEmptyIfFree p ps h) (taken_stay_empty (suc n) ps (All-tail IsEmptyIfFree p ps h))
 
 module _ (page : CodePage) where
-  kept_with : (t : List ℕ) (n : ℕ) → CanBeKept page t → n < 65535 → IsKept page (record { text = t; count = n + 1 })
+  kept_with : (t : List ℕ) (n : ℕ) → CanBeKept page t → n < 65535 → IsKeptPlace page (record { text = t; count = n + 1 })
   kept_with t n h low = record { utf8 = h.utf8; fit = h.fit; count = omega (arith, low); size = h.size; free = counted_once_more n t }
 
   no_text_fits : IsTrue (fits page [])
@@ -56,11 +56,11 @@ module _ (page : CodePage) where
       on true = omega arith
       on false = omega arith
 
-  fewer_kept : (p : Place) → IsKept page p → IsKept page (one_less p)
+  fewer_kept : (p : Place) → IsKeptPlace page p → IsKeptPlace page (one_less p)
   unfolding is_utf8 chars
   fewer_kept p h = on (nat_lt p.count 2) refl
     where
-      on : (b : Bool) → nat_lt p.count 2 ≡ b → IsKept page (cond b (record { text = []; count = 0 }) (record p { count = p.count - 1 }))
+      on : (b : Bool) → nat_lt p.count 2 ≡ b → IsKeptPlace page (cond b (record { text = []; count = 0 }) (record p { count = p.count - 1 }))
       on true e = record { utf8 = refl; fit = no_text_fits; count = omega arith; size = no_text_is_small; free = λ z. refl }
       on false e = record { utf8 = h.utf8; fit = h.fit; count = omega (arith, h.count); size = h.size; free = λ z. absurd (grind (arith, nat_tests, e, z)) }
 

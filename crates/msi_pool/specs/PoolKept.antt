@@ -16,7 +16,7 @@ pub record CanBeKept (page : CodePage) (text : List ℕ) : Type 0 where
   pub size : length (encoded page text) < 2 ^ 32
 
 -- a place whose text fits the page, with a length and a count that fit their fields; a free one holds the empty text
-pub record IsKept (page : CodePage) (p : Place) : Type 0 where
+pub record IsKeptPlace (page : CodePage) (p : Place) : Type 0 where
   pub utf8 : IsTrue (is_utf8 p.text)
   pub fit : IsTrue (fits page p.text)
   pub count : p.count < 2 ^ 16
@@ -26,7 +26,7 @@ pub record IsKept (page : CodePage) (p : Place) : Type 0 where
 -- each of these places is
 abbrev pub AreKept : CodePage → List Place → Type 0
 AreKept page [] = Unit {0}
-AreKept page (p ∷ ps) = IsKept page p × AreKept page ps
+AreKept page (p ∷ ps) = IsKeptPlace page p × AreKept page ps
 
 -- all places are, and there are not too many
 abbrev pub IsWritable : Pool → Type 0

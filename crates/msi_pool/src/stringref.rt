@@ -169,7 +169,7 @@ impl ValueRef {
     }
 
     /// The value of the cell, whose text stands in the pool.
-    pub fn borrowed(self, string_pool: &StringPool) -> BorrowedValue<'_>
+    pub fn as_borrowed(self, string_pool: &StringPool) -> BorrowedValue<'_>
         ensures { borrowed_datum result ≡ value_at string_pool.now.pool self }
     {
         match self {

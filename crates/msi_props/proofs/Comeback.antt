@@ -11,7 +11,7 @@ use Rattle.msi_texts.specs.Results.{◌>>=◌}
 use Rattle.msi_texts.specs.declared.codepage.CodePage.{CodePage}
 use Rattle.msi_props.specs.declared.system.OperatingSystem.{OperatingSystem}
 use Rattle.msi_props.specs.declared.system.OperatingSystem.TheVariants.{Win16, Macintosh, Win32}
-use Rattle.msi_props.specs.Kept.{IsKept, IsWritable, TellsPage, WrittenSetsAreRead}
+use Rattle.msi_props.specs.Kept.{IsKeptValue, SetIsWritable, TellsPage, WrittenSetsAreRead}
 use Rattle.msi_props.specs.Props.{Head, Property, Props, head_at, head_bytes, is_i1, offsets_from, page_at, properties_at, props_bytes, props_read, read_under, section_at, stored_props, system_number, system_of, under}
 use Rattle.msi_props.specs.Props as property
 use Rattle.msi_props.proofs.Fronts.{held, bytes_front, number_front}
@@ -86,11 +86,11 @@ few_versions true = omega arith
 few_versions false = omega arith
 
 -- a kept value reads under its page as it was
-under_held : (p : CodePage) (v : Property) → IsKept p v → under p (held p v) ≡ v
+under_held : (p : CodePage) (v : Property) → IsKeptValue p v → under p (held p v) ≡ v
 under_held p (property.text t) kept = ap property.text (fitting_text_comes_back p t (IsUtf8-from_is_utf8 t kept.0) kept.1)
 under_held p _ kept = refl
 
-all_under : (p : CodePage) (vs : List (ℕ × Property)) → AllByRecursion (λ v. IsKept p v.1) vs → map (λ (v : ℕ × Property). (v.0, under p v.1)) (map (λ (v : ℕ × Property). (v.0, held p v.1)) vs) ≡ vs
+all_under : (p : CodePage) (vs : List (ℕ × Property)) → AllByRecursion (λ v. IsKeptValue p v.1) vs → map (λ (v : ℕ × Property). (v.0, under p v.1)) (map (λ (v : ℕ × Property). (v.0, held p v.1)) vs) ≡ vs
 all_under p [] kept = refl
 all_under p (v ∷ vs) kept = ap₂ (λ (w : Property) (ws : List (ℕ × Property)). (v.0, w) ∷ ws) (under_held p v.1 kept.0) (all_under p vs kept.1)
 
@@ -114,7 +114,7 @@ eight_lens a b c d e f g h = simp length-append
 three_lens : (a b c : List ℕ) → length (a ++ (b ++ c)) ≡ length a + length b + length c
 three_lens a b c = simp length-append (omega arith)
 
-module _ (s : Props) (kept : IsWritable s) where
+module _ (s : Props) (kept : SetIsWritable s) where
   abbrev vs : List (ℕ × Property)
   vs = s.values
 

@@ -10,7 +10,7 @@ use Rattle.msi_texts.specs.Numbers.{le_bytes}
 use Rattle.msi_texts.specs.Page.{encoded}
 use Rattle.msi_texts.specs.Reading.{bytes_at, number_at}
 use Rattle.msi_texts.specs.declared.codepage.CodePage.{CodePage}
-use Rattle.msi_props.specs.Kept.{IsKept}
+use Rattle.msi_props.specs.Kept.{IsKeptValue}
 use Rattle.msi_props.specs.Props.{Property, property_at, property_bytes, padded4}
 use Rattle.msi_props.specs.Props as property
 use Rattle.msi_texts.proofs.NumberBytes.{le_back, length-le_bytes}
@@ -64,7 +64,7 @@ text_front p t rest short =
     subst (λ bytes. property_at bytes ≡ Ok (property.text text)) (sym (parts (le_bytes 4 30) (le_bytes 4 (len + 1)) text (le_bytes 1 0) pad rest)) read
 
 -- a value at the front of bytes is read, where its bytes are fewer than 2^32
-pub value_front : (p : CodePage) (v : Property) (rest : List ℕ) → IsKept p v → length (property_bytes p v) < 2 ^ 32 → property_at (property_bytes p v ++ rest) ≡ Ok (held p v)
+pub value_front : (p : CodePage) (v : Property) (rest : List ℕ) → IsKeptValue p v → length (property_bytes p v) < 2 ^ 32 → property_at (property_bytes p v ++ rest) ≡ Ok (held p v)
 value_front p property.empty rest kept short = rw (number_front 4 0 rest (omega arith))
 value_front p property.null rest kept short = rw (number_front 4 1 rest (omega arith))
 value_front p (property.i1 z) rest kept short =

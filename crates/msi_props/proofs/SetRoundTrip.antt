@@ -16,7 +16,7 @@ use Rattle.msi_texts.specs.declared.codepage.CodePage.TheVariants as page
 use Rattle.msi_texts.specs.Results.{or_refused}
 use Rattle.cfb_medium.specs.declared.error.Error.{Error}
 use Rattle.cfb_medium.specs.declared.error.Error.TheVariants.{InvalidData}
-use Rattle.msi_props.specs.Kept.{IsKept, Rise}
+use Rattle.msi_props.specs.Kept.{IsKeptValue, Rise}
 use Rattle.msi_props.specs.Props.{Property, is_i1, offsets_from, page_in, page_stored, page_told, value_of, pairs_at, properties_at, property_at, property_bytes}
 use Rattle.msi_props.specs.Props as property
 use Rattle.msi_props.proofs.Fronts.{held, number_front, value_front}
@@ -81,7 +81,7 @@ is_i1_held p _ = refl
 
 -- the values are read where they stand
 pub values_read : (p : CodePage) (version at : ℕ) (vs : List (ℕ × Property)) (front rest section : List ℕ) → section ≡ front ++ (bodies p vs ++ rest) → length front ≡ at
-    → AllByRecursion (λ v. IsKept p v.1) vs → AllByRecursion (λ v. (nat_lt 0 version || not (is_i1 v.1)) ≡ true) vs → at + length (bodies p vs) < 2 ^ 32
+    → AllByRecursion (λ v. IsKeptValue p v.1) vs → AllByRecursion (λ v. (nat_lt 0 version || not (is_i1 v.1)) ≡ true) vs → at + length (bodies p vs) < 2 ^ 32
     → properties_at version section (pairs_from p at vs) ≡ Ok (map (λ v. (v.0, held p v.1)) vs)
 values_read p version at [] front rest section is long kept allowed short = refl
 values_read p version at (v ∷ vs) front rest section is long kept allowed short =
@@ -106,7 +106,7 @@ page_in_held p _ = refl
 
 -- the page is told where property 1 stands
 pub page_found : (p : CodePage) (at : ℕ) (vs : List (ℕ × Property)) (front rest section : List ℕ) → section ≡ front ++ (bodies p vs ++ rest) → length front ≡ at
-    → AllByRecursion (λ v. IsKept p v.1) vs → at + length (bodies p vs) < 2 ^ 32
+    → AllByRecursion (λ v. IsKeptValue p v.1) vs → at + length (bodies p vs) < 2 ^ 32
     → page_told section (option_map (λ q. q.1) (find (λ q. q.0 == 1) (pairs_from p at vs))) ≡ page_of_value (value_of 1 vs)
 page_found p at [] front rest section is long kept short = refl
 page_found p at (v ∷ vs) front rest section is long kept short =

@@ -38,8 +38,8 @@ abbrev pub rows_with : Groups → BorrowedValue → List Row
 rows_with groups value = group_rows (get order.cmp groups value)
 
 -- a value is left without rows, and each other one as it was
-abbrev pub IsTaken : Groups → Groups → BorrowedValue → Type 0
-IsTaken old new value = (other : BorrowedValue) → get order.cmp new other ≡ (if is_eq (order.cmp value other) then None else get order.cmp old other)
+abbrev pub ValueIsTaken : Groups → Groups → BorrowedValue → Type 0
+ValueIsTaken old new value = (other : BorrowedValue) → get order.cmp new other ≡ (if is_eq (order.cmp value other) then None else get order.cmp old other)
 
 -- the value at the place is equal to this one
 abbrev pub has_value : Pool → ℕ → Datum → Row → Rattle.std.specs.Prelude.Bool

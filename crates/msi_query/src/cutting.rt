@@ -39,8 +39,8 @@ pub(crate) fn cut(
     if !knows_condition(alloc, &table, condition)? {
         return Err(Error::InvalidInput);
     }
-    let rows = filtered(alloc, pool, &table, condition, rows)?;
-    projected(alloc, names, table, rows)
+    let rows = filtered_rows(alloc, pool, &table, condition, rows)?;
+    projected_rows(alloc, names, table, rows)
 }
 
 // Whether the table has a column of each of these names.
@@ -53,7 +53,7 @@ fn has_each(table: &Table, names: &[String]) -> bool
 }
 
 // The rows that the condition lets through.
-fn filtered(
+fn filtered_rows(
     alloc: Global,
     pool: &StringPool,
     table: &Table,
@@ -68,11 +68,11 @@ fn filtered(
     ensures err { IfErr result (λ e. e ≡ Memory) }
 {
     let shared = Rc::new(alloc, table.clone(alloc)?)?;
-    kept(alloc, pool, &shared, condition, &rows)
+    copies_let_through(alloc, pool, &shared, condition, &rows)
 }
 
 // Copies of the rows that the condition lets through.
-fn kept(
+fn copies_let_through(
     alloc: Global,
     pool: &StringPool,
     table: &Rc<Table>,
@@ -96,7 +96,7 @@ fn kept(
 }
 
 // The columns of these names, and the rows cut to them.
-fn projected(
+fn projected_rows(
     alloc: Global,
     names: &[String],
     table: Table,

@@ -2,7 +2,7 @@
 ghost use Rattle.cfb_medium.specs.declared.error.Error.TheVariants.{Memory};
 ghost use Rattle.msi_columns.specs.Column.{Column};
 ghost use Rattle.msi_expr.specs.Formula.{Formula, formula_of};
-ghost use Rattle.msi_query.specs.Grouped.{AreGrouped, IsEquation, IsIndexed, IsTaken, rows_lent, rows_with, value_in};
+ghost use Rattle.msi_query.specs.Grouped.{AreGrouped, IsEquation, IsIndexed, ValueIsTaken, rows_lent, rows_with, value_in};
 ghost use Rattle.msi_query.specs.Query.{pairs_with};
 ghost use Rattle.msi_tables.specs.Held.{heading_of, rows_held};
 ghost use Rattle.msi_values.specs.Borrowed.{borrowed_datum};
@@ -22,7 +22,7 @@ fn equation(table: &Table, on: &Expr, width: usize) -> Option<(usize, usize)>
     ensures { IfSome result (λ places. IsEquation (heading_of table.now).columns (formula_of on.now)
         width places.0 places.1) }
 {
-    let (one, other) = on.equated()?;
+    let (one, other) = on.equated_columns()?;
     let one = table.index_for_column_name(one)?;
     let other = table.index_for_column_name(other)?;
     if one < width && width <= other {
@@ -41,11 +41,11 @@ fn value_at<'a>(pool: &'a StringPool, row: &[ValueRef], place: usize) -> Borrowe
     row.get(place)
         .copied()
         .unwrap_or(ValueRef::Null)
-        .borrowed(pool)
+        .as_borrowed(pool)
 }
 
 // The rows by their values at a place. The one error is `Memory`.
-fn grouped<'a>(
+fn rows_by_value<'a>(
     alloc: Global,
     pool: &'a StringPool,
     place: usize,
@@ -57,7 +57,7 @@ fn grouped<'a>(
     let mut groups = BTreeMap::new(alloc);
     for row in rows {
         let value = value_at(pool, row, place);
-        let mut group = taken(alloc, &mut groups, value);
+        let mut group = take_group(alloc, &mut groups, value);
         group.push(row.as_slice())?;
         let _ = groups.insert(value, group)?;
     }
@@ -65,13 +65,13 @@ fn grouped<'a>(
 }
 
 // The rows of a value, which are taken out.
-fn taken<'a>(
+fn take_group<'a>(
     alloc: Global,
     groups: &mut BTreeMap<BorrowedValue<'a>, Vec<&'a [ValueRef]>>,
     value: BorrowedValue<'a>,
 ) -> Vec<&'a [ValueRef]>
     ensures rows { rows_lent result.items ≡ rows_with groups.old value.entry }
-    ensures gone { IsTaken groups.old groups.new value.entry }
+    ensures gone { ValueIsTaken groups.old groups.new value.entry }
 {
     match groups.remove(&value) {
         Some(group) => group,
@@ -106,7 +106,7 @@ impl<'a> RightSide<'a> {
             (formula_of on.now)) }
         ensures err { IfErr result (λ e. e ≡ Memory) }
     {
-        let all = lent(alloc, rows)?;
+        let all = lent_rows(alloc, rows)?;
         let index = index_of(alloc, pool, table, on, own, rows)?;
         Ok(RightSide {
             rows,
@@ -143,7 +143,7 @@ fn index_of<'a>(
 {
     match equation(table, on, width) {
         Some((left, right)) => {
-            let groups = grouped(alloc, pool, right, rows)?;
+            let groups = rows_by_value(alloc, pool, right, rows)?;
             Ok(Some((left, groups)))
         }
         None => Ok(None),
@@ -168,14 +168,14 @@ fn partners<'m, 'a>(
             if left.len() != width {
                 return all;
             }
-            found(groups, all, value_at(pool, left, *place))
+            rows_of_value(groups, all, value_at(pool, left, *place))
         }
         None => all,
     }
 }
 
 // The rows of a value, or none of all.
-fn found<'m, 'a>(
+fn rows_of_value<'m, 'a>(
     groups: &'m BTreeMap<BorrowedValue<'a>, Vec<&'a [ValueRef]>>,
     all: &'m [&'a [ValueRef]],
     value: BorrowedValue<'a>,
@@ -189,7 +189,7 @@ fn found<'m, 'a>(
 }
 
 // All rows, where they stand. The one error is `Memory`.
-fn lent<'a>(alloc: Global, rows: &'a [Vec<ValueRef>]) -> Result<Vec<&'a [ValueRef]>, Error>
+fn lent_rows<'a>(alloc: Global, rows: &'a [Vec<ValueRef>]) -> Result<Vec<&'a [ValueRef]>, Error>
     ensures ok { IfOk result (λ lent. rows_lent lent.items ≡ rows_held rows.now) }
     ensures err { IfErr result (λ e. e ≡ Memory) }
 {

@@ -36,8 +36,8 @@ pub(crate) fn inner_joined(
         (answered left) (answered right)) }
     ensures width { IfOk result (λ joined. (heading_of joined.0).long ≡ pool.now.pool.long) }
 {
-    let mut columns = prefixed(alloc, left.0.name(), left.0.columns())?;
-    let mut others = prefixed(alloc, right.0.name(), right.0.columns())?;
+    let mut columns = prefixed_columns(alloc, left.0.name(), left.0.columns())?;
+    let mut others = prefixed_columns(alloc, right.0.name(), right.0.columns())?;
     columns.append(&mut others)?;
     let table = Table::from_parts(String::new(alloc), columns, pool.long_string_refs());
     if !knows(alloc, &table, on)? {
@@ -62,7 +62,7 @@ pub(crate) fn left_joined(
     ensures width { IfOk result (λ joined. (heading_of joined.0).long ≡ pool.now.pool.long) }
 {
     let width = right.0.columns().len();
-    let mut columns = prefixed(alloc, left.0.name(), left.0.columns())?;
+    let mut columns = prefixed_columns(alloc, left.0.name(), left.0.columns())?;
     let mut others = prefixed_nullable(alloc, right.0.name(), right.0.columns())?;
     columns.append(&mut others)?;
     let table = Table::from_parts(String::new(alloc), columns, pool.long_string_refs());
@@ -76,7 +76,7 @@ pub(crate) fn left_joined(
 }
 
 // Copies of columns under a prefix.
-fn prefixed(alloc: Global, prefix: &str, columns: &[Column]) -> Result<Vec<Column>, Error>
+fn prefixed_columns(alloc: Global, prefix: &str, columns: &[Column]) -> Result<Vec<Column>, Error>
     ensures ok { IfOk result (λ copies. columns_of copies.items
         ≡ map (side_column prefix.now) (columns_of columns.now)) }
     ensures err { IfErr result (λ e. e ≡ Memory) }

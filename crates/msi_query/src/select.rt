@@ -15,9 +15,9 @@ use crate::cutting::cut;
 use crate::joining::{inner_joined, left_joined};
 use crate::printing::fmt_names;
 use crate::source::TableSource;
-use crate::stored::stored;
+use crate::stored::stored_table;
 use cfb_medium::Error;
-use msi_expr::{Expr, fmt_condition, narrowed};
+use msi_expr::{Expr, fmt_condition, narrowed_condition};
 use msi_pool::{StringPool, ValueRef};
 use msi_tables::Table;
 use std::alloc::Global;
@@ -104,7 +104,7 @@ impl Select {
             (query (source_in (query_of self)) (names_in (query_of self))
             (narrowed (condition_in (query_of self)) (formula_of condition)))) }
     {
-        let condition = narrowed(alloc, self.condition, condition)?;
+        let condition = narrowed_condition(alloc, self.condition, condition)?;
         Ok(Select {
             from: self.from,
             column_names: self.column_names,
@@ -128,7 +128,7 @@ impl Select {
         ensures width { IfOk result (λ found. (heading_of found.0).long ≡ pool.now.pool.long) }
         ensures rests { S.rests source.old source.new }
     {
-        let found = self.from.found(alloc, source, pool)?;
+        let found = self.from.found_rows(alloc, source, pool)?;
         cut(alloc, pool, &self.column_names, &self.condition, found)
     }
 
@@ -196,7 +196,7 @@ impl Select {
 impl Join {
     // The table, or the tables joined, with the rows.
     #[cycle(applied)]
-    fn found<S: TableSource>(
+    fn found_rows<S: TableSource>(
         &self,
         alloc: Global,
         source: &mut S,
@@ -208,7 +208,7 @@ impl Join {
         ensures rests { S.rests source.old source.new }
     {
         match self {
-            Join::Table(name) => stored(alloc, source, pool, name),
+            Join::Table(name) => stored_table(alloc, source, pool, name),
             Join::Inner(left, right, on) => {
                 let first = left.apply(alloc, source, pool)?;
                 let second = right.apply(alloc, source, pool)?;

@@ -15,7 +15,7 @@ use std::alloc::Global;
 
 // The table of a name with its rows; its references are as wide as the pool's. `NotFound` where there is none; faults are those
 // of the source.
-pub(crate) fn stored<S: TableSource>(
+pub(crate) fn stored_table<S: TableSource>(
     alloc: Global,
     source: &mut S,
     pool: &StringPool,
@@ -27,7 +27,7 @@ pub(crate) fn stored<S: TableSource>(
     ensures rests { S.rests source.old source.new }
 {
     let table = match source.table(name) {
-        Some(table) => copied(alloc, table, pool.long_string_refs())?,
+        Some(table) => copy_of_table(alloc, table, pool.long_string_refs())?,
         None => return Err(Error::NotFound),
     };
     let rows = source.rows(alloc, name)?;
@@ -35,7 +35,7 @@ pub(crate) fn stored<S: TableSource>(
 }
 
 // A copy of a table under this width of references.
-fn copied(alloc: Global, table: &Table, long: bool) -> Result<Table, Error>
+fn copy_of_table(alloc: Global, table: &Table, long: bool) -> Result<Table, Error>
     ensures ok { IfOk result (λ copy. heading_of copy
         ≡ record (heading_of table.now) { long = long }) }
     ensures err { IfErr result (λ e. e ≡ Memory) }

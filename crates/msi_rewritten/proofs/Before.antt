@@ -17,10 +17,10 @@ use Rattle.msi_pool.specs.declared.stringref.ValueRef.TheVariants as cell
 use Rattle.msi_tables.specs.Rows.{kinds_of, Row}
 use Rattle.msi_tables.specs.Table.{Table}
 use Rattle.msi_meaning.specs.Calls.{is_system}
-use Rattle.msi_meaning.specs.Package.{Package}
+use Rattle.msi_meaning.specs.Package.{Packed}
 use Rattle.msi_meaning.specs.Sound.{uses_of, IsUsed}
 use Rattle.msi_meaning.specs.Split.{Stores}
-use Rattle.msi_meaning.specs.Uses.{AreCounted}
+use Rattle.msi_meaning.specs.Uses.{TextsAreCounted}
 use Rattle.msi_meaning.proofs.SoundUses.{rows_read}
 use Rattle.msi_rewritten.specs.Rewriting.{IsRewriting}
 
@@ -51,7 +51,7 @@ module _ (pool : Pool) (n : ℕ) (past : length pool.places < n) where
 
 -- ---- the table's own uses, and those of the others
 
-module _ (letters : Letters) (tree : Tree) (P : Package) (stores : Stores letters tree P) (counted : AreCounted P.pool P.tables) where
+module _ (letters : Letters) (tree : Tree) (P : Packed) (stores : Stores letters tree P) (counted : TextsAreCounted P.pool P.tables) where
   counted_at : (n : ℕ) → 0 < n → (at_place P.pool.places n).count ≡ uses_of P.tables n
   counted_at n at = on (nat_le n (length P.pool.places)) refl
     where
@@ -79,7 +79,7 @@ module _ (letters : Letters) (tree : Tree) (P : Package) (stores : Stores letter
       joined n within same = (let h = sum_by-remove (λ u. uses_in u.rows n) P.tables k t within in let e : uses_in (get_or P.tables k t).rows n ≡ uses_in t.rows n = ap (λ u. uses_in u.rows n) same in omega (arith, h, e))
 
 -- a change that keeps uses and shape, and whose rows are stored
-pub rewrites : (P : Package) (k : ℕ) (t : Table) → slice_get P.tables k ≡ Some t → is_system t.name ≡ false → AreFreeEmpty P.pool.places
+pub rewrites : (P : Packed) (k : ℕ) (t : Table) → slice_get P.tables k ≡ Some t → is_system t.name ≡ false → AreFreeEmpty P.pool.places
     → (after : List Row × Pool) → KeepsUses P.pool t.columns (uses_of (remove P.tables k)) after → KeepsShape P.pool t after
     → (stored : List Row) → StoredAlike after.1 (record t { rows = after.0 }) stored → IsRewriting P k t stored after.1
 rewrites P k t at ordinary free after keeps shape stored alike = record {

@@ -10,16 +10,16 @@ use Rattle.msi_pool.specs.Pool.{Pool}
 use Rattle.msi_tables.specs.Rows.{kinds_of, Row}
 use Rattle.msi_tables.specs.Table.{row_data, Table}
 use Rattle.msi_meaning.specs.Calls.{rows_put, with_rows}
-use Rattle.msi_meaning.specs.Package.{Package}
+use Rattle.msi_meaning.specs.Package.{Packed}
 use Rattle.msi_meaning.specs.Sound.{IsUsed}
 use Rattle.msi_meaning.specs.Split.{Stores}
-use Rattle.msi_meaning.specs.Uses.{AreCounted}
+use Rattle.msi_meaning.specs.Uses.{TextsAreCounted}
 use Rattle.msi_meaning.proofs.SoundUses.{rows_read}
 use Rattle.msi_rewritten.specs.Rewriting.{IsRewriting}
 use Rattle.msi_rewritten.proofs.Tables.{one_changed, other_kept, others_have, uses_after}
 use Rattle.msi_rewritten.proofs.Texts.{rows_stay, rows_used}
 
-module _ (letters : Letters) (tree : Tree) (P : Package) (stores : Stores letters tree P) (k : ℕ) (t : Table) (stored : List Row) (pool : Pool) (r : IsRewriting P k t stored pool) where
+module _ (letters : Letters) (tree : Tree) (P : Packed) (stores : Stores letters tree P) (k : ℕ) (t : Table) (stored : List Row) (pool : Pool) (r : IsRewriting P k t stored pool) where
   -- no cell of a table names place 0
   pub none_at : (j : ℕ) (d : Table) → j < length P.tables → uses_in (get_or P.tables j d).rows 0 ≡ 0
   none_at j d within = (rows_read P.pool.long (kinds_of (get_or P.tables j d).columns) _ (get_or P.tables j d).rows (stores.rows j d within)).1
@@ -45,7 +45,7 @@ module _ (letters : Letters) (tree : Tree) (P : Package) (stores : Stores letter
           subst (λ (u : Table). All (All (IsUsed pool)) u.rows) (sym (other_kept t.name stored (get_or P.tables j d) is))
           (rows_used pool (get_or P.tables j d).rows (none_at j d within) (λ n at used. (let h = r.uses.counts n at in let most = others_have P.tables k t r.at stores.rising j d within is n in omega (arith, h, most, used))))
 
-  pub counted_after : AreCounted pool (rows_put t.name stored P.tables)
+  pub counted_after : TextsAreCounted pool (rows_put t.name stored P.tables)
   counted_after = record {
     references = references_after;
     counts = λ n at within. r.uses.counts n at ∙ sym (uses_after t.name stored P.tables k t r.at refl stores.rising n);

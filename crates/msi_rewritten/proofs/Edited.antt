@@ -17,15 +17,15 @@ use Rattle.msi_tables.specs.Rows.{IsStored, Row}
 use Rattle.msi_tables.specs.Table.{Table}
 use Rattle.msi_values.specs.Datum.{Datum}
 use Rattle.msi_meaning.specs.Calls.{is_system}
-use Rattle.msi_meaning.specs.Package.{Package}
+use Rattle.msi_meaning.specs.Package.{Packed}
 use Rattle.msi_meaning.specs.Sound.{uses_of}
 use Rattle.msi_meaning.specs.Split.{Stores}
-use Rattle.msi_meaning.specs.Uses.{AreCounted}
+use Rattle.msi_meaning.specs.Uses.{TextsAreCounted}
 use Rattle.msi_rewritten.specs.Rewriting.{IsRewriting}
 use Rattle.msi_rewritten.proofs.Before.{rewrites, uses_before}
 use Rattle.msi_rewritten.proofs.Inserted.{of_ok}
 
-module _ (letters : Letters) (tree : Tree) (P : Package) (stores : Stores letters tree P) (k : ℕ) (t : Table) (at : slice_get P.tables k ≡ Some t) (counted : AreCounted P.pool P.tables) (free : AreFreeEmpty P.pool.places)
+module _ (letters : Letters) (tree : Tree) (P : Packed) (stores : Stores letters tree P) (k : ℕ) (t : Table) (at : slice_get P.tables k ≡ Some t) (counted : TextsAreCounted P.pool P.tables) (free : AreFreeEmpty P.pool.places)
     (ordinary : is_system t.name ≡ false) (may : Bool) where
   pub delete_rewrites : (condition : Option Formula) (after : List Row × Pool) → deleted may P.pool t condition ≡ Ok after → (stored : List Row) → IsStored t.columns after.0 stored → IsRewriting P k t stored after.1
   delete_rewrites condition after is stored order =

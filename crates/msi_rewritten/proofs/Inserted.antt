@@ -20,10 +20,10 @@ use Rattle.msi_tables.proofs.Writable.{rows_move_by_keys}
 use Rattle.msi_values.specs.Datum.{Datum}
 use Rattle.msi_meaning.specs.Back.{ComeBack}
 use Rattle.msi_meaning.specs.Calls.{is_system}
-use Rattle.msi_meaning.specs.Package.{rows_named, Package}
+use Rattle.msi_meaning.specs.Package.{rows_named, Packed}
 use Rattle.msi_meaning.specs.Sound.{uses_of}
 use Rattle.msi_meaning.specs.Split.{Stores}
-use Rattle.msi_meaning.specs.Uses.{AreCounted}
+use Rattle.msi_meaning.specs.Uses.{TextsAreCounted}
 use Rattle.msi_meaning.proofs.StoredBack.{come_back}
 use Rattle.msi_rewritten.specs.Rewriting.{IsRewriting}
 use Rattle.msi_rewritten.proofs.Before.{rewrites, uses_before}
@@ -34,8 +34,8 @@ pub of_ok : {A : Type 0} (r : Result A Error) (Has : A → Type 0) (x : A) → r
 of_ok (Ok y) Has x is h = (let same : y ≡ x = grind (arith, is) in subst Has same h)
 of_ok (Err e) Has x is h = absurd (cc)
 
-module _ (letters : Letters) (tree : Tree) (P : Package) (stores : Stores letters tree P) (k : ℕ) (t : Table) (at : slice_get P.tables k ≡ Some t) where
-  module _ (counted : AreCounted P.pool P.tables) (free : AreFreeEmpty P.pool.places) (ordinary : is_system t.name ≡ false)
+module _ (letters : Letters) (tree : Tree) (P : Packed) (stores : Stores letters tree P) (k : ℕ) (t : Table) (at : slice_get P.tables k ≡ Some t) where
+  module _ (counted : TextsAreCounted P.pool P.tables) (free : AreFreeEmpty P.pool.places) (ordinary : is_system t.name ≡ false)
       (may : Bool) (new_rows : List (List Datum)) (after : List Row × Pool) (is : inserted may P.pool t new_rows ≡ Ok after) (stored : List Row) (by_keys : IsStoredByKeys after.1 t.columns after.0 stored) where
     pub insert_rewrites : IsRewriting P k t stored after.1
     insert_rewrites =

@@ -12,7 +12,7 @@ use Rattle.msi_tables.specs.Table.{Table}
 use Rattle.msi_texts.specs.Category.{is_identifier}
 use Rattle.msi_texts.specs.StreamName.{is_valid_name}
 use Rattle.msi_meaning.specs.Opening.{may_use}
-use Rattle.msi_meaning.specs.Package.{data_name, has_slash, object_bytes, objects, pool_name, stream_at, stream_name, summary_name, table_stream, Package}
+use Rattle.msi_meaning.specs.Package.{data_name, has_slash, object_bytes, objects, pool_name, stream_at, stream_name, summary_name, table_stream, Packed}
 use Rattle.msi_meaning.specs.Sound.{is_free_table_name}
 use Rattle.msi_meaning.specs.SoundParts.{IsNamed}
 use Rattle.msi_meaning.specs.Split.{HasPool, HasSummary}
@@ -36,7 +36,7 @@ free_parts name e =
     let c = and_parts (is_identifier name) (is_valid_name true (chars name)) b.0 in
     (c.0, b.1, a.1)
 
-module _ (letters : Letters) (P : Package) (usable : may_use letters ≡ true) (named : IsNamed letters P) (k : ℕ) (t : Table) (at : slice_get P.tables k ≡ Some t) where
+module _ (letters : Letters) (P : Packed) (usable : may_use letters ≡ true) (named : IsNamed letters P) (k : ℕ) (t : Table) (at : slice_get P.tables k ≡ Some t) where
   pub within_it : k < length P.tables
   within_it = slice_get_within P.tables k t at
 

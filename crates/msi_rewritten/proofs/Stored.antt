@@ -17,7 +17,7 @@ use Rattle.msi_texts.specs.Category.{is_identifier}
 use Rattle.msi_texts.specs.StreamName.{is_marked}
 use Rattle.msi_meaning.specs.Calls.{rows_put, with_rows}
 use Rattle.msi_meaning.specs.Opening.{may_use}
-use Rattle.msi_meaning.specs.Package.{at_name, data_name, table_name_cmp, is_own, is_stream, is_table_name, object_bytes, objects, pool_name, rows_named, stream_at, stream_name, summary_name, table_stream, Package}
+use Rattle.msi_meaning.specs.Package.{at_name, data_name, table_name_cmp, is_own, is_stream, is_table_name, object_bytes, objects, pool_name, rows_named, stream_at, stream_name, summary_name, table_stream, Packed}
 use Rattle.msi_meaning.specs.Sound.{is_free_table_name}
 use Rattle.msi_meaning.specs.SoundParts.{IsNamed}
 use Rattle.msi_meaning.specs.Split.{Stores}
@@ -87,7 +87,7 @@ nothing_there : (long : Bool) → rows_of long (kinds_of validation_columns) [] 
 nothing_there true = refl
 nothing_there false = refl
 
-module _ (letters : Letters) (old new : Tree) (P : Package) (usable : may_use letters ≡ true) (named : IsNamed letters P) (stores : Stores letters old P) where
+module _ (letters : Letters) (old new : Tree) (P : Packed) (usable : may_use letters ≡ true) (named : IsNamed letters P) (stores : Stores letters old P) where
   abbrev keep : Object → Bool
   keep o = is_stream o && not (is_own letters P o)
 
@@ -113,7 +113,7 @@ module _ (letters : Letters) (old new : Tree) (P : Package) (usable : may_use le
           absurd (not_true (is_marked n) unmarked (subst (λ x. is_marked x ≡ true) one refl))
 
   module _ (k : ℕ) (t : Table) (stored : List Row) (pool : Pool) (r : IsRewriting P k t stored pool) where
-    abbrev Q : Package
+    abbrev Q : Packed
     Q = rewritten P t.name stored pool
 
     identifier : is_identifier t.name ≡ true

@@ -11,11 +11,11 @@ ghost use Rattle.msi_meaning.specs.Calls.{is_system, rows_put};
 ghost use Rattle.msi_pool.specs.PoolKept.{AreFreeEmpty};
 ghost use Rattle.msi_values.specs.Datum.{Datum};
 ghost use Rattle.msi_meaning.specs.Opening.{may_use};
-ghost use Rattle.msi_meaning.specs.Package.{at_name, is_stream, Package};
+ghost use Rattle.msi_meaning.specs.Package.{at_name, is_stream, Packed};
 ghost use Rattle.msi_meaning.specs.SoundParts.{IsNamed};
 ghost use Rattle.msi_meaning.specs.Split.{HasPool, HasSummary, Stores};
 ghost use Rattle.msi_meaning.specs.Streams.{stream_put};
-ghost use Rattle.msi_meaning.specs.Uses.{AreCounted};
+ghost use Rattle.msi_meaning.specs.Uses.{TextsAreCounted};
 ghost use Rattle.msi_pool.specs.Pool.{Pool};
 ghost use Rattle.msi_props.specs.Props.{Props};
 ghost use Rattle.msi_rewritten.specs.Rewriting.{rewritten, HasPut, IsRewriting};
@@ -39,29 +39,29 @@ pub fn storages_stay()
 
 /// The pool counts the uses of all cells again.
 pub fn rewritten_texts_are_counted()
-    ensures { (letters : Letters) (tree : Tree) (P : Package) → Stores letters tree P → (k : ℕ)
+    ensures { (letters : Letters) (tree : Tree) (P : Packed) → Stores letters tree P → (k : ℕ)
         (t : Table) (stored : List Row) (pool : Pool) → IsRewriting P k t stored pool
-        → AreCounted pool (rows_put t.name stored P.tables) }
+        → TextsAreCounted pool (rows_put t.name stored P.tables) }
 {}
 
 /// The tree in which the table's stream got the bytes of these rows stores the package that has them; its names, system tables and
 /// storages are those of a sound package still; and whatever the streams of pool and summary hold they hold still.
 pub fn rewritten_packages_are_stored()
-    ensures stores { (letters : Letters) (old new : Tree) (P : Package)
+    ensures stores { (letters : Letters) (old new : Tree) (P : Packed)
         → may_use letters ≡ true → IsNamed letters P → Stores letters old P → (k : ℕ) (t : Table)
         (stored : List Row) (pool : Pool) → IsRewriting P k t stored pool → (bytes : List ℕ)
         → HasPut letters t.name bytes old new
         → rows_of P.pool.long (kinds_of t.columns) bytes ≡ Some stored
         → Stores letters new (rewritten P t.name stored pool) }
-    ensures named { (letters : Letters) (old : Tree) (P : Package) → may_use letters ≡ true
+    ensures named { (letters : Letters) (old : Tree) (P : Packed) → may_use letters ≡ true
         → IsNamed letters P → Stores letters old P → (k : ℕ) (t : Table) (stored : List Row)
         (pool : Pool) → IsRewriting P k t stored pool
         → IsNamed letters (rewritten P t.name stored pool) }
-    ensures pool { (letters : Letters) (old new : Tree) (P : Package) → may_use letters ≡ true
+    ensures pool { (letters : Letters) (old new : Tree) (P : Packed) → may_use letters ≡ true
         → IsNamed letters P → (k : ℕ) (t : Table) → slice_get P.tables k ≡ Some t
         → (bytes : List ℕ) → HasPut letters t.name bytes old new → (held : Pool)
         → HasPool letters old held → HasPool letters new held }
-    ensures summary { (letters : Letters) (old new : Tree) (P : Package)
+    ensures summary { (letters : Letters) (old new : Tree) (P : Packed)
         → may_use letters ≡ true → IsNamed letters P → (k : ℕ) (t : Table)
         → slice_get P.tables k ≡ Some t → (bytes : List ℕ) → HasPut letters t.name bytes old new
         → (summary : Props) → HasSummary letters old summary → HasSummary letters new summary }
@@ -70,13 +70,13 @@ pub fn rewritten_packages_are_stored()
 /// An insert that is accepted gives one table other rows, as laid down, once they are in the order in which they are stored: uses and
 /// texts are kept. These rows come back from their bytes.
 pub fn inserts_rewrite_their_table()
-    ensures rewrites { (letters : Letters) (tree : Tree) (P : Package) → Stores letters tree P
-        → (k : ℕ) (t : Table) → slice_get P.tables k ≡ Some t → AreCounted P.pool P.tables
+    ensures rewrites { (letters : Letters) (tree : Tree) (P : Packed) → Stores letters tree P
+        → (k : ℕ) (t : Table) → slice_get P.tables k ≡ Some t → TextsAreCounted P.pool P.tables
         → AreFreeEmpty P.pool.places → is_system t.name ≡ false → (may : Bool)
         (new_rows : List (List Datum)) (after : List Row × Pool)
         → inserted may P.pool t new_rows ≡ Ok after → (stored : List Row)
         → IsStoredByKeys after.1 t.columns after.0 stored → IsRewriting P k t stored after.1 }
-    ensures come_back { (letters : Letters) (tree : Tree) (P : Package) → Stores letters tree P
+    ensures come_back { (letters : Letters) (tree : Tree) (P : Packed) → Stores letters tree P
         → (k : ℕ) (t : Table) → slice_get P.tables k ≡ Some t → (may : Bool)
         (new_rows : List (List Datum)) (after : List Row × Pool)
         → inserted may P.pool t new_rows ≡ Ok after → AreWritable P.pool.long t.columns after.0
@@ -87,14 +87,14 @@ pub fn inserts_rewrite_their_table()
 
 /// So does an update or a delete that is accepted.
 pub fn updates_and_deletes_rewrite_their_table()
-    ensures updated { (letters : Letters) (tree : Tree) (P : Package) → Stores letters tree P
-        → (k : ℕ) (t : Table) → slice_get P.tables k ≡ Some t → AreCounted P.pool P.tables
+    ensures updated { (letters : Letters) (tree : Tree) (P : Packed) → Stores letters tree P
+        → (k : ℕ) (t : Table) → slice_get P.tables k ≡ Some t → TextsAreCounted P.pool P.tables
         → AreFreeEmpty P.pool.places → is_system t.name ≡ false → (may : Bool)
         (sets : List (List ℕ × Datum)) (condition : Option Formula) (after : List Row × Pool)
         → updated may P.pool t sets condition ≡ Ok after → (stored : List Row)
         → IsStored t.columns after.0 stored → IsRewriting P k t stored after.1 }
-    ensures deleted { (letters : Letters) (tree : Tree) (P : Package) → Stores letters tree P
-        → (k : ℕ) (t : Table) → slice_get P.tables k ≡ Some t → AreCounted P.pool P.tables
+    ensures deleted { (letters : Letters) (tree : Tree) (P : Packed) → Stores letters tree P
+        → (k : ℕ) (t : Table) → slice_get P.tables k ≡ Some t → TextsAreCounted P.pool P.tables
         → AreFreeEmpty P.pool.places → is_system t.name ≡ false → (may : Bool)
         (condition : Option Formula) (after : List Row × Pool)
         → deleted may P.pool t condition ≡ Ok after → (stored : List Row)

@@ -12,7 +12,7 @@ use Rattle.msi_schema.specs.Columns.{text_in}
 use Rattle.std.specs.Borrow.{Bor}
 use Rattle.std.specs.declared.alloc.Global.{Global}
 use Rattle.std.specs.declared.collections.BTreeMap.{BTreeMap}
-use Rattle.msi_schema.specs.Headings.{at_text, has_name, AreCounted}
+use Rattle.msi_schema.specs.Headings.{at_text, has_name, ColumnsAreCounted}
 
 abbrev text_or : Option (List ℕ) → List ℕ
 text_or None = []
@@ -179,6 +179,6 @@ pub bytes_same : (t : List ℕ) → bytes_eq t t ≡ true
 bytes_same t = (bytes_eq-Decides t t).1 refl
 
 -- the count of a name that is listed
-pub counted_at : (columns tables : List (List Datum)) (t : List ℕ) (counts : BTreeMap (Bor (List ℕ)) ℕ Global) → AreCounted tables columns counts → list_any (begins_with t) tables ≡ true
+pub counted_at : (columns tables : List (List Datum)) (t : List ℕ) (counts : BTreeMap (Bor (List ℕ)) ℕ Global) → ColumnsAreCounted tables columns counts → list_any (begins_with t) tables ≡ true
     → at_text counts t ≡ Some (length (filter (begins_with t) columns))
 counted_at columns tables t counts are here = are t ∙ ap (λ b. cond b (Some (length (filter (begins_with t) columns))) None) here

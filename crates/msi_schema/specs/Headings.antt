@@ -46,8 +46,8 @@ abbrev pub at_text : {X : Type 0} → BTreeMap (Bor (List ℕ)) X Global → Lis
 at_text kept name = get_by (λ key. slice_cmp nat_cmp name key.now) kept
 
 -- for each name of _Tables, how many rows of _Columns begin with it
-abbrev pub AreCounted : List (List Datum) → List (List Datum) → BTreeMap (Bor (List ℕ)) ℕ Global → Type 0
-AreCounted tables columns counts =
+abbrev pub ColumnsAreCounted : List (List Datum) → List (List Datum) → BTreeMap (Bor (List ℕ)) ℕ Global → Type 0
+ColumnsAreCounted tables columns counts =
     (name : List ℕ) → at_text counts name ≡ (if list_any (begins_with name) tables then Some (length (filter (begins_with name) columns)) else None)
 
 -- columns under the names of tables

@@ -35,7 +35,7 @@ pub fn column_from_rows(
     };
     match validation {
         Some(validation) => {
-            let builder = described(alloc, validation, name)?;
+            let builder = described_column(alloc, validation, name)?;
             builder.with_bitfield(bits)
         }
         None => {
@@ -60,7 +60,11 @@ fn head_of<'a>(row: &[BorrowedValue<'a>]) -> Option<(&'a str, i32)>
 }
 
 // A column of this name, with what its row of _Validation says.
-fn described(alloc: Global, row: &[BorrowedValue<'_>], name: &str) -> Result<ColumnBuilder, Error>
+fn described_column(
+    alloc: Global,
+    row: &[BorrowedValue<'_>],
+    name: &str,
+) -> Result<ColumnBuilder, Error>
     ensures ok { IfOk result (λ builder. (kind : ColumnType) (bits : ℕ)
         → option_and_then (described (borrowed_data row.now)) (column_of_bits name.now bits)
         ≡ with_bits bits (built builder kind)) }

@@ -4,7 +4,7 @@ ghost use Rattle.std.specs.List.{list_all};
 ghost use Rattle.cfb_medium.specs.declared.error.Error.TheVariants.{InvalidData, Memory};
 ghost use Rattle.msi_tables.specs.Schema.{is_of_listed};
 ghost use Rattle.msi_schema.specs.Index.{rows_said};
-ghost use Rattle.msi_schema.specs.Headings.{at_text, has_name, AreCounted};
+ghost use Rattle.msi_schema.specs.Headings.{at_text, has_name, ColumnsAreCounted};
 
 use crate::cells::{text_of, value_at};
 use cfb_medium::Error;
@@ -22,7 +22,7 @@ pub(crate) fn row_counts<'a>(
     requires { length columns.now ≤ 65536 }
     ensures ok { IfOk result (λ counts.
         (list_all (is_of_listed (rows_said tables.now)) (rows_said columns.now) ≡ true)
-        × AreCounted (rows_said tables.now) (rows_said columns.now) counts) }
+        × ColumnsAreCounted (rows_said tables.now) (rows_said columns.now) counts) }
     ensures few { IfOk result (λ counts.
         (name : List ℕ) → IfSome (at_text counts name) (λ n. n ≤ 65536)) }
     ensures err { IfErr result (λ e. (e ≡ Memory) ⊎ ((e ≡ InvalidData)
@@ -47,7 +47,7 @@ fn names_of<'a>(
     alloc: Global,
     tables: &[Vec<BorrowedValue<'a>>],
 ) -> Result<BTreeMap<&'a str, usize>, Error>
-    ensures ok { IfOk result (λ names. AreCounted (rows_said tables.now) [] names) }
+    ensures ok { IfOk result (λ names. ColumnsAreCounted (rows_said tables.now) [] names) }
     ensures err { IfErr result (λ e. (e ≡ Memory)
         ⊎ ((e ≡ InvalidData) × (list_all has_name (rows_said tables.now) ≡ false))) }
 {

@@ -7,7 +7,7 @@ ghost use Rattle.msi_values.specs.Datum.{Datum};
 ghost use Rattle.msi_columns.specs.Held.{columns_of};
 ghost use Rattle.msi_tables.specs.Schema.{begins_with, columns_in, names_described, schema_of};
 ghost use Rattle.msi_schema.specs.Index.{IsIndex, rows_said};
-ghost use Rattle.msi_schema.specs.Headings.{at_text, is_named, AreCounted, AreFound};
+ghost use Rattle.msi_schema.specs.Headings.{at_text, is_named, ColumnsAreCounted, AreFound};
 
 use crate::cells::{text_of, value_at};
 use crate::fixed::{columns_columns, tables_columns};
@@ -29,12 +29,12 @@ pub(crate) fn described_tables<'m, 'a>(
 ) -> Result<BTreeMap<&'a str, Vec<Column>>, Error>
     requires { (name : List ℕ) → IfSome (at_text counts.now name) (λ n. n ≤ 65536) }
     ensures ok { (rows others : List (List Datum)) → IsIndex 2 rows columns.now
-        → IsIndex 2 others validation.now → AreCounted (rows_said tables.now) rows counts.now
+        → IsIndex 2 others validation.now → ColumnsAreCounted (rows_said tables.now) rows counts.now
         → IfOk result (λ found. (list_all (names_described rows others) (rows_said tables.now) ≡ true)
         × AreFound (λ name. list_any (begins_with name) (rows_said tables.now))
         (schema_of rows others) found) }
     ensures err { (rows others : List (List Datum)) → IsIndex 2 rows columns.now
-        → IsIndex 2 others validation.now → AreCounted (rows_said tables.now) rows counts.now
+        → IsIndex 2 others validation.now → ColumnsAreCounted (rows_said tables.now) rows counts.now
         → IfErr result (λ e. (e ≡ Memory) ⊎ ((e ≡ InvalidData)
         × (list_all (names_described rows others) (rows_said tables.now) ≡ false))) }
 {

@@ -44,15 +44,18 @@ fn key_of<'a>(
     ensures err { IfErr result (λ e. e ≡ Memory) }
 {
     if row.len() <= width {
-        let all = copied(alloc, row)?;
+        let all = copy_of_values(alloc, row)?;
         return Ok(all);
     }
-    let front = copied(alloc, &row[..width])?;
+    let front = copy_of_values(alloc, &row[..width])?;
     Ok(front)
 }
 
 // These values again. The one error is Memory.
-fn copied<'a>(alloc: Global, row: &[BorrowedValue<'a>]) -> Result<Vec<BorrowedValue<'a>>, Error>
+fn copy_of_values<'a>(
+    alloc: Global,
+    row: &[BorrowedValue<'a>],
+) -> Result<Vec<BorrowedValue<'a>>, Error>
     ensures ok { IfOk result (λ values. borrowed_data values.items ≡ borrowed_data row.now) }
     ensures err { IfErr result (λ e. e ≡ Memory) }
 {

@@ -23,7 +23,7 @@ pub(crate) fn widest(rows: &[Vec<BorrowedValue<'_>>]) -> usize
 }
 
 // Rows by their first values, of which so many are a key. InvalidData where a key has a null or stands twice.
-pub(crate) fn keyed<'m, 'a>(
+pub(crate) fn rows_by_keys<'m, 'a>(
     alloc: Global,
     rows: &'m [Vec<BorrowedValue<'a>>],
     width: usize,

@@ -14,7 +14,7 @@ ghost use Rattle.msi_schema.specs.Headings.{headings_in, AreTold};
 use crate::counts::row_counts;
 use crate::filled::are_filled;
 use crate::found::{described_tables, with_fixed};
-use crate::keys::{keyed, widest};
+use crate::keys::{rows_by_keys, widest};
 use crate::values::values_of_rows;
 use cfb_medium::Error;
 use msi_columns::Column;
@@ -77,12 +77,12 @@ fn tables_of_values<'a>(
         × (is_schema (rows_said tables.now) (rows_said columns.now) (rows_said validation.now)
         ≡ false))) }
 {
-    keyed(alloc, tables, widest(tables))?;
-    let by_number = keyed(alloc, columns, 2)?;
+    rows_by_keys(alloc, tables, widest(tables))?;
+    let by_number = rows_by_keys(alloc, columns, 2)?;
     if !are_filled(columns, widest(columns)) {
         return Err(Error::InvalidData);
     }
-    let by_name = keyed(alloc, validation, 2)?;
+    let by_name = rows_by_keys(alloc, validation, 2)?;
     let counts = row_counts(alloc, tables, columns)?;
     let described = described_tables(alloc, tables, &counts, &by_number, &by_name)?;
     let found = with_fixed(alloc, described)?;

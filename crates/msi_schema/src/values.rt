@@ -40,7 +40,7 @@ fn values_of_row<'a>(
 {
     let mut values = Vec::new(alloc);
     for cell in row {
-        values.push(cell.borrowed(pool))?;
+        values.push(cell.as_borrowed(pool))?;
     }
     Ok(values)
 }

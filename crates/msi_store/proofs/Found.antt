@@ -47,7 +47,7 @@ module _ {F : Type 0} {g : Ghosts F} (it : Stored F g) (tables : Tables) (has : 
       by (Some t) e = absurd (cc)
 
   -- its rows are those that the file has for it
-  pub own_rows : (h : Heading) (r : Read) → heading_named it.1 name ≡ Some h → ((tree : Tree) → file.Holds it.0 tree → ToldRows (letters_in it.0) tree h r)
+  pub own_rows : (h : Heading) (r : Read) → heading_named it.1 name ≡ Some h → ((tree : Tree) → file.FileHolds it.0 tree → ToldRows (letters_in it.0) tree h r)
       → IfOk r (λ rows. IfSome (tables name) (λ t. t.rows ≡ rows_held rows.items))
   own_rows h (Err e) found told = tt
   own_rows h (Ok rows) found told = by (tables name) refl
@@ -57,14 +57,14 @@ module _ {F : Type 0} {g : Ghosts F} (it : Stored F g) (tables : Tables) (has : 
       by (Some t) e = has.2.rows name t h (rows_held rows.items) e found (told has.0 has.1)
 
 -- they are so of all tables that it has
-pub rows_all : {F : Type 0} {g : Ghosts F} (it : Stored F g) (name : List ℕ) (h : Heading) (r : Read) → heading_named it.1 name ≡ Some h → ((tree : Tree) → file.Holds it.0 tree → ToldRows (letters_in it.0) tree h r)
+pub rows_all : {F : Type 0} {g : Ghosts F} (it : Stored F g) (name : List ℕ) (h : Heading) (r : Read) → heading_named it.1 name ≡ Some h → ((tree : Tree) → file.FileHolds it.0 tree → ToldRows (letters_in it.0) tree h r)
     → IfOk r (λ rows. (tables : Tables) → HasTables it tables → IfSome (tables name) (λ t. t.rows ≡ rows_held rows.items))
 rows_all it name h (Ok rows) found told = λ tables has. own_rows it tables has name h (Ok rows) found told
 rows_all it name h (Err e) found told = tt
 
 -- rows that can't be read are told by their cause
 pub own_cause : {F : Type 0} {g : Ghosts F} (old new : Stored F g) (name : List ℕ) (h : Heading) (r : Read) → heading_named old.1 name ≡ Some h
-    → ((tree : Tree) → file.Holds old.0 tree → ToldRows (letters_in old.0) tree h r) → IfErr r (HasCauseBelow (allocator_of (mini_of old.0)) (allocator_of (mini_of new.0)))
+    → ((tree : Tree) → file.FileHolds old.0 tree → ToldRows (letters_in old.0) tree h r) → IfErr r (HasCauseBelow (allocator_of (mini_of old.0)) (allocator_of (mini_of new.0)))
     → IfErr r (λ e. IsFaultUnless ⊥ e ⊎ (e ≡ InvalidData)) → IfErr r (HasCause old new)
 own_cause old new name h (Ok rows) found told cause error = tt
 own_cause old new name h (Err e) found told cause error = record { below = cause; either = by error }

@@ -5,9 +5,9 @@ use Rattle.std.specs.Prelude.{Some, length, slice_get}
 use Rattle.cfb.proofs.Holding.{shows_yet, tree_held}
 use Rattle.cfb.proofs.StreamBytes.{bytes_are, bytes_held, lies_where}
 use Rattle.cfb.specs.Opened.{IsOpenedAs}
-use Rattle.cfb.specs.Streams.{FindsStream, Holds, IsStreamAt, bytes_found}
+use Rattle.cfb.specs.Streams.{FindsStream, FileHolds, IsStreamAt, bytes_found}
 use Rattle.cfb.specs.Streams as file
-use Rattle.cfb.specs.Views.{Rests, Shows, letters_in, links_held, mini_of}
+use Rattle.cfb.specs.Views.{FileRests, FileShows, letters_in, links_held, mini_of}
 use Rattle.cfb.specs.declared.compound_file.CompoundFile.{CompoundFile}
 use Rattle.cfb_directory.specs.Taken.{HasSize}
 use Rattle.cfb_directory.specs.Views.{entries_held}
@@ -28,7 +28,7 @@ use Rattle.cfb_sectors.specs.Sectors.{Chain}
 use Rattle.cfb_sectors.specs.declared.validation.Validation.{Validation}
 use Rattle.cfb_siblings.specs.Places.{LeadsTo}
 use Rattle.cfb_soundness.proofs.Refilling.{entries_same}
-use Rattle.cfb_streams.specs.Streams.{IsOfLevel, LiesIn, sectors_in}
+use Rattle.cfb_streams.specs.Streams.{IsOfLevel, StreamLiesIn, sectors_in}
 use Rattle.cfb_streams.specs.declared.opening.StreamLinks.{StreamLinks}
 use Rattle.cfb_streams.specs.declared.opening.StreamLinks.TheVariants.{Short, Long}
 use Rattle.cfb_tree.proofs.OneContent.{siblings_unique}
@@ -66,7 +66,7 @@ means_shown letters bytes tree (l, m) = (l, means_less (HasBytes bytes l) (HasBy
 
 module _ {F : Type 0} {g : Ghosts F} where
   -- what a file holds it shows
-  pub shown_of_held : (it : CompoundFile F g) (tree : Tree) → Holds it tree → HoldsShown it tree
+  pub shown_of_held : (it : CompoundFile F g) (tree : Tree) → FileHolds it tree → HoldsShown it tree
   shown_of_held it tree h = record {
     live = h.live;
     honest = h.honest;
@@ -86,12 +86,12 @@ module _ {F : Type 0} {g : Ghosts F} where
         honest = subst IsTrue (sym opens.honest) is;
         memory = opens.memory;
         layout = opened.layout;
-        shows = subst (λ b. opening.Shows (mini_of it) b opened.layout) same opened.opened.shows;
+        shows = subst (λ b. opening.MemoryShows (mini_of it) b opened.layout) same opened.opened.shows;
         means = subst (λ n. MeansBy opened.layout (HasBytesOrBreaks (bytes_in it) opened.layout) n (bytes_in it) tree) (sym named)
             (subst (λ b. MeansBy opened.layout (HasBytesOrBreaks b opened.layout) letters b tree) same here);
       }
 
-  pub shown_yet : (old new : CompoundFile F g) (tree : Tree) → Rests old new → HoldsShown old tree → HoldsShown new tree
+  pub shown_yet : (old new : CompoundFile F g) (tree : Tree) → FileRests old new → HoldsShown old tree → HoldsShown new tree
   shown_yet old new tree rests h =
       let below = rests.mini.directory.allocator.sectors in
       let same = sym (below.bytes h.honest) in
@@ -100,20 +100,20 @@ module _ {F : Type 0} {g : Ghosts F} where
         honest = subst IsTrue (sym below.honest) h.honest;
         memory = rests.mini.kept h.memory;
         layout = h.layout;
-        shows = subst (λ b. opening.Shows (mini_of new) b h.layout) same (shows_yet (mini_of old) (mini_of new) _ h.layout rests.mini h.shows);
+        shows = subst (λ b. opening.MemoryShows (mini_of new) b h.layout) same (shows_yet (mini_of old) (mini_of new) _ h.layout rests.mini h.shows);
         means = subst (λ n. MeansBy h.layout (HasBytesOrBreaks (bytes_in new) h.layout) n (bytes_in new) tree) (sym rests.letters)
             (subst (λ b. MeansBy h.layout (HasBytesOrBreaks b h.layout) (letters_in old) b tree) same h.means);
       }
 
   -- what is said of the letter table and the bytes after a read is so before it
-  pub shown_before : (old new : CompoundFile F g) (P : Letters → List ℕ → Type 0) → IsTrue (is_honest (allocator_of (mini_of old))) → Rests old new
+  pub shown_before : (old new : CompoundFile F g) (P : Letters → List ℕ → Type 0) → IsTrue (is_honest (allocator_of (mini_of old))) → FileRests old new
       → P (letters_in new) (bytes_in new) → P (letters_in old) (bytes_in old)
   shown_before old new P honest rests h =
       let same : bytes_in new ≡ bytes_in old = rests.mini.directory.allocator.sectors.bytes honest in
       subst (λ b. P (letters_in old) b) same (subst (λ n. P n (bytes_in new)) rests.letters h)
 
   -- what is told of each tree that a file shows is so of the file before it was read
-  pub shown_later : (a b : CompoundFile F g) (P : Letters → List ℕ → Tree → Type 0) → Rests a b → ((tree : Tree) → HoldsShown b tree → P (letters_in b) (bytes_in b) tree)
+  pub shown_later : (a b : CompoundFile F g) (P : Letters → List ℕ → Tree → Type 0) → FileRests a b → ((tree : Tree) → HoldsShown b tree → P (letters_in b) (bytes_in b) tree)
       → (tree : Tree) → HoldsShown a tree → P (letters_in a) (bytes_in a) tree
   shown_later a b P rests told tree shown = shown_before a b (λ l bytes. P l bytes tree) shown.honest rests (told tree (shown_yet a b tree rests shown))
 
@@ -123,20 +123,20 @@ module _ {F : Type 0} {g : Ghosts F} where
       subst (λ es. HoldsTree (letters_in it) (HasBytesOrBreaks (bytes_in it) h.layout) es tree) (sym h.shows.entries)
       (tree_held h.layout (HasBytesOrBreaks (bytes_in it) h.layout) (letters_in it) (bytes_in it) tree h.means)
 
-  pub shown_sizes : (it : CompoundFile F g) (tree : Tree) → HoldsShown it tree → Shows it tree
+  pub shown_sizes : (it : CompoundFile F g) (tree : Tree) → HoldsShown it tree → FileShows it tree
   shown_sizes it tree h =
       subst (λ es. HoldsTree (letters_in it) HasSize es tree) (sym h.shows.entries)
       (tree_held h.layout HasSize (letters_in it) (bytes_in it) tree
       (means_less (HasBytesOrBreaks (bytes_in it) h.layout) HasSize (size_of (bytes_in it) h.layout) h.layout (letters_in it) (bytes_in it) tree h.means))
 
   -- where a stream lies it lies after a read
-  mini_len_yet : (old new : CompoundFile F g) → Rests old new → IsMini (mini_of old) → mini_stream_len (mini_of new) ≡ mini_stream_len (mini_of old)
+  mini_len_yet : (old new : CompoundFile F g) → FileRests old new → IsMini (mini_of old) → mini_stream_len (mini_of new) ≡ mini_stream_len (mini_of old)
   mini_len_yet old new rests memory =
       let version = rests.mini.directory.allocator.sectors.version in
       ap (λ v. length (mini_stream_ids (mini_of new)) * sector_len v) ((rests.mini.kept memory).over.stream_version ∙ version ∙ sym memory.over.stream_version)
       ∙ ap (λ ids. length ids * sector_len (links_version (mini_of old).mini_fat.stream)) rests.mini.mini_stream_ids
 
-  lies_yet : (old new : CompoundFile F g) (start size : ℕ) (sectors : List ℕ) → Rests old new → IsMini (mini_of old) → LiesIn (mini_of old) start size sectors → LiesIn (mini_of new) start size sectors
+  lies_yet : (old new : CompoundFile F g) (start size : ℕ) (sectors : List ℕ) → FileRests old new → IsMini (mini_of old) → StreamLiesIn (mini_of old) start size sectors → StreamLiesIn (mini_of new) start size sectors
   lies_yet old new start size sectors rests memory lies =
       let r = rests.mini.directory.allocator in
       record {
@@ -151,7 +151,7 @@ module _ {F : Type 0} {g : Ghosts F} where
         );
       }
 
-  level_yet : (old new : CompoundFile F g) (size : ℕ) (links : StreamLinks) → Rests old new → IsOfLevel (mini_of old) size links → IsOfLevel (mini_of new) size links
+  level_yet : (old new : CompoundFile F g) (size : ℕ) (links : StreamLinks) → FileRests old new → IsOfLevel (mini_of old) size links → IsOfLevel (mini_of new) size links
   level_yet old new size (Short minis) rests level = level
   level_yet old new size (Long links) rests level = (level.0, level.1 ∙ sym rests.mini.directory.allocator.sectors.version)
 
@@ -162,7 +162,7 @@ module _ {F : Type 0} {g : Ghosts F} where
         stream_held (letters_in old) (HasBytesOrBreaks (bytes_in old) h.layout) (entries_held (directory_of (mini_of old))) tree e at.of_kind (entries_shown old tree h) at.names id leads found
 
     -- a stream that was read has its bytes in the tree
-    pub bytes_shown : (bytes : List ℕ) → Rests old new → FindsStream old new text (length bytes) → bytes ≡ bytes_found new (length bytes)
+    pub bytes_shown : (bytes : List ℕ) → FileRests old new → FindsStream old new text (length bytes) → bytes ≡ bytes_found new (length bytes)
         → stream_at (letters_in old) (objects tree.content) name ≡ Some bytes
     unfolding shown_yet
     bytes_shown bytes rests finds is =
@@ -176,7 +176,7 @@ module _ {F : Type 0} {g : Ghosts F} where
         bytes_same : bytes_in new ≡ bytes_in old
         bytes_same = rests.mini.directory.allocator.sectors.bytes h.honest
 
-        lies : LiesIn (mini_of new) finds.entry.start finds.entry.size (sectors_in (links_held new))
+        lies : StreamLiesIn (mini_of new) finds.entry.start finds.entry.size (sectors_in (links_held new))
         lies = lies_yet old new finds.entry.start finds.entry.size (sectors_in (links_held new)) rests h.memory finds.lies
 
         level : IsOfLevel (mini_of new) finds.entry.size (links_held new)

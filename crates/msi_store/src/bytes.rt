@@ -1,7 +1,7 @@
 //! The bytes of streams under the root, by their names.
 ghost use Rattle.std.specs.Prelude.{◌≡◌, ◌⊎◌, ◌∷◌, [], chars, option_map, unwrap_or, IfErr, MatchResult, Some};
-ghost use Rattle.cfb.specs.Streams.{Holds};
-ghost use Rattle.cfb.specs.Views.{letters_in, mini_of, Rests};
+ghost use Rattle.cfb.specs.Streams.{FileHolds};
+ghost use Rattle.cfb.specs.Views.{letters_in, mini_of, FileRests};
 ghost use Rattle.cfb_entries.specs.Rules.{names_in};
 ghost use Rattle.cfb_fat.specs.Tables.{HasCauseBelow};
 ghost use Rattle.cfb_medium.specs.Calls.{IsFaultUnless};
@@ -24,14 +24,14 @@ pub fn stream_bytes<F: ReadMedium>(
     name: &str,
 ) -> Result<Option<Vec<u8>>, Error>
     requires { names_in name.now ≡ Some (chars name.now ∷ []) }
-    ensures told { (tree : Tree) → Holds file.old tree → MatchResult result (λ found.
+    ensures told { (tree : Tree) → FileHolds file.old tree → MatchResult result (λ found.
         stream_at (letters_in file.old) (objects tree.content) (chars name.now)
         ≡ option_map (λ bytes. bytes.items) found) (IsFaultUnless ⊥) }
     ensures shown { (tree : Tree) → HoldsShown file.old tree → MatchResult result (λ found.
         stream_at (letters_in file.old) (objects tree.content) (chars name.now)
         ≡ option_map (λ bytes. bytes.items) found)
         (IsLostAt (letters_in file.old) (bytes_in file.old) (chars name.now)) }
-    ensures rests { Rests file.old file.new }
+    ensures rests { FileRests file.old file.new }
     ensures cause { IfErr result (HasCauseBelow (allocator_of (mini_of file.old))
         (allocator_of (mini_of file.new))) }
     ensures error { IfErr result (λ e. IsFaultUnless ⊥ e ⊎ (e ≡ InvalidData)) }
@@ -67,14 +67,14 @@ pub fn table_bytes<F: ReadMedium>(
     file: &mut CompoundFile<F>,
     name: &str,
 ) -> Result<Option<Vec<u8>>, Error>
-    ensures told { (tree : Tree) → Holds file.old tree → MatchResult result (λ found.
+    ensures told { (tree : Tree) → FileHolds file.old tree → MatchResult result (λ found.
         table_stream (letters_in file.old) (objects tree.content) name.now
         ≡ option_map (λ bytes. bytes.items) found) (IsFaultUnless ⊥) }
     ensures shown { (tree : Tree) → HoldsShown file.old tree → MatchResult result (λ found.
         table_stream (letters_in file.old) (objects tree.content) name.now
         ≡ option_map (λ bytes. bytes.items) found)
         (IsLostAt (letters_in file.old) (bytes_in file.old) (stream_name name.now)) }
-    ensures rests { Rests file.old file.new }
+    ensures rests { FileRests file.old file.new }
     ensures cause { IfErr result (HasCauseBelow (allocator_of (mini_of file.old))
         (allocator_of (mini_of file.new))) }
     ensures error { IfErr result (λ e. IsFaultUnless ⊥ e ⊎ (e ≡ InvalidData)) }

@@ -1,6 +1,6 @@
 //! The parts of a package, read from its file.
 ghost use Rattle.std.specs.Prelude.{◌≡◌, ◌⊎◌, ◌<◌, ℕ, false, true, slice_index, Err, IfErr, IfOk, Ok};
-ghost use Rattle.cfb.specs.Views.{letters_in, mini_of, Rests};
+ghost use Rattle.cfb.specs.Views.{letters_in, mini_of, FileRests};
 ghost use Rattle.cfb_fat.specs.Tables.{HasCauseBelow};
 ghost use Rattle.cfb_medium.specs.declared.error.Error.TheVariants.{Memory};
 ghost use Rattle.cfb_mini.specs.Views.{allocator_of};
@@ -40,7 +40,7 @@ pub fn read_parts<F: ReadMedium>(
     ensures shown { (tree : Tree) → HoldsShown file.old tree → may_use (letters_in file.old) ≡ true
         → FindsPart (letters_in file.old) (bytes_in file.old) (AreHeld (letters_in file.old) tree)
         (opened (letters_in file.old) tree) result }
-    ensures rests { Rests file.old file.new }
+    ensures rests { FileRests file.old file.new }
     ensures cause { IfErr result (HasCauseBelow (allocator_of (mini_of file.old))
         (allocator_of (mini_of file.new))) }
     ensures kinds { IfErr result IsOpeningError }
@@ -82,7 +82,7 @@ fn summary_of<F: ReadMedium>(
     ensures shown { (tree : Tree) → HoldsShown file.old tree → FindsPart (letters_in file.old)
         (bytes_in file.old) (IsSummary (letters_in file.old) tree)
         (summary_in (letters_in file.old) tree) result }
-    ensures rests { Rests file.old file.new }
+    ensures rests { FileRests file.old file.new }
     ensures cause { IfErr result (HasCauseBelow (allocator_of (mini_of file.old))
         (allocator_of (mini_of file.new))) }
     ensures kinds { IfErr result IsOpeningError }
@@ -102,7 +102,7 @@ fn builder_of<F: ReadMedium>(
     ensures shown { (tree : Tree) → HoldsShown file.old tree → FindsPart (letters_in file.old)
         (bytes_in file.old) (IsBegun (letters_in file.old) tree)
         (builder_in (letters_in file.old) tree) result }
-    ensures rests { Rests file.old file.new }
+    ensures rests { FileRests file.old file.new }
     ensures cause { IfErr result (HasCauseBelow (allocator_of (mini_of file.old))
         (allocator_of (mini_of file.new))) }
     ensures kinds { IfErr result IsOpeningError }
@@ -132,7 +132,7 @@ fn built_of<F: ReadMedium>(
     ensures shown { (tree : Tree) → HoldsShown file.old tree → FindsPart (letters_in file.old)
         (bytes_in file.old) (λ found. IsBuilt (letters_in file.old) tree builder found.0.pool found.1
         × (found.0.modified ≡ false)) (built_in (letters_in file.old) tree builder) result }
-    ensures rests { Rests file.old file.new }
+    ensures rests { FileRests file.old file.new }
     ensures cause { IfErr result (HasCauseBelow (allocator_of (mini_of file.old))
         (allocator_of (mini_of file.new))) }
     ensures kinds { IfErr result IsOpeningError }
@@ -169,7 +169,7 @@ fn schema_of<F: ReadMedium>(
     ensures shown { (tree : Tree) → HoldsShown file.old tree → FindsPart (letters_in file.old)
         (bytes_in file.old) (λ tables. HasSchema (letters_in file.old) tree pool.now.pool
         (headings_in tables.items)) (schema_in (letters_in file.old) tree pool.now.pool) result }
-    ensures rests { Rests file.old file.new }
+    ensures rests { FileRests file.old file.new }
     ensures cause { IfErr result (HasCauseBelow (allocator_of (mini_of file.old))
         (allocator_of (mini_of file.new))) }
     ensures kinds { IfErr result IsOpeningError }

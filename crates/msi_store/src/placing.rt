@@ -1,7 +1,7 @@
 //! Whether the objects of the root stand where they may, by the names of tables.
 ghost use Rattle.std.specs.Prelude.{◌≡◌, ◌↔◌, All, chars, map, IfErr, IfOk, IsTrue, List, MatchResult};
 ghost use Rattle.std.specs.Rc.{rc_value};
-ghost use Rattle.cfb.specs.Streams.{Holds};
+ghost use Rattle.cfb.specs.Streams.{FileHolds};
 ghost use Rattle.cfb.specs.Views.{letters_in, mini_of};
 ghost use Rattle.cfb_entries.specs.Listed.{listed_in};
 ghost use Rattle.cfb_entries.specs.Lists.{entries_left};
@@ -43,7 +43,7 @@ pub fn are_in_place<F: ReadMedium>(
     file: &CompoundFile<F>,
     tables: &[Rc<Table>],
 ) -> Result<bool, Error>
-    ensures told { (tree : Tree) → Holds file.now tree → MatchResult result (λ are. IsTrue are
+    ensures told { (tree : Tree) → FileHolds file.now tree → MatchResult result (λ are. IsTrue are
         ↔ All (λ o. IsTrue (is_well_placed (letters_in file.now)
         (map (λ t. heading_of (rc_value t)) tables.now) o)) (objects tree.content))
         (IsFaultUnless ⊥) }

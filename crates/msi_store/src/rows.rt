@@ -1,7 +1,7 @@
 //! The rows of tables, read from the file.
 ghost use Rattle.std.specs.Prelude.{◌≡◌, ◌⊎◌, ◌≤◌, length, IfErr, IfOk, MatchResult, None, Some};
-ghost use Rattle.cfb.specs.Streams.{Holds};
-ghost use Rattle.cfb.specs.Views.{letters_in, mini_of, Rests};
+ghost use Rattle.cfb.specs.Streams.{FileHolds};
+ghost use Rattle.cfb.specs.Views.{letters_in, mini_of, FileRests};
 ghost use Rattle.cfb_fat.specs.Tables.{HasCauseBelow};
 ghost use Rattle.cfb_medium.specs.Calls.{IsFaultUnless};
 ghost use Rattle.cfb_medium.specs.declared.error.Error.TheVariants.{InvalidData};
@@ -27,7 +27,7 @@ pub fn rows_of_table<F: ReadMedium>(
     file: &mut CompoundFile<F>,
     table: &Table,
 ) -> Result<Vec<Vec<ValueRef>>, Error>
-    ensures told { (tree : Tree) → Holds file.old tree → MatchResult result (λ rows.
+    ensures told { (tree : Tree) → FileHolds file.old tree → MatchResult result (λ rows.
         rows_in (letters_in file.old) tree (heading_of table.now) ≡ Some (rows_held rows.items))
         (λ e. IsFaultUnless ⊥ e ⊎ ((e ≡ InvalidData)
         × (rows_in (letters_in file.old) tree (heading_of table.now) ≡ None))) }
@@ -39,7 +39,7 @@ pub fn rows_of_table<F: ReadMedium>(
     ensures few { IfOk result (λ rows. length rows.items ≤ 65536) }
     ensures shape { IfOk result (λ rows. AreWritable (heading_of table.now).long
         (heading_of table.now).columns (rows_held rows.items)) }
-    ensures rests { Rests file.old file.new }
+    ensures rests { FileRests file.old file.new }
     ensures cause { IfErr result (HasCauseBelow (allocator_of (mini_of file.old))
         (allocator_of (mini_of file.new))) }
     ensures error { IfErr result (λ e. IsFaultUnless ⊥ e ⊎ (e ≡ InvalidData)) }

@@ -1,6 +1,6 @@
 //! The rows of the system tables, which are read by fixed columns.
 ghost use Rattle.std.specs.Prelude.{◌≡◌, ◌≤◌, length, Contains, IfErr, IfOk, Ok};
-ghost use Rattle.cfb.specs.Views.{letters_in, mini_of, Rests};
+ghost use Rattle.cfb.specs.Views.{letters_in, mini_of, FileRests};
 ghost use Rattle.cfb_fat.specs.Tables.{HasCauseBelow};
 ghost use Rattle.cfb_mini.specs.Views.{allocator_of};
 ghost use Rattle.cfb_tree.specs.Tree.{Tree};
@@ -35,7 +35,7 @@ pub fn rows_by_columns<F: ReadMedium>(
         ≡ Ok (rows_held rows.items)) (rows_by (letters_in file.old) (objects tree.content)
         pool name.now (columns_of columns.items)) result }
     ensures few { IfOk result (λ rows. length rows.items ≤ 65536) }
-    ensures rests { Rests file.old file.new }
+    ensures rests { FileRests file.old file.new }
     ensures cause { IfErr result (HasCauseBelow (allocator_of (mini_of file.old))
         (allocator_of (mini_of file.new))) }
     ensures kinds { IfErr result IsOpeningError }

@@ -1,6 +1,6 @@
 -- A sound package in a file that is changed, and what a call that changes it does.
 use Rattle.std.specs.Prelude.{◌≡◌, ◌⊎◌, true, false, Result, Err, Ok, IfErr, IsErrOf, OnErr, OnOk}
-use Rattle.cfb.specs.Doing.{Means}
+use Rattle.cfb.specs.Doing.{FileMeans}
 use Rattle.cfb.specs.Putting.{KeepsMeant}
 use Rattle.cfb.specs.Views.{letters_in, mini_of, sound_of, validation_of}
 use Rattle.cfb.specs.declared.compound_file.CompoundFile.{CompoundFile}
@@ -13,10 +13,10 @@ use Rattle.cfb_mini.specs.Views.{allocator_of}
 use Rattle.cfb_tree.specs.Names.{Letters}
 use Rattle.cfb_tree.specs.Tree.{Tree}
 use Rattle.msi_meaning.specs.Opening.{may_use}
-use Rattle.msi_meaning.specs.Package.{Package as Packed}
+use Rattle.msi_meaning.specs.Package.{Packed}
 use Rattle.msi_meaning.specs.SoundParts.{IsNamed}
 use Rattle.msi_meaning.specs.Split.{HasPool, HasSummary, Stores}
-use Rattle.msi_meaning.specs.Uses.{AreCounted}
+use Rattle.msi_meaning.specs.Uses.{TextsAreCounted}
 use Rattle.msi_pool.specs.Pool.{Pool}
 use Rattle.msi_pool.specs.PoolKept.{AreFreeEmpty}
 use Rattle.msi_props.specs.Props.{Props}
@@ -25,7 +25,7 @@ use Rattle.msi_props.specs.Props.{Props}
 pub record StoresSound (letters : Letters) (tree : Tree) (P : Packed) : Type 0 where
   pub usable : may_use letters ≡ true
   pub stores : Stores letters tree P
-  pub counted : AreCounted P.pool P.tables
+  pub counted : TextsAreCounted P.pool P.tables
   pub free : AreFreeEmpty P.pool.places
   pub named : IsNamed letters P
 
@@ -40,11 +40,11 @@ PackageRule = Packed → Packed → Result (Unit {0}) Error → Type 0
 
 module _ {F : Type 0} {g : Ghosts F} where
   -- the rule gives a package, and the file means a tree that stores it
-  pub record IsChanged (rule : PackageRule) (tree : Tree) (P : Packed) (old new : CompoundFile F g) : Type 0 where
+  pub record StoreIsChanged (rule : PackageRule) (tree : Tree) (P : Packed) (old new : CompoundFile F g) : Type 0 where
     pub next : Packed
     pub after : Tree
     pub answered : rule P next (Ok tt)
-    pub means : Means new after
+    pub means : FileMeans new after
     pub stores : StoresSound (letters_in old) after next
     pub keeps : KeepsParts (letters_in old) tree after
 
@@ -54,8 +54,8 @@ module _ {F : Type 0} {g : Ghosts F} where
   pub record ChangesBy {T : Type 0} (rule : PackageRule) (result : Result T Error) (old new : CompoundFile F g) : Type 0 where
     pub failed : has_failed_here (allocator_of (mini_of old)) ≡ true → IsErrOf result Failed
     pub unsound : has_failed_here (allocator_of (mini_of old)) ≡ false → sound_of old ≡ false → IsErrOf result InvalidData
-    pub done : OnOk result ((tree : Tree) (P : Packed) → Means old tree → StoresSound (letters_in old) tree P → IsChanged rule tree P old new)
-    pub refused : IfErr result (λ e. (tree : Tree) (P : Packed) → Means old tree → StoresSound (letters_in old) tree P
+    pub done : OnOk result ((tree : Tree) (P : Packed) → FileMeans old tree → StoresSound (letters_in old) tree P → StoreIsChanged rule tree P old new)
+    pub refused : IfErr result (λ e. (tree : Tree) (P : Packed) → FileMeans old tree → StoresSound (letters_in old) tree P
         → IsFault e ⊎ (rule P P (Err e) × KeepsMeant old new))
     pub rests : OnErr result ((has_failed_here (allocator_of (mini_of new)) ≡ true) ⊎ KeepsMeant old new)
     pub seen : (letters_in new ≡ letters_in old) × (sound_of new ≡ sound_of old) × (validation_of new ≡ validation_of old)

@@ -74,5 +74,5 @@ module _ {F : Type 0} {g : Ghosts F} where
     pub honest : IsTrue (is_honest (allocator_of (mini_of it)))
     pub memory : IsMini (mini_of it)
     pub layout : Layout
-    pub shows : opening.Shows (mini_of it) (bytes_in it) layout
+    pub shows : opening.MemoryShows (mini_of it) (bytes_in it) layout
     pub means : MeansBy layout (HasBytesOrBreaks (bytes_in it) layout) (letters_in it) (bytes_in it) tree

@@ -39,17 +39,17 @@ Stored F g = CompoundFile F g × List Heading
 
 module _ {F : Type 0} {g : Ghosts F} where
   -- it was only read
-  pub record Rests (old new : Stored F g) : Type 0 where
-    pub file : read.Rests old.0 new.0
+  pub record StoreRests (old new : Stored F g) : Type 0 where
+    pub file : read.FileRests old.0 new.0
     pub tables : new.1 ≡ old.1
 
   -- its tables, with the rows of the tree that the file holds
   abbrev pub HasTables : Stored F g → Tables → Type 0
-  HasTables it tables = (tree : Tree) × file.Holds it.0 tree × AreTables (letters_in it.0) tree it.1 tables
+  HasTables it tables = (tree : Tree) × file.FileHolds it.0 tree × AreTables (letters_in it.0) tree it.1 tables
 
   -- a table of each tree that the file holds has too many rows; a file in which the chain of a stream breaks holds none
   abbrev pub IsUnread : Stored F g → Error → Type 0
-  IsUnread it e = (e ≡ InvalidData) × ((tree : Tree) → file.Holds it.0 tree → HasTooMany (letters_in it.0) tree it.1)
+  IsUnread it e = (e ≡ InvalidData) × ((tree : Tree) → file.FileHolds it.0 tree → HasTooMany (letters_in it.0) tree it.1)
 
   -- a fault with its cause, or rows that can't be read
   pub record HasCause (old new : Stored F g) (e : Error) : Type 0 where

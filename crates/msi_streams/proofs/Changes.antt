@@ -10,7 +10,7 @@ use Rattle.cfb_tree.specs.Names.{Letters, name_cmp}
 use Rattle.cfb_tree.specs.Objects.{a_storage, a_stream, is_same_name, name_of, Object}
 use Rattle.cfb_tree.specs.Tree.{child_names, Tree}
 use Rattle.msi_meaning.specs.Opening.{may_use}
-use Rattle.msi_meaning.specs.Package.{Package, at_name, is_stream, object_bytes, objects, stream_at, summary_name}
+use Rattle.msi_meaning.specs.Package.{Packed, at_name, is_stream, object_bytes, objects, stream_at, summary_name}
 use Rattle.msi_meaning.specs.Streams.{stream_put, with_bytes, without_stream}
 use Rattle.msi_meaning.proofs.Roots.{put_new, put_there}
 use Rattle.msi_meaning.proofs.UnderRoot.{child_is}
@@ -69,7 +69,7 @@ module _ (letters : Letters) (name : List ℕ) where
       }
 
       -- the package has it among its streams
-      pub put_streams : (may : may_use letters ≡ true) (plain : is_marked name ≡ false) (other : is_same_name letters summary_name name ≡ false) (P : Package) (bytes : List ℕ)
+      pub put_streams : (may : may_use letters ≡ true) (plain : is_marked name ≡ false) (other : is_same_name letters summary_name name ≡ false) (P : Packed) (bytes : List ℕ)
           → objects new.content ≡ stream_put letters name bytes (objects old.content) → ((o : Object) → at_name letters (objects old.content) name ≡ Some o → is_stream o ≡ true)
           → P.streams ≡ filter (is_kept letters P) (objects old.content) → stream_put letters name bytes P.streams ≡ filter (is_kept letters P) (objects new.content)
       put_streams may plain other P bytes is streams stored =
@@ -90,7 +90,7 @@ module _ (letters : Letters) (name : List ℕ) where
         storages = ap (filter (λ o. not (is_stream o))) is ∙ taken_dropped letters name (λ o. not (is_stream o)) (objects old.content) o there (ap not stream_there);
       }
 
-      pub taken_streams : (P : Package) → P.streams ≡ filter (is_kept letters P) (objects old.content) → without_stream letters name P.streams ≡ filter (is_kept letters P) (objects new.content)
+      pub taken_streams : (P : Packed) → P.streams ≡ filter (is_kept letters P) (objects old.content) → without_stream letters name P.streams ≡ filter (is_kept letters P) (objects new.content)
       taken_streams P stored =
           ap (without_stream letters name) stored ∙ taken_kept letters name (is_kept letters P) (objects old.content) names_rise ∙ ap (filter (is_kept letters P)) (sym is)
 

@@ -1,8 +1,8 @@
 -- What a call did to the package of a file, at each of its exits.
 use Rattle.std.proofs.Common.{◌≡◌, ◌∙◌, true, false, Some, Option, inl, inr, refl, sym, ap, subst, ⊎_elim}
 use Rattle.std.specs.Prelude.{◌⊎◌, Err, Ok, Result}
-use Rattle.cfb.specs.Doing.{Does, Keeps, Means}
-use Rattle.cfb.specs.Putting.{answer_by, KeepsMeant, Puts, Rule}
+use Rattle.cfb.specs.Doing.{Does, FileKeeps, FileMeans}
+use Rattle.cfb.specs.Putting.{answer_by, KeepsMeant, FilePuts, Rule}
 use Rattle.cfb.specs.Views.{letters_in, mini_of, sound_of}
 use Rattle.cfb.specs.declared.compound_file.CompoundFile.{CompoundFile}
 use Rattle.cfb.proofs.LiveMeaning.{means_kept}
@@ -17,7 +17,7 @@ use Rattle.cfb_tree.specs.Names.{Letters}
 use Rattle.cfb_tree.specs.Paths.{Path}
 use Rattle.cfb_tree.specs.Tree.{Tree}
 use Rattle.cfb_tree.proofs.OneContent.{Some_same}
-use Rattle.msi_meaning.specs.Package.{Package as Packed}
+use Rattle.msi_meaning.specs.Package.{Packed}
 use Rattle.msi_stored.specs.Changing.{ChangesBy, KeepsParts, PackageRule, StoresSound}
 
 -- the rule on trees accepts, with a tree that stores what the rule on packages gives
@@ -44,7 +44,7 @@ module _ {F : Type 0} {g : Ghosts F} where
 
   -- a rule on the directory is one on trees, at the path of a text
   pub does_puts : (call : Path → Call) (path : Option Path) (names : Path) → path ≡ Some names → (old new : CompoundFile F g) (r : Result (Unit {0}) Error)
-      → Does path call r old new → Puts (λ letters tree path. tree_step letters tree (call path)) path r old new
+      → Does path call r old new → FilePuts (λ letters tree path. tree_step letters tree (call path)) path r old new
   does_puts call path names at old new (Ok x) d = record {
     failed = d.failed;
     unsound = λ live unsound. (d.unsound live unsound).0;
@@ -62,7 +62,7 @@ module _ {F : Type 0} {g : Ghosts F} where
     seen = d.seen;
   }
     where
-      keeps : Keeps old new → KeepsMeant old new
+      keeps : FileKeeps old new → KeepsMeant old new
       keeps k = record { means = λ tree m. means_kept old new tree k m }
 
       turned : (tree : Tree) → answer_at (letters_in old) tree call path ≡ refused e → answer_by (λ letters tree path. tree_step letters tree (call path)) (letters_in old) tree path ≡ refused e
@@ -98,7 +98,7 @@ module _ {F : Type 0} {g : Ghosts F} where
       was_sound unsound = let never : true ≡ false = sym open_file.1 ∙ unsound in absurd (cc)
 
       -- a refusal by rule, and nothing was changed
-      pub rule_refused : (e : Error) → ((tree : Tree) (P : Packed) → Means old tree → StoresSound (letters_in old) tree P → rule P P (Err e)) → ChangesBy {T = Unit {0}} rule (Err e) old old
+      pub rule_refused : (e : Error) → ((tree : Tree) (P : Packed) → FileMeans old tree → StoresSound (letters_in old) tree P → rule P P (Err e)) → ChangesBy {T = Unit {0}} rule (Err e) old old
       rule_refused e refuses = record {
         failed = λ failed. was_live failed;
         unsound = λ live unsound. was_sound unsound;
@@ -109,7 +109,7 @@ module _ {F : Type 0} {g : Ghosts F} where
       }
 
       -- nothing had to be changed
-      pub rule_rests : ((tree : Tree) (P : Packed) → Means old tree → StoresSound (letters_in old) tree P → rule P P (Ok tt)) → ChangesBy {T = Unit {0}} rule (Ok tt) old old
+      pub rule_rests : ((tree : Tree) (P : Packed) → FileMeans old tree → StoresSound (letters_in old) tree P → rule P P (Ok tt)) → ChangesBy {T = Unit {0}} rule (Ok tt) old old
       rule_rests accepts = record {
         failed = λ failed. was_live failed;
         unsound = λ live unsound. was_sound unsound;
@@ -120,8 +120,8 @@ module _ {F : Type 0} {g : Ghosts F} where
       }
 
     -- one call on the container, which the rule on trees accepts
-    pub rule_done : (on_trees : Rule) (path : Option Path) (names : Path) → path ≡ Some names → (new : CompoundFile F g) (r : Result (Unit {0}) Error) → Puts on_trees path r old new
-        → ((tree : Tree) (P : Packed) → Means old tree → StoresSound (letters_in old) tree P → Accepts rule (letters_in old) tree P (on_trees (letters_in old) tree names)) → ChangesBy rule r old new
+    pub rule_done : (on_trees : Rule) (path : Option Path) (names : Path) → path ≡ Some names → (new : CompoundFile F g) (r : Result (Unit {0}) Error) → FilePuts on_trees path r old new
+        → ((tree : Tree) (P : Packed) → FileMeans old tree → StoresSound (letters_in old) tree P → Accepts rule (letters_in old) tree P (on_trees (letters_in old) tree names)) → ChangesBy rule r old new
     rule_done on_trees path names at new (Ok x) p accepts = record {
       failed = p.failed;
       unsound = p.unsound;
@@ -130,7 +130,7 @@ module _ {F : Type 0} {g : Ghosts F} where
           let d = p.done tree m in
           let same : d.names ≡ names = Some_same (sym d.at_path ∙ at) in
           let is : (on_trees (letters_in old) tree d.names).0 ≡ a.after = ap (λ (o : Outcome). o.0) (ap (on_trees (letters_in old) tree) same ∙ a.is) in
-          record { next = a.next; after = a.after; answered = a.answered; means = subst (Means new) is d.means; stores = a.stores; keeps = a.keeps };
+          record { next = a.next; after = a.after; answered = a.answered; means = subst (FileMeans new) is d.means; stores = a.stores; keeps = a.keeps };
       refused = tt;
       rests = tt;
       seen = p.seen;

@@ -10,7 +10,7 @@ use Rattle.cfb_tree.specs.Changes.{with_bytes as with_content}
 use Rattle.cfb_tree.specs.Names.{Letters, is_name, name_cmp}
 use Rattle.cfb_tree.specs.Objects.{a_storage, a_stream, is_same_name, Object}
 use Rattle.cfb_tree.specs.Tree.{child_names, Tree}
-use Rattle.msi_meaning.specs.Package.{Package as Packed, at_name, is_stream, objects, summary_name}
+use Rattle.msi_meaning.specs.Package.{Packed, at_name, is_stream, objects, summary_name}
 use Rattle.msi_meaning.specs.Streams.{stream_put, without_stream}
 use Rattle.msi_meaning.proofs.UnderRoot.{at_path}
 use Rattle.msi_stored.specs.Changing.{KeepsParts, PackageRule, StoresSound}

@@ -9,7 +9,7 @@ use Rattle.cfb_tree.specs.Objects.{a_stream, is_same_name, name_of, Object}
 use Rattle.cfb_tree.specs.Tree.{Tree}
 use Rattle.msi_columns.specs.Column.{Column}
 use Rattle.msi_meaning.specs.Opening.{may_use}
-use Rattle.msi_meaning.specs.Package.{Package, at_name, data_name, has_slash, is_own, is_stream, object_bytes, objects, pool_name, stream_at, stream_name, summary_name, table_stream}
+use Rattle.msi_meaning.specs.Package.{Packed, at_name, data_name, has_slash, is_own, is_stream, object_bytes, objects, pool_name, stream_at, stream_name, summary_name, table_stream}
 use Rattle.msi_meaning.specs.Sound.{is_free_table_name}
 use Rattle.msi_meaning.specs.Split.{Stores}
 use Rattle.msi_meaning.specs.Streams.{stream_put, IsDropped}
@@ -52,7 +52,7 @@ module _ (letters : Letters) (may : may_use letters ≡ true) where
       differ (one_table a b one other (keys_tell letters (stream_name a) (stream_name b) may (name_encoded a one) (key_of_same letters (stream_name a) (stream_name b) same))))
 
   -- a name of the database itself, which no table has
-  pub record IsApart (P : Package) (name : List ℕ) : Type 0 where
+  pub record IsApart (P : Packed) (name : List ℕ) : Type 0 where
     pub own : is_own letters P (a_stream name 0 []) ≡ true
     pub tables : All (λ t. is_same_name letters (stream_name t.name) name ≡ false) P.tables
     pub validation : is_same_name letters (stream_name validation_name) name ≡ false
@@ -60,7 +60,7 @@ module _ (letters : Letters) (may : may_use letters ≡ true) where
   self : (name : List ℕ) → is_same_name letters name name ≡ true
   self name = same_of_key letters name name refl
 
-  module _ (P : Package) (free : All (λ t. IsTrue (is_free_table_name t.name)) P.tables) where
+  module _ (P : Packed) (free : All (λ t. IsTrue (is_free_table_name t.name)) P.tables) where
     parts : (name : List ℕ) → is_free_table_name name ≡ true → (is_identifier name ≡ true) × (bytes_eq name pool_name ≡ false) × (bytes_eq name data_name ≡ false)
     parts name is =
         let outer = and_parts ((is_identifier name && is_valid_name true (chars name)) && not (bytes_eq name pool_name)) (not (bytes_eq name data_name)) is in
@@ -111,7 +111,7 @@ module _ (letters : Letters) (may : may_use letters ≡ true) where
     abbrev read_by : Bool → List Column → Option (List ℕ) → Option (List Row)
     read_by long columns bytes = rows_of long (kinds_of columns) (unwrap_or bytes [])
 
-    pub own_stores : (P : Package) → IsApart P name → Stores letters old P → Stores letters new P
+    pub own_stores : (P : Packed) → IsApart P name → Stores letters old P → Stores letters new P
     own_stores P apart s = record {
       class = ap (λ r. r.clsid) is.root ∙ s.class;
       rising = s.rising;
@@ -142,7 +142,7 @@ module _ (letters : Letters) (may : may_use letters ≡ true) where
 
   -- ---- the three, one after the other
 
-  module _ (P : Package) (free : All (λ t. IsTrue (is_free_table_name t.name)) P.tables) (summary pool rest : List ℕ) (t0 t1 t2 t3 : Tree)
+  module _ (P : Packed) (free : All (λ t. IsTrue (is_free_table_name t.name)) P.tables) (summary pool rest : List ℕ) (t0 t1 t2 t3 : Tree)
       (one : IsPut letters summary_name summary t0 t1) (two : IsPut letters (stream_name pool_name) pool t1 t2) (three : IsPut letters (stream_name data_name) rest t2 t3) where
     pub parts_stored : Stores letters t0 P → Stores letters t3 P
     parts_stored s =

@@ -2,8 +2,8 @@
 use Rattle.std.proofs.Common.{◌≡◌, ◌∙◌, ℕ, Bool, true, false, cond, List, [], ◌∷◌, Some, None, Option, inl, inr, refl, sym, ap, subst, ⊎_elim}
 use Rattle.std.specs.Prelude.{option_and_then, Err, Ok}
 use Rattle.std.specs.List.Sorted.{IsStrictlySortedBy}
-use Rattle.cfb.specs.Doing.{Means}
-use Rattle.cfb.specs.Putting.{answer_by, put_over, putting, Puts}
+use Rattle.cfb.specs.Doing.{FileMeans}
+use Rattle.cfb.specs.Putting.{answer_by, put_over, putting, FilePuts}
 use Rattle.cfb.specs.Views.{letters_in, mini_of, sound_of, validation_of}
 use Rattle.cfb.specs.declared.compound_file.CompoundFile.{CompoundFile}
 use Rattle.cfb.proofs.PutStreams.{means_shown}
@@ -73,18 +73,18 @@ module _ {F : Type 0} {g : Ghosts F} where
   -- the file means a tree with these bytes at the name
   record PutTo (name bytes : List ℕ) (old new : CompoundFile F g) (tree : Tree) : Type 0 where
     after : Tree
-    means : Means new after
+    means : FileMeans new after
     is : IsPut (letters_in old) name bytes tree after
 
-  put_to : (name bytes : List ℕ) (path : Option Path) → path ≡ Some (name ∷ []) → (old new : CompoundFile F g) (x : Unit {0}) → Puts {T = Unit {0}} (putting bytes) path (Ok x) old new
-      → (tree : Tree) → Means old tree → PutTo name bytes old new tree
+  put_to : (name bytes : List ℕ) (path : Option Path) → path ≡ Some (name ∷ []) → (old new : CompoundFile F g) (x : Unit {0}) → FilePuts {T = Unit {0}} (putting bytes) path (Ok x) old new
+      → (tree : Tree) → FileMeans old tree → PutTo name bytes old new tree
   put_to name bytes path at old new x p tree m =
       let d = p.done tree m in
       let same : d.names ≡ name ∷ [] = Some_same (sym d.at_path ∙ at) in
       let accepted : (putting bytes (letters_in old) tree (name ∷ [])).1 ≡ done = subst (λ (n : Path). (putting bytes (letters_in old) tree n).1 ≡ done) same d.accepted in
       record {
         after = (putting bytes (letters_in old) tree (name ∷ [])).0;
-        means = subst (λ (n : Path). Means new (putting bytes (letters_in old) tree n).0) same d.means;
+        means = subst (λ (n : Path). FileMeans new (putting bytes (letters_in old) tree n).0) same d.means;
         is = shape (letters_in old) tree name bytes (means_shown old tree m).ordered.0 accepted;
       }
 
@@ -117,10 +117,10 @@ module _ {F : Type 0} {g : Ghosts F} where
     }
 
     -- the first wasn't put
-    pub parts_unput : (path : Option Path) (new : CompoundFile F g) (e : Error) → Puts {T = Unit {0}} (putting parts.summary) path (Err e) old new → PutsParts {T = Unit {0}} parts (Err e) old new
+    pub parts_unput : (path : Option Path) (new : CompoundFile F g) (e : Error) → FilePuts {T = Unit {0}} (putting parts.summary) path (Err e) old new → PutsParts {T = Unit {0}} parts (Err e) old new
     parts_unput path new e p = record { failed = p.failed; unsound = p.unsound; done = tt; rests = p.rests; seen = p.seen }
 
-    module _ (path : Option Path) (at : path ≡ Some (summary_name ∷ [])) (a : CompoundFile F g) (x : Unit {0}) (one : Puts {T = Unit {0}} (putting parts.summary) path (Ok x) old a) where
+    module _ (path : Option Path) (at : path ≡ Some (summary_name ∷ [])) (a : CompoundFile F g) (x : Unit {0}) (one : FilePuts {T = Unit {0}} (putting parts.summary) path (Ok x) old a) where
       -- the first was put, and not the others
       pub parts_failed : (b new : CompoundFile F g) (e : Error) → (letters_in b ≡ letters_in a) × (sound_of b ≡ sound_of a) × (validation_of b ≡ validation_of a) → has_failed_here (allocator_of (mini_of new)) ≡ true
           → (letters_in new ≡ letters_in b) × (sound_of new ≡ sound_of b) × (validation_of new ≡ validation_of b) → PutsParts {T = Unit {0}} parts (Err e) old new
@@ -133,7 +133,7 @@ module _ {F : Type 0} {g : Ghosts F} where
       }
 
       module _ (pool_path data_path : Option Path) (pool_at : pool_path ≡ Some (stream_name pool_name ∷ [])) (data_at : data_path ≡ Some (stream_name data_name ∷ [])) where
-        pub parts_done : (b new : CompoundFile F g) (y z : Unit {0}) → Puts {T = Unit {0}} (putting parts.pool) pool_path (Ok y) a b → Puts {T = Unit {0}} (putting parts.pool_data) data_path (Ok z) b new
+        pub parts_done : (b new : CompoundFile F g) (y z : Unit {0}) → FilePuts {T = Unit {0}} (putting parts.pool) pool_path (Ok y) a b → FilePuts {T = Unit {0}} (putting parts.pool_data) data_path (Ok z) b new
             → PutsParts {T = Unit {0}} parts (Ok tt) old new
         parts_done b new y z two three = record {
           failed = λ before. let never = one.failed before in absurd (cc);
@@ -165,8 +165,8 @@ module _ {F : Type 0} {g : Ghosts F} where
 
   -- ---- where the streams stand nothing is refused by rule
 
-  there_fault : (name bytes : List ℕ) (path : Option Path) → path ≡ Some (name ∷ []) → (old new : CompoundFile F g) (e : Error) → Puts {T = Unit {0}} (putting bytes) path (Err e) old new
-      → (tree : Tree) → Means old tree → (b : List ℕ) → stream_at (letters_in old) (objects tree.content) name ≡ Some b → IsFault e
+  there_fault : (name bytes : List ℕ) (path : Option Path) → path ≡ Some (name ∷ []) → (old new : CompoundFile F g) (e : Error) → FilePuts {T = Unit {0}} (putting bytes) path (Err e) old new
+      → (tree : Tree) → FileMeans old tree → (b : List ℕ) → stream_at (letters_in old) (objects tree.content) name ≡ Some b → IsFault e
   there_fault name bytes path at old new e p tree m b there = ⊎_elim (λ fault. fault) (λ told. refuted (at_name letters (objects tree.content) name) refl (answer told.0)) (p.refused tree m)
     where
       letters : Letters
@@ -181,25 +181,25 @@ module _ {F : Type 0} {g : Ghosts F} where
       refuted (Some (a_stream n s content)) is told =
           let never : done ≡ refused e = sym (ap (λ (x : Outcome). x.1) (ap (put_over bytes letters tree (name ∷ [])) (at_path letters tree name ∙ is))) ∙ told in absurd (cc)
 
-  pub first_fault : (it : CompoundFile F g) (e : Error) → IsFirst it e → (tree : Tree) → Means it tree → IsFault e
+  pub first_fault : (it : CompoundFile F g) (e : Error) → IsFirst it e → (tree : Tree) → FileMeans it tree → IsFault e
   first_fault it e (inl failed) tree m = let never : true ≡ false = sym failed.1 ∙ m.live.live in absurd (cc)
   first_fault it e (inr unsound) tree m = let never : true ≡ false = sym m.sound ∙ unsound.2 in absurd (cc)
 
   module _ (parts : PartBytes) (path pool_path data_path : Option Path) (at : path ≡ Some (summary_name ∷ [])) (pool_at : pool_path ≡ Some (stream_name pool_name ∷ [])) (data_at : data_path ≡ Some (stream_name data_name ∷ []))
       (old : CompoundFile F g) where
-    pub summary_fault : (new : CompoundFile F g) (e : Error) → Puts {T = Unit {0}} (putting parts.summary) path (Err e) old new → OfPackage old (IsFault e)
+    pub summary_fault : (new : CompoundFile F g) (e : Error) → FilePuts {T = Unit {0}} (putting parts.summary) path (Err e) old new → OfPackage old (IsFault e)
     summary_fault new e p tree P m s three = there_fault summary_name parts.summary path at old new e p tree m three.summary three.summary_at
 
-    module _ (a : CompoundFile F g) (x : Unit {0}) (one : Puts {T = Unit {0}} (putting parts.summary) path (Ok x) old a) where
-      pub pool_fault : (new : CompoundFile F g) (e : Error) → Puts {T = Unit {0}} (putting parts.pool) pool_path (Err e) a new → OfPackage old (IsFault e)
+    module _ (a : CompoundFile F g) (x : Unit {0}) (one : FilePuts {T = Unit {0}} (putting parts.summary) path (Ok x) old a) where
+      pub pool_fault : (new : CompoundFile F g) (e : Error) → FilePuts {T = Unit {0}} (putting parts.pool) pool_path (Err e) a new → OfPackage old (IsFault e)
       pool_fault new e p tree P m s three =
           let q = put_to summary_name parts.summary path at old a x one tree m in
           let there = stream_yet (letters_in old) s.usable summary_name parts.summary tree q.after q.is (stream_name pool_name) (pool_not_summary (letters_in old) s.usable) ∙ three.pool_at in
           there_fault (stream_name pool_name) parts.pool pool_path pool_at a new e p q.after q.means three.pool
           (subst (λ (l : Letters). stream_at l (objects q.after.content) (stream_name pool_name) ≡ Some three.pool) (sym one.seen.0) there)
 
-      pub data_fault : (b : CompoundFile F g) (y : Unit {0}) → Puts {T = Unit {0}} (putting parts.pool) pool_path (Ok y) a b → (new : CompoundFile F g) (e : Error)
-          → Puts {T = Unit {0}} (putting parts.pool_data) data_path (Err e) b new → OfPackage old (IsFault e)
+      pub data_fault : (b : CompoundFile F g) (y : Unit {0}) → FilePuts {T = Unit {0}} (putting parts.pool) pool_path (Ok y) a b → (new : CompoundFile F g) (e : Error)
+          → FilePuts {T = Unit {0}} (putting parts.pool_data) data_path (Err e) b new → OfPackage old (IsFault e)
       data_fault b y two new e p tree P m s three =
           let letters = letters_in old in
           let q = put_to summary_name parts.summary path at old a x one tree m in

@@ -8,7 +8,7 @@ use Rattle.cfb_tree.specs.Objects.{is_same_name, name_of, Object}
 use Rattle.cfb_tree.specs.Tree.{Tree}
 use Rattle.msi_columns.specs.Column.{Column}
 use Rattle.msi_meaning.specs.Opening.{may_use}
-use Rattle.msi_meaning.specs.Package.{Package, at_name, data_name, has_slash, is_own, is_stream, object_bytes, objects, pool_name, stream_name, summary_name, table_stream}
+use Rattle.msi_meaning.specs.Package.{Packed, at_name, data_name, has_slash, is_own, is_stream, object_bytes, objects, pool_name, stream_name, summary_name, table_stream}
 use Rattle.msi_meaning.specs.SoundParts.{IsNamed}
 use Rattle.msi_meaning.specs.Split.{HasPool, HasSummary, Stores}
 use Rattle.msi_pool.specs.Pool.{Pool}
@@ -20,7 +20,7 @@ use Rattle.msi_texts.specs.StreamName.{is_marked}
 use Rattle.msi_streams.proofs.Marks.{key_of_same, marked_alike}
 
 -- the streams of a package, among all objects
-abbrev pub is_kept : Letters → Package → Object → Bool
+abbrev pub is_kept : Letters → Packed → Object → Bool
 is_kept letters P o = is_stream o && not (is_own letters P o)
 
 -- all but the streams of a name stands under the root as it did
@@ -50,7 +50,7 @@ module _ (letters : Letters) (may : may_use letters ≡ true) (name : List ℕ) 
 
   module _ (other : is_same_name letters summary_name name ≡ false) where
     -- the name is none of the database's own streams
-    pub not_own : (P : Package) (o : Object) → is_same_name letters name (name_of o) ≡ true → is_own letters P o ≡ false
+    pub not_own : (P : Packed) (o : Object) → is_same_name letters name (name_of o) ≡ true → is_own letters P o ≡ false
     not_own P o same =
         ap (λ k. list_any (λ n. is_eq (key_cmp (name_key letters n) k)) (summary_name ∷ stream_name pool_name ∷ stream_name data_name ∷ map (λ t. stream_name t.name) P.tables)) (sym (key_of_same letters name (name_of o) same))
         ∙ ap (λ b. b || (is_same_name letters (stream_name pool_name) name || (is_same_name letters (stream_name data_name) name || list_any (λ n. is_same_name letters n name) (map (λ t. stream_name t.name) P.tables)))) other
@@ -59,7 +59,7 @@ module _ (letters : Letters) (may : may_use letters ≡ true) (name : List ℕ) 
         ∙ marked_others (λ t. t.name) P.tables
 
     -- so its streams are streams of the package
-    pub kept_streams : (P : Package) (o : Object) → is_same_name letters name (name_of o) ≡ true → is_kept letters P o ≡ is_stream o
+    pub kept_streams : (P : Packed) (o : Object) → is_same_name letters name (name_of o) ≡ true → is_kept letters P o ≡ is_stream o
     kept_streams P o same = ap (λ b. is_stream o && not b) (not_own P o same) ∙ all_of (is_stream o)
       where
         all_of : (b : Bool) → (b && true) ≡ b
@@ -92,7 +92,7 @@ module _ (letters : Letters) (may : may_use letters ≡ true) (name : List ℕ) 
       read_by long columns bytes = rows_of long (kinds_of columns) (unwrap_or bytes [])
 
       -- the tree stores the package with these streams
-      pub stores_yet : (P : Package) (streams : List Object) → Stores letters old P → streams ≡ filter (is_kept letters P) (objects new.content) → Stores letters new (record P { streams = streams })
+      pub stores_yet : (P : Packed) (streams : List Object) → Stores letters old P → streams ≡ filter (is_kept letters P) (objects new.content) → Stores letters new (record P { streams = streams })
       stores_yet P streams s is = record {
         class = ap (λ r. r.clsid) d.class ∙ s.class;
         rising = s.rising;
@@ -109,7 +109,7 @@ module _ (letters : Letters) (may : may_use letters ≡ true) (name : List ℕ) 
           row_table : ℕ → Table → Table
           row_table k t = get_or P.tables k t
 
-      pub named_yet : (P : Package) (streams : List Object) → IsNamed letters P → All (λ o. IsTrue (not (is_marked (name_of o)))) streams → IsNamed letters (record P { streams = streams })
+      pub named_yet : (P : Packed) (streams : List Object) → IsNamed letters P → All (λ o. IsTrue (not (is_marked (name_of o)))) streams → IsNamed letters (record P { streams = streams })
       named_yet P streams n unmarked = record {
         one_section = n.one_section;
         no_strays = unmarked;

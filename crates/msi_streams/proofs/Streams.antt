@@ -13,7 +13,7 @@ use Rattle.cfb_tree.specs.Names.{Letters, name_cmp}
 use Rattle.cfb_tree.specs.Objects.{a_storage, a_stream, Object}
 use Rattle.cfb_tree.specs.Tree.{child_names, Tree}
 use Rattle.msi_meaning.specs.Calls.{Ends}
-use Rattle.msi_meaning.specs.Package.{Package as Packed, at_name, is_stream, object_bytes, objects, stream_at}
+use Rattle.msi_meaning.specs.Package.{Packed, at_name, is_stream, object_bytes, objects, stream_at}
 use Rattle.msi_meaning.specs.Streams.{may_name, plain_stream_name, stream_put, stream_read, stream_removed, without_stream}
 use Rattle.msi_meaning.proofs.UnderRoot.{at_path}
 use Rattle.msi_stored.specs.Changing.{StoresSound}

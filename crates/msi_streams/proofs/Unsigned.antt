@@ -4,10 +4,10 @@ use Rattle.std.specs.Prelude.{◌&&◌, ◌||◌, not, Err, Ok, Result}
 use Rattle.std.specs.List.{list_any}
 use Rattle.std.specs.List.Sorted.{IsStrictlySortedBy}
 use Rattle.std.specs.Ordering.{is_eq}
-use Rattle.cfb.specs.Doing.{Means}
+use Rattle.cfb.specs.Doing.{FileMeans}
 use Rattle.cfb.specs.Views.{letters_in, mini_of, sound_of, validation_of}
 use Rattle.cfb.specs.declared.compound_file.CompoundFile.{CompoundFile}
-use Rattle.cfb_fat.specs.Calls.{Answers}
+use Rattle.cfb_fat.specs.Calls.{FatAnswers}
 use Rattle.cfb_fat.specs.Keeping.{fails_cause}
 use Rattle.cfb_fat.specs.Tables.{has_failed_here, AllFails}
 use Rattle.cfb_fat.specs.declared.allocator.Allocator.{Allocator}
@@ -21,7 +21,7 @@ use Rattle.cfb_owned.proofs.GoingOn.{goes_cause}
 use Rattle.cfb_tree.specs.Names.{Letters, key_cmp, name_cmp, name_key}
 use Rattle.cfb_tree.specs.Objects.{a_storage, a_stream, is_same_name, name_of, Object}
 use Rattle.cfb_tree.specs.Tree.{child_names, Tree}
-use Rattle.msi_meaning.specs.Package.{Package as Packed, at_name, data_name, is_own, is_stream, objects, pool_name, stream_name, summary_name}
+use Rattle.msi_meaning.specs.Package.{Packed, at_name, data_name, is_own, is_stream, objects, pool_name, stream_name, summary_name}
 use Rattle.msi_meaning.specs.Streams.{without_stream}
 use Rattle.msi_stored.specs.Changing.{ChangesBy, KeepsParts, StoresSound}
 use Rattle.msi_texts.specs.StreamName.{is_marked}
@@ -119,13 +119,13 @@ module _ {F : Type 0} {g : Ghosts F} (first : Packed → Packed) where
       seen = (seen.0 ∙ told.seen.0 ∙ a.seen.0, seen.1 ∙ told.seen.1 ∙ a.seen.1, seen.2 ∙ told.seen.2 ∙ a.seen.2);
     }
       where
-        why : (tree : Tree) (P : Packed) → Means old tree → StoresSound (letters_in old) tree P → IsFault e
+        why : (tree : Tree) (P : Packed) → FileMeans old tree → StoresSound (letters_in old) tree P → IsFault e
         why tree P m s =
             let p = a.done tree P m s in
             ⊎_elim (λ fault. fault) (λ rule. let never = rule.0.0 in absurd (cc)) (told.refused p.after p.next p.means (subst (λ l. StoresSound l p.after p.next) (sym a.seen.0) p.stores))
 
-module _ {F : Type 0} {g : Ghosts F} (refuses : Error → Type 0) (a m b : Allocator F g) (x : Unit {0}) (one : Answers {T = Unit {0}} refuses (Ok x) a m) where
-  pub both_answer : (y : Unit {0}) → Answers {T = Unit {0}} refuses (Ok y) m b → Answers {T = Unit {0}} refuses (Ok tt) a b
+module _ {F : Type 0} {g : Ghosts F} (refuses : Error → Type 0) (a m b : Allocator F g) (x : Unit {0}) (one : FatAnswers {T = Unit {0}} refuses (Ok x) a m) where
+  pub both_answer : (y : Unit {0}) → FatAnswers {T = Unit {0}} refuses (Ok y) m b → FatAnswers {T = Unit {0}} refuses (Ok tt) a b
   both_answer y two = record {
     live = (one.live.0, two.live.1);
     failed = λ failed. let before = one.live.0 in absurd (cc);
@@ -134,7 +134,7 @@ module _ {F : Type 0} {g : Ghosts F} (refuses : Error → Type 0) (a m b : Alloc
     fault = tt;
   }
 
-  pub failed_answers : (c : Allocator F g) (e : Error) → GoesOn a m → Answers {T = Unit {0}} refuses (Err e) m b → AllFails b c → Answers {T = Unit {0}} refuses (Err e) a c
+  pub failed_answers : (c : Allocator F g) (e : Error) → GoesOn a m → FatAnswers {T = Unit {0}} refuses (Err e) m b → AllFails b c → FatAnswers {T = Unit {0}} refuses (Err e) a c
   failed_answers c e goes told fails = record {
     live = tt;
     failed = λ failed. let before = one.live.0 in absurd (cc);

@@ -1,6 +1,6 @@
 -- The pool and the summary of a package that are written to their streams.
 use Rattle.std.specs.Prelude.{◌≡◌, ◌<◌, ◌⊎◌, ℕ, true, false, length, List, Result, IsErrOf, OnErr, OnOk}
-use Rattle.cfb.specs.Doing.{Means}
+use Rattle.cfb.specs.Doing.{FileMeans}
 use Rattle.cfb.specs.Putting.{KeepsMeant}
 use Rattle.cfb.specs.Views.{letters_in, mini_of, sound_of, validation_of}
 use Rattle.cfb.specs.declared.compound_file.CompoundFile.{CompoundFile}
@@ -11,7 +11,7 @@ use Rattle.cfb_medium.specs.declared.medium.ReadMedium.{Ghosts}
 use Rattle.cfb_mini.specs.Views.{allocator_of}
 use Rattle.cfb_tree.specs.Names.{Letters}
 use Rattle.cfb_tree.specs.Tree.{Tree}
-use Rattle.msi_meaning.specs.Package.{Package as Packed}
+use Rattle.msi_meaning.specs.Package.{Packed}
 use Rattle.msi_pool.specs.Pool.{Pool, data_stream, pool_stream}
 use Rattle.msi_pool.specs.PoolState.{is_in_size}
 use Rattle.msi_props.specs.Props.{Props, props_bytes}
@@ -48,7 +48,7 @@ module _ {F : Type 0} {g : Ghosts F} where
   -- the file means a tree that stores the package still, and has these three streams
   pub record HasParts (letters : Letters) (P : Packed) (parts : PartBytes) (new : CompoundFile F g) : Type 0 where
     pub after : Tree
-    pub means : Means new after
+    pub means : FileMeans new after
     pub stores : StoresSound letters after P
     pub summary_at : stream_at letters (objects after.content) summary_name ≡ Some parts.summary
     pub pool_at : table_stream letters (objects after.content) pool_name ≡ Some parts.pool
@@ -59,10 +59,10 @@ module _ {F : Type 0} {g : Ghosts F} where
   pub record PutsParts {T : Type 0} (parts : PartBytes) (result : Result T Error) (old new : CompoundFile F g) : Type 0 where
     pub failed : has_failed_here (allocator_of (mini_of old)) ≡ true → IsErrOf result Failed
     pub unsound : has_failed_here (allocator_of (mini_of old)) ≡ false → sound_of old ≡ false → IsErrOf result InvalidData
-    pub done : OnOk result ((tree : Tree) (P : Packed) → Means old tree → StoresSound (letters_in old) tree P → HasParts (letters_in old) P parts new)
+    pub done : OnOk result ((tree : Tree) (P : Packed) → FileMeans old tree → StoresSound (letters_in old) tree P → HasParts (letters_in old) P parts new)
     pub rests : OnErr result ((has_failed_here (allocator_of (mini_of new)) ≡ true) ⊎ KeepsMeant old new)
     pub seen : (letters_in new ≡ letters_in old) × (sound_of new ≡ sound_of old) × (validation_of new ≡ validation_of old)
 
   -- of a file that has the three streams this is so
   abbrev pub OfPackage : CompoundFile F g → Type 0 → Type 0
-  OfPackage it A = (tree : Tree) (P : Packed) → Means it tree → StoresSound (letters_in it) tree P → HasThree (letters_in it) tree → A
+  OfPackage it A = (tree : Tree) (P : Packed) → FileMeans it tree → StoresSound (letters_in it) tree P → HasThree (letters_in it) tree → A

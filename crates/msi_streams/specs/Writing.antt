@@ -10,7 +10,7 @@ use Rattle.cfb_medium.specs.declared.medium.ReadMedium.{Ghosts}
 use Rattle.cfb_mini.specs.Views.{allocator_of}
 use Rattle.cfb_tree.specs.Names.{Letters}
 use Rattle.msi_meaning.specs.Calls.{Ends}
-use Rattle.msi_meaning.specs.Package.{Package as Packed}
+use Rattle.msi_meaning.specs.Package.{Packed}
 use Rattle.msi_meaning.specs.Streams.{stream_written, without_stream}
 use Rattle.msi_stored.specs.Changing.{PackageRule}
 use Rattle.msi_texts.specs.Results.{◌>>=◌, unless_not}

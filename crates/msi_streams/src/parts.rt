@@ -3,7 +3,7 @@ ghost use Rattle.std.specs.Prelude.{◌≡◌, ◌<◌, ◌⊎◌, ◌∷◌, �
 ghost use Rattle.cfb.specs.Putting.{IsRefusedPut};
 ghost use Rattle.cfb.specs.Views.{mini_of};
 ghost use Rattle.cfb_entries.specs.Rules.{names_in};
-ghost use Rattle.cfb_fat.specs.Calls.{Answers};
+ghost use Rattle.cfb_fat.specs.Calls.{FatAnswers};
 ghost use Rattle.cfb_live.specs.Doing.{IsFault};
 ghost use Rattle.cfb_medium.specs.declared.error.Error.TheVariants.{InvalidInput, Memory};
 ghost use Rattle.cfb_mini.specs.Views.{allocator_of};
@@ -15,7 +15,7 @@ ghost use Rattle.msi_meaning.specs.Split.{HasPool, HasSummary};
 ghost use Rattle.msi_pool.specs.Pool.{data_stream, pool_stream, Pool};
 ghost use Rattle.msi_pool.specs.PoolKept.{IsWritable};
 ghost use Rattle.msi_pool.specs.PoolState.{is_in_size};
-ghost use Rattle.msi_props.specs.Kept.{IsWritable as IsWritableSet};
+ghost use Rattle.msi_props.specs.Kept.{SetIsWritable};
 ghost use Rattle.msi_props.specs.Props.{is_in_size as set_is_in_size, props_bytes, Props};
 ghost use Rattle.msi_summary.specs.Summary.{summary_format};
 ghost use Rattle.msi_streams.specs.Parts.{bytes_of_parts, IsTooLong, OfPackage, PutsParts};
@@ -58,7 +58,7 @@ fn put_parts<F: Medium>(
         result file.old file.new }
     ensures refused { IfErr result (λ e. OfPackage file.old (IsFault e)) }
     ensures goes_on { GoesOn (allocator_of (mini_of file.old)) (allocator_of (mini_of file.new)) }
-    ensures answers { Answers IsRefusedPut result (allocator_of (mini_of file.old))
+    ensures answers { FatAnswers IsRefusedPut result (allocator_of (mini_of file.old))
         (allocator_of (mini_of file.new)) }
 {
     if let Err(error) = file.put_stream(SUMMARY_INFO_STREAM_NAME, summary) {
@@ -134,7 +134,7 @@ pub fn write_parts<F: Medium>(
     ensures refused { IfErr result (λ e. OfPackage file.old (IsFault e ⊎ ((e ≡ InvalidInput)
         × IsTooLong (most_bytes file.old) pool.now.pool summary.now.props))) }
     ensures goes_on { GoesOn (allocator_of (mini_of file.old)) (allocator_of (mini_of file.new)) }
-    ensures answers { Answers IsRefusedPut result (allocator_of (mini_of file.old))
+    ensures answers { FatAnswers IsRefusedPut result (allocator_of (mini_of file.old))
         (allocator_of (mini_of file.new)) }
 {
     if let Err(error) = check_changeable(file) {
@@ -172,7 +172,7 @@ pub fn written_parts_are_held()
         → table_stream letters (objects tree.content) pool_name ≡ Some (pool_stream pool)
         → table_stream letters (objects tree.content) data_name ≡ Some (data_stream pool)
         → HasPool letters tree pool }
-    ensures summary { (letters : Letters) (tree : Tree) (summary : Props) → IsWritableSet summary
+    ensures summary { (letters : Letters) (tree : Tree) (summary : Props) → SetIsWritable summary
         → summary.sections ≡ 1 → summary.format ≡ summary_format
         → stream_at letters (objects tree.content) summary_name ≡ Some (props_bytes summary)
         → HasSummary letters tree summary }

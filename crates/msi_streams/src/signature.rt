@@ -2,7 +2,7 @@
 ghost use Rattle.std.specs.Prelude.{◌≡◌, ◌∷◌, [], chars, false, Ok, Some};
 ghost use Rattle.cfb.specs.Views.{letters_in, mini_of};
 ghost use Rattle.cfb_entries.specs.Rules.{names_in};
-ghost use Rattle.cfb_fat.specs.Calls.{Answers};
+ghost use Rattle.cfb_fat.specs.Calls.{FatAnswers};
 ghost use Rattle.cfb_live.specs.Removing.{IsRefusedRemoval};
 ghost use Rattle.cfb_mini.specs.Views.{allocator_of};
 ghost use Rattle.cfb_owned.specs.Chains.{GoesOn};
@@ -28,7 +28,7 @@ fn remove_named<F: Medium>(file: &mut CompoundFile<F>, name: &str) -> Result<(),
         (Makes (λ P. Ok (without (letters_in file.old) (chars name.now) P)))
         result file.old file.new }
     ensures goes_on { GoesOn (allocator_of (mini_of file.old)) (allocator_of (mini_of file.new)) }
-    ensures answers { Answers IsRefusedRemoval result (allocator_of (mini_of file.old))
+    ensures answers { FatAnswers IsRefusedRemoval result (allocator_of (mini_of file.old))
         (allocator_of (mini_of file.new)) }
 {
     if let Err(error) = check_changeable(file) {
@@ -50,7 +50,7 @@ pub fn remove_digital_signature<F: Medium>(file: &mut CompoundFile<F>) -> Result
     ensures changes { ChangesBy (Makes (λ P. Ok (unsigned (letters_in file.old) P)))
         result file.old file.new }
     ensures goes_on { GoesOn (allocator_of (mini_of file.old)) (allocator_of (mini_of file.new)) }
-    ensures answers { Answers IsRefusedRemoval result (allocator_of (mini_of file.old))
+    ensures answers { FatAnswers IsRefusedRemoval result (allocator_of (mini_of file.old))
         (allocator_of (mini_of file.new)) }
 {
     if let Err(error) = remove_named(file, DIGITAL_SIGNATURE_STREAM_NAME) {

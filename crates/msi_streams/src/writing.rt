@@ -2,14 +2,14 @@
 ghost use Rattle.std.specs.Prelude.{◌≡◌, ◌<◌, ◌⊎◌, ℕ, length, Err, List, Ok};
 ghost use Rattle.cfb.specs.Putting.{IsRefusedPut};
 ghost use Rattle.cfb.specs.Views.{letters_in, mini_of};
-ghost use Rattle.cfb_fat.specs.Calls.{Answers};
+ghost use Rattle.cfb_fat.specs.Calls.{FatAnswers};
 ghost use Rattle.cfb_live.specs.Removing.{IsRefusedRemoval};
 ghost use Rattle.cfb_mini.specs.Views.{allocator_of};
 ghost use Rattle.cfb_owned.specs.Chains.{GoesOn};
 ghost use Rattle.cfb_medium.specs.declared.error.Error.{Error};
 ghost use Rattle.cfb_medium.specs.declared.error.Error.TheVariants.{InvalidInput};
 ghost use Rattle.cfb_tree.specs.Names.{Letters};
-ghost use Rattle.msi_meaning.specs.Package.{Package as Packed};
+ghost use Rattle.msi_meaning.specs.Package.{Packed};
 ghost use Rattle.msi_meaning.specs.Streams.{stream_removed, stream_written};
 ghost use Rattle.msi_stored.specs.Changing.{ChangesBy};
 ghost use Rattle.msi_streams.specs.Writing.{most_bytes, written_within, Makes};
@@ -33,7 +33,7 @@ pub fn write_stream<F: Medium>(
         (Makes (written_within (letters_in file.old) (most_bytes file.old) name.now bytes.now))
         result file.old file.new }
     ensures goes_on { GoesOn (allocator_of (mini_of file.old)) (allocator_of (mini_of file.new)) }
-    ensures answers { Answers IsRefusedPut result (allocator_of (mini_of file.old))
+    ensures answers { FatAnswers IsRefusedPut result (allocator_of (mini_of file.old))
         (allocator_of (mini_of file.new)) }
 {
     if let Err(error) = check_changeable(file) {
@@ -59,7 +59,7 @@ pub fn remove_stream<F: Medium>(file: &mut CompoundFile<F>, name: &str) -> Resul
     ensures changes { ChangesBy
         (Makes (λ P. stream_removed (letters_in file.old) P name.now)) result file.old file.new }
     ensures goes_on { GoesOn (allocator_of (mini_of file.old)) (allocator_of (mini_of file.new)) }
-    ensures answers { Answers IsRefusedRemoval result (allocator_of (mini_of file.old))
+    ensures answers { FatAnswers IsRefusedRemoval result (allocator_of (mini_of file.old))
         (allocator_of (mini_of file.new)) }
 {
     if let Err(error) = check_changeable(file) {

@@ -106,11 +106,11 @@ pub(crate) fn parts_in(alloc: Global, text: &str) -> Result<Vec<String>, Error>
         return Ok(Vec::new(alloc));
     }
     let cut = cut_at(alloc, text, ';')?;
-    trimmed(alloc, &cut)
+    trimmed_texts(alloc, &cut)
 }
 
 // Texts without the white space at their ends.
-fn trimmed(alloc: Global, texts: &[&str]) -> Result<Vec<String>, Error>
+fn trimmed_texts(alloc: Global, texts: &[&str]) -> Result<Vec<String>, Error>
     ensures ok { IfOk result (λ parts. map string_bytes parts.items
         ≡ map trim (map (λ t. t.now) texts.now)) }
     ensures err { IfErr result (λ e. e ≡ Memory) }

@@ -67,7 +67,10 @@ fn compare_keys(
         (None, Some(_)) => Ordering::Less,
         (Some(_), None) => Ordering::Greater,
         (Some((x, xs)), Some((y, ys))) => {
-            match x.borrowed(string_pool).compare(y.borrowed(string_pool)) {
+            match x
+                .as_borrowed(string_pool)
+                .compare(y.as_borrowed(string_pool))
+            {
                 Ordering::Equal => compare_keys(columns, string_pool, xs, ys),
                 order => order,
             }

@@ -2,7 +2,7 @@
 
 ghost use Rattle.std.specs.Prelude.{◌≡◌, ◌++◌, ◌<◌, ℕ, List, length, map, drop, Some, None, OnOk};
 ghost use Rattle.std.specs.List.Sorted.{IsSortedBy, IsStableBy, IsPermutation};
-ghost use Rattle.msi_tables.specs.Rows.{row_cmp, row_less, skips_of, is_skipped, kinds_of, first_cells, column_bytes, rows_bytes, HaveCells, AllLonger, Appends, IsWritten};
+ghost use Rattle.msi_tables.specs.Rows.{row_cmp, row_less, skips_of, is_skipped, kinds_of, first_cells, column_bytes, rows_bytes, HaveCells, AllLonger, AppendsBytes, IsWritten};
 ghost use Rattle.msi_columns.specs.Held.{column_of, columns_of};
 ghost use Rattle.msi_tables.specs.Held.{rows_held};
 
@@ -86,7 +86,7 @@ fn append_rows(
     rows: &[Vec<ValueRef>],
 ) -> Result<(), Error>
     requires { HaveCells (length columns.now) (rows_held rows.now) }
-    ensures bytes { Appends (rows_bytes long (kinds_of (columns_of columns.now))
+    ensures bytes { AppendsBytes (rows_bytes long (kinds_of (columns_of columns.now))
         (rows_held rows.now)) out.old.items out.new.items result }
     ensures kept { (more : List ℕ) × (out.new.items ≡ out.old.items ++ more) }
 {
@@ -107,7 +107,7 @@ fn append_column(
     index: usize,
 ) -> Result<(), Error>
     requires { AllLonger index (rows_held rows.now) }
-    ensures bytes { Appends (column_bytes long coltype
+    ensures bytes { AppendsBytes (column_bytes long coltype
         (first_cells (map (drop index) (rows_held rows.now)))) out.old.items out.new.items result }
     ensures kept { (more : List ℕ) × (out.new.items ≡ out.old.items ++ more) }
 {

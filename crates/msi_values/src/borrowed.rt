@@ -24,7 +24,7 @@ pub enum BorrowedValue<'a> {
 
 impl Value {
     /// The value where it stands.
-    pub fn borrowed(&self) -> BorrowedValue<'_>
+    pub fn as_borrowed(&self) -> BorrowedValue<'_>
         ensures { borrowed_datum result ≡ datum_of self.now }
     {
         match self {

@@ -19,11 +19,11 @@ use Rattle.msi_columns.specs.declared.column.ColumnType.{ColumnType}
 use Rattle.msi_columns.specs.declared.column.ColumnType.TheVariants as kind
 use Rattle.msi_changes.specs.Changes.{rows_counted}
 use Rattle.cfb_tree.specs.Names.{ascii_letters}
-use Rattle.msi_meaning.specs.Package.{Package, table_name_cmp}
+use Rattle.msi_meaning.specs.Package.{Packed, table_name_cmp}
 use Rattle.msi_meaning.specs.Calls.{table_put, with_rows, rows_put, new_table, has_table, names_distinct, is_system, is_kept}
 use Rattle.one_table.proofs.Identifiers.{name_chars, short_is_valid}
 use Rattle.one_table.specs.declared.contents.OnlyTable.{OnlyTable}
-use Rattle.one_table.specs.Contents.{only_seen, only_of, Only, IsKept, AreKept, package_of, only_table, key_column, columns_row, tables_row, places_of, own_tables, all_tables, new_only, IsFirst, pool_with, columns_table, tables_table}
+use Rattle.one_table.specs.Contents.{only_seen, only_of, Only, IsKeptTable, AreKept, package_of, only_table, key_column, columns_row, tables_row, places_of, own_tables, all_tables, new_only, IsFirst, pool_with, columns_table, tables_table}
 use Rattle.one_table.specs.Limits.{is_int16, is_open, CreatesBare, created_bare, is_well_named, is_describable, is_number_key, is_bare, is_taken}
 use Rattle.std.specs.Prelude.{string_bytes}
 use Rattle.std.proofs.Common.{lit≤}
@@ -76,7 +76,7 @@ tables_counted name column false e = rw (bytes_same name, e) refl
 
 -- ---- what the tests tell
 
-module _ (P : Package) (name : List ℕ) (columns : List Column) where
+module _ (P : Packed) (name : List ℕ) (columns : List Column) where
   -- there is such a table
   pub create_again : is_well_named name columns ≡ true → has_table P name ≡ true → created_bare true P name columns ≡ Err AlreadyExists
   create_again e has = rw (e, has) refl
@@ -266,7 +266,7 @@ kept_name o kept name has =
 
 -- a new table is kept
 pub keeps_new : (name column : List ℕ) → is_identifier name ≡ true → is_identifier column ≡ true → length name ≤ 32 → length column ≤ 32 → is_taken name ≡ false
-    → IsKept (new_only name column)
+    → IsKeptTable (new_only name column)
 keeps_new name column is_table is_column short narrow free = record {
   named = rw (is_table, short_is_valid name is_table short) refl;
   free = free;

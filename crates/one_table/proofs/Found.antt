@@ -9,7 +9,7 @@ use Rattle.msi_tables.specs.Schema.{columns_name, tables_name, validation_name}
 use Rattle.msi_meaning.specs.Package.{table_name_cmp, pool_name, data_name}
 use Rattle.msi_meaning.specs.Calls.{table_put}
 use Rattle.one_table.specs.Limits.{is_taken}
-use Rattle.one_table.specs.Contents.{Only, IsKept, AreKept, package_of, columns_table, tables_table, only_table, own_tables, places_of, pool_with}
+use Rattle.one_table.specs.Contents.{Only, IsKeptTable, AreKept, package_of, columns_table, tables_table, only_table, own_tables, places_of, pool_with}
 use Rattle.one_table.specs.Sheets.{IsSheet}
 use Rattle.one_table.specs.declared.sheet.Sheet.{Sheet}
 
@@ -89,7 +89,7 @@ others_found o name c t =
     ∙ find_cond (λ u. bytes_eq u.name name) (tables_table o) [] false (bytes_swap tables_name name ∙ t)
 
 -- the one table
-pub found_only : (t : Only) → IsKept t → table_named (package_of (Some t)).tables t.name ≡ Some (only_table t)
+pub found_only : (t : Only) → IsKeptTable t → table_named (package_of (Some t)).tables t.name ≡ Some (only_table t)
 found_only t kept =
     let free = is_free t.name kept.free in
     put_itself (λ u. bytes_eq u.name t.name) (only_table t) (own_tables (Some t)) (bytes_same t.name) (others_found (Some t) t.name free.columns free.tables)

@@ -11,7 +11,7 @@ use Rattle.plain.proofs.ImageLength.{short_images_grow, short_image_bound}
 use Rattle.msi_pool.specs.Pool.{pool_stream, data_stream, head_bytes}
 use Rattle.msi_meaning.specs.Package.{stream_name, summary_name, pool_name, data_name}
 use Rattle.msi_props.specs.Props.{props_bytes}
-use Rattle.one_table.specs.Contents.{Only, IsKept, AreKept, package_of, pool_with, new_only}
+use Rattle.one_table.specs.Contents.{Only, IsKeptTable, AreKept, package_of, pool_with, new_only}
 use Rattle.one_table.specs.Streams.{named, streams_of, own_streams, put_by, keys_bytes, columns_bytes, tables_bytes, image_of, root_facts}
 use Rattle.one_table.proofs.KeyRows.{keys_length}
 use Rattle.one_table.proofs.Packed.{head_small}
@@ -103,8 +103,8 @@ image_short o kept = short_image_bound root_facts (streams_of o) (few_short o ke
 
 -- ---- so the images grow
 
-kept_some : (o : Only) → IsKept o → AreKept (Some o)
-kept_some o kept = record { each = λ t is. let same : o ≡ t = cc in subst (λ (u : Only). IsKept u) same kept }
+kept_some : (o : Only) → IsKeptTable o → AreKept (Some o)
+kept_some o kept = record { each = λ t is. let same : o ≡ t = cc in subst (λ (u : Only). IsKeptTable u) same kept }
 
 none_kept : AreKept None
 none_kept = record { each = λ t is. absurd (cc) }
@@ -115,7 +115,7 @@ five all a b c d e is =
     rw is (omega (arith, minis_more a (b ∷ c ∷ d ∷ e ∷ []), minis_more b (c ∷ d ∷ e ∷ []), minis_more c (d ∷ e ∷ []), minis_more d (e ∷ []), minis_more e []))
 
 -- a table with more rows
-pub more_rows : (o : Only) (keys : List ℤ) → IsKept o → IsKept (record o { keys = keys }) → length o.keys ≤ length keys
+pub more_rows : (o : Only) (keys : List ℤ) → IsKeptTable o → IsKeptTable (record o { keys = keys }) → length o.keys ≤ length keys
     → length (image_of (Some o)) ≤ length (image_of (Some (record o { keys = keys })))
 more_rows o keys kept after more =
     let old : NamedStream = named (stream_name o.name) (keys_bytes o.keys) in
@@ -129,7 +129,7 @@ more_rows o keys kept after more =
     (omega (arith, minis_put old own, minis_put new own, cells))
 
 -- the first table
-pub first_table : (name column : List ℕ) → IsKept (new_only name column) → length (image_of None) ≤ length (image_of (Some (new_only name column)))
+pub first_table : (name column : List ℕ) → IsKeptTable (new_only name column) → length (image_of None) ≤ length (image_of (Some (new_only name column)))
 first_table name column kept =
     let o : Only = new_only name column in
     let new : NamedStream = named (stream_name name) [] in
@@ -146,12 +146,12 @@ first_table name column kept =
     ))
 
 -- the same where the table is found twice
-pub more_keys : (held : Option Only) (a b : Only) (keys : List ℤ) → held ≡ Some a → held ≡ Some b → IsKept a → IsKept (record a { keys = keys }) → length a.keys ≤ length keys
+pub more_keys : (held : Option Only) (a b : Only) (keys : List ℤ) → held ≡ Some a → held ≡ Some b → IsKeptTable a → IsKeptTable (record a { keys = keys }) → length a.keys ≤ length keys
     → length (image_of held) ≤ length (image_of (Some (record b { keys = keys })))
 more_keys held a b keys ea eb kept after more =
     let same : a ≡ b = (let h = sym ea ∙ eb in cc) in
     rw (ea, sym same) (more_rows a keys kept after more)
 
-pub first_keys : (held : Option Only) (new : Only) (name column : List ℕ) → held ≡ None → new ≡ new_only name column → IsKept (new_only name column)
+pub first_keys : (held : Option Only) (new : Only) (name column : List ℕ) → held ≡ None → new ≡ new_only name column → IsKeptTable (new_only name column)
     → length (image_of held) ≤ length (image_of (Some new))
 first_keys held new name column none is kept = rw (none, is) (first_table name column kept)

@@ -22,7 +22,7 @@ use Rattle.one_table.specs.declared.sheet.Sheet.{Sheet}
 use Rattle.one_table.proofs.Found.{Finds, finds_none, same_bytes, found_columns, found_tables, IsFree, is_free, bytes_same, bytes_swap, found_only}
 use Rattle.one_table.proofs.Arranging.{stored_by_keys}
 use Rattle.one_table.proofs.Distinct.{distinct_after}
-use Rattle.one_table.specs.Contents.{Only, IsKept, package_of, only_table, columns_table, tables_table, all_tables}
+use Rattle.one_table.specs.Contents.{Only, IsKeptTable, package_of, only_table, columns_table, tables_table, all_tables}
 use Rattle.one_table.proofs.Rows.{keys_as_rows}
 use Rattle.msi_tables.specs.Table.{IsStoredByKeys, Table, table_named, row_data, key_values, keys_of, are_distinct}
 use Rattle.std.proofs.Common.{subst}
@@ -32,7 +32,7 @@ use Rattle.msi_values.specs.Datum.{Datum, null, number, text, binary}
 use Rattle.msi_pool.specs.Pool.{Pool}
 use Rattle.msi_columns.specs.Column.{Column, is_valid, are_valid}
 use Rattle.msi_changes.specs.Changes.{inserted, new_keys, rows_counted}
-use Rattle.msi_meaning.specs.Package.{Package}
+use Rattle.msi_meaning.specs.Package.{Packed}
 use Rattle.msi_meaning.specs.Calls.{may_insert}
 use Rattle.one_table.specs.Contents.{key_column, key_row, key_data, is_key, keys_said, key_said}
 use Rattle.one_table.specs.Limits.{inserted_few, most_rows}
@@ -99,7 +99,7 @@ inserted_is : (may : Bool) (pool : Pool) (t : Table) (new_rows : List (List Datu
 inserted_is may pool t new_rows distinct =
     rw (distinct, sym (keys_as_data pool t.columns t.rows)) (judged_first (list_all (are_valid t.columns) new_rows) (new_keys (keys_of pool t) [] (keys_by t.columns new_rows)) (rest_of may pool t new_rows))
 
-module _ (P : Package) (name : List ℕ) (new_rows : List (List Datum)) where
+module _ (P : Packed) (name : List ℕ) (new_rows : List (List Datum)) where
   -- no table
   pub insert_missing : table_named P.tables name ≡ None → inserted_few P name new_rows ≡ Err NotFound
   insert_missing none = rw none refl
@@ -193,7 +193,7 @@ all_permuted : (p : ℤ → Bool) (xs ys : List ℤ) → IsPermutation xs ys →
 all_permuted p xs ys permuted e =
     all_any p ys ∙ ap not (sym (list_any-IsPermutation (λ x. not (p x)) xs ys permuted)) ∙ sym (all_any p xs) ∙ e
 
-module _ (o : Only) (kept : IsKept o) (new_rows : List (List Datum)) (arranged : List ℤ)
+module _ (o : Only) (kept : IsKeptTable o) (new_rows : List (List Datum)) (arranged : List ℤ)
     (judges : judged (key_column o.column ∷ []) (map (row_data (package_of (Some o)).pool) (map key_row o.keys)) new_rows ≡ Ok tt)
     (few : length o.keys + length new_rows ≤ 2047)
     (order : IsArranged int_cmp (o.keys ++ keys_said new_rows) arranged)
@@ -263,7 +263,7 @@ module _ (o : Only) (kept : IsKept o) (new_rows : List (List Datum)) (arranged :
         ),
       )
 
-  pub keeps : IsKept (with_keys o arranged)
+  pub keeps : IsKeptTable (with_keys o arranged)
   keeps = record {
     named = kept.named;
     free = kept.free;
@@ -284,7 +284,7 @@ judged_sheet : (pool : Pool) (t : Table) (s : Sheet) (new_rows : List (List Datu
     → judged (unnamed_columns s.columns.items) (rows_said s.rows.items) new_rows ≡ judged t.columns (map (row_data pool) t.rows) new_rows
 judged_sheet pool t s new_rows sheet = rw (sheet.columns, sheet.rows) (judged_unnamed t.columns (map (row_data pool) t.rows) new_rows)
 
-module _ (o : Only) (kept : IsKept o) (s : Sheet) (sheet : IsSheet (package_of (Some o)).pool (only_table o) s) (new_rows : List (List Datum)) where
+module _ (o : Only) (kept : IsKeptTable o) (s : Sheet) (sheet : IsSheet (package_of (Some o)).pool (only_table o) s) (new_rows : List (List Datum)) where
   distinct_keys : are_distinct (keys_of (package_of (Some o)).pool (only_table o)) ≡ true
   distinct_keys = rw (keys_of_rows o.column (package_of (Some o)).pool o.keys) kept.distinct
 

@@ -11,7 +11,7 @@ use Rattle.std.specs.List.{list_all}
 use Rattle.msi_texts.specs.Category.{is_identifier}
 use Rattle.one_table.specs.Limits.{is_taken}
 use Rattle.one_table.proofs.Identifiers.{short_is_valid}
-use Rattle.one_table.specs.Contents.{key_data, Only, IsKept, is_key}
+use Rattle.one_table.specs.Contents.{key_data, Only, IsKeptTable, is_key}
 
 level : (r : Ordering) → is_eq (ordering_then r Equal) ≡ is_eq r
 level Less = refl
@@ -44,7 +44,7 @@ turn_at keys i found within e = distinct_turn keys i (get_or keys i (pos 0)) fou
 
 -- what was tested is kept
 pub kept_by : (o : Only) → is_identifier o.name ≡ true → length o.name ≤ 32 → is_taken o.name ≡ false → is_identifier o.column ≡ true → length o.column ≤ 32
-    → length o.keys ≤ 2047 → list_all is_key o.keys ≡ true → are_distinct (map key_data o.keys) ≡ true → IsKept o
+    → length o.keys ≤ 2047 → list_all is_key o.keys ≡ true → are_distinct (map key_data o.keys) ≡ true → IsKeptTable o
 kept_by o id short free column_id narrow few fit distinct = record {
   named = rw (id, short_is_valid o.name id short) refl;
   free = free;

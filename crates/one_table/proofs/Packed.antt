@@ -12,7 +12,7 @@ use Rattle.plain.specs.WholeImage.{NamedStream}
 use Rattle.msi_texts.specs.Category.{is_identifier}
 use Rattle.msi_pool.specs.Pool.{Place, pool_stream, data_stream, at_place}
 use Rattle.msi_pool.specs.PoolKept.{IsWritable}
-use Rattle.msi_pool.specs.PoolKept.{IsKept as IsKeptPlace}
+use Rattle.msi_pool.specs.PoolKept.{IsKeptPlace}
 use Rattle.msi_pool.proofs.PoolRoundTrip.{written_pool_is_read}
 use Rattle.msi_values.specs.Datum.{Datum, text, number}
 use Rattle.msi_texts.specs.StreamName.{is_valid_name}
@@ -22,7 +22,7 @@ use Rattle.msi_tables.specs.Schema.{columns_name, tables_name, validation_name, 
 use Rattle.msi_props.specs.Props.{props_bytes, props_read}
 use Rattle.msi_meaning.specs.Package.{Packs, objects, stream_at, table_stream, stream_name, summary_name, pool_name, data_name, is_table_name, rows_named, table_name_cmp, is_own, is_stream}
 use Rattle.msi_meaning.specs.Calls.{table_put}
-use Rattle.one_table.specs.Contents.{Only, IsKept, AreKept, package_of, places_of, own_places, pool_with, only_table, columns_table, tables_table, own_tables, all_tables, key_column, columns_rows, tables_rows, column_place}
+use Rattle.one_table.specs.Contents.{Only, IsKeptTable, AreKept, package_of, places_of, own_places, pool_with, only_table, columns_table, tables_table, own_tables, all_tables, key_column, columns_rows, tables_rows, column_place}
 use Rattle.one_table.specs.Streams.{named, own_streams, streams_of, put_by, columns_bytes, tables_bytes, keys_bytes, tree_of}
 use Rattle.one_table.proofs.Found.{IsFree, is_free, bytes_swap, bytes_same, same_bytes, found_columns, found_tables}
 use Rattle.one_table.proofs.StreamNames.{same_stream, not_summary, summary_not, same_itself}
@@ -51,7 +51,7 @@ use Rattle.one_table.specs.Contents.{key_row}
 use Rattle.one_table.proofs.KeyRows.{key_rows, columns_read, tables_read}
 
 -- the table's name is an identifier
-pub table_identifier : (t : Only) → IsKept t → is_identifier t.name ≡ true
+pub table_identifier : (t : Only) → IsKeptTable t → is_identifier t.name ≡ true
 table_identifier t kept = (and_parts (is_identifier t.name) (is_valid_name true (chars t.name)) kept.named).0
 
 -- ---- what stands at each name
@@ -107,7 +107,7 @@ module _ (o : Option Only) (kept : AreKept o) where
           (not_summary t.name (table_identifier t (kept.each t refl)))
           ∙ own_summary (Some t)
 
-at_only : (t : Only) → IsKept t → table_stream ascii_letters (objects (tree_of (Some t)).content) t.name ≡ Some (keys_bytes t.keys)
+at_only : (t : Only) → IsKeptTable t → table_stream ascii_letters (objects (tree_of (Some t)).content) t.name ≡ Some (keys_bytes t.keys)
 at_only t kept =
     let free = is_free t.name kept.free in
     let id = table_identifier t kept in

@@ -11,7 +11,7 @@ use Rattle.msi_tables.specs.Rows.{Row}
 use Rattle.msi_tables.specs.Schema.{columns_name, tables_name, columns_columns, tables_columns}
 use Rattle.msi_tables.specs.Table.{Table, is_valid_table_name, are_distinct}
 use Rattle.msi_columns.specs.declared.column.ColumnType.TheVariants as kind
-use Rattle.msi_meaning.specs.Package.{Package}
+use Rattle.msi_meaning.specs.Package.{Packed}
 use Rattle.msi_meaning.specs.Calls.{table_put, title_of}
 use Rattle.msi_meaning.specs.declared.kind.PackageType.TheVariants.{Installer}
 use Rattle.msi_summary.specs.Summary.{edited, set_text, new_summary}
@@ -93,7 +93,7 @@ abbrev pub pool_with : List Place → Pool
 pool_with places = record { page = page.Utf8; long = false; places = places }
 
 -- the package: the title of a new one, these tables and texts, and nothing else
-abbrev pub package_of : Option Only → Package
+abbrev pub package_of : Option Only → Packed
 package_of o = record {
   kind = Installer;
   pool = pool_with (own_places o);
@@ -112,7 +112,7 @@ abbrev pub is_key : ℤ → Bool
 is_key z = int_le (negsuc 32766) z && int_le z (pos 32767)
 
 -- what is kept of the table
-pub record IsKept (o : Only) : Type 0 where
+pub record IsKeptTable (o : Only) : Type 0 where
   pub named : is_valid_table_name o.name ≡ true
   pub free : is_taken o.name ≡ false
   pub column_named : is_identifier o.column ≡ true
@@ -124,7 +124,7 @@ pub record IsKept (o : Only) : Type 0 where
 
 -- the same where there is a table
 pub record AreKept (o : Option Only) : Type 0 where
-  pub each : (t : Only) → o ≡ Some t → IsKept t
+  pub each : (t : Only) → o ≡ Some t → IsKeptTable t
 
 -- the table as it is held
 abbrev pub only_of : OnlyTable → Only
@@ -150,7 +150,7 @@ keys_said rows = map key_said rows
 -- these are the keys of the table and of new rows, which it takes, in order
 pub record Adds (o : Only) (new_rows : List (List Datum)) (keys : List ℤ) : Type 0 where
   pub inserts : InsertsFew (package_of (Some o)) o.name new_rows (package_of (Some (record o { keys = keys }))) (Ok tt)
-  pub kept : IsKept (record o { keys = keys })
+  pub kept : IsKeptTable (record o { keys = keys })
   pub more : length o.keys ≤ length keys
 
 -- a table without rows
@@ -163,4 +163,4 @@ pub record IsFirst (o : Option Only) (name : List ℕ) (columns : List Column) :
   pub column : List ℕ
   pub one : columns ≡ key_column column ∷ []
   pub creates : CreatesBare ascii_letters (package_of None) name (key_column column ∷ []) (package_of (Some (new_only name column))) (Ok tt)
-  pub kept : IsKept (new_only name column)
+  pub kept : IsKeptTable (new_only name column)

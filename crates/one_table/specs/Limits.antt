@@ -17,8 +17,8 @@ use Rattle.msi_query.specs.Printed.{is_bare as is_bare_select}
 use Rattle.msi_query.specs.Said.{table_in}
 use Rattle.msi_changes.specs.Changes.{inserted, rows_counted}
 use Rattle.cfb_tree.specs.Names.{Letters}
-use Rattle.msi_meaning.specs.Package.{Package, at_name, stream_name, pool_name, data_name}
-use Rattle.msi_meaning.specs.Calls.{Ends, Change, change, Puts, Shown, is_system, may_insert, has_table, stored_rows, rows_put, table_put, new_table, names_distinct, is_kept, selected_in}
+use Rattle.msi_meaning.specs.Package.{Packed, at_name, stream_name, pool_name, data_name}
+use Rattle.msi_meaning.specs.Calls.{Ends, Change, change, PackagePuts, Shown, is_system, may_insert, has_table, stored_rows, rows_put, table_put, new_table, names_distinct, is_kept, selected_in}
 use Rattle.cfb_medium.specs.declared.error.Error.{Error}
 use Rattle.cfb_medium.specs.declared.error.Error.TheVariants.{InvalidInput, AlreadyExists}
 
@@ -51,7 +51,7 @@ is_number_key (c ∷ []) = is_int16 c.kind && c.key && is_bare_column c
 is_number_key (c ∷ d ∷ cs) = false
 
 -- there is no table but those of the database itself
-abbrev pub is_bare : Package → Bool
+abbrev pub is_bare : Packed → Bool
 is_bare P = list_all (λ t. is_system t.name) P.tables
 
 -- the names are those of a table and its columns, of which there are one to 32, and one belongs to the key
@@ -69,7 +69,7 @@ is_describable name columns =
 
 -- The rows of _Columns and _Tables and the pool of a new table, or the first refusal, where at_free_name tells that no root storage stands at the
 -- encoded name. Its rows of _Validation are judged, but none is written; the name of _Validation is taken.
-abbrev pub created_bare : Bool → Package → List ℕ → List Column → Result ((List Row × List Row) × Pool) Error
+abbrev pub created_bare : Bool → Packed → List ℕ → List Column → Result ((List Row × List Row) × Pool) Error
 created_bare at_free_name P name columns =
     unless_not (is_well_named name columns) InvalidInput >>= λ _.
     unless_not (not (has_table P name)) AlreadyExists >>= λ _.
@@ -81,7 +81,7 @@ created_bare at_free_name P name columns =
     Ok ((stored_rows P columns_name ++ c.0, stored_rows P tables_name ++ t.0), t.1)
 
 -- a new table of this name and these columns
-abbrev pub CreatesBare : Letters → Package → List ℕ → List Column → Package → Result (Unit {0}) Error → Type 0
+abbrev pub CreatesBare : Letters → Packed → List ℕ → List Column → Packed → Result (Unit {0}) Error → Type 0
 CreatesBare letters P name columns Q answer =
     Ends (created_bare (is_none (at_name letters P.storages (stream_name name))) P name columns) P Q answer
     (λ x. (c : List Row) × (t : List Row)
@@ -96,16 +96,16 @@ abbrev pub most_rows : ℕ
 most_rows = 2047
 
 -- what an insert makes of a table, or its refusal
-abbrev pub inserted_few : Package → List ℕ → List (List Datum) → Result Change Error
+abbrev pub inserted_few : Packed → List ℕ → List (List Datum) → Result Change Error
 inserted_few P name new_rows =
     change P name (λ t. inserted (may_insert name) P.pool t new_rows) >>= λ x.
     unless_not (nat_le (length x.rows) most_rows) InvalidInput >>= λ _. Ok x
 
 -- an insert: rows of values for a table
-abbrev pub InsertsFew : Package → List ℕ → List (List Datum) → Package → Result (Unit {0}) Error → Type 0
+abbrev pub InsertsFew : Packed → List ℕ → List (List Datum) → Packed → Result (Unit {0}) Error → Type 0
 InsertsFew P name new_rows Q answer =
     Ends (inserted_few P name new_rows) P Q answer
-    (λ x. (stored : List Row) × IsStoredByKeys x.pool x.table.columns x.rows stored × Puts P name x stored Q)
+    (λ x. (stored : List Row) × IsStoredByKeys x.pool x.table.columns x.rows stored × PackagePuts P name x stored Q)
 
 -- ---- select
 
@@ -114,7 +114,7 @@ abbrev pub is_whole : Query → Bool
 is_whole (query source names condition) = is_bare_select source names condition
 
 -- a select: a join is past the limits, and so is less than a whole table
-abbrev pub selected_whole : Package → Query → Result Shown Error
+abbrev pub selected_whole : Packed → Query → Result Shown Error
 selected_whole P asked =
     unless_not (is_some (table_in asked)) InvalidInput >>= λ _.
     selected_in P asked >>= λ s.

@@ -4,7 +4,7 @@ ghost use Rattle.msi_tables.specs.Schema.{columns_name, tables_name};
 ghost use Rattle.cfb_medium.specs.declared.error.Error.TheVariants.{Memory, InvalidData};
 ghost use Rattle.msi_meaning.specs.Package.{MeansPackage};
 ghost use Rattle.cfb_tree.specs.Names.{ascii_letters};
-ghost use Rattle.one_table.specs.Contents.{package_of, AreKept, IsKept, IsFirst, Adds, new_only, key_column, only_of, only_seen};
+ghost use Rattle.one_table.specs.Contents.{package_of, AreKept, IsKeptTable, IsFirst, Adds, new_only, key_column, only_of, only_seen};
 ghost use Rattle.one_table.specs.Limits.{CreatesBare, InsertsFew, created_bare, inserted_few, is_taken};
 ghost use Rattle.msi_meaning.specs.Calls.{has_table, table_names};
 ghost use Rattle.msi_texts.specs.Results.{Answers};
@@ -16,7 +16,7 @@ ghost use Rattle.msi_tables.specs.Table.{Table, table_named};
 ghost use Rattle.one_table.specs.Sheets.{IsSheet};
 ghost use Rattle.one_table.specs.Answers.{Meets, Selects};
 
-use crate::keys::merged;
+use crate::keys::merged_keys;
 use crate::listing::{names_with, own_names};
 use crate::names::{are_named, is_number_key};
 use crate::reading::{find_only, is_kept};
@@ -231,7 +231,7 @@ impl Contents {
         if !is_same(&only.name, insert.table_name()) {
             return Err(Error::NotFound);
         }
-        let keys = added(self.alloc, only, insert.new_rows())?;
+        let keys = keys_with(self.alloc, only, insert.new_rows())?;
         if let Some(only) = &mut self.only {
             only.keys = keys;
         }
@@ -324,8 +324,8 @@ pub fn is_reserved(name: &str) -> bool
 pub const MOST_CHARACTERS: usize = 32;
 
 // The keys of a table with those of new rows, in order.
-fn added(alloc: Global, only: &OnlyTable, new_rows: &[Vec<Value>]) -> Result<Vec<i32>, Error>
-    requires { IsKept (only_of only.now) }
+fn keys_with(alloc: Global, only: &OnlyTable, new_rows: &[Vec<Value>]) -> Result<Vec<i32>, Error>
+    requires { IsKeptTable (only_of only.now) }
     ensures added { IfOk result (λ keys. Adds (only_of only.now) (rows_said new_rows.now)
         keys.items) }
     ensures refused { IfErr result (λ e. (e ≡ Memory)
@@ -340,7 +340,7 @@ fn added(alloc: Global, only: &OnlyTable, new_rows: &[Vec<Value>]) -> Result<Vec
     if new_rows.len() > MOST_ROWS - only.keys.len() {
         return Err(Error::InvalidInput);
     }
-    let keys = merged(alloc, &only.keys, new_rows)?;
+    let keys = merged_keys(alloc, &only.keys, new_rows)?;
     Ok(keys)
 }
 

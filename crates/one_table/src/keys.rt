@@ -22,7 +22,7 @@ fn key_of(row: &[Value]) -> i32
 }
 
 // The keys with those of new rows, in order.
-pub fn merged(alloc: Global, keys: &[i32], new_rows: &[Vec<Value>]) -> Result<Vec<i32>, Error>
+pub fn merged_keys(alloc: Global, keys: &[i32], new_rows: &[Vec<Value>]) -> Result<Vec<i32>, Error>
     ensures arranged { IfOk result (λ all. IsArranged int_cmp
         (keys.now ++ keys_said (rows_said new_rows.now)) all.items) }
     ensures permutation { IfOk result (λ all. IsPermutation

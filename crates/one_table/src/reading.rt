@@ -4,7 +4,7 @@ ghost use Rattle.std.specs.List.{list_all, list_any};
 ghost use Rattle.std.specs.Ordering.{int_eq};
 ghost use Rattle.cfb_medium.specs.declared.error.Error.TheVariants.{Memory};
 ghost use Rattle.msi_tables.specs.Table.{are_distinct};
-ghost use Rattle.one_table.specs.Contents.{only_of, IsKept, is_key, key_data};
+ghost use Rattle.one_table.specs.Contents.{only_of, IsKeptTable, is_key, key_data};
 
 use crate::contents::{MOST_CHARACTERS, MOST_ROWS, OnlyTable, is_reserved};
 use crate::names::is_identifier;
@@ -62,7 +62,7 @@ fn keys_in(alloc: Global, bytes: &[u8]) -> Result<Vec<i32>, Error>
 
 // Whether the table is such as is kept here.
 pub fn is_kept(only: &OnlyTable) -> bool
-    ensures { IsTrue result → IsKept (only_of only.now) }
+    ensures { IsTrue result → IsKeptTable (only_of only.now) }
 {
     if !is_identifier(&only.name) || only.name.len() > MOST_CHARACTERS || is_reserved(&only.name) {
         return false;

@@ -30,7 +30,7 @@ struct Head<'a> {
 const KEY_BITS: i32 = 0x2502;
 
 // A column of this name.
-fn named(name: &str, coltype: ColumnType, is_key: bool) -> Head<'_>
+fn head_of(name: &str, coltype: ColumnType, is_key: bool) -> Head<'_>
     ensures name { result.name ≡ name.entry }
     ensures column { result.column ≡ record { coltype = coltype; is_key = is_key } }
 {
@@ -41,7 +41,7 @@ fn named(name: &str, coltype: ColumnType, is_key: bool) -> Head<'_>
 }
 
 // A table of these columns without rows.
-fn empty(alloc: Global, heads: &[Head<'_>]) -> Result<Sheet, Error>
+fn empty_sheet(alloc: Global, heads: &[Head<'_>]) -> Result<Sheet, Error>
     ensures names { IfOk result (λ s. map string_bytes s.column_names.items
         ≡ map (λ h. h.name.now) heads.now) }
     ensures columns { IfOk result (λ s. s.columns.items ≡ map (λ h. h.column) heads.now) }
@@ -68,12 +68,12 @@ pub fn columns_sheet(alloc: Global, only: Option<&OnlyTable>) -> Result<Sheet, E
     ensures err { IfErr result (λ e. e ≡ Memory) }
 {
     let heads = [
-        named("Table", ColumnType::Str(64), true),
-        named("Number", ColumnType::Int16, true),
-        named("Name", ColumnType::Str(64), false),
-        named("Type", ColumnType::Int16, false),
+        head_of("Table", ColumnType::Str(64), true),
+        head_of("Number", ColumnType::Int16, true),
+        head_of("Name", ColumnType::Str(64), false),
+        head_of("Type", ColumnType::Int16, false),
     ];
-    let mut sheet = empty(alloc, &heads)?;
+    let mut sheet = empty_sheet(alloc, &heads)?;
     if let Some(only) = only {
         let table = Value::text(alloc, &only.name)?;
         let name = Value::text(alloc, &only.column)?;
@@ -89,7 +89,7 @@ pub fn tables_sheet(alloc: Global, only: Option<&OnlyTable>) -> Result<Sheet, Er
         (tables_table (only_lent only.entry)) s) }
     ensures err { IfErr result (λ e. e ≡ Memory) }
 {
-    let mut sheet = empty(alloc, &[named("Name", ColumnType::Str(64), true)])?;
+    let mut sheet = empty_sheet(alloc, &[head_of("Name", ColumnType::Str(64), true)])?;
     if let Some(only) = only {
         let row = vec![in alloc; Value::text(alloc, &only.name)?]?;
         sheet.rows.push(row)?;
@@ -103,7 +103,7 @@ pub fn only_sheet(alloc: Global, only: &OnlyTable) -> Result<Sheet, Error>
         (only_table (only_of only.now)) s) }
     ensures err { IfErr result (λ e. e ≡ Memory) }
 {
-    let mut sheet = empty(alloc, &[named(&only.column, ColumnType::Int16, true)])?;
+    let mut sheet = empty_sheet(alloc, &[head_of(&only.column, ColumnType::Int16, true)])?;
     for key in &only.keys {
         let row = vec![in alloc; Value::Int(*key)]?;
         sheet.rows.push(row)?;

@@ -10,7 +10,7 @@ ghost use Rattle.std.specs.List.{list_all};
 ghost use Rattle.msi_props.specs.Props.{props_bytes};
 ghost use Rattle.msi_meaning.specs.Package.{stream_name, summary_name};
 ghost use Rattle.plain.specs.Views.{stream_view, stream_views};
-ghost use Rattle.one_table.specs.Contents.{package_of, only_of, only_seen, only_lent, pool_with, own_places, IsKept, AreKept, is_key};
+ghost use Rattle.one_table.specs.Contents.{package_of, only_of, only_seen, only_lent, pool_with, own_places, IsKeptTable, AreKept, is_key};
 ghost use Rattle.one_table.specs.Streams.{named, own_streams, streams_of, put_by, place_of, keys_bytes, key_number, columns_bytes, tables_bytes};
 
 use crate::contents::{OnlyTable, is_same};

@@ -95,7 +95,7 @@ pub fn push_range(out: &mut Vec<u8>, count: u32) -> Result<(), AllocError>
 }
 
 // How many bytes are wanting up to whole parts of `size`.
-fn wanting(size: usize, n: usize) -> usize
+fn missing_bytes(size: usize, n: usize) -> usize
     requires { 0 < size }
     ensures { result ≡ parts size n * size - n }
 {
@@ -109,5 +109,5 @@ pub fn push_filled(out: &mut Vec<u8>, bytes: &[u8], size: usize) -> Result<(), A
     ensures { OnOk result (out.new.items ≡ out.old.items ++ filled 0 size bytes.now) }
 {
     out.extend_from_slice(bytes)?;
-    push_bytes(out, 0, wanting(size, bytes.len()))
+    push_bytes(out, 0, missing_bytes(size, bytes.len()))
 }

@@ -424,7 +424,7 @@ fn push_directory(
 }
 
 // The same facts, of which each fits into an entry.
-fn copied(facts: &Facts) -> Facts
+fn copy_of_facts(facts: &Facts) -> Facts
     ensures same { result ≡ facts.now }
     ensures fits { FitFacts (facts_view result) }
 {
@@ -465,7 +465,7 @@ pub fn write_image(alloc: Global, root: &Facts, streams: &[NamedStream]) -> Resu
     let Some(plan) = plan_of(streams) else {
         return Err(Error::Full);
     };
-    let root = copied(root);
+    let root = copy_of_facts(root);
     let mut out = Vec::new(alloc);
     push_header(&mut out, &plan)?;
     push_fat(&mut out, streams, &plan)?;

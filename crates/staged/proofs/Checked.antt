@@ -5,7 +5,7 @@ use Rattle.std.specs.Option.{option_or}
 use Rattle.std.proofs.lemmas.Bool.{cases_lt, cases_eq}
 use Rattle.std.proofs.lemmas.List.{get_or_append_left, get_or-append_right, get_or-take, get_or_default, take_more, take_all}
 use Rattle.staged.specs.Log.{pages_for}
-use Rattle.staged.specs.Pages.{page_at, Holds, Rises, Covers}
+use Rattle.staged.specs.Pages.{page_at, HoldsPage, Rises, Covers}
 use Rattle.staged.specs.declared.pages.Page.{Page}
 use Rattle.staged.proofs.Found.{at_head, at_append}
 use Rattle.staged.proofs.Added.{holds_more, holds_one}
@@ -16,10 +16,10 @@ pub record Checked (pages : List Page) (home len next least : ℕ) : Type 0 wher
   pub rising : Rises pages
   pub below : (k : ℕ) (d : Page) → k < length pages → (get_or pages k d).number < least
   pub tight : (m : ℕ) → ((k : ℕ) (d : Page) → k < length pages → (get_or pages k d).number < m) → least ≤ m
-  pub held : (n : ℕ) → Holds pages n → (n < least) × (512 * n < len)
+  pub held : (n : ℕ) → HoldsPage pages n → (n < least) × (512 * n < len)
   pub from : home / 512 ≤ next
-  pub reached : (n : ℕ) → home / 512 ≤ n → n < next → Holds pages n
-  pub missing : Holds pages next → ⊥
+  pub reached : (n : ℕ) → home / 512 ≤ n → n < next → HoldsPage pages n
+  pub missing : HoldsPage pages next → ⊥
 
 pub checked_more : (pages : List Page) (page : Page) (home len next least new : ℕ) → Checked pages home len next least → least ≤ page.number → 512 * page.number < len
     → ((page.number ≡ next) × (new ≡ next + 1)) ⊎ ((page.number ≢ next) × (new ≡ next)) → Checked (pages ++ page ∷ []) home len new (page.number + 1)
@@ -30,7 +30,7 @@ checked_more pages page home len next least new checked above inside step = reco
       let last : (get_or (pages ++ page ∷ []) (length pages) page).number < m = each (length pages) page (omega (arith, length-append pages (page ∷ []))) in
       let same : (get_or (pages ++ page ∷ []) (length pages) page).number ≡ page.number = late (length pages) page refl in
       omega arith;
-  held = λ n there. ⊎_elim (λ (early : Holds pages n). let e = checked.held n early in (omega arith, e.1)) (λ (one : Holds (page ∷ []) n). let e = holds_one page n one in (omega arith, omega arith)) (holds_more pages (page ∷ []) n there);
+  held = λ n there. ⊎_elim (λ (early : HoldsPage pages n). let e = checked.held n early in (omega arith, e.1)) (λ (one : HoldsPage (page ∷ []) n). let e = holds_one page n one in (omega arith, omega arith)) (holds_more pages (page ∷ []) n there);
   from = let e = checked.from in elim step [ inl now ↦ omega arith | inr not_now ↦ omega arith ];
   reached = λ n from less. elim step [
     | inl now ↦ elim (cases_eq page.number n) [
@@ -40,11 +40,11 @@ checked_more pages page home len next least new checked above inside step = reco
     | inr not_now ↦ early n (checked.reached n from (omega arith))
   ];
   missing = λ there. ⊎_elim
-      (λ (was : Holds pages new). elim step [
+      (λ (was : HoldsPage pages new). elim step [
         | inl now ↦ let e = (checked.held new was).0 in omega arith
-        | inr not_now ↦ checked.missing (subst (λ (n : ℕ). Holds pages n) not_now.1 was)
+        | inr not_now ↦ checked.missing (subst (λ (n : ℕ). HoldsPage pages n) not_now.1 was)
       ])
-      (λ (one : Holds (page ∷ []) new). let e = holds_one page new one in elim step [ inl now ↦ omega arith | inr not_now ↦ not_now.0 (e ∙ not_now.1) ])
+      (λ (one : HoldsPage (page ∷ []) new). let e = holds_one page new one in elim step [ inl now ↦ omega arith | inr not_now ↦ not_now.0 (e ∙ not_now.1) ])
       (holds_more pages (page ∷ []) new there);
 }
   where
@@ -82,10 +82,10 @@ checked_more pages page home len next least new checked above inside step = reco
     or_right : (p q : Option (List ℕ)) → IsTrue (is_some q) → IsTrue (is_some (option_or p q))
     or_right p q some = grind arith
 
-    early : (n : ℕ) → Holds pages n → Holds (pages ++ page ∷ []) n
+    early : (n : ℕ) → HoldsPage pages n → HoldsPage (pages ++ page ∷ []) n
     early n was = subst (λ (p : Option (List ℕ)). IsTrue (is_some p)) (sym (joined n)) (or_left (page_at pages n) (page_at (page ∷ []) n) was)
 
-    here : (n : ℕ) → page.number ≡ n → Holds (pages ++ page ∷ []) n
+    here : (n : ℕ) → page.number ≡ n → HoldsPage (pages ++ page ∷ []) n
     here n is = subst (λ (p : Option (List ℕ)). IsTrue (is_some p)) (sym (joined n)) (or_right (page_at pages n) (page_at (page ∷ []) n) (ap (λ (p : Option (List ℕ)). is_some p) (at_head page [] n is)))
 
 -- one more of the pages of a log

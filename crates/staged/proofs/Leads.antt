@@ -7,7 +7,7 @@ use Rattle.staged.specs.Log.{rises, has_pages, fits_home, pages_for, leads, has_
 use Rattle.staged.specs.Recovery.{IsHeadOf, IsWholeHead}
 use Rattle.staged.specs.Files.{Files}
 use Rattle.staged.specs.declared.recovery.Head.{Head}
-use Rattle.staged.specs.Pages.{page_at, Holds, Rises, Covers}
+use Rattle.staged.specs.Pages.{page_at, HoldsPage, Rises, Covers}
 use Rattle.staged.specs.declared.pages.Page.{Page}
 use Rattle.staged.proofs.Found.{at_head, at_tail}
 
@@ -49,25 +49,25 @@ any_is : (pages : List Page) (n : ℕ) → list_any (λ (page : Page). page.numb
 any_is [] n = refl
 any_is (page ∷ pages) n = or_some (page.number == n) page.bytes (page_at pages n) _ (any_is pages n)
 
-has_true : (pages : List Page) (first n : ℕ) → has_pages pages first n ≡ true → (m : ℕ) → first ≤ m → m < first + n → Holds pages m
+has_true : (pages : List Page) (first n : ℕ) → has_pages pages first n ≡ true → (m : ℕ) → first ≤ m → m < first + n → HoldsPage pages m
 has_true pages first zero is m from below = absurd (omega arith)
 has_true pages first (suc n) is m from below =
     let both = and_parts (list_any (λ (page : Page). page.number == first) pages) (has_pages pages (first + 1) n) is in
     elim (cases_eq first m) [
-      | inl same ↦ subst (λ (k : ℕ). Holds pages k) same (sym (any_is pages first) ∙ both.0)
+      | inl same ↦ subst (λ (k : ℕ). HoldsPage pages k) same (sym (any_is pages first) ∙ both.0)
       | inr other ↦ has_true pages (first + 1) n both.1 m (omega arith) (omega arith)
     ]
 
-has_from : (pages : List Page) (first n : ℕ) → ((m : ℕ) → first ≤ m → m < first + n → Holds pages m) → has_pages pages first n ≡ true
+has_from : (pages : List Page) (first n : ℕ) → ((m : ℕ) → first ≤ m → m < first + n → HoldsPage pages m) → has_pages pages first n ≡ true
 has_from pages first zero each = refl
 has_from pages first (suc n) each =
     and_from (list_any (λ (page : Page). page.number == first) pages) (has_pages pages (first + 1) n) (any_is pages first ∙ each first (omega arith) (omega arith)) (has_from pages (first + 1) n (λ m from below. each m (omega arith) (omega arith)))
 
 -- each page begins in the length
-some_holds : (pages : List Page) (n : ℕ) (bytes : List ℕ) → page_at pages n ≡ Some bytes → Holds pages n
+some_holds : (pages : List Page) (n : ℕ) (bytes : List ℕ) → page_at pages n ≡ Some bytes → HoldsPage pages n
 some_holds pages n bytes is = ap (λ (p : Option (List ℕ)). is_some p) is
 
-all_true : (pages : List Page) (len : ℕ) → list_all (λ (page : Page). nat_lt (512 * page.number) len) pages ≡ true → (n : ℕ) → Holds pages n → 512 * n < len
+all_true : (pages : List Page) (len : ℕ) → list_all (λ (page : Page). nat_lt (512 * page.number) len) pages ≡ true → (n : ℕ) → HoldsPage pages n → 512 * n < len
 all_true [] len is n held = absurd (cc held)
 all_true (page ∷ pages) len is n held =
     let both = and_parts (nat_lt (512 * page.number) len) (list_all (λ (p : Page). nat_lt (512 * p.number) len) pages) is in
@@ -76,7 +76,7 @@ all_true (page ∷ pages) len is n held =
       | inr other ↦ all_true pages len both.1 n (subst (λ (p : Option (List ℕ)). IsTrue (is_some p)) (at_tail page pages n other) held)
     ]
 
-all_from : (pages : List Page) (len : ℕ) → ((n : ℕ) → Holds pages n → 512 * n < len) → list_all (λ (page : Page). nat_lt (512 * page.number) len) pages ≡ true
+all_from : (pages : List Page) (len : ℕ) → ((n : ℕ) → HoldsPage pages n → 512 * n < len) → list_all (λ (page : Page). nat_lt (512 * page.number) len) pages ≡ true
 all_from [] len each = refl
 all_from (page ∷ pages) len each =
     and_from (nat_lt (512 * page.number) len) (list_all (λ (p : Page). nat_lt (512 * p.number) len) pages)

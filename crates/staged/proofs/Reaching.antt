@@ -5,7 +5,7 @@ use Rattle.staged.specs.Files.{Files, file_of, with_file}
 use Rattle.staged.proofs.Steps.{same_files}
 use Rattle.staged.specs.Device.{TornFile}
 use Rattle.staged.specs.Stops.{IsKept, IsCutFrom}
-use Rattle.staged.specs.Pages.{Holds}
+use Rattle.staged.specs.Pages.{HoldsPage}
 use Rattle.staged.specs.Steps.{Reached, here, torn, Steps, Lasts, AtPage}
 use Rattle.staged.specs.declared.pages.Page.{Page}
 use Rattle.std.proofs.lemmas.Bool.{eqb-true, eq-eqb}
@@ -104,10 +104,10 @@ steps_where g which Writes Others a b told steps = record {
 }
 
 -- one page among others
-pub page_among : (p : Page) (pages : List Page) (len at n : ℕ) → Holds pages p.number → AtPage (p ∷ []) len at n → AtPage pages len at n
-page_among p pages len at n held one = (one.0, subst (λ (k : ℕ). Holds pages k) (only p one.0 one.1) held, one.2, one.3)
+pub page_among : (p : Page) (pages : List Page) (len at n : ℕ) → HoldsPage pages p.number → AtPage (p ∷ []) len at n → AtPage pages len at n
+page_among p pages len at n held one = (one.0, subst (λ (k : ℕ). HoldsPage pages k) (only p one.0 one.1) held, one.2, one.3)
   where
-    only : (p : Page) (k : ℕ) → Holds (p ∷ []) k → p.number ≡ k
+    only : (p : Page) (k : ℕ) → HoldsPage (p ∷ []) k → p.number ≡ k
     only p k h = go (p.number == k) refl h
       where
         go : (b : Bool) → (p.number == k) ≡ b → IsTrue (is_some (cond b (Some p.bytes) None)) → p.number ≡ k
@@ -115,7 +115,7 @@ page_among p pages len at n held one = (one.0, subst (λ (k : ℕ). Holds pages 
         go false is held = absurd (cc held)
 
 -- a page alone
-pub page_alone : (p : Page) → Holds (p ∷ []) p.number
+pub page_alone : (p : Page) → HoldsPage (p ∷ []) p.number
 page_alone p = rw (eq-eqb p.number p.number refl) refl
 
 -- both files were synced, one after the other

@@ -3,7 +3,7 @@ use Rattle.std.proofs.Common.{inl, inr, ⊎_elim, ◌≡◌, ℕ, ◌+◌, ◌-�
 use Rattle.std.specs.Prelude.{IsTrue}
 use Rattle.std.proofs.lemmas.Bool.{cases_lt, cases_eq, and_parts, and_from, cond-true, cond-false}
 use Rattle.std.proofs.lemmas.List.{same_lists, get_or-take, get_or-drop}
-use Rattle.staged.specs.Pages.{page_at, Holds, Covers, byte_in, laid_over}
+use Rattle.staged.specs.Pages.{page_at, HoldsPage, Covers, byte_in, laid_over}
 use Rattle.staged.specs.Log.{logged, recovered, recovered_by, OpenLog, ClosedLog, MalformedLog, has_open_gate, has_head, leads, length_in, pages_in}
 use Rattle.staged.specs.Files.{Files}
 use Rattle.staged.specs.Device.{Torn}
@@ -18,7 +18,7 @@ pub record TornPages (file : List ℕ) (pages : List Page) (len : ℕ) (now : Li
   pub no_longer : length now ≤ len
   pub apart : (at : ℕ) → at < length file → page_at pages (at / 512) ≡ None → get_or now at 0 ≡ get_or file at 0
 
-nothing : (pages : List Page) (n : ℕ) → page_at pages n ≡ None → Holds pages n → ⊥
+nothing : (pages : List Page) (n : ℕ) → page_at pages n ≡ None → HoldsPage pages n → ⊥
 nothing pages n none held = by_case (page_at pages n) none held
   where
     by_case : (p : Option (List ℕ)) → p ≡ None → IsTrue (is_some p) → ⊥
@@ -52,7 +52,7 @@ torn_covers file pages len now covers torn = record {
 }
 
 -- one more page is torn
-pub torn_more : (file : List ℕ) (pages : List Page) (len n : ℕ) (before left : List ℕ) → Holds pages n → 512 * n < len → Torn (512 * n) (min (len - 512 * n) 512) before left → TornPages file pages len before → TornPages file pages len left
+pub torn_more : (file : List ℕ) (pages : List Page) (len n : ℕ) (before left : List ℕ) → HoldsPage pages n → 512 * n < len → Torn (512 * n) (min (len - 512 * n) 512) before left → TornPages file pages len before → TornPages file pages len left
 torn_more file pages len n before left held begins torn so_far = record {
   no_shorter = omega (arith, so_far.no_shorter, torn.no_shorter);
   no_longer = let e = torn.no_longer in let f = so_far.no_longer in omega arith;
@@ -63,7 +63,7 @@ torn_more file pages len n before left held begins torn so_far = record {
     same i none = elim (cases_lt i (512 * n)) [
       | inl early ↦ sym (get_or-take (512 * n) left i 0 early) ∙ ap (λ (l : List ℕ). get_or l i 0) torn.before ∙ get_or-take (512 * n) before i 0 early
       | inr from ↦ elim (cases_eq (i / 512) n) [
-        | inl here ↦ absurd (nothing pages (i / 512) none (subst (λ (m : ℕ). Holds pages m) (sym here) held))
+        | inl here ↦ absurd (nothing pages (i / 512) none (subst (λ (m : ℕ). HoldsPage pages m) (sym here) held))
         | inr other ↦
             let at = 512 * n + min (len - 512 * n) 512 in
             let place : i ≡ at + (i - at) = omega arith in

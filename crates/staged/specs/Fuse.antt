@@ -36,7 +36,7 @@ pub record IsOneMore (which : Which) (old new : Which → ℕ) : Type 0 where
   pub others : (other : Which) → other ≢ which → new other ≡ old other
 
 -- what the other device counts where a call that only reads is passed on, or one write, or one sync
-pub record IsRead {D : Type 0} (writes syncs : D → Which → ℕ) (old new : D) : Type 0 where
+pub record DeviceIsRead {D : Type 0} (writes syncs : D → Which → ℕ) (old new : D) : Type 0 where
   pub unwritten : (file : Which) → writes new file ≡ writes old file
   pub unsynced : (file : Which) → syncs new file ≡ syncs old file
 

@@ -6,7 +6,7 @@ use Rattle.staged.specs.declared.device.Which.{Which}
 use Rattle.staged.specs.declared.pages.Page.{Page}
 use Rattle.staged.specs.Files.{Files}
 use Rattle.staged.specs.Device.{TornFile}
-use Rattle.staged.specs.Pages.{Holds}
+use Rattle.staged.specs.Pages.{HoldsPage}
 use Rattle.staged.specs.Log.{recovered}
 
 -- one of these outcomes, or what writes at such places of such lengths make of one where they are cut short
@@ -27,7 +27,7 @@ abbrev pub BehindGate : ℕ → ℕ → Type 0
 BehindGate at n = 1 ≤ at
 
 abbrev pub AtPage : List Page → ℕ → ℕ → ℕ → Type 0
-AtPage pages len at n = (number : ℕ) × Holds pages number × (at ≡ 512 * number) × (n ≡ min (len - 512 * number) 512)
+AtPage pages len at n = (number : ℕ) × HoldsPage pages number × (at ≡ 512 * number) × (n ≡ min (len - 512 * number) 512)
 
 -- a stop leaves what is shown
 abbrev pub Lasts : {D : Type 0} → Ghosts D → D → Type 0

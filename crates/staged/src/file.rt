@@ -123,7 +123,7 @@ impl MemoryFile {
     }
 
     // What its last sync made last.
-    fn kept(&self) -> &[u8]
+    fn kept_bytes(&self) -> &[u8]
         ensures { result.now ≡ kept_of self.now }
     {
         match &self.kept {
@@ -149,7 +149,7 @@ impl MemoryFile {
     pub fn may_stand(&self, left: &[u8]) -> bool
         ensures { IsTrue result ↔ MayStand (standing_of self.now) left.now }
     {
-        let kept = self.kept();
+        let kept = self.kept_bytes();
         if left.len() < kept.len() {
             return false;
         }

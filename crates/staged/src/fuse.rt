@@ -5,7 +5,7 @@ ghost use Rattle.cfb_medium.specs.Bytes.{overwritten, Serves};
 ghost use Rattle.cfb_medium.specs.Calls.{Extends};
 ghost use Rattle.cfb_medium.specs.Stops.{LeavesOnly};
 ghost use Rattle.staged.specs.Files.{file_of, with_file};
-ghost use Rattle.staged.specs.Device.{Rests, IsDeviceFault, TornFile, counted_up};
+ghost use Rattle.staged.specs.Device.{DeviceRests, IsDeviceFault, TornFile, counted_up};
 ghost use Rattle.staged.specs.Stops.{IsCutFrom, IsKept, Remembers};
 ghost use Rattle.staged.specs.declared.device.Which.{Which};
 
@@ -76,7 +76,7 @@ impl<D: Device> FuseDevice<D> {
 }
 
 impl<D: Device> Device for FuseDevice<D> {
-    ghost use Rattle.staged.specs.Fuse.{inner_of, fuse_failures, fuse_writes, fuse_syncs, FuseRests, GoesByFuse, IsRead, IsOneWrite, IsOneSync};
+    ghost use Rattle.staged.specs.Fuse.{inner_of, fuse_failures, fuse_writes, fuse_syncs, FuseRests, GoesByFuse, DeviceIsRead, IsOneWrite, IsOneSync};
 
     ghost content = { λ d. D.content d.inner };
 
@@ -108,7 +108,7 @@ impl<D: Device> Device for FuseDevice<D> {
         ensures unsynced { (file : Which) → fuse_syncs self.new file ≡ fuse_syncs self.old file }
         ensures calm { OnOk result (fuse_failures self.new ≡ fuse_failures self.old) }
         ensures fault { IfErr result (IsDeviceFault (λ d. fuse_failures d) self.old self.new) }
-        ensures fuse { GoesByFuse D.failures (IsRead D.writes D.syncs) self.old self.new
+        ensures fuse { GoesByFuse D.failures (DeviceIsRead D.writes D.syncs) self.old self.new
             (is_err result) }
     {
         if self.fuse.blows() {
@@ -133,7 +133,7 @@ impl<D: Device> Device for FuseDevice<D> {
         ensures unsynced { (file : Which) → fuse_syncs self.new file ≡ fuse_syncs self.old file }
         ensures calm { OnOk result (fuse_failures self.new ≡ fuse_failures self.old) }
         ensures fault { IfErr result (IsDeviceFault (λ d. fuse_failures d) self.old self.new) }
-        ensures fuse { GoesByFuse D.failures (IsRead D.writes D.syncs) self.old self.new
+        ensures fuse { GoesByFuse D.failures (DeviceIsRead D.writes D.syncs) self.old self.new
             (is_err result) }
     {
         if self.fuse.blows() {

@@ -24,20 +24,23 @@ impl Subject for Creations {
     fn answer(&mut self, alloc: Global, row: &Row) -> Result<String, Error> {
         match row.call() {
             "part" => part_of(alloc, &self.bytes, row),
-            "lenient" | "strict" => tree_told(alloc, &opened(alloc, &self.bytes, row.call())?),
+            "lenient" | "strict" => tree_told(
+                alloc,
+                &file_of_bytes(alloc, &self.bytes, row.call())?,
+            ),
             "new storage" => {
-                let mut file = opened(alloc, &self.bytes, "strict")?;
+                let mut file = file_of_bytes(alloc, &self.bytes, "strict")?;
                 file.create_storage(row.text(1), Timestamp::zero())?;
-                self.committed(alloc, file)
+                self.commit_file(alloc, file)
             }
-            _ => self.committed(alloc, made(alloc, row)?),
+            _ => self.commit_file(alloc, file_over(alloc, row)?),
         }
     }
 }
 
 impl Creations {
     // Commits a file and keeps its bytes.
-    fn committed(
+    fn commit_file(
         &mut self,
         alloc: Global,
         mut file: CompoundFile<MemoryMedium>,
@@ -51,7 +54,7 @@ impl Creations {
 }
 
 // A file that is made over the bytes of a row.
-fn made(alloc: Global, row: &Row) -> Result<CompoundFile<MemoryMedium>, Error> {
+fn file_over(alloc: Global, row: &Row) -> Result<CompoundFile<MemoryMedium>, Error> {
     let medium = MemoryMedium::from_bytes(alloc, bytes_at(alloc, row, 1)?);
     let letters = CaseMapper::ascii(alloc)?;
     let answer = match row.call() {
@@ -68,7 +71,11 @@ fn made(alloc: Global, row: &Row) -> Result<CompoundFile<MemoryMedium>, Error> {
 }
 
 // The file of these bytes, opened by a lenient or a strict reader.
-fn opened(alloc: Global, bytes: &[u8], reader: &str) -> Result<CompoundFile<MemoryMedium>, Error> {
+fn file_of_bytes(
+    alloc: Global,
+    bytes: &[u8],
+    reader: &str,
+) -> Result<CompoundFile<MemoryMedium>, Error> {
     let medium = MemoryMedium::from_bytes(alloc, Vec::from_slice(alloc, bytes)?);
     let mut options = OpenOptions::new(alloc)?;
     if reader == "strict" {

@@ -19,7 +19,7 @@ pub fn image(alloc: Global) -> Result<Vec<u8>, Error> {
 }
 
 /// That file, open.
-pub fn opened(alloc: Global) -> Result<MiniAllocator<MemoryMedium>, Error> {
+pub fn open_empty_file(alloc: Global) -> Result<MiniAllocator<MemoryMedium>, Error> {
     let letters = CaseMapper::ascii(alloc)?;
     let medium = MemoryMedium::from_bytes(alloc, image(alloc)?);
     open_file(alloc, medium, &letters, Validation::Strict).map_err(|refused| refused.1)

@@ -1,13 +1,13 @@
 //! Calls on a compound file in memory.
 use crate::faults::{call_fails, open_fails};
 use crate::names::names_sum;
-use crate::streams::{append, limited, pieces_of, set_len, sum_of, sums_of, write_at};
+use crate::streams::{append, open_limited, pieces_of, set_len, sum_of, sums_of, write_at};
 use crate::told::{bytes_of, count_of, tree_of};
 use cfb::CompoundFile;
 use cfb_medium::{Error, Medium, MemoryMedium, Timestamp};
 use cfb_tree::CaseMapper;
 use std::alloc::Global;
-use test_support::{Row, Subject, bytes_at, copied, part_of, told};
+use test_support::{Row, Subject, bytes_at, copy_of, part_of, yes_or_no};
 use uuid::Uuid;
 
 /// A compound file in memory, under the letters of ASCII.
@@ -23,7 +23,7 @@ impl Files {
     }
 
     // The file's bytes, which it gives up.
-    fn taken(&mut self) -> Result<MemoryMedium, Error> {
+    fn take_medium(&mut self) -> Result<MemoryMedium, Error> {
         let file = self.file.take().ok_or(Error::NotFound)?;
         Ok(file.into_inner())
     }
@@ -36,29 +36,29 @@ impl Files {
             None => return Err(Error::NotFound),
         }
         let len = target.bytes().len();
-        self.file = Some(strict(alloc, target)?);
+        self.file = Some(open_strictly(alloc, target)?);
         Ok(format!(in alloc; "{len} bytes")?)
     }
 
     // Some of the file's own bytes, or how many it has with their sum.
     fn own_bytes(&mut self, alloc: Global, row: &Row) -> Result<String, Error> {
-        let bytes = self.taken()?.into_bytes();
+        let bytes = self.take_medium()?.into_bytes();
         let said = match row.call() {
             "part" => part_of(alloc, &bytes, row)?,
             _ => format!(in alloc; "{} bytes, {}", bytes.len(), sum_of(&bytes))?,
         };
-        self.file = Some(lenient(alloc, MemoryMedium::from_bytes(alloc, bytes))?);
+        self.file = Some(open_leniently(alloc, MemoryMedium::from_bytes(alloc, bytes))?);
         Ok(said)
     }
 
     // Opens the file, or makes a call on it, over media that fail.
-    fn failing(&mut self, alloc: Global, row: &Row) -> Result<String, Error> {
-        let bytes = self.taken()?.into_bytes();
+    fn call_that_fails(&mut self, alloc: Global, row: &Row) -> Result<String, Error> {
+        let bytes = self.take_medium()?.into_bytes();
         let said = match row.cell(1) {
             Some(call) => call_fails(alloc, &bytes, &Row::of(alloc, call)?)?,
             None => open_fails(alloc, &bytes)?,
         };
-        self.file = Some(lenient(alloc, MemoryMedium::from_bytes(alloc, bytes))?);
+        self.file = Some(open_leniently(alloc, MemoryMedium::from_bytes(alloc, bytes))?);
         Ok(said)
     }
 }
@@ -68,46 +68,49 @@ impl Subject for Files {
         match row.call() {
             "file" => {
                 let medium = MemoryMedium::from_bytes(alloc, bytes_at(alloc, row, 1)?);
-                self.file = Some(lenient(alloc, medium)?);
+                self.file = Some(open_leniently(alloc, medium)?);
             }
             "again" => {
-                let medium = self.taken()?;
-                self.file = Some(strict(alloc, medium)?);
+                let medium = self.take_medium()?;
+                self.file = Some(open_strictly(alloc, medium)?);
             }
             "at most" => {
-                let medium = self.taken()?;
-                self.file = Some(limited(alloc, medium, row.number(1))?);
+                let medium = self.take_medium()?;
+                self.file = Some(open_limited(alloc, medium, row.number(1))?);
             }
-            "open fails" | "fails" => return self.failing(alloc, row),
+            "open fails" | "fails" => return self.call_that_fails(alloc, row),
             "copy" => return self.copy(alloc),
             "part" | "whole" => return self.own_bytes(alloc, row),
             _ => {}
         }
         match &mut self.file {
-            Some(file) => answered(alloc, file, row),
+            Some(file) => answer_of(alloc, file, row),
             None => Err(Error::NotFound),
         }
     }
 }
 
-fn lenient(alloc: Global, medium: MemoryMedium) -> Result<CompoundFile<MemoryMedium>, Error> {
+fn open_leniently(
+    alloc: Global,
+    medium: MemoryMedium,
+) -> Result<CompoundFile<MemoryMedium>, Error> {
     let letters = CaseMapper::ascii(alloc)?;
     CompoundFile::open(alloc, medium, letters).map_err(|refused| refused.1)
 }
 
-fn strict(alloc: Global, medium: MemoryMedium) -> Result<CompoundFile<MemoryMedium>, Error> {
+fn open_strictly(alloc: Global, medium: MemoryMedium) -> Result<CompoundFile<MemoryMedium>, Error> {
     let letters = CaseMapper::ascii(alloc)?;
     CompoundFile::open_strict(alloc, medium, letters).map_err(|refused| refused.1)
 }
 
 // What a row's call answers; one that changes the file answers "done".
-fn answered(
+fn answer_of(
     alloc: Global,
     file: &mut CompoundFile<MemoryMedium>,
     row: &Row,
 ) -> Result<String, Error> {
     match row.call() {
-        "file" | "again" | "at most" => told(alloc, file.is_sound()),
+        "file" | "again" | "at most" => yes_or_no(alloc, file.is_sound()),
         "tree" => tree_of(alloc, file),
         "count" => count_of(alloc, file),
         "bytes" => bytes_of(alloc, file, row.text(1)),
@@ -117,7 +120,7 @@ fn answered(
         "each" => each(alloc, file, row),
         _ => {
             change(alloc, file, row)?;
-            copied(alloc, "done")
+            copy_of(alloc, "done")
         }
     }
 }

@@ -1,5 +1,5 @@
 //! Calls that take memory, on compound files in memory: whether each was done, or what it refused left no part changed.
-use crate::empty_file::{bytes_now, image, opened, stays};
+use crate::empty_file::{bytes_now, image, open_empty_file, stays};
 use cfb::CompoundFile;
 use cfb_chains::Links;
 use cfb_live::{NewObject, create_storage_all, make_object, remove_storage_all};
@@ -70,7 +70,7 @@ fn open_file(alloc: Global) -> Result<bool, Error> {
 
 // Makes a chain so long that the FAT grows.
 fn lengthen_chain(alloc: Global) -> Result<bool, Error> {
-    let mut file = opened(alloc)?;
+    let mut file = open_empty_file(alloc)?;
     let before = bytes_now(alloc, &file)?;
     let mut links = Links::new(file.version(), Vec::new(alloc))?;
     let done = set_chain_len(file.allocator_mut(), &mut links, LONG, SectorInit::Zero);
@@ -82,7 +82,7 @@ fn lengthen_chain(alloc: Global) -> Result<bool, Error> {
 
 // Makes a mini chain so long that mini FAT and mini stream grow.
 fn lengthen_mini_chain(alloc: Global) -> Result<bool, Error> {
-    let mut file = opened(alloc)?;
+    let mut file = open_empty_file(alloc)?;
     let before = bytes_now(alloc, &file)?;
     let mut links = MiniLinks::new(alloc);
     match file.lengthen_mini_chain(&mut links, MANY_MINIS) {
@@ -93,7 +93,7 @@ fn lengthen_mini_chain(alloc: Global) -> Result<bool, Error> {
 
 // Makes so many storages, one within the other, that the directory grows.
 fn make_storages(alloc: Global) -> Result<bool, Error> {
-    let mut file = opened(alloc)?;
+    let mut file = open_empty_file(alloc)?;
     let letters = CaseMapper::ascii(alloc)?;
     let mut path = String::new(alloc);
     for _ in 0..MANY_STORAGES {
@@ -109,7 +109,7 @@ fn make_storages(alloc: Global) -> Result<bool, Error> {
 
 // Makes storages, one within the other, by one call, and takes all of them out by another.
 fn empty_root(alloc: Global) -> Result<bool, Error> {
-    let mut file = opened(alloc)?;
+    let mut file = open_empty_file(alloc)?;
     let letters = CaseMapper::ascii(alloc)?;
     let empty = bytes_now(alloc, &file)?;
     let moment = Timestamp::zero();
@@ -125,7 +125,7 @@ fn empty_root(alloc: Global) -> Result<bool, Error> {
 
 // Makes a stream longer and shorter, so that it moves from mini sectors to sectors and back.
 fn move_stream(alloc: Global) -> Result<bool, Error> {
-    let mut file = opened(alloc)?;
+    let mut file = open_empty_file(alloc)?;
     let letters = CaseMapper::ascii(alloc)?;
     make_object(alloc, &mut file, &letters, "/a", NewObject::Stream)?;
     let mut links = StreamLinks::Short(MiniLinks::new(alloc));

@@ -18,11 +18,11 @@ pub fn names_sum(
     let mut sum = 0;
     for number in 0..count {
         file.create_new_stream(&path_of(alloc, row.text(1), number, count)?)?;
-        sum = listed(file, sum)?;
+        sum = sum_of_names(file, sum)?;
     }
     for number in 0..count {
         file.remove_stream(&path_of(alloc, row.text(1), number, count)?)?;
-        sum = listed(file, sum)?;
+        sum = sum_of_names(file, sum)?;
     }
     Ok(format!(in alloc; "{sum}")?)
 }
@@ -38,7 +38,7 @@ fn path_of(alloc: Global, order: &str, number: u32, count: u32) -> Result<String
 }
 
 // The sum with the names that the root lists, a slash behind each: to each byte 257 times the sum so far is added.
-fn listed(file: &CompoundFile<MemoryMedium>, before: u32) -> Result<u32, Error> {
+fn sum_of_names(file: &CompoundFile<MemoryMedium>, before: u32) -> Result<u32, Error> {
     let mut sum = before;
     for entry in file.read_root_storage()? {
         for byte in entry.name().as_bytes() {

@@ -6,7 +6,7 @@ use cfb_medium::Error;
 use cfb_tree::CaseMapper;
 use staged::{FuseDevice, MemoryDevice, Staged, recover};
 use std::alloc::Global;
-use test_support::{Row, Subject, bytes_at, copied, told};
+use test_support::{Row, Subject, bytes_at, copy_of, yes_or_no};
 
 // A store whose device fails one call.
 type Store = Staged<FuseDevice<MemoryDevice>>;
@@ -36,7 +36,7 @@ impl Subject for Stores {
         match row.call() {
             "file" => {
                 self.bytes = bytes_at(alloc, row, 1)?;
-                self.file = Some(opened(alloc, &self.bytes, MANY)?);
+                self.file = Some(file_in_store(alloc, &self.bytes, MANY)?);
             }
             "as many calls" => return as_many_calls(alloc, &self.bytes, row),
             "goes back" => return goes_back(alloc, &self.bytes, row),
@@ -45,14 +45,14 @@ impl Subject for Stores {
             _ => {}
         }
         match &mut self.file {
-            Some(file) => answered(alloc, file, row),
+            Some(file) => answer_of(alloc, file, row),
             None => Err(Error::NotFound),
         }
     }
 }
 
 // The file of these bytes, over a store whose device fails the call after so many.
-fn opened(alloc: Global, bytes: &[u8], pass: u64) -> Result<CompoundFile<Store>, Error> {
+fn file_in_store(alloc: Global, bytes: &[u8], pass: u64) -> Result<CompoundFile<Store>, Error> {
     let home = MemoryDevice::new(Vec::from_slice(alloc, bytes)?, Vec::new(alloc));
     let mut device = FuseDevice::new(home, pass, 1);
     recover(&mut device)?;
@@ -62,14 +62,14 @@ fn opened(alloc: Global, bytes: &[u8], pass: u64) -> Result<CompoundFile<Store>,
 }
 
 // What a call answers; one that changes the file answers "done".
-fn answered(alloc: Global, file: &mut CompoundFile<Store>, row: &Row) -> Result<String, Error> {
+fn answer_of(alloc: Global, file: &mut CompoundFile<Store>, row: &Row) -> Result<String, Error> {
     match row.call() {
-        "file" => told(alloc, file.is_sound()),
+        "file" => yes_or_no(alloc, file.is_sound()),
         "tree" => tree_of(alloc, file),
-        "failed" => told(alloc, file.has_failed()),
+        "failed" => yes_or_no(alloc, file.has_failed()),
         _ => {
             call(alloc, file, row)?;
-            copied(alloc, "done")
+            copy_of(alloc, "done")
         }
     }
 }
@@ -98,7 +98,7 @@ fn run(
 // How many calls of the device are made until these calls are done: so many must be passed on for none to fail.
 fn device_calls(alloc: Global, bytes: &[u8], row: &Row, place: usize) -> Result<u64, Error> {
     for pass in 0..MANY {
-        match opened(alloc, bytes, pass) {
+        match file_in_store(alloc, bytes, pass) {
             Ok(mut file) => match run(alloc, &mut file, row, place) {
                 Ok(()) => return Ok(pass),
                 Err(Error::Device) => {}
@@ -115,17 +115,17 @@ fn device_calls(alloc: Global, bytes: &[u8], row: &Row, place: usize) -> Result<
 fn as_many_calls(alloc: Global, bytes: &[u8], row: &Row) -> Result<String, Error> {
     let first = device_calls(alloc, bytes, row, 1)?;
     let second = device_calls(alloc, bytes, row, 2)?;
-    told(alloc, first == second)
+    yes_or_no(alloc, first == second)
 }
 
 // Makes a call while each call of the device fails in turn. Where the file has failed it goes back, and the call is made again.
 fn goes_back(alloc: Global, bytes: &[u8], row: &Row) -> Result<String, Error> {
     let first = device_calls(alloc, bytes, row, 2)?;
     for pass in first..MANY {
-        let mut file = opened(alloc, bytes, pass)?;
+        let mut file = file_in_store(alloc, bytes, pass)?;
         let before = tree_of(alloc, &file)?;
         match run(alloc, &mut file, row, 1) {
-            Ok(()) => return copied(alloc, "each fault told, then done"),
+            Ok(()) => return copy_of(alloc, "each fault told, then done"),
             Err(Error::Device) if file.has_failed() => {
                 file.roll_back()?;
                 if tree_of(alloc, &file)? != before {
@@ -137,19 +137,19 @@ fn goes_back(alloc: Global, bytes: &[u8], row: &Row) -> Result<String, Error> {
             Err(error) => return Ok(format!(in alloc; "{error:?} at call {pass}")?),
         }
     }
-    copied(alloc, "endless")
+    copy_of(alloc, "endless")
 }
 
 // Makes calls, and goes back while each call of the device fails in turn: the file stays or has failed, and goes back once more.
 fn goes_back_twice(alloc: Global, bytes: &[u8], row: &Row) -> Result<String, Error> {
     let first = device_calls(alloc, bytes, row, 1)?;
     for pass in first..MANY {
-        let mut file = opened(alloc, bytes, pass)?;
+        let mut file = file_in_store(alloc, bytes, pass)?;
         let before = tree_of(alloc, &file)?;
         run(alloc, &mut file, row, 1)?;
         let changed = tree_of(alloc, &file)?;
         match file.roll_back() {
-            Ok(()) => return copied(alloc, "each fault told, then done"),
+            Ok(()) => return copy_of(alloc, "each fault told, then done"),
             Err(Error::Device) if file.has_failed() => {}
             Err(Error::Device) if tree_of(alloc, &file)? == changed => {}
             Err(error) => return Ok(format!(in alloc; "{error:?} at call {pass}")?),
@@ -159,20 +159,20 @@ fn goes_back_twice(alloc: Global, bytes: &[u8], row: &Row) -> Result<String, Err
             return Ok(format!(in alloc; "another tree at call {pass}")?);
         }
     }
-    copied(alloc, "endless")
+    copy_of(alloc, "endless")
 }
 
 // Makes calls, and commits them while each call of the device fails in turn: the store has failed then, and nothing goes back.
 fn stays_failed(alloc: Global, bytes: &[u8], row: &Row) -> Result<String, Error> {
     let first = device_calls(alloc, bytes, row, 1)?;
     for pass in first..MANY {
-        let mut file = opened(alloc, bytes, pass)?;
+        let mut file = file_in_store(alloc, bytes, pass)?;
         run(alloc, &mut file, row, 1)?;
         match file.commit() {
-            Ok(()) => return copied(alloc, "each fault told, then done"),
+            Ok(()) => return copy_of(alloc, "each fault told, then done"),
             Err(Error::Device) if file.roll_back() == Err(Error::Failed) => {}
             Err(error) => return Ok(format!(in alloc; "{error:?} at call {pass}")?),
         }
     }
-    copied(alloc, "endless")
+    copy_of(alloc, "endless")
 }

@@ -94,7 +94,7 @@ fn read_pieces<F: ReadMedium>(
 }
 
 /// The file, opened so that at most so many bytes of a stream are read at once.
-pub fn limited(
+pub fn open_limited(
     alloc: Global,
     medium: MemoryMedium,
     limit: i64,

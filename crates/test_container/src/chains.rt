@@ -11,7 +11,7 @@ use plain::parts_of;
 use serde_json::Value;
 use std::alloc::Global;
 use std::io::SeekFrom;
-use test_support::{Row, Subject, bytes_at, copied, part_of, runs, shown};
+use test_support::{Row, Subject, bytes_at, copy_of, hex_of, part_of, runs};
 
 /// Answers calls on the sectors of a file in memory.
 #[derive(Drop)]
@@ -30,7 +30,7 @@ impl Subject for Chains {
     fn answer(&mut self, alloc: Global, row: &Row) -> Result<String, Error> {
         match row.call() {
             "new sectors" => return new_sectors(alloc),
-            "file" => self.file = Some(opened(alloc, row)?),
+            "file" => self.file = Some(open_sectors(alloc, row)?),
             _ => {}
         }
         match &mut self.file {
@@ -50,7 +50,7 @@ pub fn version_at(row: &Row, place: usize) -> Version {
 }
 
 /// The sectors of a file, with the tables that its header names.
-pub fn opened(alloc: Global, row: &Row) -> Result<Allocator<MemoryMedium>, Error> {
+pub fn open_sectors(alloc: Global, row: &Row) -> Result<Allocator<MemoryMedium>, Error> {
     let bytes = bytes_at(alloc, row, 2)?;
     let len = bytes.len() as u64;
     let medium = MemoryMedium::from_bytes(alloc, bytes);
@@ -69,7 +69,7 @@ fn new_sectors(alloc: Global) -> Result<String, Error> {
     Sector::new(&mut sectors, part).write(b"some")?;
     let mut border = [0; 4];
     sectors.read_contiguous(0, 510, &mut border)?;
-    let border = shown(alloc, &border)?;
+    let border = hex_of(alloc, &border)?;
     let mut end = [0; 8];
     sectors.read_contiguous(0, 504, &mut end)?;
     let is_free = u32_at(&end, 0) == FREE_SECTOR;
@@ -102,9 +102,9 @@ fn of_file(alloc: Global, file: &mut Allocator<MemoryMedium>, row: &Row) -> Resu
             } else {
                 write_word(file, word, number)?;
             }
-            copied(alloc, "done")
+            copy_of(alloc, "done")
         }
-        _ => changed(alloc, file, row),
+        _ => change_fat(alloc, file, row),
     }
 }
 
@@ -126,7 +126,11 @@ fn of_tables(alloc: Global, file: &Allocator<MemoryMedium>, row: &Row) -> Result
 }
 
 // Changes of the FAT.
-fn changed(alloc: Global, file: &mut Allocator<MemoryMedium>, row: &Row) -> Result<String, Error> {
+fn change_fat(
+    alloc: Global,
+    file: &mut Allocator<MemoryMedium>,
+    row: &Row,
+) -> Result<String, Error> {
     let id = id_at(row, 1);
     let found = match row.call() {
         "begin" => file.begin_chain(init_of(row.text(1)))?,
@@ -134,14 +138,18 @@ fn changed(alloc: Global, file: &mut Allocator<MemoryMedium>, row: &Row) -> Resu
         "extend by" => {
             let count = usize::try_from(row.number(2)).unwrap_or(usize::MAX);
             file.extend_chain_by(id, count, init_of(row.text(3)))?;
-            return copied(alloc, "done");
+            return copy_of(alloc, "done");
         }
-        _ => return freed(alloc, file, row),
+        _ => return free_sectors(alloc, file, row),
     };
     Ok(format!(in alloc; "{found}")?)
 }
 
-fn freed(alloc: Global, file: &mut Allocator<MemoryMedium>, row: &Row) -> Result<String, Error> {
+fn free_sectors(
+    alloc: Global,
+    file: &mut Allocator<MemoryMedium>,
+    row: &Row,
+) -> Result<String, Error> {
     let id = id_at(row, 1);
     match row.call() {
         "free" => file.free_chain(id)?,
@@ -149,7 +157,7 @@ fn freed(alloc: Global, file: &mut Allocator<MemoryMedium>, row: &Row) -> Result
         "use a chain" => use_a_chain(file, &bytes_at(alloc, row, 1)?)?,
         _ => return Err(Error::NotFound),
     }
-    copied(alloc, "done")
+    copy_of(alloc, "done")
 }
 
 // Bytes of sectors, by their places.
@@ -165,11 +173,11 @@ fn of_sector(
         "read" => {
             let mut buffer = bytes;
             file.read_contiguous(id, offset, &mut buffer)?;
-            shown(alloc, &buffer)
+            hex_of(alloc, &buffer)
         }
         "write" => {
             file.write_contiguous(id, offset, &bytes)?;
-            copied(alloc, "done")
+            copy_of(alloc, "done")
         }
         "write header" => {
             let part = file.seek_within_header(offset)?;
@@ -188,7 +196,7 @@ fn of_sector(
 fn of_chain(alloc: Global, file: &mut Allocator<MemoryMedium>, row: &Row) -> Result<String, Error> {
     let mut links = file.open_chain(id_at(row, 1))?;
     let mut chain = Chain::new(file, &mut links, SectorInit::Zero);
-    let mut text = copied(alloc, "chain:")?;
+    let mut text = copy_of(alloc, "chain:")?;
     for cell in row.list(2) {
         let call = Row::of(alloc, cell)?;
         match chain_call(alloc, &mut chain, &call) {
@@ -257,12 +265,12 @@ fn chain_resized(chain: &mut Chain<'_, Allocator<MemoryMedium>>, call: &Row) -> 
 // Calls in a row on one chain as a list of bytes.
 fn of_owned(alloc: Global, file: &mut Allocator<MemoryMedium>, row: &Row) -> Result<String, Error> {
     let mut links = file.open_chain(id_at(row, 1))?;
-    let mut text = copied(alloc, "chain:")?;
+    let mut text = copy_of(alloc, "chain:")?;
     for cell in row.list(2) {
         let call = Row::of(alloc, cell)?;
         let mut bytes = bytes_at(alloc, &call, 2)?;
         owned_call(file, &mut links, &call, &mut bytes)?;
-        let told = format!(in alloc; " {} {:?}", shown(alloc, &bytes)?, links.sector_ids())?;
+        let told = format!(in alloc; " {} {:?}", hex_of(alloc, &bytes)?, links.sector_ids())?;
         text.push_str(told.as_str())?;
     }
     Ok(text)

@@ -44,7 +44,7 @@ fn print_entry<F: ReadMedium>(
     listed: &Entry,
 ) -> Result<()> {
     let path = listed.path();
-    let shown = escaped(rt.alloc(), path)?;
+    let shown = ascii_path(rt.alloc(), path)?;
     let kind = kind_at(file, path);
     if kind == "stream" {
         let len = file.entry(path)?.len();
@@ -98,7 +98,7 @@ fn digest_of<F: ReadMedium>(
 }
 
 // A path in ASCII: all else as its number.
-fn escaped(alloc: Global, path: &str) -> Result<String> {
+fn ascii_path(alloc: Global, path: &str) -> Result<String> {
     let mut text = String::new(alloc);
     for ch in path.chars() {
         if ch.is_ascii_graphic() || ch == ' ' {

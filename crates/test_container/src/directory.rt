@@ -1,12 +1,12 @@
 //! Directories of files in memory.
-use crate::chains::{opened, version_at};
+use crate::chains::{open_sectors, version_at};
 use crate::names::texts_at;
 use cfb_directory::{Directory, EntryChange};
 use cfb_medium::{Error, MemoryMedium, Timestamp};
 use cfb_sectors::{SectorInit, Validation};
 use cfb_tree::{CaseMapper, ObjType};
 use std::alloc::Global;
-use test_support::{Row, Subject, copied, part_of, told};
+use test_support::{Row, Subject, copy_of, part_of, yes_or_no};
 use uuid::Uuid;
 
 /// Answers calls on the directory of a file in memory, under the letters of ASCII.
@@ -45,7 +45,9 @@ pub fn directory_of(
     row: &Row,
 ) -> Result<Directory<MemoryMedium>, Error> {
     let validation = validation_of(row.call());
-    Directory::new(alloc, opened(alloc, row)?, letters, validation, 1).map_err(|refused| refused.1)
+    Directory::new(alloc, open_sectors(alloc, row)?, letters, validation, 1).map_err(
+        |refused| refused.1,
+    )
 }
 
 /// How a reader of this name reads.
@@ -64,9 +66,9 @@ fn of_directory(
     row: &Row,
 ) -> Result<String, Error> {
     match row.call() {
-        "find" | "has" | "bytes" => found(alloc, letters, directory, row),
+        "find" | "has" | "bytes" => find_entry(alloc, letters, directory, row),
         "insert" => {
-            let id = inserted(letters, directory, row)?;
+            let id = insert_entry(letters, directory, row)?;
             Ok(format!(in alloc; "{id}")?)
         }
         "begin" => {
@@ -77,13 +79,13 @@ fn of_directory(
             directory_told(alloc, directory, version_at(row, 1) == directory.version())
         }
         _ => {
-            changed(letters, directory, row)?;
-            copied(alloc, "done")
+            change_entry(letters, directory, row)?;
+            copy_of(alloc, "done")
         }
     }
 }
 
-fn found(
+fn find_entry(
     alloc: Global,
     letters: &CaseMapper,
     directory: &Directory<MemoryMedium>,
@@ -95,12 +97,12 @@ fn found(
             let found = directory.stream_id_for_name_chain(letters, &names);
             Ok(format!(in alloc; "{found:?}")?)
         }
-        "has" => told(alloc, directory.has_dir_entry(id_at(row))),
+        "has" => yes_or_no(alloc, directory.has_dir_entry(id_at(row))),
         _ => part_of(alloc, directory.inner().bytes(), row),
     }
 }
 
-fn inserted(
+fn insert_entry(
     letters: &CaseMapper,
     directory: &mut Directory<MemoryMedium>,
     row: &Row,
@@ -109,7 +111,7 @@ fn inserted(
     directory.insert_dir_entry(letters, id_at(row), row.text(2), kind, Timestamp::zero())
 }
 
-fn changed(
+fn change_entry(
     letters: &CaseMapper,
     directory: &mut Directory<MemoryMedium>,
     row: &Row,

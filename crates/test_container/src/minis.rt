@@ -5,7 +5,7 @@ use cfb_mini::{MiniAllocator, MiniLinks};
 use cfb_soundness::is_sound;
 use cfb_tree::CaseMapper;
 use std::alloc::Global;
-use test_support::{Row, Subject, bytes_at, runs, told};
+use test_support::{Row, Subject, bytes_at, runs, yes_or_no};
 
 /// Answers calls on the mini sectors of a file in memory.
 #[derive(Drop)]
@@ -49,7 +49,7 @@ fn of_file(
         "read" => bytes_read(alloc, file, row),
         "sound" => {
             let len = file.inner().bytes().len() as u64;
-            told(alloc, is_sound(alloc, file, len)?)
+            yes_or_no(alloc, is_sound(alloc, file, len)?)
         }
         "strict" | "lenient" => file_told(alloc, file),
         _ => Err(Error::NotFound),

@@ -7,7 +7,7 @@ use cfb_tree::{
 };
 use serde_json::Value;
 use std::alloc::Global;
-use test_support::{Row, Subject, bytes_at, copied, shown};
+use test_support::{Row, Subject, bytes_at, copy_of, hex_of};
 
 /// Answers calls on names under one table of letters, and on one directory entry.
 #[derive(Drop)]
@@ -31,7 +31,7 @@ impl Subject for Names {
         match row.call() {
             "letters" => {
                 self.letters = letters_of(alloc, row)?;
-                copied(alloc, "done")
+                copy_of(alloc, "done")
             }
             "key" => Ok(format!(in alloc; "{:?}", name_key(alloc, &self.letters, row.text(1))?)?),
             "compare" => {
@@ -40,7 +40,7 @@ impl Subject for Names {
             }
             "new name" => {
                 validate_name(row.text(1))?;
-                copied(alloc, "done")
+                copy_of(alloc, "done")
             }
             "chain" | "path" => of_path(alloc, row),
             "name" => Ok(format!(in alloc; "{:?}", self.entry.name(alloc)?)?),
@@ -123,7 +123,7 @@ fn entry_read(alloc: Global, row: &Row, version: Version) -> Result<DirEntry, Er
 fn entry_bytes(alloc: Global, entry: &DirEntry) -> Result<String, Error> {
     let mut bytes = Vec::new(alloc);
     entry.write_to(&mut bytes)?;
-    shown(alloc, &bytes)
+    hex_of(alloc, &bytes)
 }
 
 // What an entry tells, and where a strict and a lenient reader take it: below the root, and as the root.

@@ -32,15 +32,23 @@ impl Subject for Openings {
                 self.bytes = bytes_at(alloc, row, 1)?;
                 Ok(format!(in alloc; "{} bytes", self.bytes.len())?)
             }
-            "strict header" => header_told(alloc, &self.changed(alloc, row)?, Validation::Strict),
+            "strict header" => header_told(
+                alloc,
+                &self.changed_bytes(alloc, row)?,
+                Validation::Strict,
+            ),
             "lenient header" => {
-                header_told(alloc, &self.changed(alloc, row)?, Validation::Permissive)
+                header_told(
+                    alloc,
+                    &self.changed_bytes(alloc, row)?,
+                    Validation::Permissive,
+                )
             }
-            "header again" => header_written(alloc, &self.changed(alloc, row)?),
+            "header again" => header_written(alloc, &self.changed_bytes(alloc, row)?),
             "version" => version_told(alloc),
             _ => {
-                let medium = MemoryMedium::from_bytes(alloc, self.changed(alloc, row)?);
-                opened(alloc, medium, &self.letters, validation_of(row.call()))
+                let medium = MemoryMedium::from_bytes(alloc, self.changed_bytes(alloc, row)?);
+                counts_of_opened(alloc, medium, &self.letters, validation_of(row.call()))
             }
         }
     }
@@ -48,7 +56,7 @@ impl Subject for Openings {
 
 impl Openings {
     // The bytes, of which some have other bits, up to a length.
-    fn changed(&self, alloc: Global, row: &Row) -> Result<Vec<u8>, Error> {
+    fn changed_bytes(&self, alloc: Global, row: &Row) -> Result<Vec<u8>, Error> {
         let mut bytes = Vec::from_slice(alloc, &self.bytes)?;
         for change in row.list(1) {
             let place = change.get(0).and_then(|n| n.as_u64()).unwrap_or(0) as usize;
@@ -65,7 +73,7 @@ impl Openings {
 }
 
 // How many sectors directory, mini FAT and mini stream have.
-fn opened(
+fn counts_of_opened(
     alloc: Global,
     medium: MemoryMedium,
     letters: &CaseMapper,

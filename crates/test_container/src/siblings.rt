@@ -5,7 +5,7 @@ use cfb_siblings::{Link, Place, find_entry, find_place, plan_removal, relink};
 use cfb_tree::{CaseMapper, Color, DirEntry, ObjType, validate_name};
 use serde_json::Value;
 use std::alloc::Global;
-use test_support::{Row, Subject, copied};
+use test_support::{Row, Subject, copy_of};
 
 /// Answers calls on the entries of a tree, under the letters of ASCII.
 #[derive(Drop)]
@@ -29,7 +29,7 @@ impl Subject for Siblings {
         match row.call() {
             "entries" => {
                 self.entries = entries_of(alloc, row)?;
-                copied(alloc, "done")
+                copy_of(alloc, "done")
             }
             "place" => {
                 let parent = id_of(row.number(1));
@@ -50,7 +50,7 @@ impl Subject for Siblings {
                 children(alloc, &self.entries)
             }
             "links" => links_at(alloc, &self.entries, id_of(row.number(1))),
-            "relink" => relinked(alloc, row),
+            "relink" => relink_storage(alloc, row),
             _ => Err(Error::NotFound),
         }
     }
@@ -81,7 +81,7 @@ fn entry_of(cell: &Value) -> Result<DirEntry, Error> {
         Some("storage") => ObjType::Storage,
         _ => ObjType::Stream,
     };
-    let mut entry = alone(cell.get(0).and_then(Value::as_str).unwrap_or(""), kind)?;
+    let mut entry = lone_entry(cell.get(0).and_then(Value::as_str).unwrap_or(""), kind)?;
     let link = |place: usize| id_of(cell.get(place).and_then(Value::as_i64).unwrap_or(-1));
     entry.left_sibling = link(2);
     entry.right_sibling = link(3);
@@ -89,7 +89,7 @@ fn entry_of(cell: &Value) -> Result<DirEntry, Error> {
     Ok(entry)
 }
 
-fn alone(name: &str, kind: ObjType) -> Result<DirEntry, Error> {
+fn lone_entry(name: &str, kind: ObjType) -> Result<DirEntry, Error> {
     validate_name(name)?;
     Ok(DirEntry::new(name, kind, Timestamp::zero()))
 }
@@ -110,7 +110,7 @@ fn insert(letters: &CaseMapper, entries: &mut Vec<DirEntry>, name: &str) -> Resu
     let Ok(id) = u32::try_from(entries.len()) else {
         return Err(Error::Full);
     };
-    entries.push(alone(name, ObjType::Stream)?)?;
+    entries.push(lone_entry(name, ObjType::Stream)?)?;
     set(entries, link, id)
 }
 
@@ -135,7 +135,7 @@ fn remove(letters: &CaseMapper, entries: &mut Vec<DirEntry>, name: &str) -> Resu
 
 // The names of the root's children, in their order.
 fn children(alloc: Global, entries: &[DirEntry]) -> Result<String, Error> {
-    let mut names = copied(alloc, "children:")?;
+    let mut names = copy_of(alloc, "children:")?;
     let mut waiting = Vec::new(alloc);
     let mut at = entries.first().map_or(0xFFFF_FFFF, |root| root.child);
     for _step in 0..64 {
@@ -165,14 +165,14 @@ fn links_text(alloc: Global, entry: &DirEntry) -> Result<String, Error> {
 }
 
 // A red storage on its own after one of its links was set.
-fn relinked(alloc: Global, row: &Row) -> Result<String, Error> {
+fn relink_storage(alloc: Global, row: &Row) -> Result<String, Error> {
     let holder = id_of(row.number(2));
     let link = match row.text(1) {
         "child" => Link::Child(holder),
         "left" => Link::Left(holder),
         _ => Link::Right(holder),
     };
-    let mut entry = alone("a", ObjType::Storage)?;
+    let mut entry = lone_entry("a", ObjType::Storage)?;
     entry.set_color(Color::Red);
     let before = entry.color();
     relink(&mut entry, link, id_of(row.number(3)));

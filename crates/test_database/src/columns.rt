@@ -14,7 +14,7 @@ use msi_texts::Category;
 use msi_values::Value;
 use std::alloc::Global;
 use std::rc::Rc;
-use test_support::{Row, Subject, bytes_at, copied, shown, told};
+use test_support::{Row, Subject, bytes_at, copy_of, hex_of, yes_or_no};
 
 /// Answers calls on columns, and on the table that was made last.
 #[derive(Drop)]
@@ -37,7 +37,7 @@ impl Subject for Columns {
                 Ok(String::new(alloc))
             }
             "type" | "cell" | "is a table's name" => of_type(alloc, row),
-            "built" => built(alloc, row),
+            "built" => column_of_row(alloc, row),
             _ => match &self.table {
                 Some(table) => of_table(alloc, table, row),
                 None => Err(Error::NotFound),
@@ -95,20 +95,20 @@ fn of_type(alloc: Global, row: &Row) -> Result<String, Error> {
         "cell" => {
             let mut out = Vec::new(alloc);
             type_of(row).write_value(&mut out, cell_of(row, 2), row.flag(3))?;
-            shown(alloc, &out)
+            hex_of(alloc, &out)
         }
-        _ => told(alloc, Table::is_valid_name(row.text(1))),
+        _ => yes_or_no(alloc, Table::is_valid_name(row.text(1))),
     }
 }
 
 // A column that is built by calls of its builder.
-fn built(alloc: Global, row: &Row) -> Result<String, Error> {
+fn column_of_row(alloc: Global, row: &Row) -> Result<String, Error> {
     let builder = Column::build(alloc, row.text(1))?;
     match row.text(2) {
         "key" => Ok(format!(in alloc; "{:#x}", builder.primary_key().int16().bitfield())?),
         "identifier" => {
             let column = builder.id_string(0);
-            told(alloc, column.is_valid_value(&value_at(alloc, row, 3)?))
+            yes_or_no(alloc, column.is_valid_value(&value_at(alloc, row, 3)?))
         }
         "icon" => {
             let builder = builder.localizable().foreign_key(alloc, "Icon", 1)?;
@@ -151,12 +151,12 @@ fn value_at(alloc: Global, row: &Row, place: usize) -> Result<Value, Error> {
 fn of_table(alloc: Global, table: &Rc<Table>, row: &Row) -> Result<String, Error> {
     match row.call() {
         "takes" => match table.get_column(row.text(1)) {
-            Some(column) => told(alloc, column.is_valid_value(&value_at(alloc, row, 2)?)),
+            Some(column) => yes_or_no(alloc, column.is_valid_value(&value_at(alloc, row, 2)?)),
             None => Err(Error::NotFound),
         },
         "column" => match table.index_for_column_name(row.text(1)) {
             Some(place) => Ok(format!(in alloc; "{place} {}", table.has_column(row.text(1)))?),
-            None => told(alloc, table.has_column(row.text(1))),
+            None => yes_or_no(alloc, table.has_column(row.text(1))),
         },
         "stream" => Table::clone(table, alloc)?.stream_name(alloc),
         "key" => Ok(format!(in alloc; "{:?}", table.primary_key_indices(alloc)?)?),
@@ -177,7 +177,7 @@ fn rows_stored(alloc: Global, table: &Table, bytes: &[u8]) -> Result<String, Err
     let rows = table.read_rows(alloc, bytes)?;
     let mut out = Vec::new(alloc);
     table.write_rows(&mut out, rows)?;
-    shown(alloc, &out)
+    hex_of(alloc, &out)
 }
 
 // The row of a stream, this number and 10, of a table of three columns.
@@ -205,7 +205,7 @@ fn row_told(alloc: Global, row: &Record, name: &str) -> Result<String, Error> {
 fn value_text(alloc: Global, value: Option<&Value>) -> Result<String, Error> {
     match value {
         Some(value) => Ok(format!(in alloc; "{value}")?),
-        None => copied(alloc, "none"),
+        None => copy_of(alloc, "none"),
     }
 }
 

@@ -4,7 +4,7 @@ use command_file::{Command, SummaryEdit, read_commands, refusal_in};
 use msi_expr::Expr;
 use msi_tables::Column;
 use std::alloc::Global;
-use test_support::{Row, Subject, copied};
+use test_support::{Row, Subject, copy_of};
 
 /// Reads a row that is a command file, or a text.
 #[derive(Drop)]
@@ -25,7 +25,7 @@ impl Subject for Commands {
 fn refusal_text(alloc: Global, text: &str) -> Result<String, Error> {
     match refusal_in(alloc, text)? {
         Some(refusal) => Ok(format!(in alloc; "{refusal}")?),
-        None => copied(alloc, "none"),
+        None => copy_of(alloc, "none"),
     }
 }
 
@@ -43,7 +43,7 @@ fn command_text(alloc: Global, commands: &[Command]) -> Result<String, Error> {
     match commands {
         [.., Command::SetSummary(edit)] => edit_text(alloc, edit),
         [.., command] => table_text(alloc, command),
-        [] => copied(alloc, "none"),
+        [] => copy_of(alloc, "none"),
     }
 }
 
@@ -57,7 +57,7 @@ fn table_text(alloc: Global, command: &Command) -> Result<String, Error> {
         Command::Delete(delete) => format!(in alloc; "{delete}")?,
         Command::Select(select) => format!(in alloc; "{select}")?,
         Command::Columns(name) => format!(in alloc; "columns {name}")?,
-        Command::Tables => copied(alloc, "tables")?,
+        Command::Tables => copy_of(alloc, "tables")?,
         _ => return other_text(alloc, command),
     })
 }
@@ -80,21 +80,21 @@ fn other_text(alloc: Global, command: &Command) -> Result<String, Error> {
         Command::WriteStream(name, bytes) => format!(in alloc; "write {name} {bytes:?}")?,
         Command::RemoveStream(name) => format!(in alloc; "remove {name}")?,
         Command::SetCodepage(page) => format!(in alloc; "codepage {}", page.id())?,
-        Command::Streams => copied(alloc, "streams")?,
-        Command::HasSignature => copied(alloc, "has signature")?,
-        Command::RemoveSignature => copied(alloc, "remove signature")?,
-        Command::Summary => copied(alloc, "summary")?,
-        Command::Codepage => copied(alloc, "codepage")?,
-        Command::Flush => copied(alloc, "flush")?,
-        Command::Commit => copied(alloc, "commit")?,
-        _ => copied(alloc, "other")?,
+        Command::Streams => copy_of(alloc, "streams")?,
+        Command::HasSignature => copy_of(alloc, "has signature")?,
+        Command::RemoveSignature => copy_of(alloc, "remove signature")?,
+        Command::Summary => copy_of(alloc, "summary")?,
+        Command::Codepage => copy_of(alloc, "codepage")?,
+        Command::Flush => copy_of(alloc, "flush")?,
+        Command::Commit => copy_of(alloc, "commit")?,
+        _ => copy_of(alloc, "other")?,
     })
 }
 
 fn edit_text(alloc: Global, edit: &SummaryEdit) -> Result<String, Error> {
     Ok(match edit {
         SummaryEdit::Title(Some(title)) => format!(in alloc; "title {title}")?,
-        SummaryEdit::Title(None) => copied(alloc, "no title")?,
+        SummaryEdit::Title(None) => copy_of(alloc, "no title")?,
         SummaryEdit::Keywords(Some(words)) => format!(in alloc; "{} keywords", words.len())?,
         SummaryEdit::Languages(Some(ids)) => format!(in alloc; "{} languages", ids.len())?,
         SummaryEdit::Uuid(Some(id)) => format!(in alloc; "uuid {id}")?,
@@ -103,6 +103,6 @@ fn edit_text(alloc: Global, edit: &SummaryEdit) -> Result<String, Error> {
             format!(in alloc; "made {}", moment.to_unix().0)?
         }
         SummaryEdit::Codepage(page) => format!(in alloc; "page {}", page.id())?,
-        _ => copied(alloc, "other")?,
+        _ => copy_of(alloc, "other")?,
     })
 }

@@ -9,7 +9,7 @@ use msi_tables::{Column, Table};
 use msi_texts::CodePage;
 use std::alloc::Global;
 use std::rc::Rc;
-use test_support::{Row, Shelf, Subject, copied};
+use test_support::{Row, Shelf, Subject, copy_of};
 
 // A table with its rows.
 #[derive(Drop)]
@@ -52,7 +52,7 @@ impl Database {
             shelf.add(Table::clone(&held.table, alloc)?, rows)?;
         }
         let (table, rows) = select.apply(alloc, &mut shelf, &self.pool)?;
-        answered(alloc, &self.pool, &table, &rows)
+        print_table(alloc, &self.pool, &table, &rows)
     }
 }
 
@@ -88,13 +88,13 @@ impl Database {
             return Err(Error::NotFound);
         };
         let rows = rows_copied(alloc, &held.rows)?;
-        held.rows = changed(alloc, command, &held.table, rows, &mut self.pool)?;
+        held.rows = rows_after(alloc, command, &held.table, rows, &mut self.pool)?;
         rows_text(alloc, &held.rows)
     }
 }
 
 // The rows after a change.
-fn changed(
+fn rows_after(
     alloc: Global,
     command: &Command,
     table: &Rc<Table>,
@@ -118,7 +118,7 @@ fn rows_copied(alloc: Global, rows: &[Vec<ValueRef>]) -> Result<Vec<Vec<ValueRef
 }
 
 // Columns, with a mark at those that may be null, and rows.
-fn answered(
+fn print_table(
     alloc: Global,
     pool: &StringPool,
     table: &Table,
@@ -138,7 +138,7 @@ fn answered(
 
 // A row of values.
 fn values_text(alloc: Global, pool: &StringPool, row: &[ValueRef]) -> Result<String, Error> {
-    let mut text = copied(alloc, " (")?;
+    let mut text = copy_of(alloc, " (")?;
     for cell in row {
         let value = cell.to_value(alloc, pool)?;
         text.push_str(format!(in alloc; " {value}")?.as_str())?;

@@ -5,7 +5,7 @@ use msi_pool::{StringPool, StringPoolBuilder, StringRef, ValueRef};
 use msi_texts::{CodePage, LanguageId};
 use msi_values::Value;
 use std::alloc::Global;
-use test_support::{Row, Subject, bytes_at, copied, shown, told};
+use test_support::{Row, Subject, bytes_at, copy_of, hex_of, yes_or_no};
 use uuid::Uuid;
 
 /// Answers calls on values and on one pool.
@@ -27,8 +27,8 @@ impl Subject for Pools {
     fn answer(&mut self, alloc: Global, row: &Row) -> Result<String, Error> {
         match row.call() {
             "value" => laid_out(alloc, row),
-            "languages" => joined(alloc, row),
-            "identifier" => braced(alloc, row.text(1)),
+            "languages" => joined_texts(alloc, row),
+            "identifier" => in_braces(alloc, row.text(1)),
             "reference" => reference(alloc, row),
             "reference bytes" => reference_bytes(alloc, row),
             "new pool" => {
@@ -67,22 +67,22 @@ fn value_at(alloc: Global, row: &Row, place: usize) -> Result<Value, Error> {
     }
 }
 
-fn joined(alloc: Global, row: &Row) -> Result<String, Error> {
+fn joined_texts(alloc: Global, row: &Row) -> Result<String, Error> {
     let mut languages = Vec::new(alloc);
     for cell in row.list(1) {
         let id = cell.as_u64().unwrap_or(0);
         languages.push(LanguageId::from_id(u16::try_from(id).unwrap_or(0)))?;
     }
     let both = Value::languages(alloc, &languages)?;
-    copied(alloc, both.as_str().unwrap_or(""))
+    copy_of(alloc, both.as_str().unwrap_or(""))
 }
 
-fn braced(alloc: Global, text: &str) -> Result<String, Error> {
+fn in_braces(alloc: Global, text: &str) -> Result<String, Error> {
     let Ok(uuid) = Uuid::parse_str(text) else {
         return Err(Error::InvalidData);
     };
     let guid = Value::guid(alloc, uuid)?;
-    copied(alloc, guid.as_str().unwrap_or(""))
+    copy_of(alloc, guid.as_str().unwrap_or(""))
 }
 
 // The reference to a place, where the place can have one.
@@ -97,14 +97,14 @@ fn reference(alloc: Global, row: &Row) -> Result<String, Error> {
     let bytes = bytes_at(alloc, row, 1)?;
     match StringRef::read(&mut bytes.as_slice(), row.flag(2))? {
         Some(place) => Ok(format!(in alloc; "{}", place.number())?),
-        None => copied(alloc, "none"),
+        None => copy_of(alloc, "none"),
     }
 }
 
 fn reference_bytes(alloc: Global, row: &Row) -> Result<String, Error> {
     let mut written = Vec::new(alloc);
     StringRef::write(&mut written, place_of(row.number(1)), row.flag(2))?;
-    shown(alloc, &written)
+    hex_of(alloc, &written)
 }
 
 fn pool_read(alloc: Global, row: &Row) -> Result<StringPool, Error> {
@@ -118,21 +118,21 @@ fn pool_read(alloc: Global, row: &Row) -> Result<StringPool, Error> {
 pub fn of_pool(alloc: Global, pool: &mut StringPool, row: &Row) -> Result<String, Error> {
     match row.call() {
         "string" => string(alloc, pool, row),
-        "count" | "uncount" => counted(alloc, pool, row),
+        "count" | "uncount" => count_uses(alloc, pool, row),
         "cell" | "cell's value" | "remove cell" => of_cell(alloc, pool, row),
         "pool stream" | "data stream" => stream(alloc, pool, row),
         "unmodified" => {
             pool.mark_unmodified();
-            told(alloc, pool.is_modified())
+            yes_or_no(alloc, pool.is_modified())
         }
-        "modified" => told(alloc, pool.is_modified()),
-        "sum" | "read pool" => summed(alloc, pool),
+        "modified" => yes_or_no(alloc, pool.is_modified()),
+        "sum" | "read pool" => sum_of_pool(alloc, pool),
         _ => Err(Error::NotFound),
     }
 }
 
 // How many texts, under which page, and how wide references are.
-fn summed(alloc: Global, pool: &StringPool) -> Result<String, Error> {
+fn sum_of_pool(alloc: Global, pool: &StringPool) -> Result<String, Error> {
     let page = pool.codepage().id();
     let width = if pool.long_string_refs() { 3 } else { 2 };
     Ok(format!(in alloc;
@@ -153,16 +153,16 @@ fn string(alloc: Global, pool: &StringPool, row: &Row) -> Result<String, Error> 
     Ok(format!(in alloc; "{text:?}, {uses} uses")?)
 }
 
-fn counted(alloc: Global, pool: &mut StringPool, row: &Row) -> Result<String, Error> {
+fn count_uses(alloc: Global, pool: &mut StringPool, row: &Row) -> Result<String, Error> {
     if row.call() == "count" {
-        let place = pool.incref(copied(alloc, row.text(1))?)?;
+        let place = pool.incref(copy_of(alloc, row.text(1))?)?;
         return Ok(format!(in alloc; "{}", place.number())?);
     }
     let Some(place) = place_of(row.number(1)) else {
         return Err(Error::InvalidInput);
     };
     pool.decref(place)?;
-    copied(alloc, "done")
+    copy_of(alloc, "done")
 }
 
 // A cell is written as a value that stands in it, or as a place in the pool.
@@ -177,7 +177,7 @@ fn of_cell(alloc: Global, pool: &mut StringPool, row: &Row) -> Result<String, Er
     let cell = ValueRef::Str(place);
     if row.call() == "remove cell" {
         cell.remove(pool)?;
-        return copied(alloc, "done");
+        return copy_of(alloc, "done");
     }
     let value = cell.to_value(alloc, pool)?;
     Ok(format!(in alloc; "{value}")?)
@@ -200,12 +200,12 @@ fn stream(alloc: Global, pool: &StringPool, row: &Row) -> Result<String, Error> 
     } else {
         pool.write_data(&mut bytes)?;
     }
-    shown(alloc, &bytes)
+    hex_of(alloc, &bytes)
 }
 
 /// Rows of cells as a text.
 pub fn rows_text(alloc: Global, rows: &[Vec<ValueRef>]) -> Result<String, Error> {
-    let mut text = copied(alloc, "rows:")?;
+    let mut text = copy_of(alloc, "rows:")?;
     for row in rows {
         text.push_str(" (")?;
         for cell in row.iter() {

@@ -4,7 +4,7 @@ use msi_props::{OperatingSystem, PropertySet, PropertyValue};
 use msi_summary::SummaryInfo;
 use msi_texts::{CodePage, LanguageId};
 use std::alloc::Global;
-use test_support::{Row, Subject, bytes_at, copied, shown, told};
+use test_support::{Row, Subject, bytes_at, copy_of, hex_of, yes_or_no};
 use uuid::Uuid;
 
 /// Answers calls on one property set and one summary.
@@ -29,7 +29,7 @@ impl Subject for Properties {
         match row.call() {
             "new set" => {
                 self.set = new_set(alloc);
-                copied(alloc, "done")
+                copy_of(alloc, "done")
             }
             "read set" => {
                 self.set = PropertySet::read(alloc, &bytes_at(alloc, row, 1)?)?;
@@ -39,11 +39,11 @@ impl Subject for Properties {
             "get" | "write set" | "page" => of_set(alloc, &self.set, row),
             "new summary" => {
                 self.summary = SummaryInfo::new(alloc)?;
-                copied(alloc, "done")
+                copy_of(alloc, "done")
             }
             "read summary" => {
                 self.summary = SummaryInfo::read(alloc, &bytes_at(alloc, row, 1)?)?;
-                copied(alloc, "done")
+                copy_of(alloc, "done")
             }
             _ => of_summary(alloc, &mut self.summary, row),
         }
@@ -69,7 +69,7 @@ fn value_of(alloc: Global, row: &Row) -> Result<PropertyValue, Error> {
         "I1" => PropertyValue::I1(i8::try_from(number).unwrap_or(0)),
         "I2" => PropertyValue::I2(i16::try_from(number).unwrap_or(0)),
         "I4" => PropertyValue::I4(i32::try_from(number).unwrap_or(0)),
-        _ => PropertyValue::LpStr(copied(alloc, row.text(3))?),
+        _ => PropertyValue::LpStr(copy_of(alloc, row.text(3))?),
     })
 }
 
@@ -80,7 +80,7 @@ fn changed_set(alloc: Global, set: &mut PropertySet, row: &Row) -> Result<String
         "set page" => set.set_codepage(page_of(row)?)?,
         _ => set.remove(number),
     }
-    copied(alloc, "done")
+    copy_of(alloc, "done")
 }
 
 fn page_of(row: &Row) -> Result<CodePage, Error> {
@@ -98,7 +98,7 @@ fn of_set(alloc: Global, set: &PropertySet, row: &Row) -> Result<String, Error> 
         _ => {
             let mut bytes = Vec::new(alloc);
             set.write(&mut bytes)?;
-            shown(alloc, &bytes)
+            hex_of(alloc, &bytes)
         }
     }
 }
@@ -108,18 +108,18 @@ fn of_summary(alloc: Global, summary: &mut SummaryInfo, row: &Row) -> Result<Str
         "write summary" => {
             let mut bytes = Vec::new(alloc);
             summary.write(&mut bytes)?;
-            shown(alloc, &bytes)
+            hex_of(alloc, &bytes)
         }
         "properties" => Ok(format!(in alloc; "{:?}", summary.properties())?),
-        "texts give back" => told(alloc, summary.texts_give_back()),
+        "texts give back" => yes_or_no(alloc, summary.texts_give_back()),
         "tell" => field(alloc, summary, row.text(1)),
         "set" => {
             change(alloc, summary, row)?;
-            copied(alloc, "done")
+            copy_of(alloc, "done")
         }
         "clear" => {
             clear(summary, row.text(1))?;
-            copied(alloc, "done")
+            copy_of(alloc, "done")
         }
         _ => Err(Error::NotFound),
     }
@@ -158,7 +158,7 @@ fn time_field(alloc: Global, summary: &SummaryInfo, name: &str) -> Result<String
     };
     match moment {
         Some(moment) => Ok(format!(in alloc; "{:?}", moment.to_unix())?),
-        None => copied(alloc, "None"),
+        None => copy_of(alloc, "None"),
     }
 }
 
@@ -177,7 +177,7 @@ fn list_field(alloc: Global, summary: &SummaryInfo, name: &str) -> Result<String
         "keywords" => Ok(format!(in alloc; "{:?}", summary.keywords()?)?),
         "uuid" => match summary.uuid() {
             Some(uuid) => Ok(format!(in alloc; "{uuid}")?),
-            None => copied(alloc, "None"),
+            None => copy_of(alloc, "None"),
         },
         _ => {
             let mut text = String::new(alloc);
@@ -218,7 +218,7 @@ fn languages_at(alloc: Global, row: &Row) -> Result<Vec<LanguageId>, Error> {
 fn keywords_at(alloc: Global, row: &Row) -> Result<Vec<String>, Error> {
     let mut words = Vec::new(alloc);
     for cell in row.list(2) {
-        words.push(copied(alloc, cell.as_str().unwrap_or(""))?)?;
+        words.push(copy_of(alloc, cell.as_str().unwrap_or(""))?)?;
     }
     Ok(words)
 }

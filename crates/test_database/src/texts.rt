@@ -2,7 +2,7 @@
 use cfb_medium::Error;
 use msi_texts::{Category, CodePage, LanguageId, decode, encode, is_valid};
 use std::alloc::Global;
-use test_support::{Row, Subject, bytes_at, copied, shown, told};
+use test_support::{Row, Subject, bytes_at, copy_of, hex_of, yes_or_no};
 
 /// Answers calls of `msi_texts`.
 #[derive(Drop)]
@@ -25,7 +25,7 @@ impl Subject for Texts {
 fn of_name(alloc: Global, row: &Row) -> Result<String, Error> {
     let (name, is_table) = (row.text(1), row.flag(2));
     match row.call() {
-        "is a name" => told(alloc, is_valid(name, is_table)),
+        "is a name" => yes_or_no(alloc, is_valid(name, is_table)),
         "name in a file" => encode(alloc, name, is_table),
         _ => {
             let (decoded, is_table) = decode(alloc, name)?;
@@ -52,9 +52,9 @@ fn of_page(alloc: Global, row: &Row) -> Result<String, Error> {
     };
     match row.call() {
         "read" => page.decode(alloc, &bytes_at(alloc, row, 2)?),
-        "write" => shown(alloc, &page.encode(alloc, row.text(2))?),
-        "fits" => told(alloc, page.fits(row.text(2))),
-        "page's name" => copied(alloc, page.name()),
+        "write" => hex_of(alloc, &page.encode(alloc, row.text(2))?),
+        "fits" => yes_or_no(alloc, page.fits(row.text(2))),
+        "page's name" => copy_of(alloc, page.name()),
         _ => Ok(format!(in alloc; "{}", page.id())?),
     }
 }
@@ -79,16 +79,16 @@ fn of_language(alloc: Global, row: &Row) -> Result<String, Error> {
 
 fn of_category(alloc: Global, row: &Row) -> Result<String, Error> {
     if row.call() == "categories" {
-        return joined(alloc);
+        return all_categories_joined(alloc);
     }
     let category = row.text(1).parse::<Category>()?;
     match row.call() {
-        "takes" => told(alloc, category.validate(row.text(2))),
-        _ => copied(alloc, category.as_str()),
+        "takes" => yes_or_no(alloc, category.validate(row.text(2))),
+        _ => copy_of(alloc, category.as_str()),
     }
 }
 
-fn joined(alloc: Global) -> Result<String, Error> {
+fn all_categories_joined(alloc: Global) -> Result<String, Error> {
     let mut names = String::new(alloc);
     for category in Category::all() {
         if !names.is_empty() {

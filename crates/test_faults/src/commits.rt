@@ -27,7 +27,7 @@ pub fn print(rt: &HostRuntime) -> Result<()> {
 }
 
 // A staged medium over a device that counts its calls and fails none.
-fn counted(alloc: Global, log: &[u8]) -> Result<Staged<FailingDevice>, Error> {
+fn counting_medium(alloc: Global, log: &[u8]) -> Result<Staged<FailingDevice>, Error> {
     let device = Failing::new(device(alloc, &[], log)?, u64::MAX);
     match Staged::new(alloc, device) {
         Ok(staged) => Ok(staged),
@@ -36,7 +36,7 @@ fn counted(alloc: Global, log: &[u8]) -> Result<Staged<FailingDevice>, Error> {
 }
 
 fn a_first_commit_writes_one_page_behind_a_log(alloc: Global) -> Result<()> {
-    let mut staged = counted(alloc, &[])?;
+    let mut staged = counting_medium(alloc, &[])?;
     staged.write_at(0, &[1])?;
     staged.write_at(5, &[2])?;
     same(&staged.changed_pages(), &1)?;
@@ -53,7 +53,7 @@ fn a_first_commit_writes_one_page_behind_a_log(alloc: Global) -> Result<()> {
 
 // How many device calls it takes to write a byte and commit this often.
 fn calls_of_commits(alloc: Global, commits: u64) -> Result<u64, Error> {
-    let mut staged = counted(alloc, &[])?;
+    let mut staged = counting_medium(alloc, &[])?;
     staged.write_at(0, &[1])?;
     for _ in 0..commits {
         staged.commit()?;
@@ -68,7 +68,7 @@ fn a_second_commit_makes_no_device_call(alloc: Global) -> Result<()> {
 }
 
 fn a_flush_reaches_neither_file(alloc: Global) -> Result<()> {
-    let mut staged = counted(alloc, &[])?;
+    let mut staged = counting_medium(alloc, &[])?;
     staged.write_at(0, &[1])?;
     staged.flush()?;
     same(&staged.changed_pages(), &1)?;
@@ -78,7 +78,7 @@ fn a_flush_reaches_neither_file(alloc: Global) -> Result<()> {
 }
 
 fn a_log_of_one_byte_gets_a_closed_gate_first(alloc: Global) -> Result<()> {
-    let mut staged = counted(alloc, &[1])?;
+    let mut staged = counting_medium(alloc, &[1])?;
     staged.write_at(0, &[1])?;
     staged.write_at(600, &[2])?;
     same(&staged.changed_pages(), &2)?;
@@ -90,7 +90,7 @@ fn a_log_of_one_byte_gets_a_closed_gate_first(alloc: Global) -> Result<()> {
 }
 
 fn a_longer_log_is_written_over(alloc: Global) -> Result<()> {
-    let mut staged = counted(alloc, &[0; 600])?;
+    let mut staged = counting_medium(alloc, &[0; 600])?;
     staged.write_at(0, &[1])?;
     staged.commit()?;
     let device = staged.into_device();
@@ -116,7 +116,7 @@ fn a_recovered_device_is_read_and_changed(alloc: Global) -> Result<()> {
 }
 
 fn an_end_past_the_last_place_is_refused(alloc: Global) -> Result<()> {
-    let mut staged = counted(alloc, &[])?;
+    let mut staged = counting_medium(alloc, &[])?;
     let refused = Err(Error::InvalidInput);
     same(&staged.write_at((1 << 63) - 1, &[1]), &refused)?;
     same(&staged.write_at(u64::MAX, &[1]), &refused)?;

@@ -1,8 +1,8 @@
 //! Commits of a session that are stopped: the package of the last commit is found again, or the one of the commit that was begun.
 use crate::cases::{print_case, same};
-use crate::sessions::{committed, has_rows, insert};
+use crate::sessions::{device_after_commit, has_rows, insert};
 use crate::stops::Stopped;
-use crate::tears::{Pair, left, torn};
+use crate::tears::{Pair, pairs_left, torn_pairs};
 use anyhow::{Result, bail, ensure};
 use cfb_medium::Error;
 use installer::{Command, Session};
@@ -35,7 +35,7 @@ pub fn print(rt: &HostRuntime) -> Result<()> {
 
 // The files of a committed table T with the rows 1 and 2.
 fn two_rows(alloc: Global) -> Result<Pair> {
-    let device = committed(alloc)?;
+    let device = device_after_commit(alloc)?;
     Ok(Pair::new(alloc, device.bytes(Which::Home), device.bytes(Which::Log))?)
 }
 
@@ -100,7 +100,7 @@ fn an_insert_stopped_after_each_call(alloc: Global) -> Result<()> {
     let mut stops = 0u64;
     for calls in 0..MANY {
         let run = insert_stopped(alloc, &files, calls)?;
-        let all = torn(alloc, &run.device, &files, calls)?;
+        let all = torn_pairs(alloc, &run.device, &files, calls)?;
         stops = stops.saturating_add(all.len() as u64);
         let old = old_given(alloc, &all, &files.home, new)?;
         if run.done {
@@ -129,7 +129,7 @@ fn insert_then_stop_behind_the_gate_finds_the_new_rows(alloc: Global) -> Result<
     let calls = first_open_gate(alloc, &files)?.saturating_add(5);
     let run = insert_stopped(alloc, &files, calls)?;
     ensure!(!run.done);
-    let all = left(alloc, &run.device, &files)?;
+    let all = pairs_left(alloc, &run.device, &files)?;
     each_finds(alloc, &all, &[1, 2, 3])
 }
 
@@ -139,7 +139,7 @@ fn insert_then_stop_before_the_gate_keeps_the_committed_rows(alloc: Global) -> R
     let calls = first_open_gate(alloc, &files)?.saturating_sub(2);
     let run = insert_stopped(alloc, &files, calls)?;
     ensure!(run.device.bytes(Which::Log) != files.log.as_slice());
-    let all = left(alloc, &run.device, &files)?;
+    let all = pairs_left(alloc, &run.device, &files)?;
     each_finds(alloc, &all, &[1, 2])
 }
 

@@ -37,7 +37,7 @@ fn select(alloc: Global, name: &str) -> Result<Command, Error> {
 }
 
 // A new package on an empty device.
-fn created(alloc: Global) -> Result<Session<MemoryDevice>, Error> {
+fn new_package(alloc: Global) -> Result<Session<MemoryDevice>, Error> {
     match Session::create(alloc, device(alloc, &[], &[])?) {
         Ok(session) => Ok(session),
         Err((_, error)) => Err(error),
@@ -99,8 +99,8 @@ fn fill<D: Device>(alloc: Global, session: &mut Session<D>) -> Result<()> {
 }
 
 /// The device after a commit of the table T.
-pub fn committed(alloc: Global) -> Result<MemoryDevice> {
-    let mut session = created(alloc)?;
+pub fn device_after_commit(alloc: Global) -> Result<MemoryDevice> {
+    let mut session = new_package(alloc)?;
     fill(alloc, &mut session)?;
     session.commit()?;
     ensure!(!session.has_failed());

@@ -2,7 +2,7 @@
 //! before the commit or those from after it.
 use crate::cases::{print_case, same};
 use crate::logs::device;
-use crate::tears::{Pair, left};
+use crate::tears::{Pair, pairs_left};
 use anyhow::{Result, bail, ensure};
 use cfb_medium::{Error, Medium};
 use staged::{Device, FuseDevice, MemoryDevice, Recovered, Staged, Which, recover};
@@ -115,14 +115,14 @@ fn each_gives(alloc: Global, all: &[Pair], home: &[u8]) -> Result<()> {
 }
 
 // What a recovery gives of these files, also when it is stopped after each of its calls; and how many stops that were.
-fn given(alloc: Global, files: &Pair) -> Result<(Vec<u8>, u64)> {
+fn recovery_of(alloc: Global, files: &Pair) -> Result<(Vec<u8>, u64)> {
     let mut device = files.device(alloc)?;
     recover(&mut device)?;
     let home = Vec::from_slice(alloc, device.bytes(Which::Home))?;
     let mut stops = 0u64;
     for calls in 0..MANY {
         let run = recovery_stopped(alloc, files, calls)?;
-        let all = left(alloc, &run.device, files)?;
+        let all = pairs_left(alloc, &run.device, files)?;
         each_gives(alloc, &all, &home)?;
         stops = stops.saturating_add(all.len() as u64);
         if run.done {
@@ -136,7 +136,7 @@ fn given(alloc: Global, files: &Pair) -> Result<(Vec<u8>, u64)> {
 fn each_given(alloc: Global, all: &[Pair], old: &[u8], new: &[u8]) -> Result<u64> {
     let mut stops = 0u64;
     for files in all {
-        let (home, nested) = given(alloc, files)?;
+        let (home, nested) = recovery_of(alloc, files)?;
         ensure!(home.as_slice() == old || home.as_slice() == new);
         stops = stops.saturating_add(nested).saturating_add(1);
     }
@@ -150,7 +150,7 @@ fn commit_with_stops(alloc: Global, files: &Pair, at: u64, bytes: &[u8]) -> Resu
     let mut stops = 0u64;
     for calls in 0..MANY {
         let run = commit_stopped(alloc, files, at, bytes, calls)?;
-        let all = left(alloc, &run.device, files)?;
+        let all = pairs_left(alloc, &run.device, files)?;
         let old = if run.done { new } else { &files.home };
         stops = stops.saturating_add(each_given(alloc, &all, old, new)?);
         if run.done {
@@ -208,7 +208,7 @@ fn a_torn_home_file_behind_an_open_log_is_written_again(alloc: Global) -> Result
     let files = Pair::new(alloc, device.bytes(Which::Home), device.bytes(Which::Log))?;
     same(&recover(&mut device), &Ok(Recovered::Applied(1)))?;
     ensure!(device.bytes(Which::Home) == [1, 0, 0, 0, 0, 2].as_slice());
-    let (home, _) = given(alloc, &files)?;
+    let (home, _) = recovery_of(alloc, &files)?;
     ensure!(home.as_slice() == [1, 0, 0, 0, 0, 2].as_slice());
     Ok(())
 }

@@ -46,7 +46,7 @@ impl Tear {
             Tear::Before => Ok(Vec::from_slice(alloc, before)?),
             Tear::Shown => Ok(Vec::from_slice(alloc, shown)?),
             Tear::Half => half(alloc, before, shown),
-            Tear::Filled => filled(alloc, before, shown),
+            Tear::Filled => filled_up(alloc, before, shown),
             Tear::Short => {
                 let least = before.len().min(shown.len());
                 let middle = least + (shown.len() - least) / 2;
@@ -66,7 +66,7 @@ fn half(alloc: Global, before: &[u8], shown: &[u8]) -> Result<Vec<u8>, Error> {
     Ok(bytes)
 }
 
-fn filled(alloc: Global, before: &[u8], shown: &[u8]) -> Result<Vec<u8>, Error> {
+fn filled_up(alloc: Global, before: &[u8], shown: &[u8]) -> Result<Vec<u8>, Error> {
     let mut bytes = Vec::new(alloc);
     for (at, byte) in shown.iter().enumerate() {
         let is_old = before.get(at) == Some(byte);
@@ -149,7 +149,7 @@ fn push_left(
 }
 
 /// Pairs that a stop may leave of a device that had these files before, each once.
-pub fn left(alloc: Global, device: &MemoryDevice, before: &Pair) -> Result<Vec<Pair>, Error> {
+pub fn pairs_left(alloc: Global, device: &MemoryDevice, before: &Pair) -> Result<Vec<Pair>, Error> {
     let homes = files(alloc, &HOMES, &before.home, device.bytes(Which::Home))?;
     let logs = files(alloc, &LOGS, &before.log, device.bytes(Which::Log))?;
     let mut all = Vec::new(alloc);
@@ -160,7 +160,7 @@ pub fn left(alloc: Global, device: &MemoryDevice, before: &Pair) -> Result<Vec<P
 }
 
 /// One such pair, with half of the home file as it shows, for longer files: which tear of the log is tried goes by turns.
-pub fn torn(
+pub fn torn_pairs(
     alloc: Global,
     device: &MemoryDevice,
     before: &Pair,

@@ -7,7 +7,7 @@ use msi_columns::Column;
 use msi_props::PropertyValue;
 use msi_texts::CodePage;
 use std::alloc::Global;
-use test_support::{Row, Subject, bytes_at, copied};
+use test_support::{Row, Subject, bytes_at, copy_of};
 
 /// Tells an answer, which a row describes.
 #[derive(Drop)]
@@ -59,7 +59,7 @@ fn kind_of(name: &str) -> Result<Error, Error> {
 fn texts_at(alloc: Global, row: &Row, place: usize) -> Result<Vec<String>, Error> {
     let mut texts = Vec::new(alloc);
     for cell in row.list(place) {
-        texts.push(copied(alloc, cell.as_str().unwrap_or(""))?)?;
+        texts.push(copy_of(alloc, cell.as_str().unwrap_or(""))?)?;
     }
     Ok(texts)
 }
@@ -95,7 +95,7 @@ fn property_of(alloc: Global, part: &Row) -> Result<PropertyValue, Error> {
         "I2" => PropertyValue::I2(i16::try_from(number).unwrap_or(0)),
         "I4" => PropertyValue::I4(i32::try_from(number).unwrap_or(0)),
         "time" => PropertyValue::FileTime(Timestamp::from_unix(number, 0)),
-        _ => PropertyValue::LpStr(copied(alloc, part.text(2))?),
+        _ => PropertyValue::LpStr(copy_of(alloc, part.text(2))?),
     })
 }
 

@@ -50,7 +50,7 @@ impl Folder {
 }
 
 // A refusal of the system.
-fn told(error: io::Error) -> Error {
+fn system_refusal(error: io::Error) -> Error {
     match error.kind() {
         io::ErrorKind::NotFound => Error::NotFound,
         _ => Error::Device,

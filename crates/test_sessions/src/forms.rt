@@ -3,7 +3,7 @@ use cfb_medium::{Error, Timestamp};
 use command_file::{Command, SummaryEdit, read_commands};
 use msi_columns::Column;
 use std::alloc::Global;
-use test_support::{Row, Subject, copied};
+use test_support::{Row, Subject, copy_of};
 
 /// Reads a row that is a command file, a text, or so many brackets in one another.
 #[derive(Drop)]
@@ -14,14 +14,14 @@ impl Subject for Forms {
         match row.call() {
             "" => last_told(alloc, row.json(alloc)?.as_str()),
             "read" => last_told(alloc, row.text(1)),
-            "nested" => last_told(alloc, nested(alloc, row.number(1))?.as_str()),
+            "nested" => last_told(alloc, nested_brackets(alloc, row.number(1))?.as_str()),
             _ => Err(Error::NotFound),
         }
     }
 }
 
 // So many opening brackets, and as many that close them.
-fn nested(alloc: Global, depth: i64) -> Result<String, Error> {
+fn nested_brackets(alloc: Global, depth: i64) -> Result<String, Error> {
     let mut text = String::new(alloc);
     for _ in 0..depth {
         text.push('[')?;
@@ -41,7 +41,7 @@ fn last_told(alloc: Global, text: &str) -> Result<String, Error> {
         [.., Command::SetSummary(edit)] => edit_told(alloc, edit),
         [.., Command::SetCodepage(page)] => Ok(format!(in alloc; "codepage {}", page.id())?),
         [.., Command::DropTable(name)] => Ok(format!(in alloc; "drop {name}")?),
-        _ => copied(alloc, "another"),
+        _ => copy_of(alloc, "another"),
     }
 }
 
@@ -96,7 +96,7 @@ fn list_told(alloc: Global, edit: &SummaryEdit) -> Result<String, Error> {
         SummaryEdit::Languages(ids) => format!(in alloc; "languages {ids:?}")?,
         SummaryEdit::Uuid(Some(id)) => format!(in alloc; "uuid {id}")?,
         SummaryEdit::Codepage(page) => format!(in alloc; "page {}", page.id())?,
-        _ => copied(alloc, "uuid None")?,
+        _ => copy_of(alloc, "uuid None")?,
     })
 }
 

@@ -8,7 +8,7 @@ use plain::{Content, read_tree};
 use std::alloc::Global;
 use std::io;
 use std::io::Write;
-use test_support::{Row, Subject, bytes_at, copied, runs, told};
+use test_support::{Row, Subject, bytes_at, copy_of, runs, yes_or_no};
 
 /// Runs the program in a folder, whose files rows name by their names alone.
 #[derive(Drop)]
@@ -34,21 +34,21 @@ impl<'a> Programs<'a> {
 impl Subject for Programs<'_> {
     fn answer(&mut self, alloc: Global, row: &Row) -> Result<String, Error> {
         match row.call() {
-            "msidb" => ran(self.rt, &self.folder, row),
-            "msidb unheard" => unheard(self.rt, &self.folder, row),
+            "msidb" => run_of_program(self.rt, &self.folder, row),
+            "msidb unheard" => run_without_output(self.rt, &self.folder, row),
             "keep" => {
                 self.kept = self.folder.read(self.rt, row.text(1))?;
-                copied(alloc, "done")
+                copy_of(alloc, "done")
             }
-            "is as kept" => told(alloc, self.folder.read(self.rt, row.text(1))? == self.kept),
+            "is as kept" => yes_or_no(alloc, self.folder.read(self.rt, row.text(1))? == self.kept),
             "use" => {
-                let (device, used) = used(self.rt, &self.folder, row)?;
+                let (device, used) = devices_in_use(self.rt, &self.folder, row)?;
                 self.device = Some(device);
                 Ok(used)
             }
             "leave" => {
                 self.device = None;
-                copied(alloc, "done")
+                copy_of(alloc, "done")
             }
             "run of" => run_of(self.rt, &self.folder, row.text(1)),
             "streams" => streams(alloc, &self.folder.read(self.rt, row.text(1))?),
@@ -58,7 +58,11 @@ impl Subject for Programs<'_> {
 }
 
 // A device over two files, and what another program finds in use of them.
-fn used(rt: &HostRuntime, folder: &Folder, row: &Row) -> Result<(FileDevice, String), Error> {
+fn devices_in_use(
+    rt: &HostRuntime,
+    folder: &Folder,
+    row: &Row,
+) -> Result<(FileDevice, String), Error> {
     let home = folder.path_of(rt, row.text(1))?;
     let log = folder.path_of(rt, row.text(2))?;
     let device = FileDevice::create(rt, home.as_str(), log.as_str())?;
@@ -78,22 +82,22 @@ fn of_files(rt: &HostRuntime, folder: &Folder, row: &Row) -> Result<String, Erro
         "length" => return Ok(format!(in rt.alloc(); "{}", folder.read(rt, name)?.len())?),
         _ => return Err(Error::NotFound),
     }
-    copied(rt.alloc(), "done")
+    copy_of(rt.alloc(), "done")
 }
 
 // The words of a row: the first as it stands, the others as files of the folder.
 fn words_of(rt: &HostRuntime, folder: &Folder, row: &Row) -> Result<Vec<String>, Error> {
     let mut words = Vec::new(rt.alloc());
-    words.push(copied(rt.alloc(), row.text(1))?)?;
+    words.push(copy_of(rt.alloc(), row.text(1))?)?;
     for cell in row.list(2) {
         let path = folder.path_of(rt, cell.as_str().unwrap_or(""))?;
-        words.push(copied(rt.alloc(), path.as_str())?)?;
+        words.push(copy_of(rt.alloc(), path.as_str())?)?;
     }
     Ok(words)
 }
 
 // The status of the program, what it answers, and what it says went wrong.
-fn ran(rt: &HostRuntime, folder: &Folder, row: &Row) -> Result<String, Error> {
+fn run_of_program(rt: &HostRuntime, folder: &Folder, row: &Row) -> Result<String, Error> {
     let words = words_of(rt, folder, row)?;
     let (mut out, mut err) = (Vec::new(rt.alloc()), Vec::new(rt.alloc()));
     let status = msidb(rt, &words, &mut out, &mut err, false);
@@ -101,13 +105,13 @@ fn ran(rt: &HostRuntime, folder: &Folder, row: &Row) -> Result<String, Error> {
         let (is_answer, is_said) = (!out.is_empty(), !err.is_empty());
         return Ok(format!(in rt.alloc(); "{status}, answers {is_answer}, says {is_said}")?);
     }
-    let said = said(rt, folder, &err)?;
+    let said = what_went_wrong(rt, folder, &err)?;
     let answered = str::from_utf8(&out).unwrap_or("no text");
     Ok(format!(in rt.alloc(); "{status} {answered:?} {said:?}")?)
 }
 
 // What went wrong, with the names of files alone.
-fn said(rt: &HostRuntime, folder: &Folder, err: &[u8]) -> Result<String, Error> {
+fn what_went_wrong(rt: &HostRuntime, folder: &Folder, err: &[u8]) -> Result<String, Error> {
     let text = str::from_utf8(err).unwrap_or("no text");
     let front = folder.path_of(rt, "")?;
     Ok(text.replace(rt.alloc(), front.as_str(), "")?)
@@ -121,7 +125,7 @@ fn run_of(rt: &HostRuntime, folder: &Folder, name: &str) -> Result<String, Error
     msidb(rt, &words, &mut out, &mut err, false);
     out.clear();
     let mut words = words_on(rt, folder, "run")?;
-    words.push(copied(rt.alloc(), name)?)?;
+    words.push(copy_of(rt.alloc(), name)?)?;
     let status = msidb(rt, &words, &mut out, &mut err, false);
     folder.take(rt, "new.msi")?;
     folder.take(rt, "new.log")?;
@@ -134,9 +138,9 @@ fn run_of(rt: &HostRuntime, folder: &Folder, name: &str) -> Result<String, Error
 // A word with the paths of a package in the folder.
 fn words_on(rt: &HostRuntime, folder: &Folder, word: &str) -> Result<Vec<String>, Error> {
     let mut words = Vec::new(rt.alloc());
-    words.push(copied(rt.alloc(), word)?)?;
+    words.push(copy_of(rt.alloc(), word)?)?;
     for name in ["new.msi", "new.log"] {
-        words.push(copied(rt.alloc(), folder.path_of(rt, name)?.as_str())?)?;
+        words.push(copy_of(rt.alloc(), folder.path_of(rt, name)?.as_str())?)?;
     }
     Ok(words)
 }
@@ -156,11 +160,11 @@ impl Write for Closed {
 }
 
 // The program, where no answer can be written.
-fn unheard(rt: &HostRuntime, folder: &Folder, row: &Row) -> Result<String, Error> {
+fn run_without_output(rt: &HostRuntime, folder: &Folder, row: &Row) -> Result<String, Error> {
     let words = words_of(rt, folder, row)?;
     let mut err = Vec::new(rt.alloc());
     let status = msidb(rt, &words, &mut Closed, &mut err, false);
-    let said = said(rt, folder, &err)?;
+    let said = what_went_wrong(rt, folder, &err)?;
     Ok(format!(in rt.alloc(); "{status} {said:?}")?)
 }
 
@@ -169,7 +173,7 @@ fn streams(alloc: Global, bytes: &[u8]) -> Result<String, Error> {
     let Some(tree) = read_tree(alloc, bytes, &[])? else {
         return Err(Error::InvalidData);
     };
-    let mut text = copied(alloc, "streams:")?;
+    let mut text = copy_of(alloc, "streams:")?;
     let mut at = &tree.content;
     while let Content::Stream {
         name,

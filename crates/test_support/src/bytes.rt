@@ -1,5 +1,5 @@
 //! Bytes in rows.
-use crate::row::{Row, copied};
+use crate::row::{Row, copy_of};
 use cfb_medium::Error;
 use serde_json::Value;
 use std::alloc::Global;
@@ -33,13 +33,13 @@ fn push_hex(alloc: Global, bytes: &mut Vec<u8>, text: &str, times: u64) -> Resul
 }
 
 /// Bytes as a text in hex.
-pub fn shown(alloc: Global, bytes: &[u8]) -> Result<String, Error> {
+pub fn hex_of(alloc: Global, bytes: &[u8]) -> Result<String, Error> {
     Ok(hex::encode(alloc, bytes)?)
 }
 
 /// Bytes as runs: each byte in hex, and how often it stands there.
 pub fn runs(alloc: Global, bytes: &[u8]) -> Result<String, Error> {
-    let mut text = copied(alloc, "")?;
+    let mut text = copy_of(alloc, "")?;
     let mut last = 0u8;
     let mut count = 0u64;
     for byte in bytes {

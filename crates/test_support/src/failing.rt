@@ -2,7 +2,7 @@
 ghost use Rattle.std.specs.Prelude.{◌≡◌, ◌≤◌, ⊤, [], false, refl};
 ghost use Rattle.std.proofs.Common.{arith, inl};
 ghost use Rattle.staged.specs.Memory.{memory_files};
-ghost use Rattle.staged.specs.Device.{Rests};
+ghost use Rattle.staged.specs.Device.{DeviceRests};
 ghost use Rattle.staged.specs.Counts.{counted_failures, counted_writes, counted_syncs};
 ghost use Rattle.staged.specs.declared.device.Which.{Which};
 

@@ -8,9 +8,9 @@ mod row;
 mod shelf;
 mod survivor;
 
-pub use bytes::{bytes_at, part_of, runs, shown};
+pub use bytes::{bytes_at, hex_of, part_of, runs};
 pub use failing::{Failing, FailingDevice, FailingMedium};
 pub use printing::{Subject, print_rows};
-pub use row::{Row, copied, told};
+pub use row::{Row, copy_of, yes_or_no};
 pub use shelf::Shelf;
 pub use survivor::Survivor;

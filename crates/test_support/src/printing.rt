@@ -27,13 +27,13 @@ pub fn print_rows<S: Subject>(rt: &HostRuntime, text: &str, mut subject: S) -> R
 fn answer_to<S: Subject>(alloc: Global, subject: &mut S, line: &str) -> Result<String, Error> {
     let row = Row::read(alloc, line)?;
     match subject.answer(alloc, &row) {
-        Ok(text) => escaped(alloc, text.as_str()),
+        Ok(text) => in_ascii(alloc, text.as_str()),
         Err(error) => Ok(format!(in alloc; "! {error:?}")?),
     }
 }
 
 // A text in ASCII: any other character as its number.
-fn escaped(alloc: Global, text: &str) -> Result<String, Error> {
+fn in_ascii(alloc: Global, text: &str) -> Result<String, Error> {
     let mut out = String::new(alloc);
     for ch in text.chars() {
         if ch.is_ascii_graphic() || ch == ' ' {

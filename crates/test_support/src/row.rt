@@ -63,11 +63,11 @@ impl Row {
 }
 
 /// Whether something is so, as a text.
-pub fn told(alloc: Global, is_so: bool) -> Result<String, Error> {
+pub fn yes_or_no(alloc: Global, is_so: bool) -> Result<String, Error> {
     Ok(String::from_str(alloc, if is_so { "true" } else { "false" })?)
 }
 
 /// A copy of a text.
-pub fn copied(alloc: Global, text: &str) -> Result<String, Error> {
+pub fn copy_of(alloc: Global, text: &str) -> Result<String, Error> {
     Ok(String::from_str(alloc, text)?)
 }

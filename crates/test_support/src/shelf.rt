@@ -50,12 +50,12 @@ impl Shelf {
         ensures { option_map (λ s. table_in s.now) result
             ≡ table_named (tables_on self.now) name.now }
     {
-        found(&self.tables, name)
+        table_on(&self.tables, name)
     }
 }
 
 // The first table of a name.
-fn found<'a>(tables: &'a [Shelved], name: &str) -> Option<&'a Shelved>
+fn table_on<'a>(tables: &'a [Shelved], name: &str) -> Option<&'a Shelved>
     ensures { option_map (λ s. s.now) result
         ≡ find (λ s. bytes_eq (table_in s).name name.now) tables.now }
 {
@@ -63,7 +63,7 @@ fn found<'a>(tables: &'a [Shelved], name: &str) -> Option<&'a Shelved>
 }
 
 // Copies of rows.
-fn copied(alloc: Global, rows: &[Vec<ValueRef>]) -> Result<Vec<Vec<ValueRef>>, Error>
+fn copies_of_rows(alloc: Global, rows: &[Vec<ValueRef>]) -> Result<Vec<Vec<ValueRef>>, Error>
     ensures ok { IfOk result (λ copies. rows_held copies.items ≡ rows_held rows.now) }
     ensures err { IfErr result (λ e. e ≡ Memory) }
 {
@@ -95,7 +95,7 @@ impl TableSource for Shelf {
 
     fn rows(&mut self, alloc: Global, name: &str) -> Result<Vec<Vec<ValueRef>>, Error> {
         match self.find(name) {
-            Some(shelved) => copied(alloc, &shelved.rows),
+            Some(shelved) => copies_of_rows(alloc, &shelved.rows),
             None => Ok(Vec::new(alloc)),
         }
     }

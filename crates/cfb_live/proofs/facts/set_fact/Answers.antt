@@ -14,7 +14,7 @@ use Rattle.cfb_directory.specs.Entries.{entries_in}
 use Rattle.cfb_directory.specs.Views.{entries_held}
 use Rattle.cfb_mini.specs.Views.{directory_of}
 use Rattle.cfb_live.specs.Facts.{change_for, setting, MayHave}
-use Rattle.cfb_live.specs.Live.{live_of, Means}
+use Rattle.cfb_live.specs.Live.{live_of, MeansLive}
 use Rattle.cfb_live.proofs.FactRules.{as_was, becomes, links_stay, object_kind, place_stays, rule, same_links, step_done, step_missing, step_refused}
 use Rattle.cfb_live.proofs.Resting.{keeps_refl}
 use Rattle.cfb_live.proofs.SetFacts.{means_held, same_means, set_means}
@@ -61,7 +61,7 @@ returns-in-Ok-None-clause-does g c = record {
         names = at.0;
         at_path = at.1;
         accepted = ap (λ o. o.1) step;
-        means = subst (Means l it) (sym (ap (λ o. o.0) step)) (same_means l it tree m at.0 id e e (rule c.args.fact at.0) here found (same_links e) (as_was Reads l (entries_held (directory_of it)) tree held id e found c.args.fact at.0 here lacks));
+        means = subst (MeansLive l it) (sym (ap (λ o. o.0) step)) (same_means l it tree m at.0 id e e (rule c.args.fact at.0) here found (same_links e) (as_was Reads l (entries_held (directory_of it)) tree held id e found c.args.fact at.0 here lacks));
       };
   refused = tt;
   rests = tt;
@@ -142,7 +142,7 @@ returns-clause-does g c = record {
         names = at.0;
         at_path = at.1;
         accepted = ap (λ o. o.1) step;
-        means = subst (Means l new) (sym (ap (λ o. o.0) step))
+        means = subst (MeansLive l new) (sym (ap (λ o. o.0) step))
             (set_means l it tree m at.0 id e f (rule fact at.0) here found new (links_stay fact e) place.0 place.1 (becomes Reads l (entries_held (directory_of it)) tree held id e found fact at.0 here may)
             c.with_dir_entry_mut.ensures.goes_on did.answers.live.1 changes set);
       };

@@ -1,6 +1,6 @@
 use Rattle.std.proofs.Common.{◌<◌, length, map, inl, inr, refl, ap, sym, subst, ◌∙◌, arith}
 use Rattle.std.specs.Prelude.{Some}
-use Rattle.cfb_siblings.specs.Places.{path_of, IsPlace, IsStorageAt, IsTaken, LeadsTo}
+use Rattle.cfb_siblings.specs.Places.{path_of, IsPlace, IsStorageAt, NameIsTaken, LeadsTo}
 use Rattle.cfb_siblings.specs.Reading.{ReadBy}
 use Rattle.cfb_siblings.proofs.Entries.{found_in, lost_in}
 use Rattle.cfb_tree.specs.Changes.{parent_of}
@@ -109,7 +109,7 @@ returns-clause-found c = λ reads tree h.
     record {
       parent = parent;
       storage = storage;
-      taken = subst (λ n. IsTaken l directory parent n c.in-Some-Taken.link c.in-Some-Taken.id) (sym (last_is names _ some)) place.0;
+      taken = subst (λ n. NameIsTaken l directory parent n c.in-Some-Taken.link c.in-Some-Taken.id) (sym (last_is names _ some)) place.0;
       leads = subst (λ p. LeadsTo l directory 0 p c.in-Some-Taken.id) whole place.1;
       object = place.2;
       at_path = ap (object_at l tree) (sym whole) ∙ place.3;

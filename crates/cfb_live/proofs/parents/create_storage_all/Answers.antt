@@ -13,7 +13,7 @@ use Rattle.cfb_directory.specs.Entries.{entries_in}
 use Rattle.cfb_directory.specs.Views.{entries_held}
 use Rattle.cfb_mini.specs.Views.{allocator_of, directory_of}
 use Rattle.cfb_owned.proofs.GoingOn.{goes_cause, goes_then}
-use Rattle.cfb_live.specs.Live.{live_of, Means}
+use Rattle.cfb_live.specs.Live.{live_of, MeansLive}
 use Rattle.cfb_live.specs.Parents.{MeansAsFar}
 use Rattle.cfb_live.proofs.AllMade.{all_made, as_far_more, name_more, next_place, take_end}
 use Rattle.cfb_live.proofs.NewPlaces.{length-path}
@@ -61,7 +61,7 @@ returns-then-count-len-clause-does g c = record {
         names = path;
         at_path = at_path;
         accepted = ap (λ o. o.1) rule;
-        means = subst (Means l it) (sym (ap (λ o. o.0) rule)) m;
+        means = subst (MeansLive l it) (sym (ap (λ o. o.0) rule)) m;
       };
   refused = tt;
   rests = tt;
@@ -184,7 +184,7 @@ returns-clause-does g c = record {
         names = path;
         at_path = at_path;
         accepted = ap (λ o. o.1) rule;
-        means = subst (Means l new) (sym (ap (λ o. o.0) rule)) all.means;
+        means = subst (MeansLive l new) (sym (ap (λ o. o.0) rule)) all.means;
       };
   refused = tt;
   rests = tt;

@@ -8,7 +8,7 @@ use Rattle.cfb_tree.specs.Directory.{kind_stream}
 use Rattle.cfb_tree.specs.EntryViews.{entry_in}
 use Rattle.cfb_tree.specs.LetterViews.{letters_of}
 use Rattle.cfb_tree.specs.Objects.{object_at}
-use Rattle.cfb_live.specs.Emptying.{HasStorage}
+use Rattle.cfb_live.specs.WholeRemoval.{HasStorage}
 use Rattle.cfb_live.specs.Parents.{AreNames}
 use Rattle.cfb_live.proofs.AllMade.{drop_end, name_more, name_refused, next_free, rest_is, stream_refused, there_first, there_more, within_path, IsThereAsFar}
 use Rattle.cfb_live.proofs.GoingDown.{child_storage, child_stream, child_there, root_storage}

@@ -5,7 +5,7 @@ use Rattle.cfb_directory.specs.Entries.{entries_in}
 use Rattle.cfb_directory.specs.Views.{entries_held}
 use Rattle.cfb_entries.specs.Rules.{answer_at}
 use Rattle.cfb_entries.proofs.Found.{names_are}
-use Rattle.cfb_live.specs.Live.{live_of, Means}
+use Rattle.cfb_live.specs.Live.{live_of, MeansLive}
 use Rattle.cfb_live.proofs.FactRules.{object_kind}
 use Rattle.cfb_live.proofs.NewPlaces.{storage_of, stream_of}
 use Rattle.cfb_live.proofs.Objects.{object_there}
@@ -120,7 +120,7 @@ returns-clause-does g c = record {
         names = path;
         at_path = at_path;
         accepted = ap (λ o. o.1) rule;
-        means = subst (Means l new) (sym (ap (λ o. o.0) rule)) there.means;
+        means = subst (MeansLive l new) (sym (ap (λ o. o.0) rule)) there.means;
       };
   refused = tt;
   rests = tt;

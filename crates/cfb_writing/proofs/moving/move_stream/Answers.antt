@@ -4,7 +4,7 @@ use Rattle.std.proofs.lemmas.Bool.Decides.{leb_tells}
 use Rattle.std.proofs.lemmas.Option.{slice_get_within}
 use Rattle.cfb_directory.specs.Entries.{entries_in}
 use Rattle.cfb_directory.specs.Views.{entries_held}
-use Rattle.cfb_fat.specs.Calls.{Answers}
+use Rattle.cfb_fat.specs.Calls.{FatAnswers}
 use Rattle.cfb_live.proofs.Resting.{keeps_rests}
 use Rattle.cfb_medium.specs.declared.error.Error.TheVariants.{InvalidData}
 use Rattle.cfb_mini.specs.Views.{allocator_of, directory_of}
@@ -88,7 +88,7 @@ returns-in-Err-replace_stream-clause-goes_on g c =
 pub returns-in-Err-replace_stream-clause-answers : goal.returns-in-Err-replace_stream-clause-answers
 returns-in-Err-replace_stream-clause-answers g c =
     let told = answers_after IsInvalidPlaceOrFull c.replace_stream.result (allocator_of c.args.mini.now) (allocator_of c.read_front.new.mini) (allocator_of c.replace_stream.new.mini) c.read_front.ensures.rests.directory.allocator c.replace_stream.ensures.answers in
-    let here = subst (λ r. Answers IsInvalidPlaceOrFull r (allocator_of c.args.mini.now) (allocator_of c.replace_stream.new.mini)) c.in-Err-replace_stream.is told in
+    let here = subst (λ r. FatAnswers IsInvalidPlaceOrFull r (allocator_of c.args.mini.now) (allocator_of c.replace_stream.new.mini)) c.in-Err-replace_stream.is told in
     record { live = tt; failed = λ was. let no = here.failed was in (ap Err (let wrong = no.0 in cc), no.1); after = here.after; cause = here.cause; fault = here.fault }
 
 pub returns-clause-resized : goal.returns-clause-resized

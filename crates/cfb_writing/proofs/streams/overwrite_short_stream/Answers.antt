@@ -6,7 +6,7 @@ use Rattle.cfb_directory.specs.Views.{entries_held}
 use Rattle.cfb_live.proofs.Resting.{keeps_rests}
 use Rattle.cfb_live.proofs.Standing.{stands_of}
 use Rattle.cfb_mini.specs.Views.{directory_of}
-use Rattle.cfb_streams.specs.Streams.{IsOfLevel, LiesIn}
+use Rattle.cfb_streams.specs.Streams.{IsOfLevel, StreamLiesIn}
 use Rattle.cfb_streams.specs.declared.opening.StreamLinks.TheVariants.{Short}
 use Rattle.cfb_tree.specs.Directory.{Entry}
 use Rattle.cfb_tree.specs.EntryViews.{entry_in}
@@ -95,6 +95,6 @@ returns-clause-written g c = λ letters tree path content at are.
       stream_still letters it new tree path id content later at moved.0 has,
       λ e found.
           let one : was.entry ≡ e = Some_same (sym (entry_still letters it new tree path id content later at moved.0 has) ∙ found) in
-          subst (λ (x : Entry). LiesIn new x.start x.size (minis_of links) × IsOfLevel new x.size (Short links)) one
+          subst (λ (x : Entry). StreamLiesIn new x.start x.size (minis_of links) × IsOfLevel new x.size (Short links)) one
           (short_links new moved.0.now moved.0.stands id was.entry later links has below (ap (λ (o : Owners). o.minis (stream_owner id)) moved.1 ∙ owned)),
     )

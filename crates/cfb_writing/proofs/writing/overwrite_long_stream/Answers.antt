@@ -5,7 +5,7 @@ use Rattle.cfb_directory.specs.Entries.{entries_in}
 use Rattle.cfb_directory.specs.Views.{entries_held}
 use Rattle.cfb_live.proofs.Standing.{stands_of}
 use Rattle.cfb_mini.specs.Views.{directory_of}
-use Rattle.cfb_streams.specs.Streams.{IsOfLevel, LiesIn}
+use Rattle.cfb_streams.specs.Streams.{IsOfLevel, StreamLiesIn}
 use Rattle.cfb_streams.specs.declared.opening.StreamLinks.TheVariants.{Long}
 use Rattle.cfb_tree.specs.Directory.{Entry}
 use Rattle.cfb_tree.specs.EntryViews.{entry_in}
@@ -81,6 +81,6 @@ returns-clause-written g c = λ letters tree path content at are.
       stream_still letters it new tree path id content later at moved has,
       λ e found.
           let one : was.entry ≡ e = Some_same (sym (entry_still letters it new tree path id content later at moved has) ∙ found) in
-          subst (λ (x : Entry). LiesIn new x.start x.size (ids_of links) × IsOfLevel new x.size (Long links)) one
+          subst (λ (x : Entry). StreamLiesIn new x.start x.size (ids_of links) × IsOfLevel new x.size (Long links)) one
           (long_links new moved.now moved.stands id was.entry later links has up did.0.mine (version ∙ sym c.overwrite_long.ensures.goes_on.version)),
     )

@@ -8,11 +8,11 @@ pub returns : goal.returns
 returns c =
     let kind = c.in_ok-kind.kind in
     let choices = map (λ t. t.now) c.in_ok-choices.choices.items in
-    let last : built c.in_ok-builder-2.builder kind ≡ one_of choices (built c.categorized.result kind) = (rw c.deref.ensures.value at c.in_ok-builder-2.ensures.ok kind) in
+    let last : built c.in_ok-builder-2.builder kind ≡ one_of choices (built c.with_category.result kind) = (rw c.deref.ensures.value at c.in_ok-builder-2.ensures.ok kind) in
     let whole =
     made c.in_ok-name.name.now kind c.in_ok-is_key.is_key c.in_ok-is_nullable.is_nullable c.in_ok-is_localizable.is_localizable c.in_ok-range.range c.in_ok-foreign.foreign
-    c.in_ok-category.category choices _ _ _ _ _ _ _ _ (c.in_ok-build.ensures.ok kind) (c.keyed-builder.ensures kind) (c.nulled.ensures kind) (c.localized-builder.ensures kind)
-    (c.ranged.ensures kind) (c.in_ok-builder.ensures.ok kind) (c.categorized.ensures kind) last in
+    c.in_ok-category.category choices _ _ _ _ _ _ _ _ (c.in_ok-build.ensures.ok kind) (c.with_key-builder.ensures kind) (c.with_null.ensures kind) (c.with_localizable-builder.ensures kind)
+    (c.with_range.ensures kind) (c.in_ok-builder.ensures.ok kind) (c.with_category.ensures kind) last in
     rw (
       c.in_ok-name.ensures,
       c.in_ok-kind.ensures,
@@ -23,4 +23,4 @@ returns c =
       c.in_ok-foreign.ensures,
       c.in_ok-category.ensures,
       c.in_ok-choices.ensures,
-    ) (ap Some (sym (c.typed.ensures ∙ whole)))
+    ) (ap Some (sym (c.with_type.ensures ∙ whole)))

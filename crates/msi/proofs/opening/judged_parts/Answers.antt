@@ -14,24 +14,24 @@ use Rattle.msi.proofs.opening.judged_parts.Goals as goal
 pub returns-in-Ok-clause-shown : goal.returns-in-Ok-clause-shown
 returns-in-Ok-clause-shown g c tree shown may =
     let letters = letters_in c.args.file.now in
-    parts_shown letters (bytes_in c.args.file.now) tree c.in-Ok.parts c.judged.result (c.in-Ok.ensures.shown tree shown may) c.judged.ensures.parts c.judged.ensures.fault
+    parts_shown letters (bytes_in c.args.file.now) tree c.in-Ok.parts c.parts_and_soundness.result (c.in-Ok.ensures.shown tree shown may) c.parts_and_soundness.ensures.parts c.parts_and_soundness.ensures.fault
 
 pub returns-in-Ok-clause-judged : goal.returns-in-Ok-clause-judged
 returns-in-Ok-clause-judged g c tree held may =
     let a = c.args.file.now in
     let b = c.read_parts.new.file in
     let rests = c.read_parts.ensures.rests in
-    judged_before a b rests tree c.judged.result
-    (c.judged.ensures.judged tree (holds_yet a b tree rests held) (ap may_use rests.letters ∙ may)
+    judged_before a b rests tree c.parts_and_soundness.result
+    (c.parts_and_soundness.ensures.judged tree (holds_yet a b tree rests held) (ap may_use rests.letters ∙ may)
     (subst (λ l. AreHeld l tree c.in-Ok.parts) (sym rests.letters) (c.in-Ok.ensures.shown tree (shown_of_held a tree held) may)))
 
 pub returns-in-Ok-clause-rests : goal.returns-in-Ok-clause-rests
-returns-in-Ok-clause-rests g c = file_then c.args.file.now c.read_parts.new.file c.judged.new.file c.read_parts.ensures.rests c.judged.ensures.rests
+returns-in-Ok-clause-rests g c = file_then c.args.file.now c.read_parts.new.file c.parts_and_soundness.new.file c.read_parts.ensures.rests c.parts_and_soundness.ensures.rests
 
 pub returns-in-Ok-clause-cause : goal.returns-in-Ok-clause-cause
 returns-in-Ok-clause-cause g c =
     let a = c.args.file.now in
     let b = c.read_parts.new.file in
-    let d = c.judged.new.file in
-    if_err_then (HasCauseBelow (allocator_of (mini_of b)) (allocator_of (mini_of d))) (HasCauseBelow (allocator_of (mini_of a)) (allocator_of (mini_of d))) c.judged.result c.judged.ensures.cause
+    let d = c.parts_and_soundness.new.file in
+    if_err_then (HasCauseBelow (allocator_of (mini_of b)) (allocator_of (mini_of d))) (HasCauseBelow (allocator_of (mini_of a)) (allocator_of (mini_of d))) c.parts_and_soundness.result c.parts_and_soundness.ensures.cause
     (λ e cause. file_cause a b d e c.read_parts.ensures.rests cause)

@@ -14,46 +14,46 @@ use Rattle.msi_edits.proofs.inserting.insert_into.Goals as goal
 
 pub returns-in-Err-clause-edits : goal.returns-in-Err-clause-edits
 returns-in-Err-clause-edits g c =
-    edit_refused (heading_of c.args.table.now) (insert_rows c.args.insert.now) c.args.file.now c.prepared.new.file c.args.pool c.in-Err.error c.in-Err.ensures.rests c.in-Err.ensures.told
+    edit_refused (heading_of c.args.table.now) (insert_rows c.args.insert.now) c.args.file.now c.prepared_insert.new.file c.args.pool c.in-Err.error c.in-Err.ensures.rests c.in-Err.ensures.told
 
 pub returns-in-Err-make_room-clause-edits : goal.returns-in-Err-make_room-clause-edits
 returns-in-Err-make_room-clause-edits g c =
     let h = heading_of c.args.table.now in
     let news = insert_rows c.args.insert.now in
-    subst (λ after. EditsTable (rule h.name news) h (Err c.in-Err-make_room.error) c.args.file.now c.prepared.new.file c.args.pool after) (sym c.in-Err-make_room.ensures.err)
-    (edit_refused h news c.args.file.now c.prepared.new.file c.args.pool c.in-Err-make_room.error c.in-Ok.ensures.rests (λ tree held wide rows read. inl (subst (IsFaultUnless ⊥) (sym c.in-Err-make_room.ensures.kinds) tt)))
+    subst (λ after. EditsTable (rule h.name news) h (Err c.in-Err-make_room.error) c.args.file.now c.prepared_insert.new.file c.args.pool after) (sym c.in-Err-make_room.ensures.err)
+    (edit_refused h news c.args.file.now c.prepared_insert.new.file c.args.pool c.in-Err-make_room.error c.in-Ok.ensures.rests (λ tree held wide rows read. inl (subst (IsFaultUnless ⊥) (sym c.in-Err-make_room.ensures.kinds) tt)))
 
 pub returns-in-Err-put_bytes-clause-edits : goal.returns-in-Err-put_bytes-clause-edits
 returns-in-Err-put_bytes-clause-edits g c =
     let h = heading_of c.args.table.now in
     let news = insert_rows c.args.insert.now in
     subst (λ after. EditsTable (rule h.name news) h (Err c.in-Err-put_bytes.error) c.args.file.now c.put_bytes.new.file c.args.pool after) (sym (c.give_up.ensures ∙ c.in-Ok-make_room.ensures.state))
-    (edit_fault h news c.args.file.now c.prepared.new.file c.put_bytes.new.file c.in-Ok.ensures.rests c.deref.result.now c.args.pool c.in-Err-put_bytes.error c.in-Err-put_bytes.ensures.puts)
+    (edit_fault h news c.args.file.now c.prepared_insert.new.file c.put_bytes.new.file c.in-Ok.ensures.rests c.deref.result.now c.args.pool c.in-Err-put_bytes.error c.in-Err-put_bytes.ensures.puts)
 
 pub returns-in-Err-put_bytes-clause-goes_on : goal.returns-in-Err-put_bytes-clause-goes_on
 returns-in-Err-put_bytes-clause-goes_on g c =
-    goes_then (allocator_of (mini_of c.args.file.now)) (allocator_of (mini_of c.prepared.new.file)) (allocator_of (mini_of c.put_bytes.new.file))
-    (rests_go_on (allocator_of (mini_of c.args.file.now)) (allocator_of (mini_of c.prepared.new.file)) (search (rules, c.in-Ok.ensures.rests))) c.in-Err-put_bytes.ensures.goes_on
+    goes_then (allocator_of (mini_of c.args.file.now)) (allocator_of (mini_of c.prepared_insert.new.file)) (allocator_of (mini_of c.put_bytes.new.file))
+    (rests_go_on (allocator_of (mini_of c.args.file.now)) (allocator_of (mini_of c.prepared_insert.new.file)) (search (rules, c.in-Ok.ensures.rests))) c.in-Err-put_bytes.ensures.goes_on
 
 pub returns-clause-edits : goal.returns-clause-edits
 returns-clause-edits g c =
     let h = heading_of c.args.table.now in
     let news = insert_rows c.args.insert.now in
-    let puts : PutsTable h.name c.in-Ok.it.0.items (Ok tt) c.prepared.new.file c.put_bytes.new.file =
-    subst (λ b. PutsTable h.name b (Ok tt) c.prepared.new.file c.put_bytes.new.file) c.deref.ensures.value c.in-Ok-put_bytes.ensures.puts in
+    let puts : PutsTable h.name c.in-Ok.it.0.items (Ok tt) c.prepared_insert.new.file c.put_bytes.new.file =
+    subst (λ b. PutsTable h.name b (Ok tt) c.prepared_insert.new.file c.put_bytes.new.file) c.deref.ensures.value c.in-Ok-put_bytes.ensures.puts in
     subst (λ after. EditsTable (rule h.name news) h (Ok tt) c.args.file.now c.put_bytes.new.file c.args.pool after) (sym (c.adopt.ensures ∙ c.in-Ok-make_room.ensures.next))
-    (edit_done h news c.args.file.now c.prepared.new.file c.put_bytes.new.file c.in-Ok.ensures.rests c.in-Ok.it.0.items c.args.pool (adopted c.args.pool.pool.places c.in-Ok.it.1) c.in-Ok.ensures.changes.marked c.in-Ok.ensures.told puts)
+    (edit_done h news c.args.file.now c.prepared_insert.new.file c.put_bytes.new.file c.in-Ok.ensures.rests c.in-Ok.it.0.items c.args.pool (adopted c.args.pool.pool.places c.in-Ok.it.1) c.in-Ok.ensures.changes.marked c.in-Ok.ensures.told puts)
 
 pub returns-clause-goes_on : goal.returns-clause-goes_on
 returns-clause-goes_on g c =
-    goes_then (allocator_of (mini_of c.args.file.now)) (allocator_of (mini_of c.prepared.new.file)) (allocator_of (mini_of c.put_bytes.new.file))
-    (rests_go_on (allocator_of (mini_of c.args.file.now)) (allocator_of (mini_of c.prepared.new.file)) (search (rules, c.in-Ok.ensures.rests))) c.in-Ok-put_bytes.ensures.goes_on
+    goes_then (allocator_of (mini_of c.args.file.now)) (allocator_of (mini_of c.prepared_insert.new.file)) (allocator_of (mini_of c.put_bytes.new.file))
+    (rests_go_on (allocator_of (mini_of c.args.file.now)) (allocator_of (mini_of c.prepared_insert.new.file)) (search (rules, c.in-Ok.ensures.rests))) c.in-Ok-put_bytes.ensures.goes_on
 
 pub returns-in-Err-make_room-clause-cause : goal.returns-in-Err-make_room-clause-cause
 returns-in-Err-make_room-clause-cause g c =
-    own_so (allocator_of (mini_of c.args.file.now)) (allocator_of (mini_of c.prepared.new.file)) c.in-Err-make_room.error (subst IsOwn (sym c.in-Err-make_room.ensures.kinds) tt)
+    own_so (allocator_of (mini_of c.args.file.now)) (allocator_of (mini_of c.prepared_insert.new.file)) c.in-Err-make_room.error (subst IsOwn (sym c.in-Err-make_room.ensures.kinds) tt)
 
 pub returns-in-Err-put_bytes-clause-cause : goal.returns-in-Err-put_bytes-clause-cause
 returns-in-Err-put_bytes-clause-cause g c =
-    rests_cause (allocator_of (mini_of c.args.file.now)) (allocator_of (mini_of c.prepared.new.file)) (allocator_of (mini_of c.put_bytes.new.file)) c.in-Err-put_bytes.error
+    rests_cause (allocator_of (mini_of c.args.file.now)) (allocator_of (mini_of c.prepared_insert.new.file)) (allocator_of (mini_of c.put_bytes.new.file)) c.in-Err-put_bytes.error
     (search (rules, c.in-Ok.ensures.rests)) c.in-Err-put_bytes.ensures.cause

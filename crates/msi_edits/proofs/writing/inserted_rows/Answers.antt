@@ -16,33 +16,33 @@ pub returns-in-Err-clause-told : goal.returns-in-Err-clause-told
 returns-in-Err-clause-told c =
     refused_so (heading_of c.args.table.now).name c.args.pool.now.pool (with_rows (heading_of c.args.table.now) (rows_held c.args.rows.items)) (insert_rows c.args.insert.now) c.in-Err.error c.in-Err.ensures.inserts
 
-pub written-requires : goal.written-requires
-written-requires c =
+pub bytes_of_table-requires : goal.bytes_of_table-requires
+bytes_of_table-requires c =
     let h = heading_of c.args.table.now in
     let are : AreWritable c.args.pool.now.pool.long h.columns (rows_held c.in-Ok.prepared.0.items) = c.in-Ok.ensures.shape c.requires.writable in
     (c.in_ok-rows.ensures.writable c.args.pool.now.pool.long h.columns are).cells
 
-pub returns-in-Err-written-clause-told : goal.returns-in-Err-written-clause-told
-returns-in-Err-written-clause-told c =
+pub returns-in-Err-bytes_of_table-clause-told : goal.returns-in-Err-bytes_of_table-clause-told
+returns-in-Err-bytes_of_table-clause-told c =
     let h = heading_of c.args.table.now in
     let long = c.args.pool.now.pool.long in
     let are : AreWritable long h.columns (rows_held c.in-Ok.prepared.0.items) = c.in-Ok.ensures.shape c.requires.writable in
     let listed : AreWritable long h.columns (rows_held c.in_ok-rows.rows.items) = c.in_ok-rows.ensures.writable long h.columns are in
-    inl (unwritten long h.columns (rows_held c.in_ok-rows.rows.items) c.in-Err-written.error listed
-    (subst (λ (l : Bool). IsUnwritten l h.columns (rows_held c.in_ok-rows.rows.items) c.in-Err-written.error) (sym c.requires.wide) c.in-Err-written.ensures))
+    inl (unwritten long h.columns (rows_held c.in_ok-rows.rows.items) c.in-Err-bytes_of_table.error listed
+    (subst (λ (l : Bool). IsUnwritten l h.columns (rows_held c.in_ok-rows.rows.items) c.in-Err-bytes_of_table.error) (sym c.requires.wide) c.in-Err-bytes_of_table.ensures))
 
-pub returns-in-Ok-written-clause-told : goal.returns-in-Ok-written-clause-told
-returns-in-Ok-written-clause-told c =
+pub returns-in-Ok-bytes_of_table-clause-told : goal.returns-in-Ok-bytes_of_table-clause-told
+returns-in-Ok-bytes_of_table-clause-told c =
     let h = heading_of c.args.table.now in
     let long = c.args.pool.now.pool.long in
     let pool = c.args.pool.now.pool in
     let t = with_rows h (rows_held c.args.rows.items) in
     let news = insert_rows c.args.insert.now in
     let are : AreWritable long h.columns (rows_held c.in-Ok.prepared.0.items) = c.in-Ok.ensures.shape c.requires.writable in
-    let w : IsWrittenAs long h.columns (rows_held c.in_ok-rows.rows.items) c.in-Ok-written.bytes.items =
-    subst (λ (l : Bool). IsWrittenAs l h.columns (rows_held c.in_ok-rows.rows.items) c.in-Ok-written.bytes.items) (sym c.requires.wide) c.in-Ok-written.ensures in
+    let w : IsWrittenAs long h.columns (rows_held c.in_ok-rows.rows.items) c.in-Ok-bytes_of_table.bytes.items =
+    subst (λ (l : Bool). IsWrittenAs l h.columns (rows_held c.in_ok-rows.rows.items) c.in-Ok-bytes_of_table.bytes.items) (sym c.requires.wide) c.in-Ok-bytes_of_table.ensures in
     insert_is h.name pool t news (rows_held c.in-Ok.prepared.0.items) (pool_after c.args.pool.now c.in-Ok.prepared.1) c.in-Ok.ensures.inserts (ap is_system (sym c.name.ensures) ∙ sym c.is_system.ensures ∙ c.if-is_system.false)
-    (rows_held c.in_ok-rows.rows.items) c.in-Ok-written.bytes.items (rows_said c.in_ok-values.values.items) (rows_said c.in_ok-values-2.values.items)
+    (rows_held c.in_ok-rows.rows.items) c.in-Ok-bytes_of_table.bytes.items (rows_said c.in_ok-values.values.items) (rows_said c.in_ok-values-2.values.items)
     (places_held c.in-Ok.prepared.0.items (subst (λ rows. list_all (λ row. list_all has_place row.items) rows ≡ true) c.deref-2.ensures.value c.have_places.ensures)) are
     (c.in_ok-values.ensures.ok ∙ ap (λ rows. map (row_data pool) (rows_held rows)) c.deref.ensures.value)
     (c.in_ok-values-2.ensures.ok ∙ ap (λ n. rows_said c.in_ok-values.values.items ++ n) c.new_rows.ensures)

@@ -1,6 +1,6 @@
 use Rattle.std.proofs.Common.{◌↔◌, drop}
-use Rattle.cfb.specs.Streams.{Holds}
-use Rattle.cfb.specs.Views.{letters_in, Rests}
+use Rattle.cfb.specs.Streams.{FileHolds}
+use Rattle.cfb.specs.Views.{letters_in, FileRests}
 use Rattle.cfb_tree.specs.Tree.{Tree}
 use Rattle.msi_meaning.specs.Uses.{counts_of}
 use Rattle.msi_schema.specs.Headings.{headings_in}
@@ -10,8 +10,8 @@ use Rattle.msi_judge.proofs.counting.are_uses_counted.Given as goal
 -- the pool counts the uses of all tables just where what is left is those of the tables that come
 abbrev pub invariant-loop-table : goal.invariant-loop-table
 invariant-loop-table g l = record {
-  rests : Rests {g = g.F.ReadMedium} l.fn.file l.file;
-  left : (tree : Tree) → Holds {g = g.F.ReadMedium} l.fn.file tree
+  rests : FileRests {g = g.F.ReadMedium} l.fn.file l.file;
+  left : (tree : Tree) → FileHolds {g = g.F.ReadMedium} l.fn.file tree
       → AreLeft (letters_in {g = g.F.ReadMedium} l.fn.file) tree (counts_of l.pool.pool.places) (headings_in l.tables)
       ↔ AreLeft (letters_in {g = g.F.ReadMedium} l.fn.file) tree l.left.items (headings_in (drop l.table-index l.tables));
 }

@@ -24,4 +24,4 @@ returns-clause-answer c =
     list_all-map (has_column t.columns) string_bytes c.args.names.now ∙ sym c.has_each.ensures ∙ c.if-not-has_each.false in
     let known : knows_condition t.columns (condition_of c.args.condition.now) ≡ true = sym c.in_ok-knows_condition.ensures.ok ∙ c.if-not-branch.false in
     let done = cut_done c.args.pool.now.pool (map string_bytes c.args.names.now) (condition_of c.args.condition.now) t (rows_held c.in_ok-rows.rows.items) named known c.in_ok-rows.ensures.ok in
-    subst (Answers answered c.projected.result) (sym done) c.projected.ensures.answer
+    subst (Answers answered c.projected_rows.result) (sym done) c.projected_rows.ensures.answer

@@ -8,8 +8,8 @@ use Rattle.msi_query.specs.Sources.{AnswersOf, Tables}
 use Rattle.msi_texts.specs.Results.{◌>>=◌}
 use Rattle.msi_query.proofs.select.+applied.Goals as goal
 
-pub Join::found-returns-in_ok-second-in-Inner-clause-answer : goal.Join::found-returns-in_ok-second-in-Inner-clause-answer
-Join::found-returns-in_ok-second-in-Inner-clause-answer g t c =
+pub Join::found_rows-returns-in_ok-second-in-Inner-clause-answer : goal.Join::found_rows-returns-in_ok-second-in-Inner-clause-answer
+Join::found_rows-returns-in_ok-second-in-Inner-clause-answer g t c =
     let pool = c.args.pool.now.pool in
     let left = c.deref-in-Inner.result.now in
     let right = c.deref-in-Inner-2.result.now in
@@ -25,8 +25,8 @@ Join::found-returns-in_ok-second-in-Inner-clause-answer g t c =
     (λ tables. selected tables pool (query_of left)) (λ tables. selected tables pool (query_of right)) (inner_joined pool on)
     (answered c.in_ok-first-in-Inner.first) (answered c.in_ok-second-in-Inner.second) c.in_ok-first-in-Inner.ensures.answer later c.inner_joined.ensures.answer)
 
-pub Join::found-returns-in_ok-second-in-Left-clause-answer : goal.Join::found-returns-in_ok-second-in-Left-clause-answer
-Join::found-returns-in_ok-second-in-Left-clause-answer g t c =
+pub Join::found_rows-returns-in_ok-second-in-Left-clause-answer : goal.Join::found_rows-returns-in_ok-second-in-Left-clause-answer
+Join::found_rows-returns-in_ok-second-in-Left-clause-answer g t c =
     let pool = c.args.pool.now.pool in
     let left = c.deref-in-Left.result.now in
     let right = c.deref-in-Left-2.result.now in
@@ -42,8 +42,8 @@ Join::found-returns-in_ok-second-in-Left-clause-answer g t c =
     (λ tables. selected tables pool (query_of left)) (λ tables. selected tables pool (query_of right)) (left_joined pool on)
     (answered c.in_ok-first-in-Left.first) (answered c.in_ok-second-in-Left.second) c.in_ok-first-in-Left.ensures.answer later c.left_joined.ensures.answer)
 
-pub Join::found-returns-in_err-first-in-Inner-clause-answer : goal.Join::found-returns-in_err-first-in-Inner-clause-answer
-Join::found-returns-in_err-first-in-Inner-clause-answer g t c =
+pub Join::found_rows-returns-in_err-first-in-Inner-clause-answer : goal.Join::found_rows-returns-in_err-first-in-Inner-clause-answer
+Join::found_rows-returns-in_err-first-in-Inner-clause-answer g t c =
     let pool = c.args.pool.now.pool in
     let left = c.deref-in-Inner.result.now in
     let right = c.in-Inner.right.value in
@@ -60,8 +60,8 @@ Join::found-returns-in_err-first-in-Inner-clause-answer g t c =
     (first_refused has is_fault answered answered e (λ tables. selected tables pool (query_of left)) (λ tables a. selected tables pool (query_of right) >>= λ b. inner_joined pool on a b)
     c.in_err-first-in-Inner.ensures.answer))
 
-pub Join::found-returns-in_err-second-in-Inner-clause-answer : goal.Join::found-returns-in_err-second-in-Inner-clause-answer
-Join::found-returns-in_err-second-in-Inner-clause-answer g t c =
+pub Join::found_rows-returns-in_err-second-in-Inner-clause-answer : goal.Join::found_rows-returns-in_err-second-in-Inner-clause-answer
+Join::found_rows-returns-in_err-second-in-Inner-clause-answer g t c =
     let pool = c.args.pool.now.pool in
     let left = c.deref-in-Inner.result.now in
     let right = c.deref-in-Inner-2.result.now in
@@ -81,8 +81,8 @@ Join::found-returns-in_err-second-in-Inner-clause-answer g t c =
     (λ tables has. g.met.S.TableSource.rests_keeps _ _ tables rests has) (λ fault. g.met.S.TableSource.rests_cause _ _ _ e rests fault)
     c.in_ok-first-in-Inner.ensures.answer c.in_err-second-in-Inner.ensures.answer))
 
-pub Join::found-returns-in_err-first-in-Left-clause-answer : goal.Join::found-returns-in_err-first-in-Left-clause-answer
-Join::found-returns-in_err-first-in-Left-clause-answer g t c =
+pub Join::found_rows-returns-in_err-first-in-Left-clause-answer : goal.Join::found_rows-returns-in_err-first-in-Left-clause-answer
+Join::found_rows-returns-in_err-first-in-Left-clause-answer g t c =
     let pool = c.args.pool.now.pool in
     let left = c.deref-in-Left.result.now in
     let right = c.in-Left.right.value in
@@ -99,8 +99,8 @@ Join::found-returns-in_err-first-in-Left-clause-answer g t c =
     (first_refused has is_fault answered answered e (λ tables. selected tables pool (query_of left)) (λ tables a. selected tables pool (query_of right) >>= λ b. left_joined pool on a b)
     c.in_err-first-in-Left.ensures.answer))
 
-pub Join::found-returns-in_err-second-in-Left-clause-answer : goal.Join::found-returns-in_err-second-in-Left-clause-answer
-Join::found-returns-in_err-second-in-Left-clause-answer g t c =
+pub Join::found_rows-returns-in_err-second-in-Left-clause-answer : goal.Join::found_rows-returns-in_err-second-in-Left-clause-answer
+Join::found_rows-returns-in_err-second-in-Left-clause-answer g t c =
     let pool = c.args.pool.now.pool in
     let left = c.deref-in-Left.result.now in
     let right = c.deref-in-Left-2.result.now in

@@ -11,15 +11,15 @@ use Rattle.msi_schema.proofs.FoundMore.{as_heading, told_so}
 use Rattle.msi_schema.proofs.Judged.{all_hold, columns_unfilled, join_ok, passed_on, refuses_so, tables_keyless, uncounted, undescribed, whole_rows, Refuses}
 use Rattle.msi_schema.proofs.schema.tables_of_values.Goals as goal
 
-pub returns-in_err-keyed-clause-err : goal.returns-in_err-keyed-clause-err
-returns-in_err-keyed-clause-err c =
+pub returns-in_err-rows_by_keys-clause-err : goal.returns-in_err-rows_by_keys-clause-err
+returns-in_err-rows_by_keys-clause-err c =
     let T = rows_said c.args.tables.now in
     let C = rows_said c.args.columns.now in
     let V = rows_said c.args.validation.now in
-    let e = c.in_err-keyed.field-0.0 in
+    let e = c.in_err-rows_by_keys.field-0.0 in
     passed_on c.from_residual.result e (Refuses (is_schema T C V)) c.from_residual.ensures.1
     (refuses_so (are_keys (map (take c.widest.result) T)) (is_schema T C V) e
-    (λ fails. tables_keyless T C V (ap are_keys (sym (whole_rows c.args.tables.now c.widest.result c.widest.ensures)) ∙ fails)) c.in_err-keyed.ensures.err)
+    (λ fails. tables_keyless T C V (ap are_keys (sym (whole_rows c.args.tables.now c.widest.result c.widest.ensures)) ∙ fails)) c.in_err-rows_by_keys.ensures.err)
 
 pub returns-then-not-are_filled-clause-err : goal.returns-then-not-are_filled-clause-err
 returns-then-not-are_filled-clause-err c =
@@ -56,7 +56,7 @@ returns-clause-ok c =
     let found = c.in_ok-found.found in
     let told = c.in_ok-described.ensures.ok C V c.in_ok-by_number.ensures.ok.1 c.in_ok-by_name.ensures.ok.1 c.in_ok-counts.ensures.ok.1 in
     let schema : is_schema T C V ≡ true =
-    all_hold T C V (ap are_keys (sym (whole_rows c.args.tables.now c.widest.result c.widest.ensures)) ∙ c.in_ok-keyed.ensures.ok.0) c.in_ok-by_number.ensures.ok.0
+    all_hold T C V (ap are_keys (sym (whole_rows c.args.tables.now c.widest.result c.widest.ensures)) ∙ c.in_ok-rows_by_keys.ensures.ok.0) c.in_ok-by_number.ensures.ok.0
     (ap (list_all (list_all is_filled)) (sym (whole_rows c.args.columns.now c.widest-2.result c.widest-2.ensures)) ∙ sym c.are_filled.ensures ∙ c.if-not-are_filled.false)
     c.in_ok-counts.ensures.ok.0 c.in_ok-by_name.ensures.ok.0 told.0 in
     join_ok (λ tables. headings_in tables.items ≡ map (as_heading c.args.long) found.entries)

@@ -5,7 +5,7 @@ use Rattle.cfb.proofs.PutStreams.{means_shown}
 use Rattle.cfb_entries.specs.Rules.{names_in}
 use Rattle.cfb_meaning.specs.TreeRules.{is_stream, remove_stream, tree_step, yes}
 use Rattle.cfb_medium.specs.declared.error.Error.TheVariants.{NotFound}
-use Rattle.msi_meaning.specs.Package.{Package as Packed}
+use Rattle.msi_meaning.specs.Package.{Packed}
 use Rattle.msi_meaning.specs.Streams.{may_name, plain_stream_name, stream_removed}
 use Rattle.msi_streams.specs.Writing.{Makes}
 use Rattle.msi_streams.proofs.Exits.{does_puts, first_refused, rule_done, rule_refused}

@@ -4,7 +4,7 @@ use Rattle.cfb_fat.specs.Tables.{version_of}
 use Rattle.cfb_medium.specs.Bytes.{overwritten}
 use Rattle.cfb_mini.specs.Views.{allocator_of}
 use Rattle.cfb_tree.specs.Tree.{Tree}
-use Rattle.cfb.specs.Doing.{Means}
+use Rattle.cfb.specs.Doing.{FileMeans}
 use Rattle.cfb.specs.Views.{letters_in, mini_of}
 use Rattle.cfb.proofs.Copies.{if_done, over_nothing}
 use Rattle.cfb.proofs.compound_file.CompoundFile.copy_to.Goals as goal
@@ -15,7 +15,7 @@ returns-in-Err-clause-refused g c = λ tree means. c.in-Err.ensures.refused (let
 pub returns-clause-copied : goal.returns-clause-copied
 returns-clause-copied g c =
     let it = c.args.self.now in
-    if_done c.write_at.result (IsTrue (g.T.ReadMedium.honest c.args.target.now)) _ ((tree : Tree) → Means it tree → HoldsCopy (version_of (allocator_of (mini_of it))) (letters_in it) (g.T.ReadMedium.bytes c.write_at.new.self) tree)
+    if_done c.write_at.result (IsTrue (g.T.ReadMedium.honest c.args.target.now)) _ ((tree : Tree) → FileMeans it tree → HoldsCopy (version_of (allocator_of (mini_of it))) (letters_in it) (g.T.ReadMedium.bytes c.write_at.new.self) tree)
     (λ honest are tree means. subst (λ l. HoldsCopy (version_of (allocator_of (mini_of it))) (letters_in it) l tree)
     (sym (are ∙ ap (λ l. overwritten l 0 c.deref.result.now) (c.requires honest) ∙ over_nothing c.deref.result.now ∙ c.deref.ensures.value))
     (c.in-Ok.ensures.copied (letters_in it) tree means.live))

@@ -8,7 +8,7 @@ use Rattle.cfb_tree.specs.Changes.{changed, with_bytes}
 use Rattle.cfb_writing.specs.Streams.{resized}
 use Rattle.cfb_writing.proofs.LongBytes.{length-resized}
 use Rattle.cfb.specs.Views.{letters_in, mini_of}
-use Rattle.cfb.specs.Writing.{IsWritten}
+use Rattle.cfb.specs.Writing.{StreamIsWritten}
 use Rattle.cfb.proofs.Again.{changed_again}
 use Rattle.cfb.proofs.compound_file.CompoundFile.extend_bytes.Goals as goal
 
@@ -48,7 +48,7 @@ returns-clause-written g c = λ path tree content w.
     let longer = resized c.args.end content in
     let later = overwritten longer c.args.at c.args.bytes.now in
     let there = c.in_default-overwrite_bytes.ensures.written path _ longer (c.in_default.ensures.resized path tree content w) in
-    subst (λ t. IsWritten c.overwrite_bytes.new.self path t c.args.id later)
+    subst (λ t. StreamIsWritten c.overwrite_bytes.new.self path t c.args.id later)
     (ap (λ l. changed l (with_bytes later) path (changed letters (with_bytes longer) path tree)) c.resize_bytes.ensures.seen.0 ∙ changed_again letters longer later path tree)
     there
 

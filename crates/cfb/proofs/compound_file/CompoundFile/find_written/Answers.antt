@@ -2,7 +2,7 @@ use Rattle.std.proofs.Common.{◌≡◌, inl, ap, sym, subst, ◌∙◌}
 use Rattle.std.specs.Prelude.{slice_get, Err, Some}
 use Rattle.cfb_directory.specs.Views.{entries_held}
 use Rattle.cfb_mini.specs.Views.{directory_of}
-use Rattle.cfb_streams.specs.Streams.{sectors_in, IsOfLevel, LiesIn}
+use Rattle.cfb_streams.specs.Streams.{sectors_in, IsOfLevel, StreamLiesIn}
 use Rattle.cfb_tree.specs.Directory.{Entry}
 use Rattle.cfb_tree.specs.EntryViews.{entry_in}
 use Rattle.cfb_tree.proofs.OneContent.{Some_same}
@@ -40,7 +40,7 @@ returns-clause-found g c = λ tree m.
         at = f.at;
         links = λ other there.
             let same : e ≡ other = Some_same (sym found ∙ there) in
-            subst (λ (x : Entry). LiesIn (mini_of it) x.start x.size (sectors_in links) × IsOfLevel (mini_of it) x.size links) same (lies, level);
+            subst (λ (x : Entry). StreamLiesIn (mini_of it) x.start x.size (sectors_in links) × IsOfLevel (mini_of it) x.size links) same (lies, level);
         ahead = none_ahead c.clear.new.self f.content c.clear.ensures.none;
       };
       len_is = size_meant it f.names tree id f.content m f.at e found links lies level;

@@ -2,7 +2,7 @@ use mathlib.Core.Option.{some}
 use Rattle.std.proofs.Common.{◌≡◌, ◌∙◌, Ok, Err, ap, refl, subst, sym}
 use Rattle.cfb_medium.specs.declared.error.Error.TheVariants.{Failed}
 use Rattle.cfb.specs.Streams.{bytes_found, FindsStream, HasStream}
-use Rattle.cfb.specs.Views.{Rests}
+use Rattle.cfb.specs.Views.{FileRests}
 use Rattle.cfb.proofs.StreamsFound.{carried}
 use Rattle.cfb.proofs.compound_file.CompoundFile.open_read_stream.Goals as goal
 
@@ -15,7 +15,7 @@ returns-in-Ok g c =
       (
         c.new.ensures.same_reference,
         (
-          subst (Rests it) (sym file) told.rests,
+          subst (FileRests it) (sym file) told.rests,
           (
             position,
             (

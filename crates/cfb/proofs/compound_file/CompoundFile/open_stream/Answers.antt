@@ -1,7 +1,7 @@
 use mathlib.Core.Option.{some}
 use Rattle.std.proofs.Common.{◌∙◌, ap, refl, subst, sym}
-use Rattle.cfb.specs.Views.{Rests}
-use Rattle.cfb.specs.Writing.{IsWritten}
+use Rattle.cfb.specs.Views.{FileRests}
+use Rattle.cfb.specs.Writing.{StreamIsWritten}
 use Rattle.cfb.proofs.compound_file.CompoundFile.open_stream.Goals as goal
 
 pub returns-in-Ok : goal.returns-in-Ok
@@ -13,7 +13,7 @@ returns-in-Ok g c =
       (
         c.new.ensures.same_reference,
         (
-          subst (Rests it) (sym file) told.rests,
+          subst (FileRests it) (sym file) told.rests,
           (
             position,
             (
@@ -25,7 +25,7 @@ returns-in-Ok g c =
                     content = f.content;
                     answer = f.answer;
                     stands = record {
-                      written = subst (λ x. IsWritten x f.names tree c.new.result.id f.content) (sym file) (subst (λ n. IsWritten c.find_written.new.self f.names tree n f.content) (sym id) f.written);
+                      written = subst (λ x. StreamIsWritten x f.names tree c.new.result.id f.content) (sym file) (subst (λ n. StreamIsWritten c.find_written.new.self f.names tree n f.content) (sym id) f.written);
                       len = len ∙ f.len_is;
                     };
                   },

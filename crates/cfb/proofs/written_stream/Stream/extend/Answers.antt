@@ -4,7 +4,7 @@ use Rattle.cfb_tree.specs.Changes.{changed, with_bytes}
 use Rattle.cfb_writing.specs.Streams.{resized, LacksRoom}
 use Rattle.cfb_writing.proofs.LongBytes.{length-resized}
 use Rattle.cfb.specs.Views.{letters_in, mini_of}
-use Rattle.cfb.specs.Writing.{file_under, IsWritten}
+use Rattle.cfb.specs.Writing.{file_under, StreamIsWritten}
 use Rattle.cfb.proofs.Again.{written_behind}
 use Rattle.cfb_medium.specs.declared.error.Error.TheVariants.{Full, InvalidData, InvalidInput}
 use Rattle.cfb.proofs.Standing.{err_as, keeps_so, lost_so}
@@ -32,7 +32,7 @@ returns-clause-written g c = λ path tree content s.
     let same = written_behind content bytes at end (omega (arith, len, inside)) is (omega (arith, len, behind)) in
     let size = length_within (resized end content) bytes at (let long = length-resized content end in omega (arith, long, is)) ∙ length-resized content end in
     record {
-      written = subst (λ b. IsWritten c.extend_bytes.new.self path (changed (letters_in (file_under it)) (with_bytes b) path tree) it.id b) same (c.in_default.ensures.written path tree content s.written);
+      written = subst (λ b. StreamIsWritten c.extend_bytes.new.self path (changed (letters_in (file_under it)) (with_bytes b) path tree) it.id b) same (c.in_default.ensures.written path tree content s.written);
       len = sym size ∙ ap length same;
     }
 

@@ -1,5 +1,5 @@
 use Rattle.std.proofs.Common.{◌≡◌, chars, ap, sym, subst}
-use Rattle.cfb_siblings.specs.Places.{IsPlace, IsStorageAt, IsTaken}
+use Rattle.cfb_siblings.specs.Places.{IsPlace, IsStorageAt, NameIsTaken}
 use Rattle.cfb_siblings.specs.Reading.{ReadBy}
 use Rattle.cfb_tree.specs.LetterViews.{letters_of}
 use Rattle.cfb_tree.specs.Objects.{HoldsTree}
@@ -30,7 +30,7 @@ returns-clause-removed g c =
     let place = c.in-Some-Taken.ensures reads tree path (subst (λ es. HoldsTree l (ReadBy reads) es tree) (sym same) has.holds) (subst (λ es. IsStorageAt l es path c.args.parent) (sym same) has.storage) in
     let here = subst (IsPlace (ReadBy reads) l (entries_in c.deref.result.now) tree path c.args.parent name) c.in-Some-Taken.field-0-is place in (
       c.in-Some-Taken.id,
-      removes l reads tree path c.args.parent name (record { within = has; taken = subst (λ es. IsTaken l es c.args.parent name c.in-Some-Taken.link c.in-Some-Taken.id) same here.0 }),
+      removes l reads tree path c.args.parent name (record { within = has; taken = subst (λ es. NameIsTaken l es c.args.parent name c.in-Some-Taken.link c.in-Some-Taken.id) same here.0 }),
       at,
     ))
     c.unlink_dir_entry.ensures.removed c.unlink_dir_entry.ensures.entry
@@ -43,4 +43,4 @@ returns-clause-refused g c = λ wrong reads tree path has ready.
     let place = c.in-Some-Taken.ensures reads tree path (subst (λ es. HoldsTree l (ReadBy reads) es tree) (sym same) has.holds) (subst (λ es. IsStorageAt l es path c.args.parent) (sym same) has.storage) in
     let here = subst (IsPlace (ReadBy reads) l (entries_in c.deref.result.now) tree path c.args.parent name) c.in-Some-Taken.field-0-is place in
     c.unlink_dir_entry.ensures.refused wrong l reads tree path c.args.parent name
-    (record { within = has; taken = subst (λ es. IsTaken l es c.args.parent name c.in-Some-Taken.link c.in-Some-Taken.id) same here.0 }) ready
+    (record { within = has; taken = subst (λ es. NameIsTaken l es c.args.parent name c.in-Some-Taken.link c.in-Some-Taken.id) same here.0 }) ready

@@ -3,7 +3,7 @@ use Rattle.std.specs.Prelude.{slice_set}
 use Rattle.cfb_sectors.proofs.Appending.{on_ok}
 use Rattle.cfb_siblings.specs.Changes.{HoldsOneLess, TakesOut}
 use Rattle.cfb_siblings.specs.Links.{taken_out}
-use Rattle.cfb_siblings.specs.Places.{path_to, IsStorageAt, IsTaken}
+use Rattle.cfb_siblings.specs.Places.{path_to, IsStorageAt, NameIsTaken}
 use Rattle.cfb_siblings.specs.Reading.{ReadBy}
 use Rattle.cfb_tree.specs.Changes.{removed}
 use Rattle.cfb_tree.specs.Entries.{empty_entry}
@@ -25,7 +25,7 @@ returns-clause-removed g c =
     let id = c.args.id in
     let old = entries_held c.args.self.now in
     let same : entries_in c.deref.result.now ≡ old = ap entries_in c.deref.ensures.value in
-    let plan = subst (λ es. (h : HoldsTree l (ReadBy reads) es tree) → IsStorageAt l es path parent → IsTaken l es parent name c.args.link id
+    let plan = subst (λ es. (h : HoldsTree l (ReadBy reads) es tree) → IsStorageAt l es path parent → NameIsTaken l es parent name c.args.link id
     → TakesOut l (ReadBy reads) es tree h.ids (path_to path name) id c.in-Some.removal) same (λ h s t. c.in-Some.ensures reads l tree path parent name h s t) in
     let out = plan h s child.taken in
     record {
@@ -47,13 +47,13 @@ pub returns-in_default-clause-refused : goal.returns-in_default-clause-refused
 returns-in_default-clause-refused g c = λ wrong l reads tree path parent name child ready.
     let same : entries_in c.deref.result.now ≡ entries_held c.args.self.now = ap entries_in c.deref.ensures.value in
     c.in_default.ensures reads l tree path parent name (subst (λ es. HoldsTree l (ReadBy reads) es tree) (sym same) child.within.holds)
-    (subst (λ es. IsStorageAt l es path parent) (sym same) child.within.storage) (subst (λ es. IsTaken l es parent name c.args.link c.args.id) (sym same) child.taken)
+    (subst (λ es. IsStorageAt l es path parent) (sym same) child.within.storage) (subst (λ es. NameIsTaken l es parent name c.args.link c.args.id) (sym same) child.taken)
 
 pub returns-then-id-len-clause-refused : goal.returns-then-id-len-clause-refused
 returns-then-id-len-clause-refused g c = λ wrong l reads tree path parent name child ready.
     let id = c.args.id in
     let same : entries_in c.deref.result.now ≡ entries_held c.args.self.now = ap entries_in c.deref.ensures.value in
-    let plan = subst (λ es. (h : HoldsTree l (ReadBy reads) es tree) → IsStorageAt l es path parent → IsTaken l es parent name c.args.link id
+    let plan = subst (λ es. (h : HoldsTree l (ReadBy reads) es tree) → IsStorageAt l es path parent → NameIsTaken l es parent name c.args.link id
     → TakesOut l (ReadBy reads) es tree h.ids (path_to path name) id c.in-Some.removal) same (λ h s t. c.in-Some.ensures reads l tree path parent name h s t) in
     let out = plan child.within.holds child.within.storage child.taken in
     object_lost (entries_held c.args.self.now) (ReadBy reads) id out.object out.own out.is_object (lost_in c.args.self.now.entries.items.items id (let past = c.if-id-len.true in let size = c.len.ensures in omega (arith, past, size)))
@@ -63,7 +63,7 @@ returns-clause-refused g c = λ wrong l reads tree path parent name child ready.
     let id = c.args.id in
     let it = c.args.self.now in
     let same : entries_in c.deref.result.now ≡ entries_held it = ap entries_in c.deref.ensures.value in
-    let plan = subst (λ es. (h : HoldsTree l (ReadBy reads) es tree) → IsStorageAt l es path parent → IsTaken l es parent name c.args.link id
+    let plan = subst (λ es. (h : HoldsTree l (ReadBy reads) es tree) → IsStorageAt l es path parent → NameIsTaken l es parent name c.args.link id
     → TakesOut l (ReadBy reads) es tree h.ids (path_to path name) id c.in-Some.removal) same (λ h s t. c.in-Some.ensures reads l tree path parent name h s t) in
     let out = plan child.within.holds child.within.storage child.taken in
     c.take_out.ensures.refused wrong

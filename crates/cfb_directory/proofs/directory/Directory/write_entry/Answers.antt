@@ -1,6 +1,6 @@
 use Rattle.std.proofs.Common.{◌≡◌, ◌+◌, ◌*◌, ◌≤◌, ◌++◌, length, refl, ap, sym, subst, ◌∙◌, arith, rules, Err, inl, inr, ⊎_elim}
 use Rattle.cfb_chains.specs.ChainCalls.{IsInvalid}
-use Rattle.cfb_fat.specs.Calls.{Answers}
+use Rattle.cfb_fat.specs.Calls.{FatAnswers}
 use Rattle.cfb_fat.specs.Tables.{version_of}
 use Rattle.cfb_owned.specs.Chains.{len_of}
 use Rattle.cfb_tree.specs.Directory.{entry_bytes, FitsEntry}
@@ -33,8 +33,8 @@ returns-in-Err-overwrite_chain-clause-answers g c =
     let a = allocator_of c.args.self.now in
     let b = c.overwrite_chain.new.allocator in
     elim c.match-error.branch [
-      | in-InvalidInput w ↦ subst (λ r. Answers {g = g.F.ReadMedium} IsInvalid r a b) (sym w.result-is) (record { live = tt; failed = search rules; after = told.after; cause = λ start from. search rules; fault = search rules })
-      | in_default-error w ↦ subst (λ r. Answers {g = g.F.ReadMedium} IsInvalid r a b) (sym w.result-is) (record { live = tt; failed = search rules; after = told.after; cause = told.cause; fault = ⊎_elim inl (⊎_elim inr (λ is. absurd (w.in_default-error.not-InvalidInput is))) told.fault })
+      | in-InvalidInput w ↦ subst (λ r. FatAnswers {g = g.F.ReadMedium} IsInvalid r a b) (sym w.result-is) (record { live = tt; failed = search rules; after = told.after; cause = λ start from. search rules; fault = search rules })
+      | in_default-error w ↦ subst (λ r. FatAnswers {g = g.F.ReadMedium} IsInvalid r a b) (sym w.result-is) (record { live = tt; failed = search rules; after = told.after; cause = told.cause; fault = ⊎_elim inl (⊎_elim inr (λ is. absurd (w.in_default-error.not-InvalidInput is))) told.fault })
     ]
 
 pub returns-clause-set : goal.returns-clause-set

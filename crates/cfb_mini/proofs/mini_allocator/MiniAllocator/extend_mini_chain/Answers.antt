@@ -3,7 +3,7 @@ use Rattle.std.proofs.lemmas.Result.{IfOk-weaker}
 use Rattle.cfb_fat.specs.Tables.{AllRests}
 use Rattle.cfb_owned.specs.Chains.{GoesOn, HasChain}
 use Rattle.cfb_mini.specs.LinkViews.{minis_of}
-use Rattle.cfb_mini.specs.Taking.{TakesIn}
+use Rattle.cfb_mini.specs.NextSector.{TakesIn}
 use Rattle.cfb_mini.proofs.Keeping.{extends_is, fat_chain, rests_is}
 use Rattle.cfb_mini.proofs.Results.{both_err}
 use Rattle.cfb_mini.proofs.mini_allocator.MiniAllocator.extend_mini_chain.Goals as goal

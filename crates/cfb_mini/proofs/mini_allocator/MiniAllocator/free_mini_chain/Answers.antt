@@ -1,7 +1,7 @@
 use Rattle.std.proofs.Common.{subst, sym}
 use Rattle.cfb_fat.specs.Tables.{AllRests}
 use Rattle.cfb_owned.specs.Chains.{GoesOn, HasChain}
-use Rattle.cfb_mini.specs.Entering.{Enters}
+use Rattle.cfb_mini.specs.NumberWrites.{Enters}
 use Rattle.cfb_mini.specs.LinkViews.{minis_of}
 use Rattle.cfb_mini.proofs.Keeping.{fat_chain, frees_is, rests_is}
 use Rattle.cfb_mini.proofs.Results.{both_err, both_ok}

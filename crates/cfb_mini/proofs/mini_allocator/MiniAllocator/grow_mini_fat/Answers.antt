@@ -3,7 +3,7 @@ use Rattle.cfb_sectors.proofs.Appending.{on_ok}
 use Rattle.cfb_fat.specs.Tables.{has_failed_here, orderly_of, AllRests}
 use Rattle.cfb_owned.specs.Chains.{GoesOn, HasChain, LacksSectors}
 use Rattle.cfb_chains.specs.LinkViews.{ids_of}
-use Rattle.cfb_mini.specs.Growing.{GrowsTable}
+use Rattle.cfb_mini.specs.FatGrowth.{GrowsTable}
 use Rattle.cfb_mini.specs.Views.{allocator_of}
 use Rattle.cfb_mini.proofs.Keeping.{fat_chain, grows_fat_is, rests_same}
 use Rattle.cfb_mini.proofs.LongerTables.{lacks_one}

@@ -2,7 +2,7 @@ use Rattle.std.proofs.Common.{subst, sym}
 use Rattle.cfb_sectors.proofs.Appending.{on_ok}
 use Rattle.cfb_fat.specs.Tables.{AllRests}
 use Rattle.cfb_owned.specs.Chains.{GoesOn, HasChain}
-use Rattle.cfb_mini.specs.Entering.{CutsMinis}
+use Rattle.cfb_mini.specs.NumberWrites.{CutsMinis}
 use Rattle.cfb_mini.specs.LinkViews.{minis_of}
 use Rattle.cfb_mini.proofs.Keeping.{fat_chain, rests_is, shortens_is}
 use Rattle.cfb_mini.proofs.Results.{both_err}

@@ -3,7 +3,7 @@ use Rattle.std.specs.Prelude.{OnOk}
 use Rattle.cfb_mini.specs.Changing.{Shortens}
 use Rattle.cfb_mini_chains.specs.MiniChainCalls.{minis_for}
 use Rattle.cfb_mini_chains.specs.MiniChainViews.{links_of, mini_of, mini_sectors_of, HasChain}
-use Rattle.cfb_mini_chains.specs.MiniGrowing.{Appends}
+use Rattle.cfb_mini_chains.specs.MiniGrowing.{MiniAppends}
 use Rattle.cfb_mini_chains.proofs.chain.MiniChain.set_len.Goals as goal
 
 pub returns-then-count-mini_sector_ids-clause-shorter : goal.returns-then-count-mini_sector_ids-clause-shorter
@@ -18,5 +18,5 @@ returns-clause-longer g c = λ more.
     let it = c.args.self.now in
     let new = c.lengthen_to.new.self in
     let count : c.div_ceil-count.result ≡ minis_for c.args.len = let is = c.div_ceil-count.ensures in omega (arith, is) in
-    subst (λ n. OnOk c.lengthen_to.result ((own : ℕ → List ℕ) → HasChain it own → Appends (replicate (64 * (n - length (mini_sectors_of it))) 0) (mini_of it) (mini_of new) (links_of it) (links_of new) own))
+    subst (λ n. OnOk c.lengthen_to.result ((own : ℕ → List ℕ) → HasChain it own → MiniAppends (replicate (64 * (n - length (mini_sectors_of it))) 0) (mini_of it) (mini_of new) (links_of it) (links_of new) own))
     count c.lengthen_to.ensures.appended

@@ -1,8 +1,8 @@
 use Rattle.std.proofs.Common.{ℕ, ◌-◌, ◌≤◌, List, ◌++◌, length, replicate, arith}
 use Rattle.std.proofs.lemmas.Result.{IfOk-weaker}
-use Rattle.cfb_mini.specs.Changing.{Overwrites}
+use Rattle.cfb_mini.specs.Changing.{MiniOverwrites}
 use Rattle.cfb_mini_chains.specs.MiniChainViews.{links_of, mini_of, position_of, HasChain}
-use Rattle.cfb_mini_chains.specs.MiniGrowing.{Appends}
+use Rattle.cfb_mini_chains.specs.MiniGrowing.{MiniAppends}
 use Rattle.cfb_mini_chains.proofs.Appending.{took}
 use Rattle.cfb_mini_chains.proofs.chain.MiniChain.write.Goals as goal
 
@@ -12,7 +12,7 @@ returns-then-self-len-clause-inside g c = λ within.
     let new = c.write_inside-then-self-len.new.self in
     let bytes = c.args.bytes.now in
     let few : c.min.result ≤ length bytes = let is = c.min.ensures in omega (arith, is) in
-    took c.write_inside-then-self-len.result (λ n l. (own : ℕ → List ℕ) → HasChain it own → Overwrites (position_of it) l (mini_of it) (mini_of new) (links_of it) own × HasChain new own)
+    took c.write_inside-then-self-len.result (λ n l. (own : ℕ → List ℕ) → HasChain it own → MiniOverwrites (position_of it) l (mini_of it) (mini_of new) (links_of it) own × HasChain new own)
     bytes c.min.result few c.write_inside-then-self-len.ensures.written (IfOk-weaker c.write_inside-then-self-len.result _ _ (λ n told. told.0) c.write_inside-then-self-len.ensures.there)
 
 pub returns-clause-behind : goal.returns-clause-behind
@@ -21,5 +21,5 @@ returns-clause-behind g c = λ beyond.
     let new = c.write_behind.new.self in
     let bytes = c.args.bytes.now in
     let few : c.min.result ≤ length bytes = let is = c.min.ensures in omega (arith, is) in
-    took c.write_behind.result (λ n l. (own : ℕ → List ℕ) → HasChain it own → Appends (l ++ replicate (64 - n) 0) (mini_of it) (mini_of new) (links_of it) (links_of new) own)
+    took c.write_behind.result (λ n l. (own : ℕ → List ℕ) → HasChain it own → MiniAppends (l ++ replicate (64 - n) 0) (mini_of it) (mini_of new) (links_of it) (links_of new) own)
     bytes c.min.result few c.write_behind.ensures.written (IfOk-weaker c.write_behind.result _ _ (λ n told. told.0) c.write_behind.ensures.count)

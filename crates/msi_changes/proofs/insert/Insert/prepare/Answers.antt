@@ -8,4 +8,4 @@ use Rattle.msi_changes.proofs.insert.Insert.prepare.Goals as goal
 pub returns-clause-shape : goal.returns-clause-shape
 returns-clause-shape c = λ old.
     let t = with_rows (heading_of c.args.table.now) (rows_held c.args.rows.items) in
-    shape_told c.args.pool.now t c.prepared.result _ c.prepared.ensures.inserts (insert_shape true c.args.pool.now.pool t (insert_rows c.args.self.now)) old
+    shape_told c.args.pool.now t c.prepared_rows.result _ c.prepared_rows.ensures.inserts (insert_shape true c.args.pool.now.pool t (insert_rows c.args.self.now)) old

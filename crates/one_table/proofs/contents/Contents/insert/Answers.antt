@@ -9,8 +9,8 @@ pub returns-then-not-is_same-clause-meets : goal.returns-then-not-is_same-clause
 returns-then-not-is_same-clause-meets c =
     inr (missing (only_seen c.args.self.now.only) (only_of c.in-Some.only) (insert_name c.args.insert.now) (insert_rows c.args.insert.now) (ap only_seen c.in-Some.is) (cc) (cc) (cc))
 
-pub added-requires : goal.added-requires
-added-requires c = c.args.self.now.kept.each (only_of c.in-Some.only) (ap only_seen c.in-Some.is)
+pub keys_with-requires : goal.keys_with-requires
+keys_with-requires c = c.args.self.now.kept.each (only_of c.in-Some.only) (ap only_seen c.in-Some.is)
 
 pub returns-in-Some-only-clause-grows : goal.returns-in-Some-only-clause-grows
 returns-in-Some-only-clause-grows c =

@@ -1,6 +1,6 @@
 use Rattle.std.proofs.Common.{◌≡◌, ◌<◌, ℕ, [], length, map, sym, subst, ap, ◌∙◌, arith}
 use Rattle.std.proofs.lemmas.List.{get_or-map, length-map}
-use Rattle.staged.specs.Pages.{Holds}
+use Rattle.staged.specs.Pages.{HoldsPage}
 use Rattle.staged.specs.declared.pages.Page.{Page}
 use Rattle.staged.proofs.Found.{place_of}
 use Rattle.staged.proofs.Homed.{held_at}
@@ -23,7 +23,7 @@ returns-clause-counted g c =
             let a = is i (omega arith) in
             let b = is j last in
             omega arith;
-        each = λ i within. let inside : i < length items = omega arith in subst (λ (n : ℕ). Holds items n) (sym (is i inside)) (held_at items i none pages.rising inside);
+        each = λ i within. let inside : i < length items = omega arith in subst (λ (n : ℕ). HoldsPage items n) (sym (is i inside)) (held_at items i none pages.rising inside);
         all = λ page held. let place = place_of items page none held in (place.0, omega (arith, place.1), is place.0 place.1 ∙ place.2);
       },
     )

@@ -1,0 +1,151 @@
+//! Mini chains that are made longer, with what mini FAT and mini stream lack for it ([MS-CFB] 2.4).
+ghost use Rattle.cfb_chains.specs.ChainCalls.{IsInvalidOrFull};
+ghost use Rattle.cfb_chains.specs.Grown.{IsLinked};
+ghost use Rattle.cfb_fat.specs.Calls.{FatAnswers};
+ghost use Rattle.cfb_fat.specs.Tables.{has_failed_here, orderly_of, AllFails, HasCauseBelow};
+ghost use Rattle.cfb_medium.specs.Calls.{IsFaultUnless};
+ghost use Rattle.cfb_medium.specs.declared.error.Error.TheVariants.{Full, InvalidData};
+ghost use Rattle.cfb_mini.specs.Changing.{GrowsMiniFat, GrowsMiniStream, HasOwners, IsCovered, LacksMini, Lengthens};
+ghost use Rattle.cfb_mini.specs.LinkViews.{minis_of};
+ghost use Rattle.cfb_mini.specs.Views.{allocator_of, mini_fat_of, IsMini, MiniRests};
+ghost use Rattle.cfb_owned.specs.Chains.{GoesOn};
+ghost use Rattle.cfb_sectors.specs.Sectors.{greatest_regular};
+ghost use Rattle.std.specs.Prelude.{false, length, max, true, IfErr, IsErrOf, IsTrue, List, OnErr, OnOk, ℕ, ◌<◌, ◌+◌, ◌≡◌, ◌≤◌, ◌⊎◌};
+
+use crate::places::stream_len;
+use crate::{MiniAllocator, MiniLinks};
+use cfb_medium::{Error, Medium};
+use cfb_sectors::{HasSectors, MINI_SECTOR_LEN};
+
+impl<F: Medium> MiniAllocator<F> {
+    // Gives the mini FAT a sector more where it has no number for a mini sector behind the mini stream, and else the mini
+    // stream. After an error nothing is changed, or it has failed.
+    fn grow_tables(&mut self) -> Result<(), Error>
+        ensures grown { OnOk result ((own : ℕ → List ℕ) → HasOwners self.old own
+            → GrowsMiniFat self.old self.new own ⊎ GrowsMiniStream self.old self.new own) }
+        ensures refused { IsErrOf result InvalidData → (own : ℕ → List ℕ) → HasOwners self.old own
+            → IsTrue (orderly_of (allocator_of self.old)) → ⊥ }
+        ensures full { IsErrOf result Full → has_failed_here (allocator_of self.new) ≡ false
+            → IsMini self.old → LacksMini self.old }
+        ensures rests { OnErr result ((has_failed_here (allocator_of self.new) ≡ true)
+            ⊎ MiniRests self.old self.new) }
+        ensures goes_on { GoesOn (allocator_of self.old) (allocator_of self.new) }
+        ensures answers { FatAnswers IsInvalidOrFull result (allocator_of self.old)
+            (allocator_of self.new) }
+    {
+        let count = self.mini_fat.numbers.items().len() as u64;
+        if count <= stream_len(&self.mini_fat.stream) / MINI_SECTOR_LEN as u64 {
+            return self.grow_mini_fat();
+        }
+        self.grow_mini_stream()
+    }
+
+    // Takes a mini sector into use behind a mini chain's last one, or where none is free, makes mini FAT or mini stream
+    // longer. After an error nothing is changed, or it has failed.
+    fn take_or_grow(&mut self, links: &mut MiniLinks) -> Result<(), Error>
+        ensures lengthens { OnOk result ((own : ℕ → List ℕ) → HasOwners self.old own
+            → IsLinked (mini_fat_of self.old) (minis_of links.old)
+            → Lengthens self.old self.new (minis_of links.old) (minis_of links.new) own
+            × (length (minis_of links.new) ≤ length (minis_of links.old) + 1)) }
+        ensures kept { OnErr result (minis_of links.new ≡ minis_of links.old) }
+        ensures refused { IsErrOf result InvalidData → (own : ℕ → List ℕ) → HasOwners self.old own
+            → IsLinked (mini_fat_of self.old) (minis_of links.old)
+            → IsTrue (orderly_of (allocator_of self.old)) → ⊥ }
+        ensures full { IsErrOf result Full → has_failed_here (allocator_of self.new) ≡ false
+            → IsMini self.old → LacksMini self.old
+            ⊎ (greatest_regular < length (minis_of links.old)) }
+        ensures rests { OnErr result ((has_failed_here (allocator_of self.new) ≡ true)
+            ⊎ MiniRests self.old self.new) }
+        ensures goes_on { GoesOn (allocator_of self.old) (allocator_of self.new) }
+        ensures answers { FatAnswers IsInvalidOrFull result (allocator_of self.old)
+            (allocator_of self.new) }
+    {
+        match self.extend_mini_chain(links) {
+            Ok(true) => Ok(()),
+            Ok(false) => self.grow_tables(),
+            Err(error) => Err(error),
+        }
+    }
+
+    /// Leaves it in a state in which every call is refused, as a fault in a write does: for a layer above, where what it
+    /// changes by several calls has come half way.
+    pub fn fail(&mut self)
+        ensures { AllFails (allocator_of self.old) (allocator_of self.new) }
+    {
+        self.directory.allocator_mut().fail();
+    }
+
+    // Makes a mini chain longer, until it has so many mini sectors. After an error it has failed.
+    fn lengthen_on(&mut self, links: &mut MiniLinks, count: usize) -> Result<(), Error>
+        requires { has_failed_here (allocator_of self.old) ≡ false }
+        ensures lengthened { OnOk result ((own : ℕ → List ℕ) → HasOwners self.old own
+            → IsLinked (mini_fat_of self.old) (minis_of links.old)
+            → Lengthens self.old self.new (minis_of links.old) (minis_of links.new) own
+            × (length (minis_of links.new) ≤ max count (length (minis_of links.old)))) }
+        ensures enough { OnOk result (count ≤ length (minis_of links.new)) }
+        ensures refused { IsErrOf result InvalidData → (own : ℕ → List ℕ) → HasOwners self.old own
+            → IsLinked (mini_fat_of self.old) (minis_of links.old)
+            → IsTrue (orderly_of (allocator_of self.old)) → ⊥ }
+        ensures live { OnOk result (has_failed_here (allocator_of self.new) ≡ false) }
+        ensures failed { OnErr result (has_failed_here (allocator_of self.new) ≡ true) }
+        ensures goes_on { GoesOn (allocator_of self.old) (allocator_of self.new) }
+        ensures cause { IfErr result (HasCauseBelow (allocator_of self.old)
+            (allocator_of self.new)) }
+        ensures fault { IfErr result (λ e. IsFaultUnless ⊥ e ⊎ IsInvalidOrFull e) }
+    {
+        'taking: for _ in 0..u64::MAX {
+            if links.mini_sector_ids().len() >= count {
+                return Ok(());
+            }
+            if let Err(error) = self.take_or_grow(links) {
+                self.fail();
+                return Err(error);
+            }
+        }
+        self.fail();
+        Err(Error::Full)
+    }
+
+    /// Makes a mini chain so many mini sectors long: each that it takes in is the first of the mini stream that is free, and
+    /// has the bytes that it had; mini FAT and mini stream become longer where they must, and the root's size covers the mini
+    /// stream then, whatever size it had. A chain that is so long stays.
+    /// `InvalidData` where the FAT's tables can't be changed, or FAT or mini FAT haven't the chains that memory tells of;
+    /// `Full` where no number is left, or no room for the mini stream's size (in version 3 past 2^32 - 1 bytes). After an
+    /// error nothing is changed, or it has failed ([MS-CFB] 2.4, 2.6.2).
+    pub fn lengthen_mini_chain(&mut self, links: &mut MiniLinks, count: usize) -> Result<(), Error>
+        ensures lengthened { OnOk result ((own : ℕ → List ℕ) → HasOwners self.old own
+            → IsLinked (mini_fat_of self.old) (minis_of links.old)
+            → Lengthens self.old self.new (minis_of links.old) (minis_of links.new) own
+            × (length (minis_of links.new) ≤ max count (length (minis_of links.old)))
+            × (length (minis_of links.old) < count → IsCovered self.new)) }
+        ensures enough { OnOk result (count ≤ length (minis_of links.new)) }
+        ensures kept { OnErr result (has_failed_here (allocator_of self.new) ≡ false
+            → minis_of links.new ≡ minis_of links.old) }
+        ensures refused { IsErrOf result InvalidData → (own : ℕ → List ℕ) → HasOwners self.old own
+            → IsLinked (mini_fat_of self.old) (minis_of links.old)
+            → IsTrue (orderly_of (allocator_of self.old)) → ⊥ }
+        ensures full { IsErrOf result Full → has_failed_here (allocator_of self.new) ≡ false
+            → IsMini self.old → LacksMini self.old
+            ⊎ (greatest_regular < length (minis_of links.old)) }
+        ensures rests { OnErr result ((has_failed_here (allocator_of self.new) ≡ true)
+            ⊎ MiniRests self.old self.new) }
+        ensures goes_on { GoesOn (allocator_of self.old) (allocator_of self.new) }
+        ensures answers { FatAnswers IsInvalidOrFull result (allocator_of self.old)
+            (allocator_of self.new) }
+    {
+        if self.directory.allocator().is_failed() {
+            return Err(Error::Failed);
+        }
+        if links.mini_sector_ids().len() >= count {
+            return Ok(());
+        }
+        if let Err(error) = self.take_or_grow(links) {
+            return Err(error);
+        }
+        if let Err(error) = self.cover_mini_stream() {
+            self.fail();
+            return Err(error);
+        }
+        self.lengthen_on(links, count)
+    }
+}

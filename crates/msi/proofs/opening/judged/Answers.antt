@@ -1,4 +1,0 @@
-use Rattle.msi.proofs.opening.judged.Goals as goal
-
-pub returns-in-Ok-clause-judged : goal.returns-in-Ok-clause-judged
-returns-in-Ok-clause-judged g c tree held may are = c.in-Ok.ensures.told tree held may are
