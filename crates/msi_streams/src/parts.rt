@@ -1,6 +1,6 @@
 //! The pool and the summary of a package, written to their streams.
 ghost use Rattle.std.specs.Prelude.{◌≡◌, ◌<◌, ◌⊎◌, ◌∷◌, ◌≤◌, [], false, true, length, string_bytes, IfErr, IfOk, Some};
-ghost use Rattle.cfb.specs.Putting.{IsRefusedPut};
+ghost use Rattle.cfb.specs.Putting.{IsRefusedPut, KeepsMeant};
 ghost use Rattle.cfb.specs.Views.{mini_of};
 ghost use Rattle.cfb_entries.specs.Rules.{names_in};
 ghost use Rattle.cfb_fat.specs.Calls.{FatAnswers};
@@ -132,7 +132,8 @@ pub fn write_parts<F: Medium>(
     ensures changes { PutsParts (bytes_of_parts pool.now.pool summary.now.props) result file.old
         file.new }
     ensures refused { IfErr result (λ e. OfPackage file.old (IsFault e ⊎ ((e ≡ InvalidInput)
-        × IsTooLong (most_bytes file.old) pool.now.pool summary.now.props))) }
+        × IsTooLong (most_bytes file.old) pool.now.pool summary.now.props
+        × KeepsMeant file.old file.new))) }
     ensures goes_on { GoesOn (allocator_of (mini_of file.old)) (allocator_of (mini_of file.new)) }
     ensures answers { FatAnswers IsRefusedPut result (allocator_of (mini_of file.old))
         (allocator_of (mini_of file.new)) }

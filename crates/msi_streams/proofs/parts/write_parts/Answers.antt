@@ -1,12 +1,14 @@
 use Rattle.std.proofs.Common.{◌≡◌, ◌∙◌, ◌<◌, ℕ, List, ap, inl, inr, length, refl, subst, ⊎_elim}
 use Rattle.std.specs.Prelude.{◌⊎◌}
 use Rattle.std.proofs.lemmas.Result.{IfErr-weaker}
+use Rattle.cfb.specs.Putting.{KeepsMeant}
 use Rattle.cfb_entries.specs.Rules.{names_in}
 use Rattle.cfb_live.specs.Doing.{IsFault}
 use Rattle.cfb_medium.specs.Versions.{stream_len_mask}
 use Rattle.cfb_medium.specs.declared.error.Error.TheVariants.{InvalidInput}
 use Rattle.msi_streams.specs.Parts.{bytes_of_parts, IsTooLong, OfPackage, PartBytes, PutsParts}
 use Rattle.msi_streams.specs.Writing.{most_bytes}
+use Rattle.msi_streams.proofs.Exits.{keeps_meant}
 use Rattle.msi_streams.proofs.PutParts.{first_fault, memory_fault, parts_first, parts_rest}
 use Rattle.msi_streams.proofs.parts.write_parts.Goals as goal
 
@@ -42,7 +44,7 @@ returns-in-Err-clause-refused g c tree P m s three = inl (first_fault c.args.fil
 
 pub returns-in-Err-part_bytes-clause-refused : goal.returns-in-Err-part_bytes-clause-refused
 returns-in-Err-part_bytes-clause-refused g c tree P m s three =
-    ⊎_elim (λ memory. inl (memory_fault c.in-Err-part_bytes.error memory)) (λ long. inr (long.0, ⊎_elim (λ set. inl set) (λ pool. inr (inl pool)) long.1)) c.in-Err-part_bytes.ensures.error
+    ⊎_elim (λ memory. inl (memory_fault c.in-Err-part_bytes.error memory)) (λ long. inr (long.0, ⊎_elim (λ set. inl set) (λ pool. inr (inl pool)) long.1, keeps_meant c.args.file.now)) c.in-Err-part_bytes.ensures.error
 
 pub returns-in-Err-table_path-clause-refused : goal.returns-in-Err-table_path-clause-refused
 returns-in-Err-table_path-clause-refused g c tree P m s three = inl (memory_fault c.in-Err-table_path.error c.in-Err-table_path.ensures.error)
@@ -63,9 +65,10 @@ returns-then-not-are_short-clause-refused g c tree P m s three =
           (λ rest. ⊎_elim (λ h. inr (inr (inr (inl (subst (λ (bs : List ℕ). most_bytes c.args.file.now < length bs) (c.deref-2.ensures.value ∙ made.1) (two h))))))
           (λ h. inr (inr (inr (inr (subst (λ (bs : List ℕ). most_bytes c.args.file.now < length bs) (c.deref-3.ensures.value ∙ made.2) (last h)))))) rest)
           (c.are_short.ensures.long c.if-not-are_short.true),
+      keeps_meant c.args.file.now,
     )
 
 pub returns-clause-refused : goal.returns-clause-refused
 returns-clause-refused g c =
-    IfErr-weaker c.put_parts.result (λ e. OfPackage c.args.file.now (IsFault e)) (λ e. OfPackage c.args.file.now (IsFault e ⊎ ((e ≡ InvalidInput) × IsTooLong (most_bytes c.args.file.now) c.args.pool.now.pool c.args.summary.now.props)))
+    IfErr-weaker c.put_parts.result (λ e. OfPackage c.args.file.now (IsFault e)) (λ e. OfPackage c.args.file.now (IsFault e ⊎ ((e ≡ InvalidInput) × IsTooLong (most_bytes c.args.file.now) c.args.pool.now.pool c.args.summary.now.props × KeepsMeant c.args.file.now c.put_parts.new.file)))
     (λ e fault tree P m s three. inl (fault tree P m s three)) c.put_parts.ensures.refused
