@@ -22,7 +22,7 @@ use Rattle.msi_pool.specs.Pool.{Pool}
 use Rattle.msi_pool.specs.PoolState.{PoolState}
 use Rattle.msi_stored.specs.Changing.{ChangesBy, StoreIsChanged, PackageRule, StoresSound}
 use Rattle.msi.specs.Changing.{PackageChanges, KeepsHeld, failed_in}
-use Rattle.msi.specs.Opened.{PackageHolds, file_in, kind_in, pool_in, sound_in, store_in, summary_in, tables_in, written_in}
+use Rattle.msi.specs.Opened.{LastParts, PackageHolds, file_in, kind_in, pool_in, sound_in, store_in, summary_in, tables_in, written_in}
 use Rattle.msi.specs.declared.package.Package.{Package}
 
 -- two packages in memory that differ by their files and pools alone
@@ -58,6 +58,7 @@ module _ {F : Type 0} {g : Ghosts F} (old new : Package F g) (d : DifferByFile o
           };
           pool = λ unmodified. subst (λ l. HasPool l h.tree P.pool) (sym d.letters) (h.pool (sym (ap (λ (p : PoolState). p.modified) pool) ∙ unmodified));
           summary = λ written. subst (λ l. HasSummary l h.tree P.summary) (sym d.letters) (h.summary (sym d.written ∙ written));
+          last = subst (λ l. LastParts l h.tree) (sym d.letters) h.last;
           sound = λ yes. (means, subst (λ l. StoresSound l h.tree P) (sym d.letters) both.1);
         };
   }
@@ -78,6 +79,8 @@ module _ {F : Type 0} {g : Ghosts F} (old new : Package F g) (d : DifferByFile o
     };
     pool = λ unmodified. subst (λ l. HasPool l c.after c.next.pool) (sym d.letters) (has unmodified);
     summary = λ written. subst (λ l. HasSummary l c.after c.next.summary) (sym d.letters) (subst (λ s. HasSummary (letters_in (file_in old)) c.after s) (sym summary) (c.keeps.summary P.summary (h.summary (sym d.written ∙ written))));
+    last = subst (λ l. LastParts l c.after) (sym d.letters)
+        (record { pool = h.last.pool; has_pool = c.keeps.pool h.last.pool h.last.has_pool; summary = h.last.summary; has_summary = c.keeps.summary h.last.summary h.last.has_summary });
     sound = λ yes. (c.means, subst (λ l. StoresSound l c.after c.next) (sym d.letters) c.stores);
   }
 

@@ -1,29 +1,35 @@
 -- A package whose pool and summary were written is packed by its file.
 use Rattle.std.proofs.Common.{◌≡◌, ◌∙◌, ◌⊎◌, Bool, IsTrue, ap, false, inl, inr, map, refl, subst, sym, true}
-use Rattle.std.specs.Prelude.{Err, Ok, OnErr, OnOk, Result, not, ◌&&◌}
+use Rattle.std.specs.Prelude.{Err, IfErr, Ok, OnErr, OnOk, Result, not, ◌&&◌, ◌||◌}
 use Rattle.cfb.proofs.LiveMeaning.{holds_meant, means_read}
+use Rattle.cfb.specs.Publishing.{medium_in}
 use Rattle.cfb.specs.Putting.{KeepsMeant}
-use Rattle.cfb.specs.Views.{letters_in}
+use Rattle.cfb.specs.Views.{letters_in, mini_of}
 use Rattle.cfb.specs.Views as read
 use Rattle.cfb.specs.declared.compound_file.CompoundFile.{CompoundFile}
+use Rattle.cfb_fat.specs.Tables.{has_failed_here, HasCauseBelow}
+use Rattle.cfb_live.specs.Doing.{IsFault}
+use Rattle.cfb_medium.specs.Calls.{IsFaultUnless, Keeps}
 use Rattle.cfb_medium.specs.declared.error.Error.{Error}
-use Rattle.cfb_medium.specs.declared.error.Error.TheVariants.{Failed}
+use Rattle.cfb_medium.specs.declared.error.Error.TheVariants.{Failed, InvalidInput}
 use Rattle.cfb_medium.specs.declared.medium.ReadMedium.{Ghosts}
+use Rattle.cfb_mini.specs.Views.{allocator_of}
 use Rattle.cfb_tree.specs.Names.{Letters}
-use Rattle.msi_meaning.proofs.Splitting.{joined}
+use Rattle.cfb_tree.specs.Tree.{Tree}
+use Rattle.msi_meaning.proofs.Splitting.{joined, parted}
 use Rattle.msi_meaning.specs.Opening.{may_use}
 use Rattle.msi_meaning.specs.Package.{Packed, Packs}
-use Rattle.msi_meaning.specs.Split.{HasPool, HasSummary, Stores}
 use Rattle.msi_parts.specs.Parts.{heading}
-use Rattle.msi_pool.proofs.PoolRoundTrip.{written_pool_is_read}
-use Rattle.msi_pool.specs.Pool.{Pool, data_stream, pool_stream}
-use Rattle.msi_props.proofs.Comeback.{written_set_is_read}
-use Rattle.msi_props.specs.Props.{Props, props_bytes}
-use Rattle.msi_streams.specs.Parts.{HasParts, PartBytes, bytes_of_parts}
+use Rattle.msi_pool.specs.Pool.{Pool}
+use Rattle.msi_props.specs.Props.{Props}
+use Rattle.msi_streams.specs.Parts.{HasParts, HasThree, IsTooLong, OfPackage, PartBytes, PutsParts, bytes_of_parts}
+use Rattle.msi_streams.specs.Writing.{most_bytes}
 use Rattle.msi_stored.specs.Changing.{StoresSound}
-use Rattle.msi.proofs.Changed.{DifferByFile, keeps_held}
-use Rattle.msi.specs.Changing.{PackageIsFit, PackageIsWritten, KeepsHeld, PackageWrites, failed_in}
-use Rattle.msi.specs.Opened.{PackageHolds, file_in, kind_in, pool_in, sound_in, summary_in, tables_in, written_in}
+use Rattle.msi.proofs.Changed.{DifferByFile, failed_too, keeps_held}
+use Rattle.msi.proofs.SavedSound.{PacksSound, packs_sound, saved_written}
+use Rattle.msi.specs.Changing.{IsUnsaved, IsWritingError, PackageIsFit, PackageIsWritten, KeepsHeld, PackageWrites, failed_in}
+use Rattle.msi.specs.Opened.{LastParts, PackageHolds, file_in, kind_in, pool_in, sound_in, summary_in, tables_in, written_in}
+use Rattle.msi.specs.Steps.{PackageIsSaved, SavesMemory}
 use Rattle.msi.specs.declared.package.Package.{Package}
 
 both_written : (m w : Bool) → not m && w ≡ true → (m ≡ false) × (w ≡ true)
@@ -38,6 +44,17 @@ on_ok (Err e) a = tt
 pub on_err : {A : Type 0} (r : Result (Unit {0}) Error) → A → OnErr r A
 on_err (Ok u) a = tt
 on_err (Err e) a = a
+
+-- streams stand in the places of the three
+three_held : (letters : Letters) (tree : Tree) → LastParts letters tree → HasThree letters tree
+three_held letters tree l = record {
+  summary = l.has_summary.summary_bytes;
+  summary_at = l.has_summary.summary_at;
+  pool = l.has_pool.pool_bytes;
+  pool_at = l.has_pool.pool_at;
+  pool_data = l.has_pool.data_bytes;
+  data_at = l.has_pool.data_at;
+}
 
 module _ {F : Type 0} {g : Ghosts F} where
   -- nothing is to be written where memory has nothing ahead
@@ -79,40 +96,60 @@ module _ {F : Type 0} {g : Ghosts F} where
   -- the parts were written, the file was flushed, and memory notes it
   pub parts_written : (old new : Package F g) (mid : CompoundFile F g) → letters_in (file_in new) ≡ letters_in (file_in old) → tables_in new ≡ tables_in old → kind_in new ≡ kind_in old
       → summary_in new ≡ summary_in old → (pool_in new).pool ≡ (pool_in old).pool → read.FileRests mid (file_in new) → (P : Packed) (h : PackageHolds old P) → PackageIsFit P
-      → HasParts (letters_in (file_in old)) P (bytes_of_parts (pool_in old).pool (summary_in old).props) mid → PackageIsWritten new P
+      → HasParts (letters_in (file_in old)) P (bytes_of_parts (pool_in old).pool (summary_in old).props) mid → PackageIsSaved new P
   parts_written old new mid same_letters tables kind summary pool rests P h fit written =
       let letters = letters_in (file_in old) in
       let parts = parts_yet mid (file_in new) letters P (bytes_of_parts (pool_in old).pool (summary_in old).props) rests written in
       let p : HasParts letters P (bytes_of_parts P.pool P.summary) (file_in new) =
       subst (λ (x : Props). HasParts letters P (bytes_of_parts P.pool x) (file_in new)) h.memory.summary
       (subst (λ (x : Pool). HasParts letters P (bytes_of_parts x (summary_in old).props) (file_in new)) h.memory.pool parts) in
-      let has_pool : HasPool letters p.after P.pool = record { pool_bytes = pool_stream P.pool; data_bytes = data_stream P.pool; pool_at = p.pool_at; data_at = p.data_at; pooled = written_pool_is_read P.pool fit.pool } in
-      let has_summary : HasSummary letters p.after P.summary = record {
-        summary_bytes = props_bytes P.summary;
-        summary_at = p.summary_at;
-        read = written_set_is_read P.summary fit.summary ∙ ap (λ n. Ok (record P.summary { sections = n })) (sym p.stores.named.one_section);
-        of_kind = fit.format;
-      } in
+      let both = subst (λ l. PacksSound l p.after P) (sym same_letters) (packs_sound letters p.after P p.stores fit p.summary_at p.pool_at p.data_at) in
+      let three = parted (letters_in (file_in new)) p.after P both.packs in
       record {
         holds = record {
           tree = p.after;
           file = holds_meant (file_in new) p.after p.means;
           usable = ap may_use same_letters ∙ h.usable;
-          stores = subst (λ l. Stores l p.after P) (sym same_letters) p.stores.stores;
+          stores = three.0;
           memory = record {
             kind = kind ∙ h.memory.kind;
             summary = ap (λ s. s.props) summary ∙ h.memory.summary;
             pool = pool ∙ h.memory.pool;
             tables = tables ∙ h.memory.tables ∙ ap (λ (x : Pool). map (heading x.long) P.tables) (sym pool);
           };
-          pool = λ unmodified. subst (λ l. HasPool l p.after P.pool) (sym same_letters) has_pool;
-          summary = λ written. subst (λ l. HasSummary l p.after P.summary) (sym same_letters) has_summary;
+          pool = λ unmodified. three.1;
+          summary = λ written. three.2;
+          last = record { pool = P.pool; has_pool = three.1; summary = P.summary; has_summary = three.2 };
           sound = λ yes. (p.means, subst (λ l. StoresSound l p.after P) (sym same_letters) p.stores);
         };
         tree = p.after;
         means = p.means;
-        packs = subst (λ l. Packs l p.after P) (sym same_letters) (joined letters p.after P p.stores.stores has_pool has_summary);
+        packs = both.packs;
+        sound = both.sound;
       }
+
+  -- ---- the exits of writing both
+
+  -- the parts weren't written
+  pub parts_unwritten : (old new : Package F g) (d : DifferByFile old new) → pool_in new ≡ pool_in old → (e : Error) → PutsParts {T = Unit {0}} (bytes_of_parts (pool_in old).pool (summary_in old).props) (Err e) (file_in old) (file_in new)
+      → OfPackage (file_in old) (IsFault e ⊎ ((e ≡ InvalidInput) × IsTooLong (most_bytes (file_in old)) (pool_in old).pool (summary_in old).props × KeepsMeant (file_in old) (file_in new))) → SavesMemory (Err e) old new
+  parts_unwritten old new d same e put told = record {
+    done = tt;
+    stands = tt;
+    live = tt;
+    refused = λ P h sound. let both = h.sound sound in elim (told h.tree P both.0 both.1 (three_held (letters_in (file_in old)) h.tree h.last)) [
+      | inl fault ↦ inl fault
+      | inr long ↦ inr (long.0, long.1, keeps_held old new d sound same long.2)
+    ];
+    rests = elim put.rests [ inl failed ↦ inl (failed_too (file_in new) failed) | inr keeps ↦ inr (λ sound. keeps_held old new d sound same keeps) ];
+    seen = (d.letters, d.sound);
+  }
+
+  -- they were, and the file wasn't flushed
+  pub parts_unflushed : (old new : Package F g) (e : Error) → IsFaultUnless ⊥ e → has_failed_here (allocator_of (mini_of (file_in new))) ≡ true → letters_in (file_in new) ≡ letters_in (file_in old) → sound_in new ≡ sound_in old
+      → SavesMemory (Err e) old new
+  parts_unflushed old new e fault failed letters sound =
+      record { done = tt; stands = tt; live = tt; refused = λ P h sound. inl (inl fault); rests = inl (failed_too (file_in new) failed); seen = (letters, sound) }
 
   -- ---- what a flush answers
 
@@ -121,7 +158,9 @@ module _ {F : Type 0} {g : Ghosts F} where
     failed = λ yes. refl;
     unsound = λ no wrong. let never : true ≡ false = sym is ∙ no in absurd (cc);
     done = tt;
+    refused = λ P h sound. inl (inl tt);
     rests = inr (record { holds = λ P h. h });
+    seen = (refl, refl);
   }
 
   pub unsound_writes : (it : Package F g) → failed_in it ≡ false → sound_in it ≡ false → PackageWrites (Ok tt) it it
@@ -129,18 +168,46 @@ module _ {F : Type 0} {g : Ghosts F} where
     failed = λ yes. let never : true ≡ false = sym yes ∙ live in absurd (cc);
     unsound = λ no is. (refl, refl);
     done = λ P h sound fit. let never : true ≡ false = sym sound ∙ wrong in absurd (cc);
+    refused = tt;
     rests = tt;
+    seen = (refl, refl);
   }
 
-  pub sound_writes : (old new : Package F g) (r : Result (Unit {0}) Error) → failed_in old ≡ false → sound_in old ≡ true
-      → OnOk r ((P : Packed) → PackageHolds old P → IsTrue (sound_in old) → PackageIsFit P → PackageIsWritten new P) → OnErr r ((failed_in new ≡ true) ⊎ (IsTrue (sound_in old) → KeepsHeld old new)) → PackageWrites r old new
-  sound_writes old new r live sound done rests = record {
-    failed = λ yes. let never : true ≡ false = sym yes ∙ live in absurd (cc);
-    unsound = λ no wrong. let never : true ≡ false = sym sound ∙ wrong in absurd (cc);
-    done = done;
-    rests = kept r rests;
-  }
-    where
-      kept : (r : Result (Unit {0}) Error) → OnErr r ((failed_in new ≡ true) ⊎ (IsTrue (sound_in old) → KeepsHeld old new)) → OnErr r ((failed_in new ≡ true) ⊎ KeepsHeld old new)
-      kept (Ok u) told = tt
-      kept (Err e) told = elim told [ inl failed ↦ inl failed | inr keeps ↦ inr (keeps sound) ]
+  module _ (old new : Package F g) (live : failed_in old ≡ false) (sound : sound_in old ≡ true) where
+    pub sound_writes : (r : Result (Unit {0}) Error) → OnOk r ((P : Packed) → PackageHolds old P → IsTrue (sound_in old) → PackageIsFit P → PackageIsWritten new P)
+        → IfErr r (λ e. (P : Packed) → PackageHolds old P → IsTrue (sound_in old) → IsUnsaved old new e) → OnErr r ((failed_in new ≡ true) ⊎ (IsTrue (sound_in old) → KeepsHeld old new))
+        → (letters_in (file_in new) ≡ letters_in (file_in old)) × (sound_in new ≡ sound_in old) → PackageWrites r old new
+    sound_writes r done refused rests seen = record {
+      failed = λ yes. let never : true ≡ false = sym yes ∙ live in absurd (cc);
+      unsound = λ no wrong. let never : true ≡ false = sym sound ∙ wrong in absurd (cc);
+      done = done;
+      refused = refused;
+      rests = kept r rests;
+      seen = seen;
+    }
+      where
+        kept : (r : Result (Unit {0}) Error) → OnErr r ((failed_in new ≡ true) ⊎ (IsTrue (sound_in old) → KeepsHeld old new)) → OnErr r ((failed_in new ≡ true) ⊎ KeepsHeld old new)
+        kept (Ok u) told = tt
+        kept (Err e) told = elim told [ inl failed ↦ inl failed | inr keeps ↦ inr (keeps sound) ]
+
+    -- both were written
+    pub saved_writes : (r : Result (Unit {0}) Error) → SavesMemory r old new → PackageWrites r old new
+    saved_writes (Ok u) s = sound_writes (Ok u) (λ P h is fit. saved_written new P (s.done P h is fit)) tt tt s.seen
+    saved_writes (Err e) s = sound_writes (Err e) tt s.refused s.rests s.seen
+
+-- errors that are faults, whatever is held
+pub fault_unsaved : {F : Type 0} {g : Ghosts F} (old new : Package F g) (r : Result (Unit {0}) Error) → IfErr r (IsFaultUnless ⊥) → IfErr r (λ e. (P : Packed) → PackageHolds old P → IsTrue (sound_in old) → IsUnsaved old new e)
+fault_unsaved old new (Ok u) fault = tt
+fault_unsaved old new (Err e) fault = λ P h sound. inl (inl fault)
+
+pub fault_kinds : (r : Result (Unit {0}) Error) → IfErr r (IsFaultUnless ⊥) → IfErr r IsWritingError
+fault_kinds (Ok u) fault = tt
+fault_kinds (Err e) fault = inl fault
+
+-- of a file that has failed, or whose medium has, `Failed` has its cause
+pub failed_cause : {F : Type 0} {g : Ghosts F} → ((a b : F) → g.continues a b → Keeps g.honest g.failed g.failures a b) → (it : Package F g) → failed_in it ≡ true
+    → HasCauseBelow (allocator_of (mini_of (file_in it))) (allocator_of (mini_of (file_in it))) Failed
+failed_cause keeps it is = λ start from. record {
+  device = λ wrong. absurd (cc);
+  earlier = λ yes. subst (λ b. IsTrue (has_failed_here (allocator_of (mini_of (file_in it))) || b)) (sym (keeps start (medium_in (file_in it)) from).as_failed) is;
+}

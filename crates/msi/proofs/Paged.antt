@@ -65,5 +65,6 @@ holds_paged old new page P file tables kind summary sound written pool h = recor
   };
   pool = λ unmodified. let no : true ≡ false = sym (ap (λ (p : PoolState). p.modified) pool) ∙ unmodified in absurd (cc);
   summary = λ is. rw file (h.summary (sym written ∙ is));
+  last = rw file h.last;
   sound = λ is. let both = h.sound (subst IsTrue sound is) in rw file (both.0, sound_paged (letters_in (file_in old)) h.tree page P both.1);
 }

@@ -1,11 +1,13 @@
 -- What a call that changes a package does.
 use Rattle.std.specs.Prelude.{◌≡◌, ◌⊎◌, Bool, true, false, Err, IfErr, IsErrOf, IsTrue, Ok, OnErr, OnOk, Result, if◌then◌else◌}
 use Rattle.cfb.specs.Doing.{FileMeans}
+use Rattle.cfb.specs.Putting.{IsRefusedPut}
 use Rattle.cfb.specs.Views.{letters_in, mini_of}
 use Rattle.cfb_fat.specs.Tables.{has_failed}
 use Rattle.cfb_live.specs.Doing.{IsFault}
+use Rattle.cfb_medium.specs.Calls.{IsFaultUnless}
 use Rattle.cfb_medium.specs.declared.error.Error.{Error}
-use Rattle.cfb_medium.specs.declared.error.Error.TheVariants.{Failed, InvalidData}
+use Rattle.cfb_medium.specs.declared.error.Error.TheVariants.{Failed, InvalidData, InvalidInput}
 use Rattle.cfb_medium.specs.declared.medium.ReadMedium.{Ghosts}
 use Rattle.cfb_mini.specs.Views.{allocator_of}
 use Rattle.cfb_tree.specs.Tree.{Tree}
@@ -13,9 +15,11 @@ use Rattle.msi_meaning.specs.Package.{Packed, Packs}
 use Rattle.msi_pool.specs.PoolKept.{IsWritable}
 use Rattle.msi_props.specs.Kept.{SetIsWritable}
 use Rattle.msi_stored.specs.Changing.{PackageRule}
+use Rattle.msi_streams.specs.Parts.{IsTooLong}
+use Rattle.msi_streams.specs.Writing.{most_bytes}
 use Rattle.msi_summary.specs.Summary.{summary_format}
 use Rattle.msi_texts.specs.declared.codepage.CodePage.{CodePage}
-use Rattle.msi.specs.Opened.{PackageHolds, file_in, sound_in}
+use Rattle.msi.specs.Opened.{PackageHolds, file_in, pool_in, sound_in, summary_in}
 use Rattle.msi.specs.declared.package.Package.{Package}
 
 -- the package whose texts are written under another page
@@ -29,6 +33,10 @@ permission has_failed is_sound = if has_failed then Err Failed else (if is_sound
 -- it is always given
 abbrev pub setting_page : CodePage → PackageRule
 setting_page page P Q answer = (Q ≡ with_page page P) × (answer ≡ Ok tt)
+
+-- which errors a flush and a commit have over any medium: faults, and refusals where streams are put
+abbrev pub IsWritingError : Error → Type 0
+IsWritingError e = IsFaultUnless ⊥ e ⊎ IsRefusedPut e
 
 -- pool and summary can be written, and are then read as they are
 pub record PackageIsFit (P : Packed) : Type 0 where
@@ -63,10 +71,17 @@ module _ {F : Type 0} {g : Ghosts F} where
     pub means : FileMeans (file_in it) tree
     pub packs : Packs (letters_in (file_in it)) tree P
 
+  -- a fault; or a stream of memory's pool or summary is longer than one can be, or one of the two can't be written at all, and the package is
+  -- held still
+  abbrev pub IsUnsaved : Package F g → Package F g → Error → Type 0
+  IsUnsaved old new e = IsFault e ⊎ ((e ≡ InvalidInput) × IsTooLong (most_bytes (file_in old)) (pool_in old).pool (summary_in old).props × KeepsHeld old new)
+
   -- `Failed` after a fault. Where it isn't sound it is done, and nothing was touched. Each sound package that was held and can be written
-  -- is packed by the file. After any error it has failed, or holds what it held.
+  -- is packed by the file; what comes in between is a fault, or too long. After any error it has failed, or holds what it held.
   pub record PackageWrites (result : Result (Unit {0}) Error) (old new : Package F g) : Type 0 where
     pub failed : failed_in old ≡ true → IsErrOf result Failed
     pub unsound : failed_in old ≡ false → sound_in old ≡ false → (result ≡ Ok tt) × (new ≡ old)
     pub done : OnOk result ((P : Packed) → PackageHolds old P → IsTrue (sound_in old) → PackageIsFit P → PackageIsWritten new P)
+    pub refused : IfErr result (λ e. (P : Packed) → PackageHolds old P → IsTrue (sound_in old) → IsUnsaved old new e)
     pub rests : OnErr result ((failed_in new ≡ true) ⊎ KeepsHeld old new)
+    pub seen : (letters_in (file_in new) ≡ letters_in (file_in old)) × (sound_in new ≡ sound_in old)

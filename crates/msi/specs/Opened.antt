@@ -18,8 +18,10 @@ use Rattle.msi_meaning.specs.Sound.{IsSoundPackage}
 use Rattle.msi_meaning.specs.Split.{HasPool, HasSummary, Stores}
 use Rattle.msi_meaning.specs.declared.kind.PackageType.{PackageType}
 use Rattle.msi_parts.specs.Parts.{HasSchema, IsMemoryOf}
+use Rattle.msi_pool.specs.Pool.{Pool}
 use Rattle.msi_pool.specs.PoolState.{PoolState}
 use Rattle.msi_props.specs.Held.{SetState}
+use Rattle.msi_props.specs.Props.{Props}
 use Rattle.msi_store.specs.Stores as store
 use Rattle.msi_store.specs.declared.store.Store.{Store}
 use Rattle.msi_stored.specs.Changing.{StoresSound}
@@ -39,6 +41,13 @@ IsRefused letters bytes e =
     ((e ≡ InvalidInput) × (may_use letters ≡ false))
     ⊎ ((e ≡ InvalidData) × (IsOpenable letters bytes → ⊥))
     ⊎ ((tree : Tree) → ShowsTree letters bytes tree → IsBrokenPart letters bytes e ⊎ (opened letters tree ≡ Err e))
+
+-- the streams of pool and summary hold some pool and some summary: those that were written last, where memory is ahead of them
+pub record LastParts (letters : Letters) (tree : Tree) : Type 0 where
+  pub pool : Pool
+  pub has_pool : HasPool letters tree pool
+  pub summary : Props
+  pub has_summary : HasSummary letters tree summary
 
 module _ {F : Type 0} {g : Ghosts F} where
   -- the tables and their file; the file; and the tables without their rows
@@ -87,6 +96,7 @@ module _ {F : Type 0} {g : Ghosts F} where
     pub memory : IsMemoryOf (kind_in it) (summary_in it).props (pool_in it).pool (tables_in it) P
     pub pool : (pool_in it).modified ≡ false → HasPool (letters_in (file_in it)) tree P.pool
     pub summary : written_in it ≡ true → HasSummary (letters_in (file_in it)) tree P.summary
+    pub last : LastParts (letters_in (file_in it)) tree
     pub sound : IsTrue (sound_in it) → FileMeans (file_in it) tree × StoresSound (letters_in (file_in it)) tree P
 
   -- Opened over these bytes under this letter table: kind, summary and pool are those that each tree tells that they show, and so are the

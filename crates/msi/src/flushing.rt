@@ -1,8 +1,13 @@
 //! Packages whose pool and summary are written to their streams.
-ghost use Rattle.std.specs.Prelude.{◌≡◌, ◌⊎◌, ◌&&◌, not, true, IsTrue, OnErr, OnOk};
-ghost use Rattle.msi.specs.Changing.{failed_in, PackageIsFit, PackageIsWritten, KeepsHeld, PackageWrites};
-ghost use Rattle.msi.specs.Opened.{pool_in, sound_in, written_in, PackageHolds};
-ghost use Rattle.msi_meaning.specs.Package.{Packed};
+ghost use Rattle.std.specs.Prelude.{◌≡◌, ◌&&◌, not, Err, IfErr, IfOk, Ok};
+ghost use Rattle.cfb.specs.Views.{mini_of};
+ghost use Rattle.cfb_fat.specs.Tables.{HasCauseBelow};
+ghost use Rattle.cfb_mini.specs.Views.{allocator_of};
+ghost use Rattle.cfb_owned.specs.Chains.{GoesOn};
+ghost use Rattle.msi.specs.Changing.{IsWritingError, PackageWrites};
+ghost use Rattle.msi.specs.Copying.{GivesMedium};
+ghost use Rattle.msi.specs.Opened.{file_in, pool_in, written_in};
+ghost use Rattle.msi.specs.Steps.{SavesMemory};
 
 use crate::package::Package;
 use cfb_medium::{Error, Medium};
@@ -11,10 +16,15 @@ use msi_streams::write_parts;
 impl<F: Medium> Package<F> {
     /// Writes pool and summary to their streams, where memory may have them ahead of these, and passes on what the medium keeps back; it
     /// publishes nothing. `Failed` after an earlier fault. Of a package that isn't sound nothing is touched. `InvalidInput` where a text
-    /// or a stream would be too long; the other errors are faults. After an error nothing is changed, or the package has failed. A
-    /// text that its page lacks is written with `?` in it.
+    /// or a stream would be too long; the other errors are faults, `Full` among them where numbers of entries or sectors are missing.
+    /// After an error nothing is changed, or the package has failed. A text that its page lacks is written with `?` in it.
     pub fn flush(&mut self) -> Result<(), Error>
         ensures writes { PackageWrites result self.old self.new }
+        ensures goes_on { GoesOn (allocator_of (mini_of (file_in self.old)))
+            (allocator_of (mini_of (file_in self.new))) }
+        ensures cause { IfErr result (HasCauseBelow (allocator_of (mini_of (file_in self.old)))
+            (allocator_of (mini_of (file_in self.new)))) }
+        ensures kinds { IfErr result IsWritingError }
     {
         if self.store.file.has_failed() {
             return Err(Error::Failed);
@@ -28,6 +38,18 @@ impl<F: Medium> Package<F> {
         self.write_memory()
     }
 
+    /// The medium, once the package was flushed. Where that is refused, as `flush` is, the medium comes back as it is then.
+    pub fn into_inner(mut self) -> Result<F, (F, Error)>
+        ensures ok { IfOk result (GivesMedium (Ok tt) self) }
+        ensures err { IfErr result (λ e. GivesMedium (Err e.1) self e.0) }
+        ensures kinds { IfErr result (λ e. IsWritingError e.1) }
+    {
+        match self.flush() {
+            Ok(()) => Ok(self.into_medium()),
+            Err(error) => Err((self.into_medium(), error)),
+        }
+    }
+
     // Whether pool and summary in memory are those of their streams.
     fn is_written(&self) -> bool
         ensures { result ≡ (not (pool_in self.now).modified && written_in self.now) }
@@ -35,12 +57,14 @@ impl<F: Medium> Package<F> {
         !self.pool.is_modified() && self.is_summary_written
     }
 
-    // Writes both, and flushes the file.
-    fn write_memory(&mut self) -> Result<(), Error>
-        ensures written { OnOk result ((P : Packed) → PackageHolds self.old P → IsTrue (sound_in self.old)
-            → PackageIsFit P → PackageIsWritten self.new P) }
-        ensures rests { OnErr result ((failed_in self.new ≡ true)
-            ⊎ (IsTrue (sound_in self.old) → KeepsHeld self.old self.new)) }
+    // Writes both, also where they are in their streams, and flushes the file.
+    pub(crate) fn write_memory(&mut self) -> Result<(), Error>
+        ensures saves { SavesMemory result self.old self.new }
+        ensures goes_on { GoesOn (allocator_of (mini_of (file_in self.old)))
+            (allocator_of (mini_of (file_in self.new))) }
+        ensures cause { IfErr result (HasCauseBelow (allocator_of (mini_of (file_in self.old)))
+            (allocator_of (mini_of (file_in self.new)))) }
+        ensures kinds { IfErr result IsWritingError }
     {
         if let Err(error) = write_parts(
             self.alloc,

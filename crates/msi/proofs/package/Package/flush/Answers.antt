@@ -1,13 +1,35 @@
 use Rattle.std.proofs.Common.{◌∙◌, inr, refl, sym}
-use Rattle.msi.proofs.Flushed.{keeps_flushed, on_err, on_ok, sound_writes, written_already, written_yet}
+use Rattle.cfb.specs.Views.{mini_of}
+use Rattle.cfb_mini.specs.Views.{allocator_of}
+use Rattle.cfb_owned.proofs.GoingOn.{rests_go_on}
+use Rattle.msi.specs.Opened.{file_in}
+use Rattle.msi.proofs.Flushed.{failed_cause, failed_writes, fault_kinds, fault_unsaved, keeps_flushed, on_err, on_ok, saved_writes, sound_writes, unsound_writes, written_already, written_yet}
 use Rattle.msi.proofs.package.Package.flush.Goals as goal
 
-pub returns-then-is_written : goal.returns-then-is_written
-returns-then-is_written g c =
+pub returns-then-has_failed-clause-writes : goal.returns-then-has_failed-clause-writes
+returns-then-has_failed-clause-writes g c = failed_writes c.args.self.now (sym c.has_failed.ensures ∙ c.if-has_failed.true)
+
+pub returns-then-has_failed-clause-cause : goal.returns-then-has_failed-clause-cause
+returns-then-has_failed-clause-cause g c = failed_cause g.met.F.ReadMedium.continues_keeps c.args.self.now (sym c.has_failed.ensures ∙ c.if-has_failed.true)
+
+pub returns-then-not-self-clause-writes : goal.returns-then-not-self-clause-writes
+returns-then-not-self-clause-writes g c = unsound_writes c.args.self.now (sym c.has_failed.ensures ∙ c.if-has_failed.false) c.if-not-self.true
+
+pub returns-then-is_written-clause-writes : goal.returns-then-is_written-clause-writes
+returns-then-is_written-clause-writes g c =
     let it = c.args.self.now in
     let rests = c.flush.ensures.rests in
-    record {
-      writes = sound_writes it _ c.flush.result (sym c.has_failed.ensures ∙ c.if-has_failed.false) c.if-not-self.false
-          (on_ok c.flush.result (λ P h sound fit. written_yet it _ (record { letters = rests.letters; tables = refl; kind = refl; summary = refl; sound = refl; written = refl }) refl rests sound P (written_already it (sym c.is_written.ensures ∙ c.if-is_written.true) P h sound)))
-          (on_err c.flush.result (inr (λ sound. keeps_flushed it _ (record { letters = rests.letters; tables = refl; kind = refl; summary = refl; sound = refl; written = refl }) refl rests sound)));
-    }
+    sound_writes it _ (sym c.has_failed.ensures ∙ c.if-has_failed.false) c.if-not-self.false c.flush.result
+    (on_ok c.flush.result (λ P h sound fit. written_yet it _ (record { letters = rests.letters; tables = refl; kind = refl; summary = refl; sound = refl; written = refl }) refl rests sound P (written_already it (sym c.is_written.ensures ∙ c.if-is_written.true) P h sound)))
+    (fault_unsaved it _ c.flush.result c.flush.ensures.fault)
+    (on_err c.flush.result (inr (λ sound. keeps_flushed it _ (record { letters = rests.letters; tables = refl; kind = refl; summary = refl; sound = refl; written = refl }) refl rests sound)))
+    (rests.letters, refl)
+
+pub returns-then-is_written-clause-goes_on : goal.returns-then-is_written-clause-goes_on
+returns-then-is_written-clause-goes_on g c = rests_go_on (allocator_of (mini_of (file_in c.args.self.now))) _ c.flush.ensures.rests.mini.directory.allocator
+
+pub returns-then-is_written-clause-kinds : goal.returns-then-is_written-clause-kinds
+returns-then-is_written-clause-kinds g c = fault_kinds c.flush.result c.flush.ensures.fault
+
+pub returns-clause-writes : goal.returns-clause-writes
+returns-clause-writes g c = saved_writes c.args.self.now _ (sym c.has_failed.ensures ∙ c.if-has_failed.false) c.if-not-self.false c.write_memory.result c.write_memory.ensures.saves

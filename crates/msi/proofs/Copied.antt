@@ -1,0 +1,110 @@
+-- A package that was copied, at each exit.
+use Rattle.std.proofs.Common.{◌≡◌, ◌∙◌, ◌⊎◌, IsTrue, List, ap, false, inl, inr, refl, subst, sym, true, ℕ}
+use Rattle.std.specs.Prelude.{[], Err, IfErr, Ok, OnErr, OnOk, Result}
+use Rattle.cfb.specs.Doing.{FileMeans}
+use Rattle.cfb.specs.Views.{FileRests, letters_in, mini_of}
+use Rattle.cfb_copying.specs.Copied.{HoldsCopy}
+use Rattle.cfb_fat.specs.Tables.{HasCauseBelow, version_of}
+use Rattle.cfb_live.specs.Doing.{IsFault}
+use Rattle.cfb_medium.specs.declared.error.Error.{Error}
+use Rattle.cfb_medium.specs.declared.error.Error.TheVariants.{Failed, InvalidData}
+use Rattle.cfb_medium.specs.declared.medium.ReadMedium.{Ghosts}
+use Rattle.cfb_medium.specs.declared.version.Version.{Version}
+use Rattle.cfb_mini.specs.Views.{allocator_of}
+use Rattle.cfb_tree.specs.Names.{Letters}
+use Rattle.cfb_tree.specs.Tree.{Tree}
+use Rattle.msi_meaning.specs.Opening.{may_use}
+use Rattle.msi_meaning.specs.Package.{Packed, Packs}
+use Rattle.msi_meaning.specs.Sound.{IsSoundPackage}
+use Rattle.msi.proofs.Changed.{DifferByFile}
+use Rattle.msi.proofs.Flushed.{keeps_flushed, written_yet}
+use Rattle.msi.proofs.SavedSound.{PacksSound, saved_written}
+use Rattle.msi.specs.Changing.{IsUnsaved, KeepsHeld, PackageIsFit, PackageIsWritten, failed_in}
+use Rattle.msi.specs.Committing.{HoldsSound}
+use Rattle.msi.specs.Copying.{HoldsPackageCopy, KeepsFit, PackageCopies}
+use Rattle.msi.specs.Opened.{PackageHolds, file_in, pool_in, sound_in}
+use Rattle.msi.specs.Steps.{PackageIsSaved, SavesMemory}
+use Rattle.msi.specs.declared.package.Package.{Package}
+
+-- a refusal of a package that isn't sound needs no fault
+pub unsound_cause : {F : Type 0} {g : Ghosts F} (it : Package F g) → HasCauseBelow (allocator_of (mini_of (file_in it))) (allocator_of (mini_of (file_in it))) InvalidData
+unsound_cause it = λ start from. record { device = λ wrong. absurd (cc); earlier = λ wrong. absurd (cc) }
+
+-- a copy of a file that packs a sound package holds it
+copy_holds : (version : Version) (letters : Letters) (bytes : List ℕ) (P : Packed) (tree : Tree) → may_use letters ≡ true → HoldsCopy version letters bytes tree → (p : PacksSound letters tree P) → HoldsPackageCopy version letters bytes P
+copy_holds version letters bytes P tree usable copy p = record {
+  tree = tree;
+  copy = copy;
+  holds = record {
+    usable = usable;
+    container = (copy.tight.layout, tree, copy.tight.sound);
+    tree = tree;
+    means = (copy.tight.layout, copy.tight.sound.means);
+    packs = p.packs;
+    sound = p.sound;
+  };
+}
+
+module _ {F : Type 0} {g : Ghosts F} (honest : Type 0) (bytes : List ℕ) where
+  pub failed_copies : (it : Package F g) → failed_in it ≡ true → PackageCopies honest bytes (Err Failed) it it
+  failed_copies it is = record {
+    failed = λ yes. (refl, refl);
+    unsound = λ no wrong. let never : true ≡ false = sym is ∙ no in absurd (cc);
+    done = tt;
+    refused = λ P h sound. inl (inl tt);
+    rests = inr (inl (record { holds = λ P h. h }));
+    seen = (refl, refl);
+  }
+
+  pub unsound_copies : (it : Package F g) → failed_in it ≡ false → sound_in it ≡ false → PackageCopies honest bytes (Err InvalidData) it it
+  unsound_copies it live wrong = record {
+    failed = λ yes. let never : true ≡ false = sym yes ∙ live in absurd (cc);
+    unsound = λ no is. (refl, refl);
+    done = tt;
+    refused = λ P h sound. let never : true ≡ false = sym sound ∙ wrong in absurd (cc);
+    rests = inr (inl (record { holds = λ P h. h }));
+    seen = (refl, refl);
+  }
+
+  module _ (old mid : Package F g) (live : failed_in old ≡ false) (sound : sound_in old ≡ true) where
+    pub unsaved_copies : (e : Error) → SavesMemory (Err e) old mid → PackageCopies honest bytes (Err e) old mid
+    unsaved_copies e s = record {
+      failed = λ yes. let never : true ≡ false = sym yes ∙ live in absurd (cc);
+      unsound = λ no wrong. let never : true ≡ false = sym sound ∙ wrong in absurd (cc);
+      done = tt;
+      refused = s.refused;
+      rests = elim s.rests [ inl failed ↦ inl failed | inr keeps ↦ inr (inl (keeps sound)) ];
+      seen = s.seen;
+    }
+
+    module _ (u : Unit {0}) (s : SavesMemory (Ok u) old mid) (new : Package F g) (d : DifferByFile mid new) (same : pool_in new ≡ pool_in mid) (rests : FileRests (file_in mid) (file_in new)) where
+      copied : (version_of (allocator_of (mini_of (file_in mid))) ≡ version_of (allocator_of (mini_of (file_in old))))
+          → (honest → (tree : Tree) → FileMeans (file_in mid) tree → HoldsCopy (version_of (allocator_of (mini_of (file_in mid)))) (letters_in (file_in mid)) bytes tree)
+          → (P : Packed) → PackageIsSaved mid P → honest → HoldsPackageCopy (version_of (allocator_of (mini_of (file_in old)))) (letters_in (file_in old)) bytes P
+      copied version copies P saved is =
+          subst (λ v. HoldsPackageCopy v (letters_in (file_in old)) bytes P) version
+          (subst (λ l. HoldsPackageCopy (version_of (allocator_of (mini_of (file_in mid)))) l bytes P) s.seen.0
+          (copy_holds (version_of (allocator_of (mini_of (file_in mid)))) (letters_in (file_in mid)) bytes P saved.tree saved.holds.usable (copies is saved.tree saved.means) (record { packs = saved.packs; sound = saved.sound })))
+
+      -- the file was copied, or that was refused
+      pub saved_copies : (r : Result (Unit {0}) Error) → (version_of (allocator_of (mini_of (file_in mid))) ≡ version_of (allocator_of (mini_of (file_in old))))
+          → OnOk r (honest → (tree : Tree) → FileMeans (file_in mid) tree → HoldsCopy (version_of (allocator_of (mini_of (file_in mid)))) (letters_in (file_in mid)) bytes tree)
+          → IfErr r (λ e. (tree : Tree) → FileMeans (file_in mid) tree → IsFault e) → PackageCopies honest bytes r old new
+      saved_copies (Ok v) version copies refused = record {
+        failed = λ yes. let never : true ≡ false = sym yes ∙ live in absurd (cc);
+        unsound = λ no wrong. let never : true ≡ false = sym sound ∙ wrong in absurd (cc);
+        done = λ P h is fit.
+            let saved = s.done P h is fit in
+            (written_yet mid new d same rests (s.seen.1 ∙ sound) P (saved_written mid P saved), copied version copies P saved);
+        refused = tt;
+        rests = tt;
+        seen = (d.letters ∙ s.seen.0, d.sound ∙ s.seen.1);
+      }
+      saved_copies (Err e) version copies refused = record {
+        failed = λ yes. let never : true ≡ false = sym yes ∙ live in absurd (cc);
+        unsound = λ no wrong. let never : true ≡ false = sym sound ∙ wrong in absurd (cc);
+        done = tt;
+        refused = λ P h is. let there = s.stands P h is in inl (refused there.0 there.1);
+        rests = inr (inr (λ P h is fit. (keeps_flushed mid new d same rests (s.seen.1 ∙ sound)).holds P (s.done P h is fit).holds));
+        seen = (d.letters ∙ s.seen.0, d.sound ∙ s.seen.1);
+      }

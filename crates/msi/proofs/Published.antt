@@ -1,0 +1,147 @@
+-- A package that was committed: which bytes were published, and what a stop may leave.
+use Rattle.std.proofs.Common.{◌≡◌, ◌∙◌, ◌⊎◌, ◌≤◌, ℕ, Bool, IsTrue, List, Option, Some, ap₂, false, inl, inr, refl, subst, sym, true, ⊎_elim}
+use Rattle.std.specs.Prelude.{Err, IfErr, IsOk, Ok, OnErr, OnOk, Result, ◌||◌}
+use Rattle.cfb.specs.Publishing.{IsUntouched, Publishes, medium_in}
+use Rattle.cfb.specs.Views.{IsLive, letters_in, mini_of, sound_of}
+use Rattle.cfb.specs.declared.compound_file.CompoundFile.{CompoundFile}
+use Rattle.cfb_fat.specs.Tables.{has_failed_here, sectors_of}
+use Rattle.cfb_medium.specs.Calls.{IsFaultUnless, Keeps}
+use Rattle.cfb_medium.specs.Stops.{LeavesOnly}
+use Rattle.cfb_medium.specs.declared.error.Error.{Error}
+use Rattle.cfb_medium.specs.declared.error.Error.TheVariants.{Failed}
+use Rattle.cfb_medium.specs.declared.medium.ReadMedium.{Ghosts}
+use Rattle.cfb_mini.specs.Views.{allocator_of}
+use Rattle.cfb_owned.specs.Chains.{GoesOn}
+use Rattle.cfb_sectors.specs.Held.{LeavesOldOrBytes}
+use Rattle.msi_meaning.specs.Package.{Packed, Packs}
+use Rattle.msi_stored.specs.Shown.{bytes_in}
+use Rattle.staged.proofs.Leaving.{leaves_then, leaves_told}
+use Rattle.msi.proofs.Changed.{DifferByFile, failed_too, keeps_held}
+use Rattle.msi.proofs.SavedSound.{saved_found}
+use Rattle.msi.specs.Changing.{IsUnsaved, KeepsHeld, PackageIsFit, failed_in}
+use Rattle.msi.specs.Committing.{HoldWhatWasHeld, HoldsSound, LeavesOldOrHeld, PackageCommits, PackageIsPublished}
+use Rattle.msi.specs.Opened.{PackageHolds, file_in, pool_in, sound_in}
+use Rattle.msi.specs.Steps.{PackageIsSaved, SavesMemory}
+use Rattle.msi.specs.declared.package.Package.{Package}
+
+neither : (a b : Bool) → a || b ≡ false → (a ≡ false) × (b ≡ false)
+neither true b is = absurd (cc)
+neither false b is = (refl, is)
+
+module _ {F : Type 0} {g : Ghosts F} (has_published : F → List ℕ → Type 0) where
+  pub failed_commits : (it : Package F g) → failed_in it ≡ true → PackageCommits has_published (Err Failed) it it
+  failed_commits it is = record {
+    failed = λ yes. (refl, refl);
+    unsound = λ no wrong. let never : true ≡ false = sym is ∙ no in absurd (cc);
+    done = tt;
+    live = tt;
+    refused = λ P h sound. inl (inl tt);
+    rests = inr (record { holds = λ P h. h });
+    seen = (refl, refl);
+  }
+
+  pub unsound_commits : (it : Package F g) → failed_in it ≡ false → sound_in it ≡ false → PackageCommits has_published (Ok tt) it it
+  unsound_commits it live wrong = record {
+    failed = λ yes. let never : true ≡ false = sym yes ∙ live in absurd (cc);
+    unsound = λ no is. (refl, refl);
+    done = λ P h sound fit. let never : true ≡ false = sym sound ∙ wrong in absurd (cc);
+    live = (live, live);
+    refused = tt;
+    rests = tt;
+    seen = (refl, refl);
+  }
+
+  module _ (old mid : Package F g) (live : failed_in old ≡ false) (sound : sound_in old ≡ true) where
+    -- pool and summary weren't written
+    pub unsaved_commits : (e : Error) → SavesMemory (Err e) old mid → PackageCommits has_published (Err e) old mid
+    unsaved_commits e s = record {
+      failed = λ yes. let never : true ≡ false = sym yes ∙ live in absurd (cc);
+      unsound = λ no wrong. let never : true ≡ false = sym sound ∙ wrong in absurd (cc);
+      done = tt;
+      live = tt;
+      refused = s.refused;
+      rests = elim s.rests [ inl failed ↦ inl failed | inr keeps ↦ inr (keeps sound) ];
+      seen = s.seen;
+    }
+
+    module _ (u : Unit {0}) (s : SavesMemory (Ok u) old mid) (new : Package F g) (d : DifferByFile mid new) (same : pool_in new ≡ pool_in mid) where
+      published : (P : Packed) → PackageIsSaved mid P → Publishes has_published (file_in mid) (file_in new) → PackageIsPublished has_published new P
+      published P saved p = record {
+        written = record {
+          holds = (keeps_held mid new d (s.seen.1 ∙ sound) same (record { means = p.means })).holds P saved.holds;
+          tree = saved.tree;
+          means = p.means saved.tree saved.means;
+          packs = subst (λ l. Packs l saved.tree P) (sym d.letters) saved.packs;
+        };
+        bytes = bytes_in (file_in mid);
+        published = p.published saved.means.live.owners.honest;
+        found = subst (λ l. HoldsSound l (bytes_in (file_in mid)) P) (sym d.letters) (saved_found mid P saved);
+      }
+
+      live_here : (b : Bool) → sound_of (file_in mid) ≡ b → (sound_of (file_in mid) ≡ true → Publishes has_published (file_in mid) (file_in new))
+          → (sound_of (file_in mid) ≡ false → IsUntouched (file_in mid) (file_in new)) → has_failed_here (allocator_of (mini_of (file_in new))) ≡ false
+      live_here true is publishes rests = (publishes is).live
+      live_here false is publishes rests = (rests is).rests.mini.directory.allocator.sectors.failed ∙ s.live.1
+
+      -- the file was committed, or that was refused
+      pub saved_commits : (r : Result (Unit {0}) Error) → OnOk r (sound_of (file_in mid) ≡ true → Publishes has_published (file_in mid) (file_in new))
+          → (IsLive (file_in mid) → sound_of (file_in mid) ≡ false → IsOk r × IsUntouched (file_in mid) (file_in new)) → OnErr r (has_failed_here (allocator_of (mini_of (file_in new))) ≡ true)
+          → IfErr r (IsFaultUnless ⊥) → OnOk r (g.failed (medium_in (file_in new)) ≡ g.failed (medium_in (file_in mid))) → g.failed (medium_in (file_in mid)) ≡ g.failed (medium_in (file_in old))
+          → PackageCommits has_published r old new
+      saved_commits (Ok v) publishes rests err fault alike before = record {
+        failed = λ yes. let never : true ≡ false = sym yes ∙ live in absurd (cc);
+        unsound = λ no wrong. let never : true ≡ false = sym sound ∙ wrong in absurd (cc);
+        done = λ P h is fit. let saved = s.done P h is fit in published P saved (publishes saved.means.sound);
+        live = (
+          live,
+          ap₂ (λ a b. a || b) (live_here (sound_of (file_in mid)) refl publishes (λ is. (rests s.live.1 is).1))
+              (alike ∙ before ∙ (neither (has_failed_here (allocator_of (mini_of (file_in old)))) (g.failed (medium_in (file_in old))) live).1),
+        );
+        refused = tt;
+        rests = tt;
+        seen = (d.letters ∙ s.seen.0, d.sound ∙ s.seen.1);
+      }
+      saved_commits (Err e) publishes rests err fault alike before = record {
+        failed = λ yes. let never : true ≡ false = sym yes ∙ live in absurd (cc);
+        unsound = λ no wrong. let never : true ≡ false = sym sound ∙ wrong in absurd (cc);
+        done = tt;
+        live = tt;
+        refused = λ P h is. inl (inl fault);
+        rests = inl (failed_too (file_in new) err);
+        seen = (d.letters ∙ s.seen.0, d.sound ∙ s.seen.1);
+      }
+
+-- ---- what a stop may leave
+
+module _ {F : Type 0} {g : Ghosts F} (same : (m : F) → g.continues m m) (leaves : (a b : F) → g.continues a b → LeavesOnly g.moment g.left_since a b (g.may_leave a)) where
+  -- what goes on publishes nothing
+  went : (old new : Package F g) → GoesOn (allocator_of (mini_of (file_in old))) (allocator_of (mini_of (file_in new)))
+      → LeavesOnly g.moment g.left_since (medium_in (file_in old)) (medium_in (file_in new)) (g.may_leave (medium_in (file_in old)))
+  went old new goes = leaves (medium_in (file_in old)) (medium_in (file_in new)) (goes.continues (medium_in (file_in old)) (same (medium_in (file_in old))))
+
+  pub goes_leaves : (old new : Package F g) → GoesOn (allocator_of (mini_of (file_in old))) (allocator_of (mini_of (file_in new))) → LeavesOldOrHeld old new
+  goes_leaves old new goes =
+      leaves_told g.moment g.left_since (medium_in (file_in old)) (medium_in (file_in new)) (g.may_leave (medium_in (file_in old))) (λ left. g.may_leave (medium_in (file_in old)) left ⊎ ((bytes : List ℕ) × (left ≡ Some bytes) × HoldWhatWasHeld old bytes))
+      (went old new goes) (λ left may. inl may)
+
+  -- nothing was done
+  pub still_leaves : (it : Package F g) → LeavesOldOrHeld it it
+  still_leaves it =
+      leaves_told g.moment g.left_since (medium_in (file_in it)) (medium_in (file_in it)) (g.may_leave (medium_in (file_in it))) (λ left. g.may_leave (medium_in (file_in it)) left ⊎ ((bytes : List ℕ) × (left ≡ Some bytes) × HoldWhatWasHeld it bytes))
+      (leaves (medium_in (file_in it)) (medium_in (file_in it)) (same (medium_in (file_in it)))) (λ left may. inl may)
+
+  -- the bytes that a commit publishes hold what was held
+  held_bytes : (old mid : Package F g) (u : Unit {0}) → SavesMemory (Ok u) old mid → HoldWhatWasHeld old (bytes_in (file_in mid))
+  held_bytes old mid u s P h sound fit = subst (λ l. HoldsSound l (bytes_in (file_in mid)) P) s.seen.0 (saved_found mid P (s.done P h sound fit))
+
+  pub commit_leaves : ((m : F) (t : ℕ) (left : Option (List ℕ)) → t ≤ g.moment m → g.may_leave m left → g.left_since m t left) → (old mid : Package F g) (new : CompoundFile F g) (u : Unit {0})
+      → GoesOn (allocator_of (mini_of (file_in old))) (allocator_of (mini_of (file_in mid))) → SavesMemory (Ok u) old mid
+      → LeavesOldOrBytes (sectors_of (allocator_of (mini_of (file_in mid)))) (sectors_of (allocator_of (mini_of new)))
+      → LeavesOnly g.moment g.left_since (medium_in (file_in old)) (medium_in new) (λ left. g.may_leave (medium_in (file_in old)) left ⊎ ((bytes : List ℕ) × (left ≡ Some bytes) × HoldWhatWasHeld old bytes))
+  commit_leaves now old mid new u goes s left =
+      let first = went old mid goes in
+      leaves_then g.moment g.left_since (medium_in (file_in old)) (medium_in (file_in mid)) (medium_in new)
+      (g.may_leave (medium_in (file_in old))) (λ left. g.may_leave (medium_in (file_in mid)) left ⊎ (left ≡ Some (bytes_in (file_in mid))))
+      (λ left. g.may_leave (medium_in (file_in old)) left ⊎ ((bytes : List ℕ) × (left ≡ Some bytes) × HoldWhatWasHeld old bytes))
+      first left (λ x may. inl may)
+      (λ x either. ⊎_elim (λ may. inl (first.each x (now (medium_in (file_in mid)) (g.moment (medium_in (file_in old))) x first.later may))) (λ is. inr (bytes_in (file_in mid), is, held_bytes old mid u s)) either)

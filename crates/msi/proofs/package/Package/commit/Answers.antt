@@ -1,0 +1,71 @@
+use Rattle.std.proofs.Common.{◌∙◌, refl, subst, sym, IsTrue, arith}
+use Rattle.cfb.specs.Publishing.{medium_in}
+use Rattle.cfb.specs.Views.{mini_of}
+use Rattle.cfb_mini.specs.Views.{allocator_of}
+use Rattle.cfb_owned.proofs.GoingOn.{goes_cause}
+use Rattle.std.proofs.lemmas.Result.{IfErr-weaker}
+use Rattle.cfb_fat.specs.Tables.{HasCauseBelow}
+use Rattle.msi.specs.Opened.{file_in}
+use Rattle.msi.proofs.Flushed.{failed_cause, fault_kinds}
+use Rattle.msi.proofs.Published.{commit_leaves, failed_commits, goes_leaves, saved_commits, still_leaves, unsaved_commits, unsound_commits}
+use Rattle.msi.proofs.package.Package.commit.Goals as goal
+
+pub returns-then-has_failed-clause-commits : goal.returns-then-has_failed-clause-commits
+returns-then-has_failed-clause-commits g c = failed_commits g.F.Medium.has_published c.args.self.now (sym c.has_failed.ensures ∙ c.if-has_failed.true)
+
+pub returns-then-has_failed-clause-left : goal.returns-then-has_failed-clause-left
+returns-then-has_failed-clause-left g c = λ honest. let G = g.met.F.ReadMedium in still_leaves G.continues_refl G.continues_leaves c.args.self.now
+
+pub returns-then-has_failed-clause-cause : goal.returns-then-has_failed-clause-cause
+returns-then-has_failed-clause-cause g c = failed_cause g.met.F.ReadMedium.continues_keeps c.args.self.now (sym c.has_failed.ensures ∙ c.if-has_failed.true)
+
+pub returns-then-not-self-clause-commits : goal.returns-then-not-self-clause-commits
+returns-then-not-self-clause-commits g c = unsound_commits g.F.Medium.has_published c.args.self.now (sym c.has_failed.ensures ∙ c.if-has_failed.false) c.if-not-self.true
+
+pub returns-then-not-self-clause-left : goal.returns-then-not-self-clause-left
+returns-then-not-self-clause-left g c = λ honest. let G = g.met.F.ReadMedium in still_leaves G.continues_refl G.continues_leaves c.args.self.now
+
+pub returns-in-Err-clause-commits : goal.returns-in-Err-clause-commits
+returns-in-Err-clause-commits g c = unsaved_commits g.F.Medium.has_published c.args.self.now _ (sym c.has_failed.ensures ∙ c.if-has_failed.false) c.if-not-self.false c.in-Err.error c.in-Err.ensures.saves
+
+pub returns-in-Err-clause-left : goal.returns-in-Err-clause-left
+returns-in-Err-clause-left g c = λ honest. let G = g.met.F.ReadMedium in goes_leaves G.continues_refl G.continues_leaves c.args.self.now c.write_memory.new.self c.write_memory.ensures.goes_on
+
+pub returns-in-Err-clause-counted : goal.returns-in-Err-clause-counted
+returns-in-Err-clause-counted g c =
+    let G = g.met.F.ReadMedium in
+    let m = medium_in (file_in c.args.self.now) in
+    (G.continues_keeps m _ (c.write_memory.ensures.goes_on.continues m (G.continues_refl m))).counted
+
+pub returns-clause-commits : goal.returns-clause-commits
+returns-clause-commits g c =
+    let G = g.met.F.ReadMedium in
+    let it = c.args.self.now in
+    let m = medium_in (file_in it) in
+    let did = c.commit.ensures in
+    let keeps = G.continues_keeps m _ (c.write_memory.ensures.goes_on.continues m (G.continues_refl m)) in
+    saved_commits g.F.Medium.has_published it c.write_memory.new.self (sym c.has_failed.ensures ∙ c.if-has_failed.false) c.if-not-self.false _ c.in_default.ensures.saves _
+    (record { letters = did.seen.0; tables = refl; kind = refl; summary = refl; sound = refl; written = refl }) refl c.commit.result did.publishes did.unsound did.err did.fault did.medium.1 (sym keeps.as_failed)
+
+pub returns-clause-left : goal.returns-clause-left
+returns-clause-left g c = λ honest.
+    let G = g.met.F.ReadMedium in
+    let goes = c.write_memory.ensures.goes_on in
+    commit_leaves G.continues_refl G.continues_leaves G.counts_now c.args.self.now c.write_memory.new.self c.commit.new.self _ goes c.in_default.ensures.saves (c.commit.ensures.left (subst IsTrue (sym goes.honest) honest))
+
+pub returns-clause-cause : goal.returns-clause-cause
+returns-clause-cause g c =
+    let a = allocator_of (mini_of (file_in c.args.self.now)) in
+    let m = allocator_of (mini_of (file_in c.write_memory.new.self)) in
+    let b = allocator_of (mini_of c.commit.new.self) in
+    IfErr-weaker c.commit.result (HasCauseBelow m b) (HasCauseBelow a b) (λ e cause. goes_cause a m b e c.write_memory.ensures.goes_on c.in_default.ensures.saves.live.1 cause) c.commit.ensures.cause
+
+pub returns-clause-kinds : goal.returns-clause-kinds
+returns-clause-kinds g c = fault_kinds c.commit.result c.commit.ensures.fault
+
+pub returns-clause-counted : goal.returns-clause-counted
+returns-clause-counted g c =
+    let G = g.met.F.ReadMedium in
+    let m = medium_in (file_in c.args.self.now) in
+    let keeps = G.continues_keeps m _ (c.write_memory.ensures.goes_on.continues m (G.continues_refl m)) in
+    omega (arith, keeps.counted, c.commit.ensures.medium.0)

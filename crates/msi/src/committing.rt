@@ -1,0 +1,42 @@
+//! Packages that are committed.
+ghost use Rattle.std.specs.Prelude.{◌≤◌, IfErr, IsTrue};
+ghost use Rattle.cfb.specs.Publishing.{medium_in};
+ghost use Rattle.cfb.specs.Views.{mini_of};
+ghost use Rattle.cfb_fat.specs.Tables.{HasCauseBelow};
+ghost use Rattle.cfb_mini.specs.Views.{allocator_of};
+ghost use Rattle.msi.specs.Changing.{IsWritingError};
+ghost use Rattle.msi.specs.Committing.{LeavesOldOrHeld, PackageCommits};
+ghost use Rattle.msi.specs.Opened.{file_in};
+
+use crate::package::Package;
+use cfb_medium::{Error, Medium};
+
+impl<F: Medium> Package<F> {
+    /// Writes pool and summary to their streams, also where nothing changed, flushes the file, and publishes its bytes by a commit of the
+    /// medium: a stop then leaves these alone, which are opened again as this package, sound, where each text fits its page. A stop
+    /// during the call, or after an error, leaves what one might have left before it, or these bytes; no other call of a package
+    /// adds to what a stop may leave. `Failed` after an earlier fault. Of a package that isn't sound nothing is written or published.
+    /// `InvalidInput` where a text or a stream would be too long; the other errors are faults, `Full` among them where numbers of
+    /// entries or sectors are missing. After an error nothing is changed, or the package has failed.
+    pub fn commit(&mut self) -> Result<(), Error>
+        ensures commits { PackageCommits F.has_published result self.old self.new }
+        ensures left { IsTrue (F.honest (medium_in (file_in self.old)))
+            → LeavesOldOrHeld self.old self.new }
+        ensures cause { IfErr result (HasCauseBelow (allocator_of (mini_of (file_in self.old)))
+            (allocator_of (mini_of (file_in self.new)))) }
+        ensures kinds { IfErr result IsWritingError }
+        ensures counted { F.failures (medium_in (file_in self.old))
+            ≤ F.failures (medium_in (file_in self.new)) }
+    {
+        if self.store.file.has_failed() {
+            return Err(Error::Failed);
+        }
+        if !self.is_sound {
+            return Ok(());
+        }
+        if let Err(error) = self.write_memory() {
+            return Err(error);
+        }
+        self.store.file.commit()
+    }
+}

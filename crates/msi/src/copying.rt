@@ -1,0 +1,50 @@
+//! Packages that are copied to another medium.
+ghost use Rattle.std.specs.Prelude.{◌≡◌, ◌⊎◌, [], IfErr, IsTrue, OnErr};
+ghost use Rattle.cfb.specs.Views.{mini_of};
+ghost use Rattle.cfb_copying.specs.Chains.{IsCopyFault};
+ghost use Rattle.cfb_fat.specs.Tables.{HasCauseBelow};
+ghost use Rattle.cfb_medium.specs.Calls.{Extends, HasCauseSince};
+ghost use Rattle.cfb_mini.specs.Views.{allocator_of};
+ghost use Rattle.cfb_owned.specs.Chains.{GoesOn};
+ghost use Rattle.msi.specs.Changing.{IsWritingError};
+ghost use Rattle.msi.specs.Copying.{PackageCopies};
+ghost use Rattle.msi.specs.Opened.{file_in};
+
+use crate::package::Package;
+use cfb_medium::{Error, Medium};
+
+impl<F: Medium> Package<F> {
+    /// Writes pool and summary to their streams, also where nothing changed, flushes the file, and copies it to an empty medium: a sound
+    /// file of the same version then holds the same package, sound, where each text fits its page, and has no sector that serves no
+    /// use. Of neither medium anything is published. `Failed` after an earlier fault, `InvalidData` where the package isn't sound,
+    /// and then nothing is touched. `InvalidInput` where a text or a stream would be too long; the other errors are faults of
+    /// either medium, `Full` among them. After an error the target is as it was, and the package too, or it has failed; where it
+    /// was only the copy that failed, pool and summary are written.
+    pub fn copy_to<T: Medium>(&mut self, target: &mut T) -> Result<(), Error>
+        requires { IsTrue (T.honest target.old) → T.bytes target.old ≡ [] }
+        ensures copies { PackageCopies (IsTrue (T.honest target.old)) (T.bytes target.new) result
+            self.old self.new }
+        ensures goes_on { GoesOn (allocator_of (mini_of (file_in self.old)))
+            (allocator_of (mini_of (file_in self.new))) }
+        ensures unwritten { IsTrue (T.honest target.old)
+            → OnErr result (T.bytes target.new ≡ T.bytes target.old) }
+        ensures honest { T.honest target.new ≡ T.honest target.old }
+        ensures continues { Extends T.continues target.old target.new }
+        ensures cause { IfErr result (λ e. HasCauseBelow
+            (allocator_of (mini_of (file_in self.old)))
+            (allocator_of (mini_of (file_in self.new))) e ⊎ HasCauseSince T.continues T.failures
+            T.failed target.old target.new e) }
+        ensures kinds { IfErr result (λ e. IsWritingError e ⊎ IsCopyFault e) }
+    {
+        if self.store.file.has_failed() {
+            return Err(Error::Failed);
+        }
+        if !self.is_sound {
+            return Err(Error::InvalidData);
+        }
+        if let Err(error) = self.write_memory() {
+            return Err(error);
+        }
+        self.store.file.copy_to(target)
+    }
+}
