@@ -1,6 +1,6 @@
 -- A package that was copied, at each exit.
-use Rattle.std.proofs.Common.{◌≡◌, ◌∙◌, ◌⊎◌, IsTrue, List, ap, false, inl, inr, refl, subst, sym, true, ℕ}
-use Rattle.std.specs.Prelude.{[], Err, IfErr, Ok, OnErr, OnOk, Result}
+use Rattle.std.proofs.Common.{◌≡◌, ◌∙◌, List, false, inl, inr, refl, subst, sym, true, ℕ}
+use Rattle.std.specs.Prelude.{Err, IfErr, Ok, OnOk, Result}
 use Rattle.cfb.specs.Doing.{FileMeans}
 use Rattle.cfb.specs.Views.{FileRests, letters_in, mini_of}
 use Rattle.cfb_copying.specs.Copied.{HoldsCopy}
@@ -14,15 +14,13 @@ use Rattle.cfb_mini.specs.Views.{allocator_of}
 use Rattle.cfb_tree.specs.Names.{Letters}
 use Rattle.cfb_tree.specs.Tree.{Tree}
 use Rattle.msi_meaning.specs.Opening.{may_use}
-use Rattle.msi_meaning.specs.Package.{Packed, Packs}
-use Rattle.msi_meaning.specs.Sound.{IsSoundPackage}
+use Rattle.msi_meaning.specs.Package.{Packed}
 use Rattle.msi.proofs.Changed.{DifferByFile}
 use Rattle.msi.proofs.Flushed.{keeps_flushed, written_yet}
 use Rattle.msi.proofs.SavedSound.{PacksSound, saved_written}
-use Rattle.msi.specs.Changing.{IsUnsaved, KeepsHeld, PackageIsFit, PackageIsWritten, failed_in}
-use Rattle.msi.specs.Committing.{HoldsSound}
-use Rattle.msi.specs.Copying.{HoldsPackageCopy, KeepsFit, PackageCopies}
-use Rattle.msi.specs.Opened.{PackageHolds, file_in, pool_in, sound_in}
+use Rattle.msi.specs.Changing.{failed_in}
+use Rattle.msi.specs.Copying.{HoldsPackageCopy, PackageCopies}
+use Rattle.msi.specs.Opened.{file_in, pool_in, sound_in}
 use Rattle.msi.specs.Steps.{PackageIsSaved, SavesMemory}
 use Rattle.msi.specs.declared.package.Package.{Package}
 

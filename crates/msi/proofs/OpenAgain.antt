@@ -4,7 +4,7 @@ use Rattle.std.specs.Prelude.{⊤, Err, IsTrue, Ok, Result, Some, slice_get}
 use Rattle.cfb.proofs.Holding.{tree_held}
 use Rattle.cfb_entries.proofs.StreamsHeld.{stream_held}
 use Rattle.cfb_meaning.proofs.OneTree.{directory_same, layout_same, root_same, tree_unique}
-use Rattle.cfb_meaning.specs.Means.{HasBytes, IsOpenable, Layout, Means, MeansBy, directory}
+use Rattle.cfb_meaning.specs.Means.{HasBytes, IsOpenable, Layout, Means, directory}
 use Rattle.cfb_medium.specs.declared.error.Error.{Error}
 use Rattle.cfb_medium.specs.declared.medium.ReadMedium.{Ghosts}
 use Rattle.cfb_opening.proofs.Readings.{means_less}

@@ -1,11 +1,11 @@
 -- A package that was committed: which bytes were published, and what a stop may leave.
-use Rattle.std.proofs.Common.{◌≡◌, ◌∙◌, ◌⊎◌, ◌≤◌, ℕ, Bool, IsTrue, List, Option, Some, ap₂, false, inl, inr, refl, subst, sym, true, ⊎_elim}
+use Rattle.std.proofs.Common.{◌≡◌, ◌∙◌, ◌⊎◌, ◌≤◌, ℕ, Bool, List, Option, Some, ap₂, false, inl, inr, refl, subst, sym, true, ⊎_elim}
 use Rattle.std.specs.Prelude.{Err, IfErr, IsOk, Ok, OnErr, OnOk, Result, ◌||◌}
 use Rattle.cfb.specs.Publishing.{IsUntouched, Publishes, medium_in}
-use Rattle.cfb.specs.Views.{IsLive, letters_in, mini_of, sound_of}
+use Rattle.cfb.specs.Views.{IsLive, mini_of, sound_of}
 use Rattle.cfb.specs.declared.compound_file.CompoundFile.{CompoundFile}
 use Rattle.cfb_fat.specs.Tables.{has_failed_here, sectors_of}
-use Rattle.cfb_medium.specs.Calls.{IsFaultUnless, Keeps}
+use Rattle.cfb_medium.specs.Calls.{IsFaultUnless}
 use Rattle.cfb_medium.specs.Stops.{LeavesOnly}
 use Rattle.cfb_medium.specs.declared.error.Error.{Error}
 use Rattle.cfb_medium.specs.declared.error.Error.TheVariants.{Failed}
@@ -18,9 +18,9 @@ use Rattle.msi_stored.specs.Shown.{bytes_in}
 use Rattle.staged.proofs.Leaving.{leaves_then, leaves_told}
 use Rattle.msi.proofs.Changed.{DifferByFile, failed_too, keeps_held}
 use Rattle.msi.proofs.SavedSound.{saved_found}
-use Rattle.msi.specs.Changing.{IsUnsaved, KeepsHeld, PackageIsFit, failed_in}
+use Rattle.msi.specs.Changing.{failed_in}
 use Rattle.msi.specs.Committing.{HoldWhatWasHeld, HoldsSound, LeavesOldOrHeld, PackageCommits, PackageIsPublished}
-use Rattle.msi.specs.Opened.{PackageHolds, file_in, pool_in, sound_in}
+use Rattle.msi.specs.Opened.{file_in, pool_in, sound_in}
 use Rattle.msi.specs.Steps.{PackageIsSaved, SavesMemory}
 use Rattle.msi.specs.declared.package.Package.{Package}
 

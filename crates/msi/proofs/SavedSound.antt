@@ -1,6 +1,6 @@
 -- A tree in which pool and summary were written packs a sound package.
-use Rattle.std.proofs.Common.{◌≡◌, ◌∙◌, ap, subst, sym}
-use Rattle.std.specs.Prelude.{IsTrue, Ok, Some}
+use Rattle.std.proofs.Common.{◌≡◌, ◌∙◌, ap, sym}
+use Rattle.std.specs.Prelude.{Ok, Some}
 use Rattle.cfb.proofs.LiveMeaning.{holds_meant}
 use Rattle.cfb.specs.Views.{letters_in, mini_of}
 use Rattle.cfb_live.specs.Live.{live_of}

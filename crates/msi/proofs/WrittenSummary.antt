@@ -7,8 +7,7 @@ use Rattle.std.proofs.lemmas.Bool.Decides.{nat_tests}
 use Rattle.std.proofs.lemmas.Str.{IsUtf8-from_is_utf8}
 use Rattle.msi_texts.proofs.PageRoundTrip.{fitting_text_comes_back}
 use Rattle.msi_texts.specs.Numbers.{le_bytes}
-use Rattle.msi_texts.specs.Page.{decoded, encoded}
-use Rattle.msi_texts.specs.Results.{◌>>=◌}
+use Rattle.msi_texts.specs.Page.{encoded}
 use Rattle.msi_texts.specs.declared.codepage.CodePage.{CodePage}
 use Rattle.msi_meaning.proofs.SystemRows.{bytes_same}
 use Rattle.msi_props.specs.declared.system.OperatingSystem.{OperatingSystem}

@@ -1,10 +1,8 @@
-use Rattle.std.proofs.Common.{◌∙◌, inl, inr, refl, sym, ⊎_elim, IsTrue}
+use Rattle.std.proofs.Common.{◌∙◌, inl, inr, refl, sym, ⊎_elim}
 use Rattle.std.specs.Prelude.{◌⊎◌}
 use Rattle.std.proofs.lemmas.Result.{IfErr-weaker}
 use Rattle.cfb.specs.Views.{mini_of}
 use Rattle.cfb_copying.specs.Chains.{IsCopyFault}
-use Rattle.cfb_fat.specs.Tables.{HasCauseBelow}
-use Rattle.cfb_medium.specs.Calls.{HasCauseSince}
 use Rattle.cfb_mini.specs.Views.{allocator_of}
 use Rattle.cfb_owned.proofs.GoingOn.{goes_cause, goes_then, rests_go_on}
 use Rattle.msi.specs.Changing.{IsWritingError}
