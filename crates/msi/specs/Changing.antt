@@ -1,9 +1,12 @@
 -- What a call that changes a package does.
 use Rattle.std.specs.Prelude.{◌≡◌, ◌⊎◌, Bool, true, false, Err, IfErr, IsErrOf, IsTrue, Ok, OnErr, OnOk, Result, if◌then◌else◌}
 use Rattle.cfb.specs.Doing.{FileMeans}
+use Rattle.cfb.specs.Putting.{IsRefusedPut}
 use Rattle.cfb.specs.Views.{letters_in, mini_of}
 use Rattle.cfb_fat.specs.Tables.{has_failed}
 use Rattle.cfb_live.specs.Doing.{IsFault}
+use Rattle.cfb_live.specs.Removing.{IsRefusedRemoval}
+use Rattle.cfb_medium.specs.Calls.{IsFaultUnless}
 use Rattle.cfb_medium.specs.declared.error.Error.{Error}
 use Rattle.cfb_medium.specs.declared.error.Error.TheVariants.{Failed, InvalidData}
 use Rattle.cfb_medium.specs.declared.medium.ReadMedium.{Ghosts}
@@ -29,6 +32,14 @@ permission has_failed is_sound = if has_failed then Err Failed else (if is_sound
 -- it is always given
 abbrev pub setting_page : CodePage → PackageRule
 setting_page page P Q answer = (Q ≡ with_page page P) × (answer ≡ Ok tt)
+
+-- which errors there are over any medium where rows or a stream are put: faults, and refusals by rule
+abbrev pub IsChangeError : Error → Type 0
+IsChangeError e = IsFaultUnless ⊥ e ⊎ IsRefusedPut e
+
+-- and where streams are removed
+abbrev pub IsRemovalError : Error → Type 0
+IsRemovalError e = IsFaultUnless ⊥ e ⊎ IsRefusedRemoval e
 
 -- pool and summary can be written, and are then read as they are
 pub record PackageIsFit (P : Packed) : Type 0 where
