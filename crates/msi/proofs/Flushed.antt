@@ -27,7 +27,7 @@ use Rattle.msi_streams.specs.Writing.{most_bytes}
 use Rattle.msi_stored.specs.Changing.{StoresSound}
 use Rattle.msi.proofs.Changed.{DifferByFile, failed_too, keeps_held}
 use Rattle.msi.proofs.SavedSound.{PacksSound, packs_sound, saved_written}
-use Rattle.msi.specs.Changing.{IsUnsaved, IsWritingError, PackageIsFit, PackageIsWritten, KeepsHeld, PackageWrites, failed_in}
+use Rattle.msi.specs.Changing.{IsUnsaved, IsChangeError, PackageIsFit, PackageIsWritten, KeepsHeld, PackageWrites, failed_in}
 use Rattle.msi.specs.Opened.{LastParts, PackageHolds, file_in, kind_in, pool_in, sound_in, summary_in, tables_in, written_in}
 use Rattle.msi.specs.Steps.{PackageIsSaved, SavesMemory}
 use Rattle.msi.specs.declared.package.Package.{Package}
@@ -200,7 +200,7 @@ pub fault_unsaved : {F : Type 0} {g : Ghosts F} (old new : Package F g) (r : Res
 fault_unsaved old new (Ok u) fault = tt
 fault_unsaved old new (Err e) fault = λ P h sound. inl (inl fault)
 
-pub fault_kinds : (r : Result (Unit {0}) Error) → IfErr r (IsFaultUnless ⊥) → IfErr r IsWritingError
+pub fault_kinds : (r : Result (Unit {0}) Error) → IfErr r (IsFaultUnless ⊥) → IfErr r IsChangeError
 fault_kinds (Ok u) fault = tt
 fault_kinds (Err e) fault = inl fault
 

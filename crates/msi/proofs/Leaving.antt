@@ -1,15 +1,16 @@
 -- What changes of streams and of rows leave of a package.
 use Rattle.std.proofs.Common.{◌≡◌, List, ap, length, refl, subst, sym, ℕ}
-use Rattle.std.specs.Prelude.{Err, Ok, Result, is_none, nat_le}
+use Rattle.std.specs.Prelude.{Err, Ok, Option, Result, is_none, nat_le}
 use Rattle.cfb_medium.specs.declared.error.Error.{Error}
 use Rattle.cfb_medium.specs.declared.error.Error.TheVariants.{AlreadyExists, InvalidInput}
 use Rattle.cfb_tree.specs.Names.{Letters}
-use Rattle.msi_meaning.specs.Calls.{Change, Ends, Inserts, PackagePuts, change, may_insert}
-use Rattle.msi_changes.specs.Changes.{inserted}
+use Rattle.msi_meaning.specs.Calls.{Change, Deletes, Ends, Inserts, PackagePuts, Updates, change, may_insert, may_update}
+use Rattle.msi_changes.specs.Changes.{deleted, inserted, updated}
+use Rattle.msi_expr.specs.Formula.{Formula}
 use Rattle.msi_meaning.specs.Package.{Packed, at_name}
 use Rattle.msi_meaning.specs.Streams.{may_name, plain_stream_name, stream_put, stream_read, stream_removed, stream_written, unsigned, without_stream}
 use Rattle.msi_streams.specs.Writing.{Makes, written_within}
-use Rattle.msi_tables.specs.Rows.{Row}
+use Rattle.msi_tables.specs.Rows.{IsStored, Row}
 use Rattle.msi_tables.specs.Table.{IsStoredByKeys}
 use Rattle.msi_texts.specs.Results.{◌>>=◌, unless_not}
 use Rattle.msi_values.specs.Datum.{Datum}
@@ -82,3 +83,15 @@ insert_keeps name rows P Q told = by (change P name (λ t. inserted (may_insert 
         → Ends r P Q (Ok tt) (λ x. (stored : List Row) × IsStoredByKeys x.pool x.table.columns x.rows stored × PackagePuts P name x stored Q) → (Q.kind ≡ P.kind) × (Q.summary ≡ P.summary)
     by (Err e) told = let never : Ok tt ≡ Err e = told.1 in absurd (cc)
     by (Ok x) told = let puts = told.1.2 in (ap (λ (X : Packed). X.kind) puts, ap (λ (X : Packed). X.summary) puts)
+
+-- so do an update and a delete
+module _ (name : List ℕ) (condition : Option Formula) (P Q : Packed) where
+  puts_keep : (Stored : Change → List Row → Type 0) (r : Result Change Error) → Ends r P Q (Ok tt) (λ x. (stored : List Row) × Stored x stored × PackagePuts P name x stored Q) → (Q.kind ≡ P.kind) × (Q.summary ≡ P.summary)
+  puts_keep Stored (Err e) told = let never : Ok tt ≡ Err e = told.1 in absurd (cc)
+  puts_keep Stored (Ok x) told = let puts = told.1.2 in (ap (λ (X : Packed). X.kind) puts, ap (λ (X : Packed). X.summary) puts)
+
+  pub update_keeps : (sets : List (List ℕ × Datum)) → Updates P name sets condition Q (Ok tt) → (Q.kind ≡ P.kind) × (Q.summary ≡ P.summary)
+  update_keeps sets told = puts_keep (λ x s. IsStored x.table.columns x.rows s) (change P name (λ t. updated (may_update name t.columns sets) P.pool t sets condition)) told
+
+  pub delete_keeps : Deletes P name condition Q (Ok tt) → (Q.kind ≡ P.kind) × (Q.summary ≡ P.summary)
+  delete_keeps told = puts_keep (λ x s. IsStored x.table.columns x.rows s) (change P name (λ t. deleted (may_insert name) P.pool t condition)) told

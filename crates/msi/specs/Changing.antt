@@ -5,6 +5,7 @@ use Rattle.cfb.specs.Putting.{IsRefusedPut}
 use Rattle.cfb.specs.Views.{letters_in, mini_of}
 use Rattle.cfb_fat.specs.Tables.{has_failed}
 use Rattle.cfb_live.specs.Doing.{IsFault}
+use Rattle.cfb_live.specs.Removing.{IsRefusedRemoval}
 use Rattle.cfb_medium.specs.Calls.{IsFaultUnless}
 use Rattle.cfb_medium.specs.declared.error.Error.{Error}
 use Rattle.cfb_medium.specs.declared.error.Error.TheVariants.{Failed, InvalidData, InvalidInput}
@@ -34,9 +35,13 @@ permission has_failed is_sound = if has_failed then Err Failed else (if is_sound
 abbrev pub setting_page : CodePage → PackageRule
 setting_page page P Q answer = (Q ≡ with_page page P) × (answer ≡ Ok tt)
 
--- which errors a flush and a commit have over any medium: faults, and refusals where streams are put
-abbrev pub IsWritingError : Error → Type 0
-IsWritingError e = IsFaultUnless ⊥ e ⊎ IsRefusedPut e
+-- which errors there are over any medium where rows or a stream are put: faults, and refusals by rule
+abbrev pub IsChangeError : Error → Type 0
+IsChangeError e = IsFaultUnless ⊥ e ⊎ IsRefusedPut e
+
+-- and where streams are removed
+abbrev pub IsRemovalError : Error → Type 0
+IsRemovalError e = IsFaultUnless ⊥ e ⊎ IsRefusedRemoval e
 
 -- pool and summary can be written, and are then read as they are
 pub record PackageIsFit (P : Packed) : Type 0 where

@@ -1,9 +1,10 @@
 //! Packages that are changed.
-ghost use Rattle.std.specs.Prelude.{◌≡◌, Ok};
+ghost use Rattle.std.specs.Prelude.{◌≡◌, IfErr, Ok};
 ghost use Rattle.cfb.specs.Views.{letters_in, mini_of};
+ghost use Rattle.cfb_fat.specs.Tables.{HasCauseBelow};
 ghost use Rattle.cfb_mini.specs.Views.{allocator_of};
 ghost use Rattle.cfb_owned.specs.Chains.{GoesOn};
-ghost use Rattle.msi.specs.Changing.{failed_in, permission, setting_page, PackageChanges};
+ghost use Rattle.msi.specs.Changing.{failed_in, permission, setting_page, IsChangeError, IsRemovalError, PackageChanges};
 ghost use Rattle.msi.specs.Opened.{file_in, sound_in};
 ghost use Rattle.msi_changes.specs.Said.{insert_name, insert_rows};
 ghost use Rattle.msi_meaning.specs.Calls.{Inserts};
@@ -17,7 +18,7 @@ use msi_texts::CodePage;
 
 impl<F: Medium> Package<F> {
     // Refuses a change after a fault, and of a package that isn't sound.
-    fn may_change(&self) -> Result<(), Error>
+    pub(crate) fn may_change(&self) -> Result<(), Error>
         ensures { result ≡ permission (failed_in self.now) (sound_in self.now) }
     {
         if self.store.file.has_failed() {
@@ -51,6 +52,9 @@ impl<F: Medium> Package<F> {
             (most_bytes (file_in self.old)) name.now bytes.now)) result self.old self.new }
         ensures goes_on { GoesOn (allocator_of (mini_of (file_in self.old)))
             (allocator_of (mini_of (file_in self.new))) }
+        ensures cause { IfErr result (HasCauseBelow (allocator_of (mini_of (file_in self.old)))
+            (allocator_of (mini_of (file_in self.new)))) }
+        ensures kinds { IfErr result IsChangeError }
     {
         if let Err(error) = self.may_change() {
             return Err(error);
@@ -66,6 +70,9 @@ impl<F: Medium> Package<F> {
             name.now)) result self.old self.new }
         ensures goes_on { GoesOn (allocator_of (mini_of (file_in self.old)))
             (allocator_of (mini_of (file_in self.new))) }
+        ensures cause { IfErr result (HasCauseBelow (allocator_of (mini_of (file_in self.old)))
+            (allocator_of (mini_of (file_in self.new)))) }
+        ensures kinds { IfErr result IsRemovalError }
     {
         if let Err(error) = self.may_change() {
             return Err(error);
@@ -80,6 +87,9 @@ impl<F: Medium> Package<F> {
             result self.old self.new }
         ensures goes_on { GoesOn (allocator_of (mini_of (file_in self.old)))
             (allocator_of (mini_of (file_in self.new))) }
+        ensures cause { IfErr result (HasCauseBelow (allocator_of (mini_of (file_in self.old)))
+            (allocator_of (mini_of (file_in self.new)))) }
+        ensures kinds { IfErr result IsRemovalError }
     {
         if let Err(error) = self.may_change() {
             return Err(error);
@@ -96,6 +106,9 @@ impl<F: Medium> Package<F> {
             (insert_rows query.now) Q answer) result self.old self.new }
         ensures goes_on { GoesOn (allocator_of (mini_of (file_in self.old)))
             (allocator_of (mini_of (file_in self.new))) }
+        ensures cause { IfErr result (HasCauseBelow (allocator_of (mini_of (file_in self.old)))
+            (allocator_of (mini_of (file_in self.new)))) }
+        ensures kinds { IfErr result IsChangeError }
     {
         if let Err(error) = self.may_change() {
             return Err(error);

@@ -4,7 +4,7 @@ ghost use Rattle.cfb.specs.Publishing.{medium_in};
 ghost use Rattle.cfb.specs.Views.{mini_of};
 ghost use Rattle.cfb_fat.specs.Tables.{HasCauseBelow};
 ghost use Rattle.cfb_mini.specs.Views.{allocator_of};
-ghost use Rattle.msi.specs.Changing.{IsWritingError};
+ghost use Rattle.msi.specs.Changing.{IsChangeError};
 ghost use Rattle.msi.specs.Committing.{LeavesOldOrHeld, PackageCommits};
 ghost use Rattle.msi.specs.Opened.{file_in};
 
@@ -24,7 +24,7 @@ impl<F: Medium> Package<F> {
             → LeavesOldOrHeld self.old self.new }
         ensures cause { IfErr result (HasCauseBelow (allocator_of (mini_of (file_in self.old)))
             (allocator_of (mini_of (file_in self.new)))) }
-        ensures kinds { IfErr result IsWritingError }
+        ensures kinds { IfErr result IsChangeError }
         ensures counted { F.failures (medium_in (file_in self.old))
             ≤ F.failures (medium_in (file_in self.new)) }
     {

@@ -6,7 +6,7 @@ ghost use Rattle.cfb_fat.specs.Tables.{HasCauseBelow};
 ghost use Rattle.cfb_medium.specs.Calls.{Extends, HasCauseSince};
 ghost use Rattle.cfb_mini.specs.Views.{allocator_of};
 ghost use Rattle.cfb_owned.specs.Chains.{GoesOn};
-ghost use Rattle.msi.specs.Changing.{IsWritingError};
+ghost use Rattle.msi.specs.Changing.{IsChangeError};
 ghost use Rattle.msi.specs.Copying.{PackageCopies};
 ghost use Rattle.msi.specs.Opened.{file_in};
 
@@ -34,7 +34,7 @@ impl<F: Medium> Package<F> {
             (allocator_of (mini_of (file_in self.old)))
             (allocator_of (mini_of (file_in self.new))) e ⊎ HasCauseSince T.continues T.failures
             T.failed target.old target.new e) }
-        ensures kinds { IfErr result (λ e. IsWritingError e ⊎ IsCopyFault e) }
+        ensures kinds { IfErr result (λ e. IsChangeError e ⊎ IsCopyFault e) }
     {
         if self.store.file.has_failed() {
             return Err(Error::Failed);

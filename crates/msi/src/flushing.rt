@@ -4,7 +4,7 @@ ghost use Rattle.cfb.specs.Views.{mini_of};
 ghost use Rattle.cfb_fat.specs.Tables.{HasCauseBelow};
 ghost use Rattle.cfb_mini.specs.Views.{allocator_of};
 ghost use Rattle.cfb_owned.specs.Chains.{GoesOn};
-ghost use Rattle.msi.specs.Changing.{IsWritingError, PackageWrites};
+ghost use Rattle.msi.specs.Changing.{IsChangeError, PackageWrites};
 ghost use Rattle.msi.specs.Copying.{GivesMedium};
 ghost use Rattle.msi.specs.Opened.{file_in, pool_in, written_in};
 ghost use Rattle.msi.specs.Steps.{SavesMemory};
@@ -24,7 +24,7 @@ impl<F: Medium> Package<F> {
             (allocator_of (mini_of (file_in self.new))) }
         ensures cause { IfErr result (HasCauseBelow (allocator_of (mini_of (file_in self.old)))
             (allocator_of (mini_of (file_in self.new)))) }
-        ensures kinds { IfErr result IsWritingError }
+        ensures kinds { IfErr result IsChangeError }
     {
         if self.store.file.has_failed() {
             return Err(Error::Failed);
@@ -42,7 +42,7 @@ impl<F: Medium> Package<F> {
     pub fn into_inner(mut self) -> Result<F, (F, Error)>
         ensures ok { IfOk result (GivesMedium (Ok tt) self) }
         ensures err { IfErr result (λ e. GivesMedium (Err e.1) self e.0) }
-        ensures kinds { IfErr result (λ e. IsWritingError e.1) }
+        ensures kinds { IfErr result (λ e. IsChangeError e.1) }
     {
         match self.flush() {
             Ok(()) => Ok(self.into_medium()),
@@ -64,7 +64,7 @@ impl<F: Medium> Package<F> {
             (allocator_of (mini_of (file_in self.new))) }
         ensures cause { IfErr result (HasCauseBelow (allocator_of (mini_of (file_in self.old)))
             (allocator_of (mini_of (file_in self.new)))) }
-        ensures kinds { IfErr result IsWritingError }
+        ensures kinds { IfErr result IsChangeError }
     {
         if let Err(error) = write_parts(
             self.alloc,

@@ -1,6 +1,6 @@
--- What an insert into a table did, at each of its exits.
+-- What a query on the rows of a table did, at each of its exits.
 use Rattle.std.proofs.Common.{◌≡◌, ◌∙◌, ◌⊎◌, ℕ, Bool, true, false, cond, List, [], ◌∷◌, map, Option, Some, None, refl, sym, ap, subst, arith, inl, inr, ⊎_elim, Vec, Result, Ok, Err}
-use Rattle.std.specs.Prelude.{bytes_eq, option_map, IfErr, MatchResult}
+use Rattle.std.specs.Prelude.{bytes_eq, option_map, IfErr}
 use Rattle.std.specs.declared.alloc.Global.{Global}
 use Rattle.cfb.specs.Putting.{KeepsMeant}
 use Rattle.cfb.specs.Streams.{FileHolds}
@@ -18,14 +18,11 @@ use Rattle.cfb_medium.specs.declared.medium.ReadMedium.{Ghosts}
 use Rattle.cfb_tree.specs.Names.{Letters}
 use Rattle.cfb_tree.specs.Tree.{Tree}
 use Rattle.msi_changes.specs.Applied.{with_rows}
-use Rattle.msi_changes.specs.Changes.{inserted}
 use Rattle.msi_changes.specs.Prepared.{pool_after}
 use Rattle.msi_pool.specs.PoolState.{PoolState}
 use Rattle.msi_pool.specs.declared.draft.PoolChanges.{PoolChanges}
 use Rattle.msi_tables.specs.Rows.{Row}
 use Rattle.msi_tables.specs.Table.{table_named, Heading, Table}
-use Rattle.msi_values.specs.Datum.{Datum}
-use Rattle.msi_meaning.specs.Calls.{may_insert, Inserts}
 use Rattle.msi_meaning.specs.Package.{Packed}
 use Rattle.msi_meaning.proofs.SystemRows.{same_bytes}
 use Rattle.msi_parts.specs.Judged.{heading_named}
@@ -35,43 +32,43 @@ use Rattle.msi_store.specs.declared.store.Store.{Store}
 use Rattle.msi_stored.specs.Changing.{PackageRule}
 use Rattle.msi_stored.specs.Stored.{rows_in}
 use Rattle.msi_rewritten.specs.Rewriting.{HasPut}
-use Rattle.msi_edits.specs.Edited.{CanPut, Edits, EditsTable, IsEdited, IsMemoryOf, IsTableOf, PutsTable}
-use Rattle.msi_edits.specs.Inserting.{IsInsert}
-use Rattle.msi_edits.proofs.Refusals.{insert_cause, own_so, IsOwn}
-use Rattle.msi_edits.proofs.InsertedSo.{can_put, inserted_here, not_found, refused_here, rows_there, wide_so}
+use Rattle.msi_edits.specs.Edited.{CanPut, Edits, EditsTable, IsEditError, IsEdited, IsMemoryOf, IsTableOf, PutsTable}
+use Rattle.msi_edits.specs.Asked.{rows_after, rule_of, IsPrepared, RowsAsked, TellsRows}
+use Rattle.msi_edits.proofs.Refusals.{asked_own, own_kind, own_so, IsOwn}
+use Rattle.msi_edits.proofs.EditedSo.{can_put, edited_here, not_found, refused_here, rows_there, wide_so}
 
 -- what was told of rows that were read is told of those of the tree
-module _ (h : Heading) (state : PoolState) (news : List (List Datum)) where
-  abbrev Told : List Row → (Error → Type 0) → Result (Vec ℕ Global × PoolChanges) Error → Type 0
-  Told rows IsOther r = MatchResult r (λ x. IsInsert (may_insert h.name) state.pool (with_rows h rows) news x.0.items (pool_after state x.1))
-      (λ e. IsOther e ⊎ (inserted (may_insert h.name) state.pool (with_rows h rows) news ≡ Err e))
+module _ (q : RowsAsked) (h : Heading) (state : PoolState) where
+  pub told_so : (read rows : List Row) (r : Result (Vec ℕ Global × PoolChanges) Error) → read ≡ rows → TellsRows q h state read (λ e. e ≡ Memory) r → TellsRows q h state rows (IsFaultUnless ⊥) r
+  told_so read rows (Ok x) same told = subst (λ (rs : List Row). IsPrepared q h.name state.pool (with_rows h rs) x.0.items (pool_after state x.1)) same told
+  told_so read rows (Err e) same told = ⊎_elim (λ memory. inl (subst (IsFaultUnless ⊥) (sym memory) tt)) (λ is. inr (ap (λ (rs : List Row). rows_after q h.name state.pool (with_rows h rs)) (sym same) ∙ is)) told
 
-  pub told_so : (read rows : List Row) (r : Result (Vec ℕ Global × PoolChanges) Error) → read ≡ rows → Told read (λ e. e ≡ Memory) r → Told rows (IsFaultUnless ⊥) r
-  told_so read rows (Ok x) same told = subst (λ (rs : List Row). IsInsert (may_insert h.name) state.pool (with_rows h rs) news x.0.items (pool_after state x.1)) same told
-  told_so read rows (Err e) same told = ⊎_elim (λ memory. inl (subst (IsFaultUnless ⊥) (sym memory) tt)) (λ is. inr (ap (λ (rs : List Row). inserted (may_insert h.name) state.pool (with_rows h rs) news) (sym same) ∙ is)) told
+  pub prepared_own : (rows : List Row) (r : Result (Vec ℕ Global × PoolChanges) Error) → TellsRows q h state rows (λ e. e ≡ Memory) r → IfErr r IsOwn
+  prepared_own rows (Ok x) told = tt
+  prepared_own rows (Err e) told = asked_own q h.name state.pool (with_rows h rows) e told
 
-  pub prepared_cause : {F : Type 0} {g : Ghosts F} (a b : Allocator F g) (rows : List Row) (r : Result (Vec ℕ Global × PoolChanges) Error) → Told rows (λ e. e ≡ Memory) r → IfErr r (HasCauseBelow a b)
-  prepared_cause a b rows (Ok x) told = tt
-  prepared_cause a b rows (Err e) told = insert_cause a b (may_insert h.name) state.pool (with_rows h rows) news e told
+pub own_causes : {F T : Type 0} {g : Ghosts F} (a b : Allocator F g) (r : Result T Error) → IfErr r IsOwn → IfErr r (HasCauseBelow a b)
+own_causes a b (Ok x) own = tt
+own_causes a b (Err e) own = own_so a b e own
 
--- the rule of an insert into the table of a name
-abbrev pub rule : List ℕ → List (List Datum) → PackageRule
-rule name news P Q answer = Inserts P name news Q answer
+pub own_kinds : {T : Type 0} (r : Result T Error) → IfErr r IsOwn → IfErr r IsEditError
+own_kinds (Ok x) own = tt
+own_kinds (Err e) own = own_kind e own
 
-module _ {F : Type 0} {g : Ghosts F} (h : Heading) (news : List (List Datum)) where
+module _ {F : Type 0} {g : Ghosts F} (q : RowsAsked) (h : Heading) where
   read_keeps : (old new : CompoundFile F g) → FileRests old new → KeepsMeant old new
   read_keeps old new rests = record { means = λ tree m. means_read old new tree rests m }
 
   -- refused, or a fault, where the file was only read
   pub edit_refused : (old new : CompoundFile F g) (pool : PoolState) (e : Error) → FileRests old new
       → ((tree : Tree) → FileHolds old tree → pool.pool.long ≡ h.long → (rows : List Row) → rows_in (letters_in old) tree h ≡ Some rows
-      → IsFaultUnless ⊥ e ⊎ (inserted (may_insert h.name) pool.pool (with_rows h rows) news ≡ Err e))
-      → EditsTable {T = Unit {0}} (rule h.name news) h (Err e) old new pool pool
+      → IsFaultUnless ⊥ e ⊎ (rows_after q h.name pool.pool (with_rows h rows) ≡ Err e))
+      → EditsTable {T = Unit {0}} (rule_of q h.name) h (Err e) old new pool pool
   edit_refused old new pool e rests told = record {
     done = tt;
     refused = λ tree P t m s of_it.
         let there = rows_there old new tree P s h t pool.pool of_it in
-        ⊎_elim (λ fault. inl (inl fault)) (λ is. inr (refused_here old new tree P s h t pool.pool of_it news t.rows e there is, read_keeps old new rests))
+        ⊎_elim (λ fault. inl (inl fault)) (λ is. inr (refused_here old new tree P s h t pool.pool of_it q t.rows e there is, read_keeps old new rests))
         (told tree (holds_meant old tree m) (wide_so old new tree P s h t pool.pool of_it) t.rows there);
     rests = inr (read_keeps old new rests);
     pool = refl;
@@ -84,7 +81,7 @@ module _ {F : Type 0} {g : Ghosts F} (h : Heading) (news : List (List Datum)) wh
     keeps_then : KeepsMeant mid new → KeepsMeant old new
     keeps_then k = record { means = λ tree m. k.means tree (means_read old mid tree rests m) }
 
-    pub edit_fault : (e : Error) → PutsTable {T = Unit {0}} h.name bytes (Err e) mid new → EditsTable {T = Unit {0}} (rule h.name news) h (Err e) old new pool pool
+    pub edit_fault : (e : Error) → PutsTable {T = Unit {0}} h.name bytes (Err e) mid new → EditsTable {T = Unit {0}} (rule_of q h.name) h (Err e) old new pool pool
     edit_fault e p = record {
       done = tt;
       refused = λ tree P t m s of_it. inl (p.refused tree (means_read old mid tree rests m) (subst (λ (l : Letters). CanPut l h.name tree) (sym rests.letters) (can_put old new tree P s h t pool.pool of_it)));
@@ -96,13 +93,13 @@ module _ {F : Type 0} {g : Ghosts F} (h : Heading) (news : List (List Datum)) wh
 
     pub edit_done : (after : PoolState) → (after.modified ≡ false → after ≡ pool)
         → ((tree : Tree) → FileHolds old tree → pool.pool.long ≡ h.long → (rows : List Row) → rows_in (letters_in old) tree h ≡ Some rows
-        → IsInsert (may_insert h.name) pool.pool (with_rows h rows) news bytes after.pool)
-        → PutsTable {T = Unit {0}} h.name bytes (Ok tt) mid new → EditsTable {T = Unit {0}} (rule h.name news) h (Ok tt) old new pool after
+        → IsPrepared q h.name pool.pool (with_rows h rows) bytes after.pool)
+        → PutsTable {T = Unit {0}} h.name bytes (Ok tt) mid new → EditsTable {T = Unit {0}} (rule_of q h.name) h (Ok tt) old new pool after
     edit_done after marked told p = record {
       done = λ tree P t m s of_it.
           let there = rows_there old new tree P s h t pool.pool of_it in
           let put = p.done tree (means_read old mid tree rests m) (subst (λ (l : Letters). CanPut l h.name tree) (sym rests.letters) (can_put old new tree P s h t pool.pool of_it)) in
-          inserted_here old new tree P s h t pool.pool of_it news t.rows bytes after there (told tree (holds_meant old tree m) (wide_so old new tree P s h t pool.pool of_it) t.rows there)
+          edited_here old new tree P s h t pool.pool of_it q t.rows bytes after there (told tree (holds_meant old tree m) (wide_so old new tree P s h t pool.pool of_it) t.rows there)
           put.0 put.1 (subst (λ (l : Letters). HasPut l h.name bytes tree put.0) rests.letters put.2);
       refused = tt;
       rests = tt;
@@ -152,6 +149,10 @@ module _ {F : Type 0} {g : Ghosts F} where
   first_cause it e (inl failed) = own_cause (allocator_of (mini_of it)) (allocator_of (mini_of it)) e (λ is. let never : Failed ≡ Device = sym failed.0 ∙ is in absurd (cc)) (λ is. failed.1)
   first_cause it e (inr unsound) = own_so (allocator_of (mini_of it)) (allocator_of (mini_of it)) e (subst IsOwn (sym unsound.0) tt)
 
+  pub first_kind : (it : CompoundFile F g) (e : Error) → IsFirst it e → IsEditError e
+  first_kind it e (inl failed) = subst IsEditError (sym failed.0) (inl tt)
+  first_kind it e (inr unsound) = own_kind e (subst IsOwn (sym unsound.0) tt)
+
   -- the file may be changed
   abbrev pub IsOpen : CompoundFile F g → Type 0
   IsOpen it = (has_failed_here (allocator_of (mini_of it)) ≡ false) × (sound_of it ≡ true)
@@ -181,21 +182,21 @@ module _ {F : Type 0} {g : Ghosts F} where
       seen = (refl, refl, refl);
     }
 
-  module _ (name : List ℕ) (news : List (List Datum)) (old : Store F g) (open_file : IsOpen (file_in old)) where
+  module _ (q : RowsAsked) (name : List ℕ) (old : Store F g) (open_file : IsOpen (file_in old)) where
     was_live : {A : Type 0} → has_failed_here (allocator_of (mini_of (file_in old))) ≡ true → A
     was_live failed = let never : true ≡ false = sym failed ∙ open_file.0 in absurd (cc)
 
     was_sound : {A : Type 0} → sound_of (file_in old) ≡ false → A
     was_sound unsound = let never : true ≡ false = sym open_file.1 ∙ unsound in absurd (cc)
 
-    pub none_edits : (pool : PoolState) → heading_named (tables_in old) name ≡ None → Edits {T = Unit {0}} (rule name news) (Err NotFound) old old pool pool
+    pub none_edits : (pool : PoolState) → heading_named (tables_in old) name ≡ None → Edits {T = Unit {0}} (rule_of q name) (Err NotFound) old old pool pool
     none_edits pool none = record {
       failed = λ failed. was_live failed;
       unsound = λ live unsound. was_sound unsound;
       done = tt;
       refused = λ tree P m s memory.
           let is : heading_named (map (heading P.pool.long) P.tables) name ≡ None = ap (λ hs. heading_named hs name) (sym memory.tables) ∙ none in
-          inr (not_found P name news (none_of P.pool.long (table_named P.tables name) (sym (named_heading P.pool.long P.tables name) ∙ is)), record { means = λ tree m. m });
+          inr (not_found P name (none_of P.pool.long (table_named P.tables name) (sym (named_heading P.pool.long P.tables name) ∙ is)) q, record { means = λ tree m. m });
       rests = inr (record { means = λ tree m. m });
       pool = refl;
       marked = λ flag. refl;
@@ -213,11 +214,11 @@ module _ {F : Type 0} {g : Ghosts F} where
           let found = found_of P.pool.long (table_named P.tables name) h (sym (named_heading P.pool.long P.tables name) ∙ is) in
           (found.0, record { pool = memory.pool; named = ap (table_named P.tables) of_name ∙ found.1; told = found.2 })
 
-      pub table_edits : (r : Result (Unit {0}) Error) → EditsTable {T = Unit {0}} (rule h.name news) h r (file_in old) (file_in new) before after → Edits {T = Unit {0}} (rule name news) r old new before after
+      pub table_edits : (r : Result (Unit {0}) Error) → EditsTable {T = Unit {0}} (rule_of q h.name) h r (file_in old) (file_in new) before after → Edits {T = Unit {0}} (rule_of q name) r old new before after
       table_edits (Ok x) e = record {
         failed = λ failed. was_live failed;
         unsound = λ live unsound. was_sound unsound;
-        done = λ tree P m s memory. let t = table_of P memory in subst (λ n. IsEdited (rule n news) tree P (file_in old) (file_in new) after) of_name (e.done tree P t.0 m s t.1);
+        done = λ tree P m s memory. let t = table_of P memory in subst (λ n. IsEdited (rule_of q n) tree P (file_in old) (file_in new) after) of_name (e.done tree P t.0 m s t.1);
         refused = tt;
         rests = tt;
         pool = tt;
@@ -230,7 +231,7 @@ module _ {F : Type 0} {g : Ghosts F} where
         unsound = λ live unsound. was_sound unsound;
         done = tt;
         refused = λ tree P m s memory. let t = table_of P memory in
-            ⊎_elim (λ fault. inl fault) (λ told. inr (subst (λ n. rule n news P P (Err x)) of_name told.0, told.1)) (e.refused tree P t.0 m s t.1);
+            ⊎_elim (λ fault. inl fault) (λ told. inr (subst (λ n. rule_of q n P P (Err x)) of_name told.0, told.1)) (e.refused tree P t.0 m s t.1);
         rests = e.rests;
         pool = e.pool;
         marked = e.marked;

@@ -1,6 +1,7 @@
+pub mod Closed
 pub mod Exits
 pub mod Failing
-pub mod InsertedSo
+pub mod EditedSo
 pub mod Listed
 pub mod Prepared
 pub mod PutTable

@@ -1,16 +1,21 @@
--- Of which kinds the refusals of an insert are.
-use Rattle.std.proofs.Common.{◌≡◌, ◌⊎◌, ◌+◌, Bool, true, false, List, [], ◌∷◌, map, length, inl, inr, sym, subst, Option, Some, None, Result, Ok, Err}
-use Rattle.std.specs.Prelude.{nat_le, if◌then◌else◌, IfErr, option_map}
-use Rattle.std.specs.List.{list_all}
+-- Of which kinds the refusals of a query on rows are.
+use Rattle.std.proofs.Common.{◌≡◌, ◌⊎◌, ◌+◌, ℕ, Bool, true, false, List, [], ◌∷◌, map, length, inl, inr, refl, sym, subst, Option, Some, None, Result, Ok, Err}
+use Rattle.std.specs.Prelude.{◌&&◌, ◌||◌, ◌==◌, filter, nat_le, not, if◌then◌else◌, slice_get, slice_set, unwrap_or, IfErr, option_map}
+use Rattle.std.specs.List.{flat_map, list_all}
 use Rattle.cfb_fat.specs.Keeping.{own_cause}
 use Rattle.cfb_fat.specs.Tables.{HasCauseBelow}
 use Rattle.cfb_fat.specs.declared.allocator.Allocator.{Allocator}
 use Rattle.cfb_medium.specs.declared.error.Error.{Error}
-use Rattle.cfb_medium.specs.declared.error.Error.TheVariants.{AlreadyExists, Device, Failed, Full, InvalidData, InvalidInput, Memory, NotFound}
+use Rattle.cfb_medium.specs.declared.error.Error.TheVariants.{AlreadyExists, Device, Failed, Full, InvalidData, InvalidInput, Memory, NotFound, UnexpectedEof}
 use Rattle.cfb_medium.specs.declared.medium.ReadMedium.{Ghosts}
-use Rattle.msi_changes.specs.Changes.{counted, in_turn, inserted, new_keys, row_counted, rows_counted}
-use Rattle.msi_columns.specs.Column.{are_valid}
-use Rattle.msi_pool.specs.Pool.{place, used, Pool}
+use Rattle.msi_changes.specs.Changes.{all_taken_back, cell_set, cells_set, counted, deleted, in_turn, inserted, is_valid_set, keys_after, new_keys, row_counted, row_set, rows_counted, sets_key, taken_back, updated}
+use Rattle.msi_columns.specs.Column.{are_valid, column_place, Column}
+use Rattle.msi_edits.specs.Asked.{deleting, inserting, rows_after, updating, RowsAsked}
+use Rattle.msi_edits.specs.Edited.{IsEditError}
+use Rattle.msi_expr.specs.Conditions.{knows_condition, matches}
+use Rattle.msi_expr.specs.Formula.{Formula}
+use Rattle.msi_meaning.specs.Calls.{may_insert, may_update}
+use Rattle.msi_pool.specs.Pool.{at_place, place, used, without_use, Pool}
 use Rattle.msi_pool.specs.declared.stringref.ValueRef.{ValueRef}
 use Rattle.msi_pool.specs.declared.stringref.ValueRef.TheVariants as cell
 use Rattle.msi_tables.specs.Rows.{max_rows, Row}
@@ -18,17 +23,29 @@ use Rattle.msi_tables.specs.Table.{are_distinct, has_key, key_values, keys_of, T
 use Rattle.msi_texts.specs.Results.{◌>>=◌, or_refused, unless_not}
 use Rattle.msi_values.specs.Datum.{binary, null, number, text, Datum}
 
--- neither a fault of the device nor an earlier one
+-- neither a fault of the device nor an earlier one, and no end of bytes
 abbrev pub IsOwn : Error → Type 0
 IsOwn Device = ⊥
 IsOwn Failed = ⊥
+IsOwn UnexpectedEof = ⊥
 IsOwn Memory = Unit {0}
 IsOwn InvalidInput = Unit {0}
 IsOwn InvalidData = Unit {0}
 IsOwn AlreadyExists = Unit {0}
 IsOwn NotFound = Unit {0}
 IsOwn Full = Unit {0}
-IsOwn _ = Unit {0}
+
+-- it is of a kind that edits have
+pub own_kind : (e : Error) → IsOwn e → IsEditError e
+own_kind Device own = absurd own
+own_kind Failed own = absurd own
+own_kind UnexpectedEof own = absurd own
+own_kind Memory own = inl tt
+own_kind InvalidData own = inr (inl (inl (inl refl)))
+own_kind InvalidInput own = inr (inl (inl (inr (inl refl))))
+own_kind NotFound own = inr (inl (inl (inr (inr refl))))
+own_kind Full own = inr (inl (inr refl))
+own_kind AlreadyExists own = inr (inr refl)
 
 then_own : {A B : Type 0} (r : Result A Error) (f : A → Result B Error) → IfErr r IsOwn → ((x : A) → IfErr (f x) IsOwn) → IfErr (r >>= f) IsOwn
 then_own (Ok x) f own rest = rest x
@@ -70,11 +87,63 @@ inserted_own may pool t news =
     then_own (unless_not (nat_le (length t.rows + length news) max_rows) InvalidInput) _ (unless_own (nat_le (length t.rows + length news) max_rows) InvalidInput tt) (λ _.
     then_own (rows_counted pool news) _ (in_turn_own row_counted (λ p ds. in_turn_own counted counted_own p ds) pool news) (λ r. tt))))))
 
+-- ---- uses that are taken back
+
+taken_own : (pool : Pool) (v : ValueRef) → IfErr (taken_back pool v) IsOwn
+taken_own pool (cell.Str n) = by ((at_place pool.places n).count == 0)
+  where
+    by : (b : Bool) → IfErr {T = Pool} (if b then Err InvalidData else Ok (record pool { places = without_use n pool.places })) IsOwn
+    by true = tt
+    by false = tt
+taken_own pool cell.Null = tt
+taken_own pool (cell.Int z) = tt
+taken_own pool cell.Binary = tt
+
+all_taken_own : (pool : Pool) (vs : Row) → IfErr (all_taken_back pool vs) IsOwn
+all_taken_own pool [] = tt
+all_taken_own pool (v ∷ vs) = then_own (taken_back pool v) (λ p. all_taken_back p vs) (taken_own pool v) (λ p. all_taken_own p vs)
+
+deleted_own : (may : Bool) (pool : Pool) (t : Table) (condition : Option Formula) → IfErr (deleted may pool t condition) IsOwn
+deleted_own may pool t condition =
+    then_own (unless_not (knows_condition t.columns condition && may) InvalidInput) _ (unless_own (knows_condition t.columns condition && may) InvalidInput tt) (λ _.
+    then_own (all_taken_back pool (flat_map (λ row. row) (filter (matches pool t.columns condition) t.rows))) _ (all_taken_own pool (flat_map (λ row. row) (filter (matches pool t.columns condition) t.rows))) (λ p. tt))
+
+cells_own : (columns : List Column) (pool : Pool) (row : Row) (sets : List (List ℕ × Datum)) → IfErr (cells_set columns pool row sets) IsOwn
+cells_own columns pool row [] = tt
+cells_own columns pool row (s ∷ ss) =
+    let place = unwrap_or (column_place columns s.0) 0 in
+    then_own (cell_set columns pool row s) (λ r. cells_set columns r.1 r.0 ss)
+    (then_own (taken_back pool (unwrap_or (slice_get row place) cell.Null)) _ (taken_own pool (unwrap_or (slice_get row place) cell.Null)) (λ p.
+    then_own (counted p s.1) (λ v. Ok (slice_set row place v.0, v.1)) (counted_own p s.1) (λ v. tt)))
+    (λ r. cells_own columns r.1 r.0 ss)
+
+row_own : (columns : List Column) (sets : List (List ℕ × Datum)) (pool : Pool) (r : Row × Bool) → IfErr (row_set columns sets pool r) IsOwn
+row_own columns sets pool r = by r.1
+  where
+    by : (b : Bool) → IfErr (if b then cells_set columns pool r.0 sets else Ok (r.0, pool)) IsOwn
+    by true = cells_own columns pool r.0 sets
+    by false = tt
+
+updated_own : (may : Bool) (pool : Pool) (t : Table) (sets : List (List ℕ × Datum)) (condition : Option Formula) → IfErr (updated may pool t sets condition) IsOwn
+updated_own may pool t sets condition =
+    let valid = list_all (is_valid_set t.columns) sets && knows_condition t.columns condition && may in
+    let distinct = not (sets_key t.columns sets) || are_distinct (keys_after pool t sets condition) in
+    then_own (unless_not valid InvalidInput) _ (unless_own valid InvalidInput tt) (λ _.
+    then_own (unless_not distinct AlreadyExists) _ (unless_own distinct AlreadyExists tt) (λ _.
+    in_turn_own (row_set t.columns sets) (row_own t.columns sets) pool (map (λ row. (row, matches pool t.columns condition row)) t.rows)))
+
+-- ---- of a query
+
+after_own : (q : RowsAsked) (name : List ℕ) (pool : Pool) (t : Table) → IfErr (rows_after q name pool t) IsOwn
+after_own (inserting news) name pool t = inserted_own (may_insert name) pool t news
+after_own (updating sets condition) name pool t = updated_own (may_update name t.columns sets) pool t sets condition
+after_own (deleting condition) name pool t = deleted_own (may_insert name) pool t condition
+
+-- want of memory, or its refusal
+pub asked_own : (q : RowsAsked) (name : List ℕ) (pool : Pool) (t : Table) (e : Error) → (e ≡ Memory) ⊎ (rows_after q name pool t ≡ Err e) → IsOwn e
+asked_own q name pool t e (inl memory) = subst IsOwn (sym memory) tt
+asked_own q name pool t e (inr is) = subst (λ (r : Result (List Row × Pool) Error). IfErr r IsOwn) is (after_own q name pool t)
+
 module _ {F : Type 0} {g : Ghosts F} (a b : Allocator F g) where
   pub own_so : (e : Error) → IsOwn e → HasCauseBelow a b e
   own_so e own = own_cause a b e (λ is. subst IsOwn is own) (λ is. absurd (subst IsOwn is own))
-
-  -- want of memory, or a refusal of the insert
-  pub insert_cause : (may : Bool) (pool : Pool) (t : Table) (news : List (List Datum)) (e : Error) → (e ≡ Memory) ⊎ (inserted may pool t news ≡ Err e) → HasCauseBelow a b e
-  insert_cause may pool t news e (inl memory) = own_so e (subst IsOwn (sym memory) tt)
-  insert_cause may pool t news e (inr is) = own_so e (subst (λ (r : Result (List Row × Pool) Error). IfErr r IsOwn) is (inserted_own may pool t news))

@@ -1,11 +1,12 @@
 -- Calls that change the rows of a table of a package in a file, with the pool beside it.
 use Rattle.std.specs.Prelude.{◌≡◌, ◌⊎◌, ℕ, true, false, not, filter, map, List, None, Some, Result, Err, IfErr, IsErrOf, OnErr, OnOk}
 use Rattle.cfb.specs.Doing.{FileMeans}
-use Rattle.cfb.specs.Putting.{KeepsMeant}
+use Rattle.cfb.specs.Putting.{IsRefusedPut, KeepsMeant}
 use Rattle.cfb.specs.Views.{letters_in, mini_of, sound_of, validation_of}
 use Rattle.cfb.specs.declared.compound_file.CompoundFile.{CompoundFile}
 use Rattle.cfb_fat.specs.Tables.{has_failed_here}
 use Rattle.cfb_live.specs.Doing.{IsFault}
+use Rattle.cfb_medium.specs.Calls.{IsFaultUnless}
 use Rattle.cfb_medium.specs.declared.error.Error.{Error}
 use Rattle.cfb_medium.specs.declared.error.Error.TheVariants.{Failed, InvalidData}
 use Rattle.cfb_medium.specs.declared.medium.ReadMedium.{Ghosts}
@@ -28,6 +29,10 @@ use Rattle.msi_tables.specs.Table.{table_named, Heading, Table}
 pub record CanPut (letters : Letters) (name : List ℕ) (tree : Tree) : Type 0 where
   pub free : is_free_table_name name ≡ true
   pub no_storage : at_name letters (filter (λ o. not (is_stream o)) (objects tree.content)) (stream_name name) ≡ None
+
+-- which errors there are over any medium: faults, and refusals of the query and of the container
+abbrev pub IsEditError : Error → Type 0
+IsEditError e = IsFaultUnless ⊥ e ⊎ IsRefusedPut e
 
 -- the pool is the package's, and the table of the heading's name is this one
 pub record IsTableOf (held : Pool) (h : Heading) (P : Packed) (t : Table) : Type 0 where

@@ -1,3 +1,4 @@
+pub mod Allowed
+pub mod Asked
 pub mod Edited
-pub mod Inserting
 pub mod Valued

@@ -1,27 +1,50 @@
 //! The rows that a query leaves a table, as bytes of its stream.
 ghost use Rattle.cfb_medium.specs.declared.error.Error.TheVariants.{Memory};
 ghost use Rattle.std.specs.List.{list_all};
-ghost use Rattle.std.specs.Prelude.{◌≡◌, ◌⊎◌, length, true, Err, IfOk, MatchResult};
-ghost use Rattle.msi_changes.specs.Applied.{with_rows};
-ghost use Rattle.msi_changes.specs.Changes.{inserted};
-ghost use Rattle.msi_changes.specs.Prepared.{pool_after, AreChangesFor};
-ghost use Rattle.msi_changes.specs.Said.{insert_rows};
-ghost use Rattle.msi_edits.specs.Inserting.{IsInsert, IsUnwritten, IsWrittenAs};
-ghost use Rattle.msi_meaning.specs.Calls.{is_system, may_insert};
+ghost use Rattle.std.specs.Prelude.{◌≡◌, ◌⊎◌, length, true, IfOk, MatchResult};
+ghost use Rattle.std.specs.Rc.{rc_value};
+ghost use Rattle.msi_changes.specs.Prepared.{AreChangesFor};
+ghost use Rattle.msi_changes.specs.Said.{delete_condition, insert_rows, update_condition, update_sets};
+ghost use Rattle.msi_edits.specs.Asked.{asked, deleting, inserting, updating, IsUnwritten, IsWrittenAs, TellsRows};
 ghost use Rattle.msi_tables.specs.Held.{heading_of, rows_held};
-ghost use Rattle.msi_tables.specs.Rows.{has_place, AreWritable, HaveCells, IsWritten};
+ghost use Rattle.msi_tables.specs.Rows.{has_place, AreWritable, HaveCells};
 
+use crate::allowing::{is_system, may_update};
 use crate::listing::{rows_in_order, stored_values, with_new_values};
+use crate::query::RowsQuery;
 use cfb_medium::Error;
-use msi_changes::Insert;
+use msi_changes::{Delete, Insert, Update};
 use msi_pool::{PoolChanges, StringPool, ValueRef};
 use msi_tables::Table;
 use std::alloc::Global;
+use std::rc::Rc;
 
-/// What an insert makes of a table with these rows: the bytes of the rows that it leaves, and what the pool has to take over. It is
-/// refused as `Insert::prepare` says, and as `InvalidInput` for one of the three tables that describe others. The other error is
-/// `Memory`.
-pub(crate) fn inserted_rows(
+/// What a query makes of a table with these rows: the bytes of the rows that it leaves, and what the pool has to take over. It is
+/// refused as the query's `prepare` says, and as `InvalidInput` where it may not change one of the three tables that describe others.
+/// The other error is `Memory`.
+pub(crate) fn edited_rows(
+    alloc: Global,
+    table: &Rc<Table>,
+    rows: Vec<Vec<ValueRef>>,
+    pool: &StringPool,
+    query: &RowsQuery<'_>,
+) -> Result<(Vec<u8>, PoolChanges), Error>
+    requires wide { pool.now.pool.long ≡ (heading_of (rc_value table.now)).long }
+    requires writable { AreWritable pool.now.pool.long (heading_of (rc_value table.now)).columns
+        (rows_held rows.items) }
+    ensures told { TellsRows (asked query.now) (heading_of (rc_value table.now)) pool.now
+        (rows_held rows.items) (λ e. e ≡ Memory) result }
+    ensures changes { IfOk result (λ r. AreChangesFor pool.now r.1) }
+{
+    match query {
+        RowsQuery::Insert(insert) => inserted_rows(alloc, table, rows, pool, insert),
+        RowsQuery::Update(update) => updated_rows(alloc, table, rows, pool, update),
+        RowsQuery::Delete(delete) => deleted_rows(alloc, table, rows, pool, delete),
+    }
+}
+
+// The same of an insert.
+fn inserted_rows(
     alloc: Global,
     table: &Table,
     rows: Vec<Vec<ValueRef>>,
@@ -31,12 +54,8 @@ pub(crate) fn inserted_rows(
     requires wide { pool.now.pool.long ≡ (heading_of table.now).long }
     requires writable { AreWritable pool.now.pool.long (heading_of table.now).columns
         (rows_held rows.items) }
-    ensures told { MatchResult result (λ r. IsInsert (may_insert (heading_of table.now).name)
-        pool.now.pool (with_rows (heading_of table.now) (rows_held rows.items))
-        (insert_rows insert.now) r.0.items (pool_after pool.now r.1))
-        (λ e. (e ≡ Memory) ⊎ (inserted (may_insert (heading_of table.now).name) pool.now.pool
-        (with_rows (heading_of table.now) (rows_held rows.items)) (insert_rows insert.now)
-        ≡ Err e)) }
+    ensures told { TellsRows (inserting (insert_rows insert.now)) (heading_of table.now) pool.now
+        (rows_held rows.items) (λ e. e ≡ Memory) result }
     ensures changes { IfOk result (λ r. AreChangesFor pool.now r.1) }
 {
     let values = stored_values(alloc, pool, &rows)?;
@@ -56,11 +75,62 @@ pub(crate) fn inserted_rows(
     }
 }
 
-// Whether the table of this name describes others.
-fn is_system(name: &str) -> bool
-    ensures { result ≡ is_system name.now }
+// The same of a delete.
+fn deleted_rows(
+    alloc: Global,
+    table: &Rc<Table>,
+    rows: Vec<Vec<ValueRef>>,
+    pool: &StringPool,
+    delete: &Delete,
+) -> Result<(Vec<u8>, PoolChanges), Error>
+    requires wide { pool.now.pool.long ≡ (heading_of (rc_value table.now)).long }
+    requires writable { AreWritable pool.now.pool.long (heading_of (rc_value table.now)).columns
+        (rows_held rows.items) }
+    ensures told { TellsRows (deleting (delete_condition delete.now))
+        (heading_of (rc_value table.now)) pool.now (rows_held rows.items) (λ e. e ≡ Memory) result }
+    ensures changes { IfOk result (λ r. AreChangesFor pool.now r.1) }
 {
-    name == "_Tables" || name == "_Columns" || name == "_Validation"
+    if is_system(table.name()) {
+        return Err(Error::InvalidInput);
+    }
+    let (rows, changes) = match delete.prepare(alloc, table, rows, pool) {
+        Err(error) => return Err(error),
+        Ok(prepared) => prepared,
+    };
+    have_places(&rows);
+    match bytes_of_table(alloc, table, rows) {
+        Err(error) => Err(error),
+        Ok(bytes) => Ok((bytes, changes)),
+    }
+}
+
+// The same of an update.
+fn updated_rows(
+    alloc: Global,
+    table: &Rc<Table>,
+    rows: Vec<Vec<ValueRef>>,
+    pool: &StringPool,
+    update: &Update,
+) -> Result<(Vec<u8>, PoolChanges), Error>
+    requires wide { pool.now.pool.long ≡ (heading_of (rc_value table.now)).long }
+    requires writable { AreWritable pool.now.pool.long (heading_of (rc_value table.now)).columns
+        (rows_held rows.items) }
+    ensures told { TellsRows (updating (update_sets update.now) (update_condition update.now))
+        (heading_of (rc_value table.now)) pool.now (rows_held rows.items) (λ e. e ≡ Memory) result }
+    ensures changes { IfOk result (λ r. AreChangesFor pool.now r.1) }
+{
+    if !may_update(alloc, table, pool, update)? {
+        return Err(Error::InvalidInput);
+    }
+    let (rows, changes) = match update.prepare(alloc, table, rows, pool) {
+        Err(error) => return Err(error),
+        Ok(prepared) => prepared,
+    };
+    have_places(&rows);
+    match bytes_of_table(alloc, table, rows) {
+        Err(error) => Err(error),
+        Ok(bytes) => Ok((bytes, changes)),
+    }
 }
 
 // The bytes of rows.

@@ -1,7 +1,8 @@
 -- Before a change the pool counts a table's cells beside those of the other tables.
 use Rattle.std.proofs.Common.{◌≡◌, ◌∙◌, ℕ, ◌+◌, ◌-◌, ◌<◌, Bool, true, false, cond, List, length, get_or, refl, sym, ap, subst, arith, Some}
-use Rattle.std.specs.Prelude.{◌==◌, nat_le, slice_get}
+use Rattle.std.specs.Prelude.{◌==◌, ◌||◌, bytes_eq, map, nat_le, slice_get}
 use Rattle.std.specs.List.{All, remove, sum_by}
+use Rattle.std.proofs.lemmas.Bool.{or_parts}
 use Rattle.std.proofs.lemmas.Bool.Decides.{nat_tests}
 use Rattle.std.proofs.lemmas.List.{get_or_past, length-map}
 use Rattle.std.proofs.lemmas.List.Sums.{sum_by-remove}
@@ -15,14 +16,15 @@ use Rattle.msi_pool.specs.PoolKept.{AreFreeEmpty}
 use Rattle.msi_pool.specs.declared.stringref.ValueRef.{ValueRef}
 use Rattle.msi_pool.specs.declared.stringref.ValueRef.TheVariants as cell
 use Rattle.msi_tables.specs.Rows.{kinds_of, Row}
-use Rattle.msi_tables.specs.Table.{Table}
+use Rattle.msi_tables.specs.Schema.{columns_name, tables_name, validation_name}
+use Rattle.msi_tables.specs.Table.{row_data, Table}
 use Rattle.msi_meaning.specs.Calls.{is_system}
 use Rattle.msi_meaning.specs.Package.{Packed}
 use Rattle.msi_meaning.specs.Sound.{uses_of, IsUsed}
 use Rattle.msi_meaning.specs.Split.{Stores}
 use Rattle.msi_meaning.specs.Uses.{TextsAreCounted}
 use Rattle.msi_meaning.proofs.SoundUses.{rows_read}
-use Rattle.msi_rewritten.specs.Rewriting.{IsRewriting}
+use Rattle.msi_rewritten.specs.Rewriting.{DescribesAlike, IsRewriting}
 
 abbrev use_of : ℕ → ValueRef → ℕ
 use_of n v = cond (names_place n v) 1 0
@@ -79,14 +81,24 @@ module _ (letters : Letters) (tree : Tree) (P : Packed) (stores : Stores letters
       joined n within same = (let h = sum_by-remove (λ u. uses_in u.rows n) P.tables k t within in let e : uses_in (get_or P.tables k t).rows n ≡ uses_in t.rows n = ap (λ u. uses_in u.rows n) same in omega (arith, h, e))
 
 -- a change that keeps uses and shape, and whose rows are stored
-pub rewrites : (P : Packed) (k : ℕ) (t : Table) → slice_get P.tables k ≡ Some t → is_system t.name ≡ false → AreFreeEmpty P.pool.places
+pub rewrites : (P : Packed) (k : ℕ) (t : Table) → slice_get P.tables k ≡ Some t → AreFreeEmpty P.pool.places
     → (after : List Row × Pool) → KeepsUses P.pool t.columns (uses_of (remove P.tables k)) after → KeepsShape P.pool t after
-    → (stored : List Row) → StoredAlike after.1 (record t { rows = after.0 }) stored → IsRewriting P k t stored after.1
-rewrites P k t at ordinary free after keeps shape stored alike = record {
+    → (stored : List Row) → StoredAlike after.1 (record t { rows = after.0 }) stored → (bytes_eq t.name tables_name || bytes_eq t.name columns_name) ≡ false
+    → (bytes_eq t.name validation_name ≡ true → DescribesAlike (map (row_data P.pool) t.rows) (map (row_data after.1) stored)) → IsRewriting P k t stored after.1
+rewrites P k t at free after keeps shape stored alike unlisted described = record {
   at = at;
-  ordinary = ordinary;
+  unlisted = unlisted;
+  described = described;
   long = shape.kept.long;
   uses = alike.uses (uses_of (remove P.tables k)) keeps.uses;
   stays = keeps.stays;
   empty = shape.kept.empty free;
 }
+
+-- the same of a table that describes no other
+pub ordinary_rewrites : (P : Packed) (k : ℕ) (t : Table) → slice_get P.tables k ≡ Some t → is_system t.name ≡ false → AreFreeEmpty P.pool.places
+    → (after : List Row × Pool) → KeepsUses P.pool t.columns (uses_of (remove P.tables k)) after → KeepsShape P.pool t after
+    → (stored : List Row) → StoredAlike after.1 (record t { rows = after.0 }) stored → IsRewriting P k t stored after.1
+ordinary_rewrites P k t at ordinary free after keeps shape stored alike =
+    let both = or_parts (bytes_eq t.name tables_name || bytes_eq t.name columns_name) (bytes_eq t.name validation_name) ordinary in
+    rewrites P k t at free after keeps shape stored alike both.0 (λ is. let never : true ≡ false = sym is ∙ both.1 in absurd (cc))

@@ -26,7 +26,7 @@ use Rattle.msi_meaning.specs.Split.{Stores}
 use Rattle.msi_meaning.specs.Uses.{TextsAreCounted}
 use Rattle.msi_meaning.proofs.StoredBack.{come_back}
 use Rattle.msi_rewritten.specs.Rewriting.{IsRewriting}
-use Rattle.msi_rewritten.proofs.Before.{rewrites, uses_before}
+use Rattle.msi_rewritten.proofs.Before.{ordinary_rewrites, uses_before}
 use Rattle.msi_rewritten.proofs.Columns.{few_after, have_columns}
 
 -- what holds of an accepted result
@@ -40,7 +40,7 @@ module _ (letters : Letters) (tree : Tree) (P : Packed) (stores : Stores letters
     pub insert_rewrites : IsRewriting P k t stored after.1
     insert_rewrites =
         let uses = uses_before letters tree P stores counted k t at in
-        rewrites P k t at ordinary free after
+        ordinary_rewrites P k t at ordinary free after
         (of_ok (inserted may P.pool t new_rows) (KeepsUses P.pool t.columns (uses_of (remove P.tables k))) after is (keeps_uses may P.pool t new_rows (uses_of (remove P.tables k)) uses))
         (of_ok (inserted may P.pool t new_rows) (KeepsShape P.pool t) after is (insert_shape may P.pool t new_rows))
         stored (by_keys_alike after.1 (record t { rows = after.0 }) stored by_keys)

@@ -5,6 +5,7 @@ pub mod Counted
 pub mod Names
 pub mod Stored
 pub mod Put
+pub mod Described
 pub mod Before
 pub mod Columns
 pub mod Inserted

@@ -25,7 +25,7 @@ use Rattle.msi_meaning.specs.Streams.{IsDropped}
 use Rattle.msi_meaning.proofs.EncodedKeys.{keys_tell, name_encoded}
 use Rattle.msi_meaning.proofs.Roots.{put_dropped, put_found}
 use Rattle.msi_meaning.proofs.SystemRows.{same_bytes}
-use Rattle.msi_rewritten.specs.Rewriting.{rewritten, HasPut, IsRewriting}
+use Rattle.msi_rewritten.specs.Rewriting.{rewritten, DescribesAlike, HasPut, IsRewriting}
 use Rattle.msi_rewritten.proofs.Beside.{key_by_same, put_keeps_storages, same_by_key}
 use Rattle.msi_rewritten.proofs.Counted.{data_stays}
 use Rattle.msi_rewritten.proofs.Names.{found_same, kept_has, no_slash, storage_listed, summary_apart, tables_apart}
@@ -83,6 +83,20 @@ none_listed letters usable m e (t ∷ ts) free none = by (bytes_eq t.name m) ref
         (tables_apart letters usable t.name m (free_parts t.name (All-head (λ t. IsTrue (is_free_table_name t.name)) t ts free)).0 e (names_differ t.name m is))
         (rest (rw is at none))
 
+-- a table of the name is found where one has it
+named_there : (ts : List Table) (k : ℕ) (t : Table) (m : List ℕ) → slice_get ts k ≡ Some t → bytes_eq t.name m ≡ true → table_named ts m ≡ None → ⊥
+named_there [] k t m at is none = absurd (cc)
+named_there (u ∷ us) zero t m at is none =
+    let same : u ≡ t = grind (arith, at) in
+    let here : bytes_eq u.name m ≡ true = ap (λ (v : Table). bytes_eq v.name m) same ∙ is in
+    let never : Some u ≡ None = rw here at none in
+    cc
+named_there (u ∷ us) (suc k) t m at is none = by (bytes_eq u.name m) refl (named_there us k t m at is)
+  where
+    by : (b : Bool) → bytes_eq u.name m ≡ b → (table_named us m ≡ None → ⊥) → ⊥
+    by true e rest = (let never : Some u ≡ None = rw e at none in cc)
+    by false e rest = rest (rw e at none)
+
 nothing_there : (long : Bool) → rows_of long (kinds_of validation_columns) [] ≡ Some []
 nothing_there true = refl
 nothing_there false = refl
@@ -119,11 +133,8 @@ module _ (letters : Letters) (old new : Tree) (P : Packed) (usable : may_use let
     identifier : is_identifier t.name ≡ true
     identifier = own_identifier letters P usable named k t r.at
 
-    ordinary : (bytes_eq t.name tables_name ≡ false) × (bytes_eq t.name columns_name ≡ false) × (bytes_eq t.name validation_name ≡ false)
-    ordinary =
-        let a = or_parts (bytes_eq t.name tables_name || bytes_eq t.name columns_name) (bytes_eq t.name validation_name) r.ordinary in
-        let b = or_parts (bytes_eq t.name tables_name) (bytes_eq t.name columns_name) a.0 in
-        (b.0, b.1, a.1)
+    ordinary : (bytes_eq t.name tables_name ≡ false) × (bytes_eq t.name columns_name ≡ false)
+    ordinary = or_parts (bytes_eq t.name tables_name) (bytes_eq t.name columns_name) r.unlisted
 
     swapped : (m : List ℕ) → bytes_eq t.name m ≡ false → (u : Table) → u.name ≡ m → bytes_eq u.name t.name ≡ false
     swapped m differs u is = by (bytes_eq u.name t.name) refl
@@ -146,8 +157,9 @@ module _ (letters : Letters) (old new : Tree) (P : Packed) (usable : may_use let
             ap (λ (v : Table). map (row_data pool) v.rows) (other_kept t.name stored u other)
             ∙ subst (λ (v : Table). map (row_data pool) v.rows ≡ map (row_data P.pool) v.rows) at.2 (data_stays letters old P stores k t stored pool r at.0 u at.1 differs_there)
 
-    pub validation_after : map (row_data pool) stores.validation ≡ map (row_data P.pool) stores.validation
-    validation_after = by (table_named P.tables validation_name) refl
+    -- those of _Validation, where it is one of them
+    validation_after : bytes_eq t.name validation_name ≡ false → map (row_data pool) stores.validation ≡ map (row_data P.pool) stores.validation
+    validation_after apart = by (table_named P.tables validation_name) refl
       where
         by : (found : Option Table) → table_named P.tables validation_name ≡ found → map (row_data pool) stores.validation ≡ map (row_data P.pool) stores.validation
         by None is =
@@ -166,7 +178,7 @@ module _ (letters : Letters) (old new : Tree) (P : Packed) (usable : may_use let
             ∙ ap (λ m. rows_of P.pool.long (kinds_of u.columns) (unwrap_or (table_stream letters (objects old.content) m) [])) (sym at.3)
             ∙ read in
             let same : stores.validation ≡ u.rows = grind (arith, rows) in
-            let other = swapped validation_name ordinary.2 u at.3 in
+            let other = swapped validation_name apart u at.3 in
             let differs_there : bytes_eq (get_or P.tables at.0 u).name t.name ≡ false = subst (λ (v : Table). bytes_eq v.name t.name ≡ false) (sym at.2) other in
             let stays : map (row_data pool) u.rows ≡ map (row_data P.pool) u.rows =
             subst (λ (v : Table). map (row_data pool) v.rows ≡ map (row_data P.pool) v.rows) at.2 (data_stays letters old P stores k t stored pool r at.0 u at.1 differs_there) in
@@ -233,19 +245,70 @@ module _ (letters : Letters) (old new : Tree) (P : Packed) (usable : may_use let
               ∙ ap (λ o. rows_of P.pool.long (kinds_of u.columns) (unwrap_or o [])) (beside letters P usable named k t r.at old new bytes put u.name apart)
               ∙ stores.rows j d within)
 
-      schema_after : is_schema (rows_named Q tables_name) (rows_named Q columns_name) (map (row_data pool) stores.validation) ≡ true
-      schema_after =
-          ap (λ a. is_schema a (rows_named Q columns_name) (map (row_data pool) stores.validation)) (rows_named_after tables_name ordinary.0)
-          ∙ ap (λ b. is_schema (rows_named P tables_name) b (map (row_data pool) stores.validation)) (rows_named_after columns_name ordinary.1)
-          ∙ ap (λ c. is_schema (rows_named P tables_name) (rows_named P columns_name) c) validation_after
-          ∙ stores.schema
+      -- the table is _Validation
+      own_kinds : bytes_eq t.name validation_name ≡ true → kinds_of t.columns ≡ kinds_of validation_columns
+      own_kinds is = by (table_named P.tables validation_name) refl
+        where
+          by : (found : Option Table) → table_named P.tables validation_name ≡ found → kinds_of t.columns ≡ kinds_of validation_columns
+          by None none = absurd (named_there P.tables k t validation_name r.at is none)
+          by (Some u) there =
+              let at = found_at P.tables validation_name u there in
+              let kinds : kinds_of u.columns ≡ kinds_of validation_columns = subst (λ o. IfSome o (λ t. kinds_of t.columns ≡ kinds_of validation_columns)) there named.validation_kinds in
+              let name : (get_or P.tables at.0 u).name ≡ t.name = ap (λ (v : Table). v.name) at.2 ∙ at.3 ∙ sym (same_bytes t.name validation_name is) in
+              ap kinds_of (sym (own_columns at.0 u at.1 name) ∙ ap (λ (v : Table). v.columns) at.2) ∙ kinds
 
-      columns_after : All (λ u. columns_in (rows_named Q columns_name) (map (row_data pool) stores.validation) u.name ≡ Some u.columns) (rows_put t.name stored P.tables)
-      columns_after = All-map (λ u. columns_in (rows_named Q columns_name) (map (row_data pool) stores.validation) u.name ≡ Some u.columns) (with_rows t.name stored) P.tables (λ j d within.
+      -- the rows of _Validation that the new tree has
+      record ValidationNow : Type 0 where
+        rows : List Row
+        is : rows_of P.pool.long (kinds_of validation_columns) (unwrap_or (table_stream letters (objects new.content) validation_name) []) ≡ Some rows
+        alike : DescribesAlike (map (row_data P.pool) stores.validation) (map (row_data pool) rows)
+
+      validation_now : ValidationNow
+      validation_now = by (bytes_eq t.name validation_name) refl
+        where
+          by : (b : Bool) → bytes_eq t.name validation_name ≡ b → ValidationNow
+          by false differs =
+              let same = validation_after differs in
+              record {
+                rows = stores.validation;
+                is = ap (λ o. rows_of P.pool.long (kinds_of validation_columns) (unwrap_or o []))
+                    (beside letters P usable named k t r.at old new bytes put validation_name (tables_apart letters usable validation_name t.name refl identifier (λ same. names_differ t.name validation_name differs (sym same))))
+                    ∙ stores.validation_is;
+                alike = record { schema = λ tables columns is. ap (is_schema tables columns) same ∙ is; columns = λ tables columns is name. ap (λ vs. columns_in columns vs name) same };
+              }
+          by true is =
+              let same : t.name ≡ validation_name = same_bytes t.name validation_name is in
+              let kinds = own_kinds is in
+              let there : rows_of P.pool.long (kinds_of t.columns) (unwrap_or (table_stream letters (objects old.content) t.name) []) ≡ Some t.rows =
+              subst (λ (u : Table). rows_of P.pool.long (kinds_of u.columns) (unwrap_or (table_stream letters (objects old.content) u.name) []) ≡ Some u.rows) (get_or_from_slice_get P.tables k t t r.at)
+              (stores.rows k t (within_it letters P usable named k t r.at)) in
+              let both : Some stores.validation ≡ Some t.rows =
+              sym stores.validation_is
+              ∙ ap (λ ks. rows_of P.pool.long ks (unwrap_or (table_stream letters (objects old.content) validation_name) [])) (sym kinds)
+              ∙ ap (λ m. rows_of P.pool.long (kinds_of t.columns) (unwrap_or (table_stream letters (objects old.content) m) [])) (sym same)
+              ∙ there in
+              let rows : stores.validation ≡ t.rows = grind (arith, both) in
+              record {
+                rows = stored;
+                is = ap (λ ks. rows_of P.pool.long ks (unwrap_or (table_stream letters (objects new.content) validation_name) [])) (sym kinds)
+                    ∙ ap (λ m. rows_of P.pool.long (kinds_of t.columns) (unwrap_or (table_stream letters (objects new.content) m) [])) (sym same)
+                    ∙ ap (λ o. rows_of P.pool.long (kinds_of t.columns) (unwrap_or o [])) own_stream
+                    ∙ read;
+                alike = subst (λ (rs : List Row). DescribesAlike (map (row_data P.pool) rs) (map (row_data pool) stored)) (sym rows) (r.described is);
+              }
+
+      schema_after : is_schema (rows_named Q tables_name) (rows_named Q columns_name) (map (row_data pool) validation_now.rows) ≡ true
+      schema_after =
+          ap (λ a. is_schema a (rows_named Q columns_name) (map (row_data pool) validation_now.rows)) (rows_named_after tables_name ordinary.0)
+          ∙ ap (λ b. is_schema (rows_named P tables_name) b (map (row_data pool) validation_now.rows)) (rows_named_after columns_name ordinary.1)
+          ∙ validation_now.alike.schema (rows_named P tables_name) (rows_named P columns_name) stores.schema
+
+      columns_after : All (λ u. columns_in (rows_named Q columns_name) (map (row_data pool) validation_now.rows) u.name ≡ Some u.columns) (rows_put t.name stored P.tables)
+      columns_after = All-map (λ u. columns_in (rows_named Q columns_name) (map (row_data pool) validation_now.rows) u.name ≡ Some u.columns) (with_rows t.name stored) P.tables (λ j d within.
           let u : Table = get_or P.tables j d in
-          ap (λ m. columns_in (rows_named Q columns_name) (map (row_data pool) stores.validation) m) (name_kept t.name stored u)
-          ∙ ap (λ cs. columns_in cs (map (row_data pool) stores.validation) u.name) (rows_named_after columns_name ordinary.1)
-          ∙ ap (λ vs. columns_in (rows_named P columns_name) vs u.name) validation_after
+          ap (λ m. columns_in (rows_named Q columns_name) (map (row_data pool) validation_now.rows) m) (name_kept t.name stored u)
+          ∙ ap (λ cs. columns_in cs (map (row_data pool) validation_now.rows) u.name) (rows_named_after columns_name ordinary.1)
+          ∙ validation_now.alike.columns (rows_named P tables_name) (rows_named P columns_name) stores.schema u.name
           ∙ stores.columns j d within
           ∙ sym (ap (λ cs. Some cs) (columns_kept t.name stored u)))
 
@@ -281,11 +344,8 @@ module _ (letters : Letters) (old new : Tree) (P : Packed) (usable : may_use let
         rising = subst (IsStrictlySortedBy table_name_cmp) (sym (names_kept t.name stored (λ n. n) P.tables)) stores.rising;
         names = names_after;
         rows = rows_after;
-        validation = stores.validation;
-        validation_is = ap (λ long. rows_of long (kinds_of validation_columns) (unwrap_or (table_stream letters (objects new.content) validation_name) [])) r.long
-            ∙ ap (λ o. rows_of P.pool.long (kinds_of validation_columns) (unwrap_or o []))
-            (beside letters P usable named k t r.at old new bytes put validation_name (tables_apart letters usable validation_name t.name refl identifier (λ same. names_differ t.name validation_name ordinary.2 (sym same))))
-            ∙ stores.validation_is;
+        validation = validation_now.rows;
+        validation_is = ap (λ long. rows_of long (kinds_of validation_columns) (unwrap_or (table_stream letters (objects new.content) validation_name) [])) r.long ∙ validation_now.is;
         schema = schema_after;
         columns = columns_after;
         streams = streams_after;

@@ -7,7 +7,7 @@ ghost use Rattle.std.specs.List.{list_all};
 ghost use Rattle.msi_changes.specs.Changes.{deleted, inserted, updated};
 ghost use Rattle.msi_expr.specs.Formula.{Formula};
 ghost use Rattle.msi_meaning.specs.Back.{ComeBack};
-ghost use Rattle.msi_meaning.specs.Calls.{is_system, rows_put};
+ghost use Rattle.msi_meaning.specs.Calls.{is_system, may_update, rows_put};
 ghost use Rattle.msi_pool.specs.PoolKept.{AreFreeEmpty};
 ghost use Rattle.msi_values.specs.Datum.{Datum};
 ghost use Rattle.msi_meaning.specs.Opening.{may_use};
@@ -85,18 +85,36 @@ pub fn inserts_rewrite_their_table()
         → ComeBack P.pool.long t.columns stored }
 {}
 
-/// So does an update or a delete that is accepted.
+/// So does an update or a delete that is accepted, an update of the descriptions in _Validation among them.
 pub fn updates_and_deletes_rewrite_their_table()
     ensures updated { (letters : Letters) (tree : Tree) (P : Packed) → Stores letters tree P
         → (k : ℕ) (t : Table) → slice_get P.tables k ≡ Some t → TextsAreCounted P.pool P.tables
-        → AreFreeEmpty P.pool.places → is_system t.name ≡ false → (may : Bool)
-        (sets : List (List ℕ × Datum)) (condition : Option Formula) (after : List Row × Pool)
-        → updated may P.pool t sets condition ≡ Ok after → (stored : List Row)
-        → IsStored t.columns after.0 stored → IsRewriting P k t stored after.1 }
+        → AreFreeEmpty P.pool.places → (sets : List (List ℕ × Datum)) (condition : Option Formula)
+        (after : List Row × Pool)
+        → updated (may_update t.name t.columns sets) P.pool t sets condition ≡ Ok after
+        → (stored : List Row) → IsStored t.columns after.0 stored
+        → IsRewriting P k t stored after.1 }
     ensures deleted { (letters : Letters) (tree : Tree) (P : Packed) → Stores letters tree P
         → (k : ℕ) (t : Table) → slice_get P.tables k ≡ Some t → TextsAreCounted P.pool P.tables
         → AreFreeEmpty P.pool.places → is_system t.name ≡ false → (may : Bool)
         (condition : Option Formula) (after : List Row × Pool)
         → deleted may P.pool t condition ≡ Ok after → (stored : List Row)
         → IsStored t.columns after.0 stored → IsRewriting P k t stored after.1 }
+{}
+
+/// The rows that they leave come back from their bytes.
+pub fn updated_and_deleted_rows_come_back()
+    ensures updated { (letters : Letters) (tree : Tree) (P : Packed) → Stores letters tree P
+        → (k : ℕ) (t : Table) → slice_get P.tables k ≡ Some t → TextsAreCounted P.pool P.tables
+        → (may : Bool) (sets : List (List ℕ × Datum)) (condition : Option Formula)
+        (after : List Row × Pool) → updated may P.pool t sets condition ≡ Ok after
+        → AreWritable P.pool.long t.columns after.0
+        → All (λ row. IsTrue (list_all has_place row)) after.0 → (stored : List Row)
+        → IsStored t.columns after.0 stored → ComeBack P.pool.long t.columns stored }
+    ensures deleted { (letters : Letters) (tree : Tree) (P : Packed) → Stores letters tree P
+        → (k : ℕ) (t : Table) → slice_get P.tables k ≡ Some t → TextsAreCounted P.pool P.tables
+        → (may : Bool) (condition : Option Formula) (after : List Row × Pool)
+        → deleted may P.pool t condition ≡ Ok after → AreWritable P.pool.long t.columns after.0
+        → All (λ row. IsTrue (list_all has_place row)) after.0 → (stored : List Row)
+        → IsStored t.columns after.0 stored → ComeBack P.pool.long t.columns stored }
 {}

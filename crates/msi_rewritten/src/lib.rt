@@ -5,5 +5,6 @@ mod laws;
 
 pub use laws::{
     inserts_rewrite_their_table, other_streams_stay, rewritten_packages_are_stored,
-    rewritten_texts_are_counted, storages_stay, updates_and_deletes_rewrite_their_table,
+    rewritten_texts_are_counted, storages_stay, updated_and_deleted_rows_come_back,
+    updates_and_deletes_rewrite_their_table,
 };

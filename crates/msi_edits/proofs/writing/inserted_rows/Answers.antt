@@ -4,7 +4,7 @@ use Rattle.msi_meaning.specs.Calls.{is_system}
 use Rattle.msi_changes.specs.Applied.{with_rows}
 use Rattle.msi_changes.specs.Prepared.{pool_after}
 use Rattle.msi_changes.specs.Said.{insert_rows}
-use Rattle.msi_edits.specs.Inserting.{IsUnwritten, IsWrittenAs}
+use Rattle.msi_edits.specs.Asked.{IsUnwritten, IsWrittenAs}
 use Rattle.msi_edits.specs.Valued.{rows_said}
 use Rattle.msi_tables.specs.Held.{heading_of, rows_held}
 use Rattle.msi_tables.specs.Rows.{has_place, AreWritable, IsArranged}

@@ -5,7 +5,7 @@ use Rattle.cfb.specs.Views.{mini_of}
 use Rattle.cfb_copying.specs.Chains.{IsCopyFault}
 use Rattle.cfb_mini.specs.Views.{allocator_of}
 use Rattle.cfb_owned.proofs.GoingOn.{goes_cause, goes_then, rests_go_on}
-use Rattle.msi.specs.Changing.{IsWritingError}
+use Rattle.msi.specs.Changing.{IsChangeError}
 use Rattle.msi.specs.Opened.{file_in}
 use Rattle.msi.proofs.Copied.{failed_copies, saved_copies, unsaved_copies, unsound_cause, unsound_copies}
 use Rattle.msi.proofs.Flushed.{failed_cause}
@@ -56,4 +56,4 @@ returns-clause-cause g c =
     IfErr-weaker c.copy_to.result _ _ (λ e cause. ⊎_elim (λ below. inl (goes_cause a m (allocator_of (mini_of c.copy_to.new.self)) e c.write_memory.ensures.goes_on c.in_default.ensures.saves.live.1 below)) (λ there. inr there) cause) c.copy_to.ensures.cause
 
 pub returns-clause-kinds : goal.returns-clause-kinds
-returns-clause-kinds g c = IfErr-weaker c.copy_to.result IsCopyFault (λ e. IsWritingError e ⊎ IsCopyFault e) (λ e fault. inr fault) c.copy_to.ensures.fault
+returns-clause-kinds g c = IfErr-weaker c.copy_to.result IsCopyFault (λ e. IsChangeError e ⊎ IsCopyFault e) (λ e fault. inr fault) c.copy_to.ensures.fault

@@ -5,6 +5,7 @@ use Rattle.msi.specs.Changing.{failed_in}
 use Rattle.msi.specs.Opened.{sound_in}
 use Rattle.msi.proofs.Changed.{rows_changed}
 use Rattle.msi.proofs.Leaving.{insert_keeps}
+use Rattle.msi.proofs.Causes.{refused_cause, refused_change}
 use Rattle.msi.proofs.Permitted.{not_permitted, permitted}
 use Rattle.msi.proofs.package.Package.insert_rows.Goals as goal
 
@@ -20,3 +21,9 @@ returns-clause-changes g c =
     let done = c.insert_rows.ensures.edits in
     rows_changed (λ P Q answer. Inserts P (insert_name c.args.query.now) (insert_rows c.args.query.now) Q answer) (λ P Q told. (insert_keeps name rows P Q told).0) (λ P Q told. (insert_keeps name rows P Q told).1)
     it _ (record { letters = done.seen.0; tables = done.tables; kind = refl; summary = refl; sound = refl; written = refl }) may.0 may.1 c.insert_rows.result done
+
+pub returns-in-Err-clause-cause : goal.returns-in-Err-clause-cause
+returns-in-Err-clause-cause g c = refused_cause (λ m n from. (g.met.F.ReadMedium.continues_keeps m n from).as_failed) c.args.self.now c.in-Err.error (sym c.may_change.ensures ∙ c.in-Err.is)
+
+pub returns-in-Err-clause-kinds : goal.returns-in-Err-clause-kinds
+returns-in-Err-clause-kinds g c = refused_change c.args.self.now c.in-Err.error (sym c.may_change.ensures ∙ c.in-Err.is)

@@ -6,6 +6,7 @@ use Rattle.msi.specs.Changing.{failed_in}
 use Rattle.msi.specs.Opened.{file_in, sound_in}
 use Rattle.msi.proofs.Changed.{streams_changed}
 use Rattle.msi.proofs.Leaving.{removing_leaves}
+use Rattle.msi.proofs.Causes.{refused_cause, refused_removal}
 use Rattle.msi.proofs.Permitted.{not_permitted, permitted}
 use Rattle.msi.proofs.package.Package.remove_stream.Goals as goal
 
@@ -18,3 +19,15 @@ returns-clause-changes g c =
     let may = permitted (failed_in it) (sound_in it) (sym c.may_change.ensures ∙ c.in_default.is) in
     let done = c.remove_stream.ensures.changes in
     streams_changed (Makes (λ P. stream_removed (letters_in (file_in c.args.self.now)) P c.args.name.now)) (removing_leaves (letters_in (file_in c.args.self.now)) c.args.name.now) it _ (record { letters = done.seen.0; tables = refl; kind = refl; summary = refl; sound = refl; written = refl }) refl may.0 may.1 c.remove_stream.result done
+
+pub returns-in-Err-clause-cause : goal.returns-in-Err-clause-cause
+returns-in-Err-clause-cause g c = refused_cause (λ m n from. (g.met.F.ReadMedium.continues_keeps m n from).as_failed) c.args.self.now c.in-Err.error (sym c.may_change.ensures ∙ c.in-Err.is)
+
+pub returns-in-Err-clause-kinds : goal.returns-in-Err-clause-kinds
+returns-in-Err-clause-kinds g c = refused_removal c.args.self.now c.in-Err.error (sym c.may_change.ensures ∙ c.in-Err.is)
+
+pub returns-clause-cause : goal.returns-clause-cause
+returns-clause-cause g c = c.remove_stream.ensures.answers.cause
+
+pub returns-clause-kinds : goal.returns-clause-kinds
+returns-clause-kinds g c = c.remove_stream.ensures.answers.fault

@@ -4,7 +4,7 @@ use Rattle.cfb_medium.specs.Calls.{IsFaultUnless}
 use Rattle.msi_meaning.specs.Package.{stream_name}
 use Rattle.msi_tables.specs.Held.{heading_of}
 use Rattle.msi_edits.proofs.PutTable.{not_put, put_table}
-use Rattle.msi_edits.proofs.inserting.put_bytes.Goals as goal
+use Rattle.msi_edits.proofs.editing.put_bytes.Goals as goal
 
 pub returns-in-Err-clause-puts : goal.returns-in-Err-clause-puts
 returns-in-Err-clause-puts g c = not_put _ _ _ c.in-Err.error (inl (subst (IsFaultUnless ⊥) (sym c.in-Err.ensures.kinds) tt))

@@ -1,0 +1,27 @@
+use Rattle.std.proofs.Common.{◌∙◌, refl, sym}
+use Rattle.msi_changes.specs.Said.{update_condition, update_name, update_sets}
+use Rattle.msi_meaning.specs.Calls.{Updates}
+use Rattle.msi.specs.Changing.{failed_in}
+use Rattle.msi.specs.Opened.{sound_in}
+use Rattle.msi.proofs.Causes.{refused_cause, refused_change}
+use Rattle.msi.proofs.Changed.{rows_changed}
+use Rattle.msi.proofs.Leaving.{update_keeps}
+use Rattle.msi.proofs.Permitted.{not_permitted, permitted}
+use Rattle.msi.proofs.package.Package.update_rows.Goals as goal
+
+pub returns-in-Err-clause-changes : goal.returns-in-Err-clause-changes
+returns-in-Err-clause-changes g c = not_permitted (λ P Q answer. Updates P (update_name c.args.query.now) (update_sets c.args.query.now) (update_condition c.args.query.now) Q answer) c.args.self.now c.in-Err.error (sym c.may_change.ensures ∙ c.in-Err.is)
+
+pub returns-clause-changes : goal.returns-clause-changes
+returns-clause-changes g c =
+    let it = c.args.self.now in
+    let may = permitted (failed_in it) (sound_in it) (sym c.may_change.ensures ∙ c.in_default.is) in
+    let done = c.update_rows.ensures.edits in
+    rows_changed (λ P Q answer. Updates P (update_name c.args.query.now) (update_sets c.args.query.now) (update_condition c.args.query.now) Q answer) (λ P Q told. (update_keeps (update_name c.args.query.now) (update_condition c.args.query.now) P Q (update_sets c.args.query.now) told).0) (λ P Q told. (update_keeps (update_name c.args.query.now) (update_condition c.args.query.now) P Q (update_sets c.args.query.now) told).1)
+    it _ (record { letters = done.seen.0; tables = done.tables; kind = refl; summary = refl; sound = refl; written = refl }) may.0 may.1 c.update_rows.result done
+
+pub returns-in-Err-clause-cause : goal.returns-in-Err-clause-cause
+returns-in-Err-clause-cause g c = refused_cause (λ m n from. (g.met.F.ReadMedium.continues_keeps m n from).as_failed) c.args.self.now c.in-Err.error (sym c.may_change.ensures ∙ c.in-Err.is)
+
+pub returns-in-Err-clause-kinds : goal.returns-in-Err-clause-kinds
+returns-in-Err-clause-kinds g c = refused_change c.args.self.now c.in-Err.error (sym c.may_change.ensures ∙ c.in-Err.is)
