@@ -3,6 +3,8 @@
 
 mod inserting;
 mod listing;
+mod system_rows;
 mod writing;
 
 pub use inserting::insert_rows;
+pub use system_rows::{bytes_by_keys, put_table_bytes};
