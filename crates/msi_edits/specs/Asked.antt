@@ -78,3 +78,9 @@ pub record IsWrittenAs (long : Bool) (columns : List Column) (rows : List Row) (
 -- want of memory; or the rows can't be written
 abbrev pub IsUnwritten : Bool → List Column → List Row → Error → Type 0
 IsUnwritten long columns rows e = (e ≡ Memory) ⊎ ((stored : List Row) × IsStored columns rows stored × (rows_bytes long (kinds_of columns) stored ≡ None))
+
+-- the bytes are those of the rows listed by their keys, and then in the stored order
+pub record IsWrittenByKeys (pool : Pool) (long : Bool) (columns : List Column) (rows : List Row) (bytes : List ℕ) : Type 0 where
+  pub stored : List Row
+  pub by_keys : IsStoredByKeys pool columns rows stored
+  pub written : rows_bytes long (kinds_of columns) stored ≡ Some bytes

@@ -20,6 +20,7 @@ ghost use Rattle.msi_tables.specs.Held.{heading_of};
 ghost use Rattle.msi_tables.specs.Rows.{Row};
 
 use crate::query::RowsQuery;
+use crate::system_rows::put_table_bytes;
 use crate::writing::edited_rows;
 use cfb::CompoundFile;
 use cfb_medium::{Error, Medium, ReadMedium};
@@ -27,7 +28,6 @@ use msi_changes::{Delete, Insert, Update};
 use msi_pool::{PoolChanges, StringPool};
 use msi_store::{Store, rows_of_table};
 use msi_tables::Table;
-use msi_texts::encode;
 use std::alloc::Global;
 use std::mem::replace;
 use std::rc::Rc;
@@ -62,7 +62,7 @@ fn prepared_edit<F: ReadMedium>(
     edited_rows(alloc, table, rows, pool, query)
 }
 
-// Puts the bytes as the table's stream. `Full` where a stream of the file can't have so many.
+// Puts the bytes as the table's stream.
 fn put_bytes<F: Medium>(
     alloc: Global,
     file: &mut CompoundFile<F>,
@@ -75,15 +75,7 @@ fn put_bytes<F: Medium>(
     ensures kinds { IfErr result IsEditError }
     ensures goes_on { GoesOn (allocator_of (mini_of file.old)) (allocator_of (mini_of file.new)) }
 {
-    let name = table.name();
-    let path = match encode(alloc, name, true) {
-        Err(error) => return Err(error),
-        Ok(path) => path,
-    };
-    if bytes.len() as u64 > file.version().stream_len_mask() {
-        return Err(Error::Full);
-    }
-    file.put_stream(path.as_str(), bytes)
+    put_table_bytes(alloc, file, table.name(), bytes)
 }
 
 // Changes a table of the package. The pool comes back, with the uses of the texts as they are then, or as it was.

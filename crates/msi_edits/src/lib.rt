@@ -5,6 +5,8 @@ mod allowing;
 mod editing;
 mod listing;
 mod query;
+mod system_rows;
 mod writing;
 
 pub use editing::{delete_rows, insert_rows, update_rows};
+pub use system_rows::{bytes_by_keys, put_table_bytes};

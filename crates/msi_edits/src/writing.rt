@@ -134,7 +134,11 @@ fn updated_rows(
 }
 
 // The bytes of rows.
-fn bytes_of_table(alloc: Global, table: &Table, rows: Vec<Vec<ValueRef>>) -> Result<Vec<u8>, Error>
+pub(crate) fn bytes_of_table(
+    alloc: Global,
+    table: &Table,
+    rows: Vec<Vec<ValueRef>>,
+) -> Result<Vec<u8>, Error>
     requires { HaveCells (length (heading_of table.now).columns) (rows_held rows.items) }
     ensures { MatchResult result (λ bytes. IsWrittenAs (heading_of table.now).long
         (heading_of table.now).columns (rows_held rows.items) bytes.items)

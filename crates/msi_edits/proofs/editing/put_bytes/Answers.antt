@@ -1,20 +1,6 @@
-use Rattle.std.proofs.Common.{◌≡◌, ◌∙◌, ap, inl, inr, refl, subst, sym}
-use Rattle.std.specs.Prelude.{encode_utf8_all, IsUtf8}
-use Rattle.cfb_medium.specs.Calls.{IsFaultUnless}
-use Rattle.msi_meaning.specs.Package.{stream_name}
-use Rattle.msi_tables.specs.Held.{heading_of}
-use Rattle.msi_edits.proofs.PutTable.{not_put, put_table}
+use Rattle.std.proofs.Common.{subst}
+use Rattle.msi_edits.specs.Edited.{PutsTable}
 use Rattle.msi_edits.proofs.editing.put_bytes.Goals as goal
 
-pub returns-in-Err-clause-puts : goal.returns-in-Err-clause-puts
-returns-in-Err-clause-puts g c = not_put _ _ _ c.in-Err.error (inl (subst (IsFaultUnless ⊥) (sym c.in-Err.ensures.kinds) tt))
-
-pub returns-then-bytes-stream_len_mask-clause-puts : goal.returns-then-bytes-stream_len_mask-clause-puts
-returns-then-bytes-stream_len_mask-clause-puts g c = not_put _ _ _ _ (inr refl)
-
 pub returns-clause-puts : goal.returns-clause-puts
-returns-clause-puts g c =
-    let name = (heading_of c.args.table.now).name in
-    let text : IsUtf8 name = subst IsUtf8 c.name-name.ensures c.name-name.utf8 in
-    let path : c.as_str.result.now ≡ encode_utf8_all (stream_name name) = c.as_str.ensures.value ∙ c.in-Ok.ensures.text ∙ ap (λ n. encode_utf8_all (stream_name n)) c.name-name.ensures in
-    put_table name c.args.bytes.now c.as_str.result.now path text c.args.file.now c.put_stream.new.self c.put_stream.result c.put_stream.ensures.puts
+returns-clause-puts g c = subst (λ name. PutsTable name c.args.bytes.now c.put_table_bytes.result c.args.file.now c.put_table_bytes.new.file) c.name.ensures c.put_table_bytes.ensures.puts

@@ -1,0 +1,36 @@
+//! Laws of the definitions, each the contract of a function.
+ghost use Rattle.std.specs.Prelude.{◌≡◌, false, true, ℕ, List, Ok, Some};
+ghost use Rattle.cfb_tree.specs.Names.{Letters};
+ghost use Rattle.cfb_tree.specs.Tree.{Tree};
+ghost use Rattle.msi_creating.specs.New.{new_package, IsLaidDown};
+ghost use Rattle.msi_meaning.specs.Back.{ComeBack};
+ghost use Rattle.msi_meaning.specs.Calls.{bare_package, described, Rows3};
+ghost use Rattle.msi_meaning.specs.Opening.{may_use};
+ghost use Rattle.msi_meaning.specs.declared.kind.PackageType.{PackageType};
+ghost use Rattle.msi_pool.specs.Pool.{Pool};
+ghost use Rattle.msi_stored.specs.Changing.{StoresSound};
+ghost use Rattle.msi_tables.specs.Rows.{kinds_of, rows_bytes, Row};
+ghost use Rattle.msi_tables.specs.Schema.{columns_columns, tables_columns, validation_columns, validation_name};
+ghost use Rattle.msi_tables.specs.Table.{IsStoredByKeys};
+
+/// A tree that held nothing and got the rows of a new package, as they are stored, stores it, and it is sound. These rows come back
+/// from their bytes.
+pub fn new_packages_are_stored()
+    ensures stored { (letters : Letters) → may_use letters ≡ true → (kind : PackageType)
+        (x : Rows3 × Pool) → described (bare_package kind) validation_name validation_columns ≡ Ok x
+        → (c t v : List Row) → IsStoredByKeys x.1 columns_columns x.0.0 c
+        → IsStoredByKeys x.1 tables_columns x.0.1 t
+        → IsStoredByKeys x.1 validation_columns x.0.2 v
+        → (bc bt bv : List ℕ) → rows_bytes false (kinds_of columns_columns) c ≡ Some bc
+        → rows_bytes false (kinds_of tables_columns) t ≡ Some bt
+        → rows_bytes false (kinds_of validation_columns) v ≡ Some bv
+        → (tree : Tree) → IsLaidDown letters kind bc bt bv tree
+        → StoresSound letters tree (new_package kind x.1 c t v) }
+    ensures come_back { (kind : PackageType) (x : Rows3 × Pool)
+        → described (bare_package kind) validation_name validation_columns ≡ Ok x
+        → (c t v : List Row) → IsStoredByKeys x.1 columns_columns x.0.0 c
+        → IsStoredByKeys x.1 tables_columns x.0.1 t
+        → IsStoredByKeys x.1 validation_columns x.0.2 v
+        → ComeBack false columns_columns c × ComeBack false tables_columns t
+        × ComeBack false validation_columns v }
+{}
