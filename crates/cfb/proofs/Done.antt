@@ -4,7 +4,7 @@ use Rattle.std.specs.Prelude.{Err, None, Ok, Option, Result, Some}
 use Rattle.cfb_entries.specs.Rules.{answer_at}
 use Rattle.cfb_fat.specs.Tables.{has_failed_here}
 use Rattle.cfb_live.specs.Doing as live
-use Rattle.cfb_live.specs.Live as meaning
+use Rattle.cfb_live.specs.Strays.{ComesToMean}
 use Rattle.cfb_meaning.specs.TreeRules.{set_modified_time, touch, tree_step, Call}
 use Rattle.cfb_medium.specs.declared.error.Error.{Error}
 use Rattle.cfb_medium.specs.declared.medium.ReadMedium.{Ghosts}
@@ -13,7 +13,7 @@ use Rattle.cfb_tree.specs.Names.{Letters}
 use Rattle.cfb_tree.specs.Paths.{Path}
 use Rattle.cfb_tree.specs.Tree.{Tree}
 use Rattle.cfb.specs.Doing.{Does}
-use Rattle.cfb.specs.Views.{letters_in, mini_of, sound_of, validation_of}
+use Rattle.cfb.specs.Views.{letters_in, mini_of, most_ahead_of, sound_of, validation_of}
 use Rattle.cfb.specs.declared.compound_file.CompoundFile.{CompoundFile}
 
 same_answer : (letters : Letters) (tree : Tree) (moment : ℕ) (path : Option Path) → answer_at letters tree (λ names. touch names moment) path ≡ answer_at letters tree (λ names. set_modified_time names moment) path
@@ -21,25 +21,28 @@ same_answer letters tree moment None = refl
 same_answer letters tree moment (Some names) = refl
 
 module _ {F : Type 0} {g : Ghosts F} {T : Type 0} (path : Option Path) (old new : CompoundFile F g) where
-  pub does_so : (call : Path → Call) (r : Result T Error) → letters_in new ≡ letters_in old → sound_of new ≡ sound_of old → validation_of new ≡ validation_of old → has_failed_here (allocator_of (mini_of old)) ≡ false → sound_of old ≡ true
+  pub does_so : (call : Path → Call) (r : Result T Error) → letters_in new ≡ letters_in old → sound_of new ≡ sound_of old → validation_of new ≡ validation_of old → most_ahead_of new ≡ most_ahead_of old → has_failed_here (allocator_of (mini_of old)) ≡ false → sound_of old ≡ true
       → live.Does (letters_in old) path call r (mini_of old) (mini_of new) → Does path call r old new
-  does_so call (Ok x) letters sound validation live is did = record {
+  does_so call (Ok x) letters sound validation most live is did = record {
     failed = λ failed. let never : true ≡ false = sym failed ∙ live in absurd (cc);
     unsound = λ _ unsound. let never : true ≡ false = sym is ∙ unsound in absurd (cc);
     done = λ tree m.
         let it = did.done tree m.live in
-        record { names = it.names; at_path = it.at_path; accepted = it.accepted; means = record { sound = sound ∙ is; live = subst (λ l. meaning.MeansLive l (mini_of new) (tree_step (letters_in old) tree (call it.names)).0) (sym letters) it.means } };
+        let comes = subst (λ l. ComesToMean l (mini_of old) (mini_of new) m.live.who (tree_step (letters_in old) tree (call it.names)).0) (sym letters) (record { means = it.means; strays = it.strays }) in
+        record { names = it.names; at_path = it.at_path; accepted = it.accepted; means = record { sound = sound ∙ is; live = comes.means }; strays = comes.strays };
     refused = tt;
     rests = tt;
     seen = (letters, sound, validation);
+    most = most;
   }
-  does_so call (Err e) letters sound validation live is did = record {
+  does_so call (Err e) letters sound validation most live is did = record {
     failed = λ failed. let never : true ≡ false = sym failed ∙ live in absurd (cc);
     unsound = λ _ unsound. let never : true ≡ false = sym is ∙ unsound in absurd (cc);
     done = tt;
     refused = λ tree m. ⊎_elim (λ fault. inl fault) (λ rule. inr (rule.0, record { mini = rule.1; letters = letters; sound = sound })) (did.refused tree m.live);
     rests = ⊎_elim (λ failed. inl failed) (λ keeps. inr (record { mini = keeps; letters = letters; sound = sound })) did.rests;
     seen = (letters, sound, validation);
+    most = most;
   }
 
   -- to touch an object is to set when it was modified
@@ -47,10 +50,11 @@ module _ {F : Type 0} {g : Ghosts F} {T : Type 0} (path : Option Path) (old new 
   touches moment (Ok x) did = record {
     failed = did.failed;
     unsound = did.unsound;
-    done = λ tree m. let it = did.done tree m in record { names = it.names; at_path = it.at_path; accepted = it.accepted; means = it.means };
+    done = λ tree m. let it = did.done tree m in record { names = it.names; at_path = it.at_path; accepted = it.accepted; means = it.means; strays = it.strays };
     refused = tt;
     rests = tt;
     seen = did.seen;
+    most = did.most;
   }
   touches moment (Err e) did = record {
     failed = did.failed;
@@ -59,4 +63,5 @@ module _ {F : Type 0} {g : Ghosts F} {T : Type 0} (path : Option Path) (old new 
     refused = λ tree m. ⊎_elim (λ fault. inl fault) (λ rule. inr (same_answer (letters_in old) tree moment path ∙ rule.0, rule.1)) (did.refused tree m);
     rests = did.rests;
     seen = did.seen;
+    most = did.most;
   }

@@ -4,15 +4,17 @@ use Rattle.cfb_entries.specs.Rules.{answer_at}
 use Rattle.cfb_fat.specs.Tables.{has_failed_here}
 use Rattle.cfb_live.specs.Doing.{IsFault}
 use Rattle.cfb_live.specs.Live as live
+use Rattle.cfb_live.specs.Strays.{HasNoMoreStrays}
 use Rattle.cfb_meaning.specs.TreeRules.{done, refused, tree_step, Call}
 use Rattle.cfb_medium.specs.declared.error.Error.{Error}
 use Rattle.cfb_medium.specs.declared.error.Error.TheVariants.{Failed, InvalidData}
 use Rattle.cfb_medium.specs.declared.medium.ReadMedium.{Ghosts}
 use Rattle.cfb_mini.specs.Changing.{KeepsOwners}
 use Rattle.cfb_mini.specs.Views.{allocator_of}
+use Rattle.cfb_owners.specs.Owners.{Owners}
 use Rattle.cfb_tree.specs.Paths.{Path}
 use Rattle.cfb_tree.specs.Tree.{Tree}
-use Rattle.cfb.specs.Views.{letters_in, mini_of, sound_of, validation_of}
+use Rattle.cfb.specs.Views.{letters_in, mini_of, most_ahead_of, sound_of, validation_of}
 use Rattle.cfb.specs.declared.compound_file.CompoundFile.{CompoundFile}
 
 module _ {F : Type 0} {g : Ghosts F} where
@@ -27,12 +29,14 @@ module _ {F : Type 0} {g : Ghosts F} where
     pub letters : letters_in new ≡ letters_in old
     pub sound : sound_of new ≡ sound_of old
 
-  -- the rules answer that the call at the path is done, and the file means the tree that they give
-  pub record IsDone (path : Option Path) (call : Path → Call) (tree : Tree) (old new : CompoundFile F g) : Type 0 where
+  -- the rules answer that the call at the path is done, and the file means the tree that they give; no sector and no mini sector is
+  -- in use without an owner that wasn't so before
+  pub record IsDone (path : Option Path) (call : Path → Call) (tree : Tree) (old new : CompoundFile F g) (who : Owners) : Type 0 where
     pub names : Path
     pub at_path : path ≡ Some names
     pub accepted : (tree_step (letters_in old) tree (call names)).1 ≡ done
     pub means : FileMeans new (tree_step (letters_in old) tree (call names)).0
+    pub strays : HasNoMoreStrays (mini_of old) (mini_of new) who means.live.who
 
   -- One that has failed answers `Failed`. One that isn't sound answers `InvalidData`, and nothing is changed. Of a file that means a
   -- tree the call at the path is done by the rules, or refused just as these refuse it, and then nothing is changed; else a fault
@@ -40,7 +44,8 @@ module _ {F : Type 0} {g : Ghosts F} where
   pub record Does {T : Type 0} (path : Option Path) (call : Path → Call) (result : Result T Error) (old new : CompoundFile F g) : Type 0 where
     pub failed : has_failed_here (allocator_of (mini_of old)) ≡ true → IsErrOf result Failed
     pub unsound : has_failed_here (allocator_of (mini_of old)) ≡ false → sound_of old ≡ false → IsErrOf result InvalidData × FileKeeps old new
-    pub done : OnOk result ((tree : Tree) → FileMeans old tree → IsDone path call tree old new)
+    pub done : OnOk result ((tree : Tree) → (m : FileMeans old tree) → IsDone path call tree old new m.live.who)
     pub refused : IfErr result (λ e. (tree : Tree) → FileMeans old tree → IsFault e ⊎ ((answer_at (letters_in old) tree call path ≡ refused e) × FileKeeps old new))
     pub rests : OnErr result ((has_failed_here (allocator_of (mini_of new)) ≡ true) ⊎ FileKeeps old new)
     pub seen : (letters_in new ≡ letters_in old) × (sound_of new ≡ sound_of old) × (validation_of new ≡ validation_of old)
+    pub most : most_ahead_of new ≡ most_ahead_of old

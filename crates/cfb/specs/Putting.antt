@@ -1,8 +1,8 @@
 -- A stream that gets other bytes in one call, or is made with them, by its path ([MS-CFB] 2.6.3).
-use Rattle.std.specs.Prelude.{◌≡◌, ◌⊎◌, ℕ, false, true, List, Option, Some, None, Result, IfErr, IsErrOf, OnErr, OnOk}
+use Rattle.std.specs.Prelude.{◌≡◌, ◌⊎◌, ℕ, false, true, length, List, Option, Some, None, Result, IfErr, IsErrOf, OnErr, OnOk}
 use Rattle.cfb_fat.specs.Tables.{has_failed_here}
 use Rattle.cfb_live.specs.Doing.{IsFault}
-use Rattle.cfb_meaning.specs.TreeRules.{close_stream, done, made, refused, tree_step, Answer, Outcome}
+use Rattle.cfb_meaning.specs.TreeRules.{close_stream, done, has_bytes, made, open_stream, refused, tree_step, Answer, Outcome}
 use Rattle.cfb_medium.specs.declared.error.Error.{Error}
 use Rattle.cfb_medium.specs.declared.error.Error.TheVariants.{AlreadyExists, Failed, Full, InvalidData, InvalidInput, NotFound}
 use Rattle.cfb_medium.specs.declared.medium.ReadMedium.{Ghosts}
@@ -12,6 +12,7 @@ use Rattle.cfb_tree.specs.Names.{Letters}
 use Rattle.cfb_tree.specs.Objects.{a_storage, a_stream, object_at, Object}
 use Rattle.cfb_tree.specs.Paths.{Path}
 use Rattle.cfb_tree.specs.Tree.{Tree}
+use Rattle.cfb_writing.specs.Streams.{LacksRoom}
 use Rattle.cfb.specs.Doing.{FileMeans}
 use Rattle.cfb.specs.Views.{letters_in, mini_of, sound_of, validation_of}
 use Rattle.cfb.specs.declared.compound_file.CompoundFile.{CompoundFile}
@@ -49,6 +50,18 @@ answer_by rule letters tree None = refused InvalidInput
 answer_by rule letters tree (Some path) = (rule letters tree path).1
 
 module _ {F : Type 0} {g : Ghosts F} where
+  -- the path leads to a stream, for which numbers are missing to have so many bytes
+  pub record HasNoRoomAt (it : CompoundFile F g) (path : Option Path) (tree : Tree) (len : ℕ) : Type 0 where
+    pub names : Path
+    pub at_path : path ≡ Some names
+    pub content : List ℕ
+    pub answer : (tree_step (letters_in it) tree (open_stream names)).1 ≡ has_bytes content
+    pub lacks : LacksRoom (mini_of it) (length content) len
+
+  -- so it is, whatever tree the file means
+  abbrev pub IsFullAt : CompoundFile F g → Option Path → ℕ → Type 0
+  IsFullAt it path len = (tree : Tree) → FileMeans it tree → HasNoRoomAt it path tree len
+
   -- each tree that the file meant it means still
   pub record KeepsMeant (old new : CompoundFile F g) : Type 0 where
     pub means : (tree : Tree) → FileMeans old tree → FileMeans new tree

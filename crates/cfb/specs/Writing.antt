@@ -17,7 +17,7 @@ use Rattle.cfb_tree.specs.Paths.{Path}
 use Rattle.cfb_tree.specs.Tree.{Tree}
 use Rattle.cfb_writing.specs.Streams as written
 use Rattle.cfb.specs.Streams.{KeepsStream}
-use Rattle.cfb.specs.Views.{ahead_held, letters_in, links_held, mini_of, sound_of, validation_of}
+use Rattle.cfb.specs.Views.{ahead_held, letters_in, links_held, mini_of, most_ahead_of, sound_of, validation_of}
 use Rattle.cfb.specs.declared.compound_file.CompoundFile.{CompoundFile}
 use Rattle.cfb.specs.declared.written_stream.Stream.{Stream}
 
@@ -135,6 +135,7 @@ module _ {F : Type 0} {g : Ghosts F} where
     pub file : new.file.ghost_name ≡ old.file.ghost_name
     pub entry : id_of new ≡ id_of old
     pub seen : (letters_in (file_under new) ≡ letters_in (file_under old)) × (sound_of (file_under new) ≡ sound_of (file_under old)) × (validation_of (file_under new) ≡ validation_of (file_under old))
+    pub most : most_ahead_of (file_under new) ≡ most_ahead_of (file_under old)
     pub goes_on : GoesOn (allocator_under old) (allocator_under new)
     pub answers : FatAnswers refuses result (allocator_under old) (allocator_under new)
 

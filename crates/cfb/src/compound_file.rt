@@ -82,8 +82,9 @@ impl<F: ReadMedium> CompoundFile<F> {
         self.mini.directory().dir_entries()
     }
 
-    // Whether every call is refused after a fault.
-    pub(crate) fn is_failed(&self) -> bool
+    /// Whether every call that answers a `Result` answers `Failed`: so it is after a fault in a write or a commit, and after `fail`,
+    /// until it is rolled back. It takes no memory, and asks the medium nothing.
+    pub fn is_failed(&self) -> bool
         ensures { result ≡ has_failed_here (allocator_of (mini_of self.now)) }
     {
         self.mini.directory().allocator().is_failed()
@@ -209,7 +210,7 @@ impl<F: ReadMedium> CompoundFile<F> {
 }
 
 impl<F: Medium> CompoundFile<F> {
-    ghost use Rattle.cfb.specs.Views.{letters_in, mini_of, sound_of, validation_of};
+    ghost use Rattle.cfb.specs.Views.{letters_in, mini_of, most_ahead_of, sound_of, validation_of};
 
     /// Leaves it in a state in which every call is refused, as a fault in a write does: for a layer above, where what it changes by
     /// several calls has come half way. `roll_back` leads out of it.
@@ -219,6 +220,7 @@ impl<F: Medium> CompoundFile<F> {
         ensures seen { (letters_in self.new ≡ letters_in self.old)
             × (sound_of self.new ≡ sound_of self.old)
             × (validation_of self.new ≡ validation_of self.old) }
+        ensures most { most_ahead_of self.new ≡ most_ahead_of self.old }
     {
         self.mini.fail();
     }

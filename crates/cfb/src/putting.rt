@@ -1,13 +1,15 @@
 //! Streams that get their bytes in one call, by their paths.
-ghost use Rattle.cfb.specs.Putting.{putting, rewriting, IsRefusedPut, IsRefusedRewriting, FilePuts};
-ghost use Rattle.cfb.specs.Views.{mini_of};
+ghost use Rattle.cfb.specs.Putting.{putting, rewriting, IsFullAt, IsRefusedPut, IsRefusedRewriting, FilePuts};
+ghost use Rattle.cfb.specs.Views.{mini_of, most_ahead_of};
+ghost use Rattle.cfb_directory.specs.Growth.{LacksEntries};
 ghost use Rattle.cfb_entries.specs.Rules.{names_in};
 ghost use Rattle.cfb_fat.specs.Calls.{FatAnswers};
-ghost use Rattle.cfb_fat.specs.Tables.{version_of};
+ghost use Rattle.cfb_fat.specs.Tables.{has_failed_here, version_of};
 ghost use Rattle.cfb_medium.specs.Versions.{stream_len_mask};
-ghost use Rattle.cfb_mini.specs.Views.{allocator_of};
+ghost use Rattle.cfb_medium.specs.declared.error.Error.TheVariants.{Full};
+ghost use Rattle.cfb_mini.specs.Views.{allocator_of, directory_of};
 ghost use Rattle.cfb_owned.specs.Chains.{GoesOn};
-ghost use Rattle.std.specs.Prelude.{length, ◌≤◌};
+ghost use Rattle.std.specs.Prelude.{false, length, IsErrOf, ◌≡◌, ◌≤◌, ◌⊎◌};
 
 use crate::CompoundFile;
 use cfb_medium::{Error, Medium};
@@ -22,10 +24,14 @@ impl<F: Medium> CompoundFile<F> {
         requires { length bytes.now
             ≤ stream_len_mask (version_of (allocator_of (mini_of self.old))) }
         ensures puts { FilePuts (rewriting bytes.now) (names_in path.now) result self.old self.new }
+        ensures full { IsErrOf result Full
+            → has_failed_here (allocator_of (mini_of self.new)) ≡ false
+            → IsFullAt self.old (names_in path.now) (length bytes.now) }
         ensures goes_on { GoesOn (allocator_of (mini_of self.old))
             (allocator_of (mini_of self.new)) }
         ensures answers { FatAnswers IsRefusedRewriting result (allocator_of (mini_of self.old))
             (allocator_of (mini_of self.new)) }
+        ensures most { most_ahead_of self.new ≡ most_ahead_of self.old }
     {
         let (id, len) = match self.find_written(path) {
             Ok(it) => it,
@@ -51,10 +57,15 @@ impl<F: Medium> CompoundFile<F> {
         requires { length bytes.now
             ≤ stream_len_mask (version_of (allocator_of (mini_of self.old))) }
         ensures puts { FilePuts (putting bytes.now) (names_in path.now) result self.old self.new }
+        ensures full { IsErrOf result Full
+            → has_failed_here (allocator_of (mini_of self.new)) ≡ false
+            → LacksEntries (directory_of (mini_of self.old))
+            ⊎ IsFullAt self.old (names_in path.now) (length bytes.now) }
         ensures goes_on { GoesOn (allocator_of (mini_of self.old))
             (allocator_of (mini_of self.new)) }
         ensures answers { FatAnswers IsRefusedPut result (allocator_of (mini_of self.old))
             (allocator_of (mini_of self.new)) }
+        ensures most { most_ahead_of self.new ≡ most_ahead_of self.old }
     {
         if self.is_stream(path) {
             if let Err(error) = self.rewrite_stream(path, bytes) {

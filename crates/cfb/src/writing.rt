@@ -2,7 +2,7 @@
 ghost use Rattle.cfb.specs.Doing.{FileMeans};
 ghost use Rattle.cfb.specs.Putting.{IsRefusedOpening};
 ghost use Rattle.cfb.specs.Streams.{IsWant, KeepsStream};
-ghost use Rattle.cfb.specs.Views.{letters_in, mini_of, sound_of, validation_of, FileRests};
+ghost use Rattle.cfb.specs.Views.{letters_in, mini_of, most_ahead_of, sound_of, validation_of, FileRests};
 ghost use Rattle.cfb.specs.Writing.{file_under, place_of, FindsWritten, IsFound, IsLostAt, StreamIsWritten, KeepsAt, LacksRoomAt, Opens, RewritesAt};
 ghost use Rattle.cfb_directory.specs.Views.{entries_held};
 ghost use Rattle.cfb.specs.contracts.compound_file.CompoundFile.{the_row};
@@ -152,6 +152,7 @@ impl<F: Medium> CompoundFile<F> {
         ensures seen { (letters_in self.new ≡ letters_in self.old)
             × (sound_of self.new ≡ sound_of self.old)
             × (validation_of self.new ≡ validation_of self.old) }
+        ensures most { most_ahead_of self.new ≡ most_ahead_of self.old }
     {
         if let Err(error) = overwrite_stream(&mut self.mini, id, &self.links, at, bytes) {
             return Err(error);
@@ -180,6 +181,7 @@ impl<F: Medium> CompoundFile<F> {
         ensures seen { (letters_in self.new ≡ letters_in self.old)
             × (sound_of self.new ≡ sound_of self.old)
             × (validation_of self.new ≡ validation_of self.old) }
+        ensures most { most_ahead_of self.new ≡ most_ahead_of self.old }
     {
         if let Err(error) = resize_stream(self.alloc, &mut self.mini, id, &mut self.links, len) {
             return Err(error);
@@ -216,6 +218,7 @@ impl<F: Medium> CompoundFile<F> {
         ensures seen { (letters_in self.new ≡ letters_in self.old)
             × (sound_of self.new ≡ sound_of self.old)
             × (validation_of self.new ≡ validation_of self.old) }
+        ensures most { most_ahead_of self.new ≡ most_ahead_of self.old }
     {
         if let Err(error) = self.resize_bytes(id, end) {
             return Err(error);

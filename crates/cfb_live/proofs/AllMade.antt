@@ -26,6 +26,7 @@ use Rattle.cfb_tree.proofs.NameOrder.{name_cmp_total}
 use Rattle.cfb_tree.proofs.NamesRead.{all_append}
 use Rattle.cfb_live.specs.WholeRemoval.{HasStorage}
 use Rattle.cfb_live.specs.Making.{IsFreePlace}
+use Rattle.cfb_live.specs.Strays.{HasNoMoreStrays}
 use Rattle.cfb_live.specs.Parents.{AreNames, IsMadeAsFar, MakesChild, MeansAsFar}
 use Rattle.cfb_live.specs.declared.making.NewObject.TheVariants.{Storage}
 use Rattle.cfb_live.proofs.Below.{changed_found}
@@ -310,14 +311,18 @@ module _ {F : Type 0} {g : Ghosts F} (letters : Letters) (moment : Timestamp) (t
       }
 
   -- the file means the tree in which it is made
-  pub as_far_more : (new : MiniAllocator F g) (id : ℕ) → MakesChild letters (path_to (take count path) x) (Storage moment) so.now new id → MeansAsFar letters (units_of moment) tree path (count + 1) id new
+  pub as_far_more : (new : MiniAllocator F g) (id : ℕ) → MakesChild letters (path_to (take count path) x) (Storage moment) so.now old new so.means.who id → MeansAsFar letters (units_of moment) tree path (count + 1) id new
   as_far_more new id made = record {
     now = (tree_step letters so.now (create_storage (path_to (take count path) x) (units_of moment))).0;
     far = more_made letters (units_of moment) tree so.now path count so.far below (tree_step letters so.now (create_storage (path_to (take count path) x) (units_of moment))).0
         (ap (λ q. (tree_step letters so.now (create_storage q (units_of moment))).0) (sym next));
-    means = made.makes.means;
+    means = made.makes.comes.means;
     storage = record {
       leads = subst (λ q. LeadsTo letters (entries_held (directory_of new)) 0 q id) (sym next) made.leads;
       owner = record { entry = made.entry; found = made.found; holds = λ kind. let is = made.of_kind in absurd (omega (arith, is, kind)) };
     };
   }
+
+  pub as_far_strays : (new : MiniAllocator F g) (id : ℕ) → (made : MakesChild letters (path_to (take count path) x) (Storage moment) so.now old new so.means.who id) → HasNoMoreStrays old new so.means.who (as_far_more new id made).means.who
+  unfolding as_far_more
+  as_far_strays new id made = made.makes.comes.strays

@@ -23,11 +23,14 @@ use Rattle.cfb_tree.specs.Tree.{nothing, storage, stream, Content, Facts, Tree}
 use Rattle.cfb_tree.specs.declared.entry.DirEntry.{DirEntry}
 use Rattle.cfb_tree.proofs.OneContent.{Some_same}
 use Rattle.cfb_live.specs.WholeRemoval.{Empties, HasEmptyStorage, HasStorage, IsLeafAt, IsLeafOnWay, TakesBelow}
+use Rattle.cfb_owners.specs.Owners.{Owners}
 use Rattle.cfb_live.specs.Live.{live_of, MeansLive}
+use Rattle.cfb_live.specs.Strays.{ComesToMean}
 use Rattle.cfb_live.specs.Removing.{IsChildAt, LacksChild}
 use Rattle.cfb_live.proofs.Below.{removed_below, removed_smaller, size, storage_stays}
 use Rattle.cfb_live.proofs.Descent.{tree_fits}
 use Rattle.cfb_live.proofs.SetFacts.{means_held}
+use Rattle.cfb_live.proofs.Strays.{strays_same, strays_then}
 use Rattle.cfb_live.proofs.Streams.{reads}
 use Rattle.cfb_live.proofs.Taken.{leaf_at, some_there}
 
@@ -88,43 +91,44 @@ emptied_there letters tree path long empty e (inr root) = let nil = ap length ro
 
 module _ {F : Type 0} {g : Ghosts F} (letters : Letters) (path : Path) (tree : Tree) where
   -- an object below the storage was taken out
-  pub takes_below : (it new : MiniAllocator F g) (above : List ℕ) (top id : ℕ) → MeansLive letters it tree → (below : IsLeafOnWay letters (entries_held (directory_of it)) path above top id)
-      → MeansLive letters new (removed letters (path_to (path ++ below.way.more) below.name) tree) → TakesBelow letters path tree new
+  pub takes_below : (it new : MiniAllocator F g) (above : List ℕ) (top id : ℕ) → (m : MeansLive letters it tree) → (below : IsLeafOnWay letters (entries_held (directory_of it)) path above top id)
+      → ComesToMean letters it new m.who (removed letters (path_to (path ++ below.way.more) below.name) tree) → TakesBelow letters path tree it new m.who
   takes_below it new above top id m below taken =
       let at = path ++ below.way.more in
       let o = object_there letters (ReadBy (reads (live_of it) m.who)) (entries_held (directory_of it)) tree (means_held letters it tree m) (path_to at below.name) id (some_there at below.name) below.leaf.leads in
       record {
         later = removed letters (path_to at below.name) tree;
         loses = record { more = below.way.more; name = below.name; object = o.0; there = o.1; is = refl };
-        means = taken;
+        comes = taken;
       }
 
   -- where the storage is still
-  pub takes_storage : (new : MiniAllocator F g) → HasStorage letters tree path → (t : TakesBelow letters path tree new) → HasStorage letters t.later path
-  takes_storage new has t = subst (λ u. HasStorage letters u path) (sym t.loses.is) (storage_stays letters path t.loses.more t.loses.name tree has)
+  pub takes_storage : (it new : MiniAllocator F g) (who : Owners) → HasStorage letters tree path → (t : TakesBelow letters path tree it new who) → HasStorage letters t.later path
+  takes_storage it new who has t = subst (λ u. HasStorage letters u path) (sym t.loses.is) (storage_stays letters path t.loses.more t.loses.name tree has)
 
   -- and without which the tree is the same
-  pub takes_others : (new : MiniAllocator F g) → (t : TakesBelow letters path tree new) → removed letters path t.later ≡ removed letters path tree
-  takes_others new t = ap (removed letters path) t.loses.is ∙ removed_below letters path t.loses.more t.loses.name tree
+  pub takes_others : (it new : MiniAllocator F g) (who : Owners) → (t : TakesBelow letters path tree it new who) → removed letters path t.later ≡ removed letters path tree
+  takes_others it new who t = ap (removed letters path) t.loses.is ∙ removed_below letters path t.loses.more t.loses.name tree
 
-  -- after so many objects were taken out: the file means a tree that is the same without the storage, and of which fewer are left
-  pub record Emptying (it : MiniAllocator F g) (steps count : ℕ) : Type 0 where
+  -- after so many objects were taken out: the file came to mean a tree that is the same without the storage, and of which fewer are
+  -- left
+  pub record Emptying (first it : MiniAllocator F g) (who : Owners) (steps count : ℕ) : Type 0 where
     pub later : Tree
     pub storage : HasStorage letters later path
     pub others : removed letters path later ≡ removed letters path tree
-    pub means : MeansLive letters it later
+    pub comes : ComesToMean letters first it who later
     pub left : steps + size later.content < count
 
-  pub emptying_begun : (it : MiniAllocator F g) (count : ℕ) → MeansLive letters it tree → HasStorage letters tree path → count ≡ length (entries_held (directory_of it)) → Emptying it 0 count
+  pub emptying_begun : (it : MiniAllocator F g) (count : ℕ) → (m : MeansLive letters it tree) → HasStorage letters tree path → count ≡ length (entries_held (directory_of it)) → Emptying it it m.who 0 count
   emptying_begun it count m has count_is =
       let held = means_held letters it tree m in
       let Reads = ReadBy (reads (live_of it) m.who) in
       let fits = tree_fits (entries_held (directory_of it)) Reads letters tree held in
       let all = entries_size (entries_held (directory_of it)) Reads tree.content held.children held.ids held.holds in
-      record { later = tree; storage = has; others = refl; means = m; left = omega (arith, fits, all, count_is) }
+      record { later = tree; storage = has; others = refl; comes = record { means = m; strays = strays_same it m.who }; left = omega (arith, fits, all, count_is) }
 
-  pub emptying_more : (it new : MiniAllocator F g) (steps count : ℕ) → (e : Emptying it steps count) → TakesBelow letters path e.later new → Emptying new (steps + 1) count
-  emptying_more it new steps count e takes =
+  pub emptying_more : (first it new : MiniAllocator F g) (who : Owners) (steps count : ℕ) → (e : Emptying first it who steps count) → TakesBelow letters path e.later it new e.comes.means.who → Emptying first new who (steps + 1) count
+  emptying_more first it new who steps count e takes =
       let lost = takes.loses in
       let left = e.left in
       let smaller = subst (λ t. size t.content < size e.later.content) (sym lost.is) (removed_smaller letters (path ++ lost.more) lost.name e.later lost.object lost.there) in
@@ -132,9 +136,14 @@ module _ {F : Type 0} {g : Ghosts F} (letters : Letters) (path : Path) (tree : T
         later = takes.later;
         storage = subst (λ t. HasStorage letters t path) (sym lost.is) (storage_stays letters path lost.more lost.name e.later e.storage);
         others = ap (removed letters path) lost.is ∙ removed_below letters path lost.more lost.name e.later ∙ e.others;
-        means = takes.means;
+        comes = record { means = takes.comes.means; strays = strays_then first it new who e.comes.means.who takes.comes.means.who e.comes.strays takes.comes.strays };
         left = omega (arith, left, smaller);
       }
 
-  pub emptying_ended : (it new : MiniAllocator F g) (steps count : ℕ) → (e : Emptying it steps count) → MeansLive letters new e.later → HasEmptyStorage letters e.later path → Empties letters path tree new
-  emptying_ended it new steps count e m empty = record { later = e.later; empty = empty; others = e.others; means = m }
+  pub emptying_ended : (first it new : MiniAllocator F g) (who : Owners) (steps count : ℕ) → (e : Emptying first it who steps count) → ComesToMean letters it new e.comes.means.who e.later → HasEmptyStorage letters e.later path → Empties letters path tree first new who
+  emptying_ended first it new who steps count e m empty = record {
+    later = e.later;
+    empty = empty;
+    others = e.others;
+    comes = record { means = m.means; strays = strays_then first it new who e.comes.means.who m.means.who e.comes.strays m.strays };
+  }

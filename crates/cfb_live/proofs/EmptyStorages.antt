@@ -24,6 +24,7 @@ use Rattle.cfb_live.specs.Freeing.{CarriesBut, FreesStream}
 use Rattle.cfb_live.specs.Live.{live_of, MeansLive}
 use Rattle.cfb_live.proofs.Freed.{none_have}
 use Rattle.cfb_live.proofs.Standing.{stands_of}
+use Rattle.cfb_live.proofs.Strays.{strays_same}
 
 -- a storage without a child holds nothing
 pub empty_inside : (directory : List Entry) (Reads : Entry → List ℕ → Type 0) (id : ℕ) (o : Object) (own : List ℕ) (e : Entry) → IsObject directory Reads id o own → slice_get directory id ≡ Some e → (e.kind ≡ kind_stream → ⊥) → e.child ≡ no_entry
@@ -82,5 +83,6 @@ module _ {F : Type 0} {g : Ghosts F} where
         carries = carries_all (stream_owner id) (live_of it) m.who;
         nothing = none;
         freed = record { in_fat = none_have free (fat_of (allocator_of it)) _ none.0; in_mini_fat = none_have free (mini_fat_of it) _ none.1 };
+        strays = strays_same it m.who;
         entries = refl;
       }

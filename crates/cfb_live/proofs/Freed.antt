@@ -30,6 +30,7 @@ use Rattle.cfb_tree.specs.Directory.{Entry}
 use Rattle.cfb_live.specs.Freeing.{FreesStream, Stands}
 use Rattle.cfb_live.specs.Live.{live_of}
 use Rattle.cfb_live.proofs.KeptNow.{kept_now}
+use Rattle.cfb_live.proofs.Strays.{long_strays, short_strays}
 use Rattle.cfb_live.proofs.Streams.{chain_is}
 
 -- a table has one chain from a start
@@ -132,6 +133,7 @@ module _ {F : Type 0} {g : Ghosts F} (old new : MiniAllocator F g) (who : Owners
         };
         nothing = (mine, none);
         freed = record { in_fat = did.freed; in_mini_fat = none_have free (mini_fat_of new) (who.minis key) none };
+        strays = long_strays old new who id did;
         entries = did.entries;
       }
 
@@ -160,6 +162,7 @@ module _ {F : Type 0} {g : Ghosts F} (old new : MiniAllocator F g) (who : Owners
         };
         nothing = (none, mine);
         freed = record { in_fat = none_have free (fat_of (allocator_of new)) (who.sectors key) none; in_mini_fat = did.freed };
+        strays = short_strays old new who id did;
         entries = did.entries;
       }
 

@@ -23,7 +23,7 @@ free_below table n is =
     (slice_get_cases table n).1
 
 -- a number stands in a list, or not
-none_or : (xs : List ℕ) (n : ℕ) → IsNoneOf xs n ⊎ (IsNoneOf xs n → ⊥)
+pub none_or : (xs : List ℕ) (n : ℕ) → IsNoneOf xs n ⊎ (IsNoneOf xs n → ⊥)
 none_or [] n = inl (λ k below. absurd (omega (arith, below)))
 none_or (x ∷ xs) n =
     ⊎_elim

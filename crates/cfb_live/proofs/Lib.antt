@@ -20,6 +20,7 @@ pub mod Removed
 pub mod Resting
 pub mod SetFacts
 pub mod Standing
+pub mod Strays
 pub mod Streams
 pub mod Taken
 pub mod Ways

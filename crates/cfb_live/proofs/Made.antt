@@ -29,12 +29,14 @@ use Rattle.cfb_mini.specs.Children.{HasRoot}
 use Rattle.cfb_mini.specs.Views.{allocator_of, directory_of}
 use Rattle.cfb_mini.specs.declared.mini_allocator.MiniAllocator.{MiniAllocator}
 use Rattle.cfb_live.specs.Live.{live_of, MeansLive}
+use Rattle.cfb_live.specs.Strays.{ComesToMean}
 use Rattle.cfb_live.specs.Making.{kind_made, moment_made, object_of}
 use Rattle.cfb_live.specs.declared.making.NewObject.{NewObject}
 use Rattle.cfb_live.specs.declared.making.NewObject.TheVariants.{Storage, Stream}
 use Rattle.cfb_live.proofs.ChildAdded.{means_more}
 use Rattle.cfb_live.proofs.Directories.{carries, has_owners, kept_later, owners_now}
 use Rattle.cfb_live.proofs.Standing.{stands_of}
+use Rattle.cfb_live.proofs.Strays.{directory_strays}
 use Rattle.cfb_live.proofs.Streams.{reads}
 
 -- the front of the header is spared
@@ -61,7 +63,7 @@ module _ {F : Type 0} {g : Ghosts F} (letters : Letters) (old : MiniAllocator F 
   unfolding live_of
   has_root = record { root = m.held.root; found = m.held.kept.root_found; of_kind = m.held.kept.root_kind }
 
-  pub made_means : (new : MiniAllocator F g) (e : Entry) (path : Path) (id : ℕ) → AddsAt (entries_held (directory_of old)) (entries_held (directory_of new)) e id
+  made_means : (new : MiniAllocator F g) (e : Entry) (path : Path) (id : ℕ) → AddsAt (entries_held (directory_of old)) (entries_held (directory_of new)) e id
       → HoldsOneMore letters (ReadBy (reads (live_of old) m.who)) (entries_held (directory_of old)) (entries_held (directory_of new)) later m.held.ids path id → e.size ≡ 0 → (e.kind ≡ kind_stream → e.start ≡ end_of_chain)
       → GoesOn (allocator_of old) (allocator_of new) → has_failed_here (allocator_of new) ≡ false → ChangesDirectory (count_words (version_of (allocator_of old))) old new m.who.sectors → MeansLive letters new later
   unfolding live_of
@@ -79,3 +81,13 @@ module _ {F : Type 0} {g : Ghosts F} (letters : Letters) (old : MiniAllocator F 
         held = means_more (live_of old) (live_of new) m.who (owners_now words spare old new m.who (stands_of letters old tree m) goes live c) letters tree later m.held (carries words spare old new m.who (stands_of letters old tree m) goes live c)
             place.0 (kept_later words spare old new m.who (stands_of letters old tree m) goes live c place.0 place.1 (place.2.kind ∙ m.held.kept.root_kind)) e path id more adds small starts;
       }
+
+  -- and no more is in use without an owner
+  pub made_comes : (new : MiniAllocator F g) (e : Entry) (path : Path) (id : ℕ) → AddsAt (entries_held (directory_of old)) (entries_held (directory_of new)) e id
+      → HoldsOneMore letters (ReadBy (reads (live_of old) m.who)) (entries_held (directory_of old)) (entries_held (directory_of new)) later m.held.ids path id → e.size ≡ 0 → (e.kind ≡ kind_stream → e.start ≡ end_of_chain)
+      → GoesOn (allocator_of old) (allocator_of new) → has_failed_here (allocator_of new) ≡ false → ChangesDirectory (count_words (version_of (allocator_of old))) old new m.who.sectors → ComesToMean letters old new m.who later
+  unfolding made_means
+  made_comes new e path id adds more small starts goes live c = record {
+    means = made_means new e path id adds more small starts goes live c;
+    strays = directory_strays (count_words (version_of (allocator_of old))) (spare_words (version_of (allocator_of old))) old new m.who (stands_of letters old tree m) goes live c;
+  }

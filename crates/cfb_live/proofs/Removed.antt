@@ -33,11 +33,13 @@ use Rattle.cfb_owners.proofs.KeysOfParts.{IsOneOf}
 use Rattle.cfb_owners.proofs.UsesOfEntries.{all_from, all_one, one_not_none}
 use Rattle.cfb_live.specs.Freeing.{CarriesBut, FreesStream, Stands}
 use Rattle.cfb_live.specs.Live.{live_of, MeansLive}
+use Rattle.cfb_live.specs.Strays.{ComesToMean}
 use Rattle.cfb_live.proofs.Carried.{carries_then}
 use Rattle.cfb_live.proofs.Changed.{moved_stream_but}
 use Rattle.cfb_live.proofs.ChildAdded.{apart_or, none_of, one_apart, zero_apart}
 use Rattle.cfb_live.proofs.Directories.{carries, has_owners, kept_later, owners_now}
 use Rattle.cfb_live.proofs.Made.{spare_words}
+use Rattle.cfb_live.proofs.Strays.{directory_strays, strays_then}
 use Rattle.cfb_live.proofs.Streams.{bytes_from, reads, reads_means}
 
 one_middle : (front : List ℕ) (n : ℕ) (back : List ℕ) → IsOneOf (front ++ n ∷ back) n
@@ -154,7 +156,7 @@ module _ (s t : LiveFile) (who now : Owners) (letters : Letters) (tree later : T
 
 module _ {F : Type 0} {g : Ghosts F} (letters : Letters) (old mid new : MiniAllocator F g) (tree later : Tree) (m : MeansLive letters old tree) (path : Path) (id : ℕ) (frees : FreesStream id old mid m.who) where
   -- a stream gave up its sectors, and then its entry was taken out
-  pub removed_means : RemovesAt (entries_held (directory_of old)) (entries_held (directory_of new)) id → HoldsOneLess letters (ReadBy (reads (live_of old) m.who)) (entries_held (directory_of old)) (entries_held (directory_of new)) later m.held.ids path id []
+  removed_means : RemovesAt (entries_held (directory_of old)) (entries_held (directory_of new)) id → HoldsOneLess letters (ReadBy (reads (live_of old) m.who)) (entries_held (directory_of old)) (entries_held (directory_of new)) later m.held.ids path id []
       → (id ≡ 0 → ⊥) → GoesOn (allocator_of mid) (allocator_of new) → has_failed_here (allocator_of new) ≡ false → ChangesDirectory (count_words (version_of (allocator_of mid))) mid new frees.now.sectors → MeansLive letters new later
   unfolding live_of
   removed_means at less other goes live c =
@@ -173,6 +175,18 @@ module _ {F : Type 0} {g : Ghosts F} (letters : Letters) (old mid new : MiniAllo
         held = object_removed (live_of old) (live_of new) m.who now letters tree later m.held path id all
             (pick_other frees.now.sectors 0 (directory_ids (directory_of new)) (stream_owner id) (λ same. omega (arith, same)) ∙ frees.nothing.0, frees.nothing.1)
             place.0 (kept_later words spare mid new frees.now stands goes live c place.0 place.1 (place.2.kind ∙ m.held.kept.root_kind)) less at;
+      }
+
+  -- and no more is in use without an owner
+  pub removed_comes : RemovesAt (entries_held (directory_of old)) (entries_held (directory_of new)) id → HoldsOneLess letters (ReadBy (reads (live_of old) m.who)) (entries_held (directory_of old)) (entries_held (directory_of new)) later m.held.ids path id []
+      → (id ≡ 0 → ⊥) → GoesOn (allocator_of mid) (allocator_of new) → has_failed_here (allocator_of new) ≡ false → ChangesDirectory (count_words (version_of (allocator_of mid))) mid new frees.now.sectors → ComesToMean letters old new m.who later
+  unfolding removed_means
+  removed_comes at less other goes live c =
+      let words = count_words (version_of (allocator_of mid)) in
+      let spare = spare_words (version_of (allocator_of mid)) in
+      record {
+        means = removed_means at less other goes live c;
+        strays = strays_then old mid new m.who frees.now (owners_now words spare mid new frees.now frees.stands goes live c) frees.strays (directory_strays words spare mid new frees.now frees.stands goes live c);
       }
 
 module _ {F : Type 0} {g : Ghosts F} where

@@ -24,10 +24,12 @@ use Rattle.cfb_mini.specs.declared.mini_allocator.MiniAllocator.{MiniAllocator}
 use Rattle.cfb_owners.specs.LiveFile.{LiveFile}
 use Rattle.cfb_owners.specs.Owners.{Owners}
 use Rattle.cfb_live.specs.Live.{live_of, MeansLive}
+use Rattle.cfb_live.specs.Strays.{ComesToMean}
 use Rattle.cfb_live.proofs.Carried.{Carries}
 use Rattle.cfb_live.proofs.Changed.{entry_changed, set_keeps, tree_held, tree_ids}
 use Rattle.cfb_live.proofs.Directories.{carries, has_owners, kept_later, owners_now}
 use Rattle.cfb_live.proofs.Standing.{stands_of}
+use Rattle.cfb_live.proofs.Strays.{directory_strays, strays_same}
 use Rattle.cfb_live.proofs.Streams.{reads}
 
 set_same : (xs : List Entry) (id : ℕ) (e : Entry) → slice_get xs id ≡ Some e → xs ≡ slice_set xs id e
@@ -60,7 +62,7 @@ module _ {F : Type 0} {g : Ghosts F} where
 
 module _ {F : Type 0} {g : Ghosts F} (letters : Letters) (old : MiniAllocator F g) (tree : Tree) (m : MeansLive letters old tree) (path : Path) (id : ℕ) (e f : Entry) (change : Object → Object)
     (at : IsEntryAt (ReadBy (reads (live_of old) m.who)) letters (entries_held (directory_of old)) tree path id) (found : slice_get (entries_held (directory_of old)) id ≡ Some e) where
-  pub set_means : (new : MiniAllocator F g) → HasSameLinks e f → f.start ≡ e.start → f.size ≡ e.size → ObjectBecomes (ReadBy (reads (live_of old) m.who)) f at.object (change at.object)
+  set_means : (new : MiniAllocator F g) → HasSameLinks e f → f.start ≡ e.start → f.size ≡ e.size → ObjectBecomes (ReadBy (reads (live_of old) m.who)) f at.object (change at.object)
       → GoesOn (allocator_of old) (allocator_of new) → has_failed_here (allocator_of new) ≡ false → ChangesDirectory [] old new m.who.sectors
       → entries_held (directory_of new) ≡ slice_set (entries_held (directory_of old)) id f → MeansLive letters new (changed letters change path tree)
   unfolding live_of
@@ -79,7 +81,7 @@ module _ {F : Type 0} {g : Ghosts F} (letters : Letters) (old : MiniAllocator F 
       }
 
   -- or where nothing is to be set
-  pub same_means : HasSameLinks e e → ObjectBecomes (ReadBy (reads (live_of old) m.who)) e at.object (change at.object) → MeansLive letters old (changed letters change path tree)
+  same_means : HasSameLinks e e → ObjectBecomes (ReadBy (reads (live_of old) m.who)) e at.object (change at.object) → MeansLive letters old (changed letters change path tree)
   unfolding live_of
   same_means links becomes = record {
     live = m.live;
@@ -90,3 +92,17 @@ module _ {F : Type 0} {g : Ghosts F} (letters : Letters) (old : MiniAllocator F 
     held = entry_changed (live_of old) (live_of old) m.who m.who letters tree path id e e change at.object m.held at.leads at.at_path found links refl refl becomes (set_same (entries_held (directory_of old)) id e found)
         (carries_same (live_of old) m.who) m.held.root m.held.kept;
   }
+
+  -- and no more is in use without an owner
+  pub set_comes : (new : MiniAllocator F g) → HasSameLinks e f → f.start ≡ e.start → f.size ≡ e.size → ObjectBecomes (ReadBy (reads (live_of old) m.who)) f at.object (change at.object)
+      → GoesOn (allocator_of old) (allocator_of new) → has_failed_here (allocator_of new) ≡ false → ChangesDirectory [] old new m.who.sectors
+      → entries_held (directory_of new) ≡ slice_set (entries_held (directory_of old)) id f → ComesToMean letters old new m.who (changed letters change path tree)
+  unfolding set_means
+  set_comes new links start size becomes goes live c set = record {
+    means = set_means new links start size becomes goes live c set;
+    strays = directory_strays [] (λ p n beside. tt) old new m.who (stands_of letters old tree m) goes live c;
+  }
+
+  pub same_comes : HasSameLinks e e → ObjectBecomes (ReadBy (reads (live_of old) m.who)) e at.object (change at.object) → ComesToMean letters old old m.who (changed letters change path tree)
+  unfolding same_means
+  same_comes links becomes = record { means = same_means links becomes; strays = strays_same old m.who }

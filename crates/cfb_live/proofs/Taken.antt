@@ -27,9 +27,10 @@ use Rattle.cfb_tree.proofs.OneContent.{Some_same}
 use Rattle.cfb_live.specs.WholeRemoval.{IsLeafAt, KeepsWay}
 use Rattle.cfb_live.specs.Freeing.{FreesStream}
 use Rattle.cfb_live.specs.Live.{live_of, MeansLive}
+use Rattle.cfb_live.specs.Strays.{ComesToMean}
 use Rattle.cfb_live.specs.Removing.{IsChildAt}
 use Rattle.cfb_live.proofs.NewPlaces.{path_is}
-use Rattle.cfb_live.proofs.Removed.{among, below_root, removed_means}
+use Rattle.cfb_live.proofs.Removed.{among, below_root, removed_comes}
 use Rattle.cfb_live.proofs.SetFacts.{means_held, means_ids}
 use Rattle.cfb_live.proofs.Streams.{reads}
 
@@ -80,7 +81,7 @@ module _ {F : Type 0} {g : Ghosts F} (letters : Letters) (it : MiniAllocator F g
   -- its sectors were freed, and then its entry was taken out
   pub taken_means : (mid new : MiniAllocator F g) (frees : FreesStream id it mid m.who) → RemovesChild (entries_held (directory_of mid)) (entries_held (directory_of new)) link id → RemovesAt (entries_held (directory_of mid)) (entries_held (directory_of new)) id
       → GoesOn (allocator_of mid) (allocator_of new) → has_failed_here (allocator_of new) ≡ false → ChangesDirectory (count_words (version_of (allocator_of mid))) mid new frees.now.sectors
-      → MeansLive letters new (removed letters (path_to path name) tree)
+      → ComesToMean letters it new m.who (removed letters (path_to path name) tree)
   unfolding leaf_child
   taken_means mid new frees removed_child at goes live changes =
       let directory = entries_held (directory_of it) in
@@ -91,7 +92,7 @@ module _ {F : Type 0} {g : Ghosts F} (letters : Letters) (it : MiniAllocator F g
       let less : HoldsOneLess letters (ReadBy Reads) directory later (removed letters (path_to path name) tree) m.held.ids (path_to path name) id [] =
       subst (λ own. HoldsOneLess letters (ReadBy Reads) directory later (removed letters (path_to path name) tree) m.held.ids (path_to path name) id own) none
       (subst (λ ids. HoldsOneLess letters (ReadBy Reads) directory later (removed letters (path_to path name) tree) ids (path_to path name) id removes.own) (means_ids letters it tree m) removes.holds) in
-      removed_means letters it mid new tree (removed letters (path_to path name) tree) m (path_to path name) id frees (subst (λ es. RemovesAt es later id) frees.entries at) less leaf_below goes live changes
+      removed_comes letters it mid new tree (removed letters (path_to path name) tree) m (path_to path name) id frees (subst (λ es. RemovesAt es later id) frees.entries at) less leaf_below goes live changes
 
   -- the way to its storage goes over the same entries still
   pub keeps_way : (mid new : List Entry) → mid ≡ entries_held (directory_of it) → RemovesChild mid new link id → RemovesAt mid new id → KeepsWay letters (entries_held (directory_of it)) new path id

@@ -18,6 +18,7 @@ use Rattle.cfb_owners.specs.Kept.{Kept}
 use Rattle.cfb_owners.specs.LiveFile.{LiveFile}
 use Rattle.cfb_owners.specs.Owners.{mini_stream_owner, stream_owner, Owners, OwnsNothing}
 use Rattle.cfb_live.specs.Live.{live_of}
+use Rattle.cfb_live.specs.Strays.{HasNoMoreStrays}
 
 -- the same version, at least as many bytes, and all streams and the mini stream, but for this owner, have the sectors and the bytes
 -- that they had
@@ -67,12 +68,13 @@ module _ {F : Type 0} {g : Ghosts F} where
     pub has : HasStream (live_of old) who id entry content
     pub gives : GivesUp (who.sectors (stream_owner id)) (who.minis (stream_owner id)) new
 
-  -- The stream of entry `id` owns nothing any more, and what it owned is free; the file stands. All others own what they owned, with
-  -- its bytes, and the entries are those that they were.
+  -- The stream of entry `id` owns nothing any more, and what it owned is free; the file stands, with no more strays. All others own
+  -- what they owned, with its bytes, and the entries are those that they were.
   pub record FreesStream (id : ℕ) (old new : MiniAllocator F g) (who : Owners) : Type 0 where
     pub now : Owners
     pub stands : Stands new now
     pub carries : CarriesBut (stream_owner id) (live_of old) (live_of new) who now
     pub nothing : OwnsNothing now (stream_owner id)
     pub freed : AreFree (who.sectors (stream_owner id)) (who.minis (stream_owner id)) new
+    pub strays : HasNoMoreStrays old new who now
     pub entries : entries_held (directory_of new) ≡ entries_held (directory_of old)

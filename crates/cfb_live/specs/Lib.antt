@@ -1,4 +1,5 @@
 pub mod Live
+pub mod Strays
 pub mod Doing
 pub mod Facts
 pub mod Making

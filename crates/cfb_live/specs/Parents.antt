@@ -13,7 +13,9 @@ use Rattle.cfb_tree.specs.Objects.{object_at}
 use Rattle.cfb_tree.specs.Paths.{Path}
 use Rattle.cfb_tree.specs.Tree.{Tree}
 use Rattle.cfb_live.specs.WholeRemoval.{HasStorage}
+use Rattle.cfb_owners.specs.Owners.{Owners}
 use Rattle.cfb_live.specs.Live.{MeansLive}
+use Rattle.cfb_live.specs.Strays.{ComesToMean, HasNoMoreStrays}
 use Rattle.cfb_live.specs.Making.{kind_made, making}
 use Rattle.cfb_live.specs.declared.making.NewObject.{NewObject}
 
@@ -30,14 +32,14 @@ pub record IsMadeAsFar (letters : Letters) (moment : ℕ) (tree : Tree) (path : 
   pub valid : AreNames (drop count path)
 
 module _ {F : Type 0} {g : Ghosts F} where
-  -- the rules make the object at the path, and the file means the tree that they give
-  pub record MakesAt (letters : Letters) (path : Path) (object : NewObject) (tree : Tree) (new : MiniAllocator F g) : Type 0 where
+  -- the rules make the object at the path, and the file comes to mean the tree that they give
+  pub record MakesAt (letters : Letters) (path : Path) (object : NewObject) (tree : Tree) (old new : MiniAllocator F g) (who : Owners) : Type 0 where
     pub accepted : (tree_step letters tree (making object path)).1 ≡ done
-    pub means : MeansLive letters new (tree_step letters tree (making object path)).0
+    pub comes : ComesToMean letters old new who (tree_step letters tree (making object path)).0
 
   -- so it does, and the path leads to entry `id`, which is of the object's kind
-  pub record MakesChild (letters : Letters) (path : Path) (object : NewObject) (tree : Tree) (new : MiniAllocator F g) (id : ℕ) : Type 0 where
-    pub makes : MakesAt letters path object tree new
+  pub record MakesChild (letters : Letters) (path : Path) (object : NewObject) (tree : Tree) (old new : MiniAllocator F g) (who : Owners) (id : ℕ) : Type 0 where
+    pub makes : MakesAt letters path object tree old new who
     pub leads : LeadsTo letters (entries_held (directory_of new)) 0 path id
     pub entry : Entry
     pub found : slice_get (entries_held (directory_of new)) id ≡ Some entry
@@ -49,3 +51,9 @@ module _ {F : Type 0} {g : Ghosts F} where
     pub far : IsMadeAsFar letters moment tree path count now
     pub means : MeansLive letters new now
     pub storage : IsStorageAt letters (entries_held (directory_of new)) (take count path) id
+
+  -- so it does after a call, which left no more strays
+  pub record ComesAsFar (letters : Letters) (moment : ℕ) (tree : Tree) (path : Path) (count : ℕ) (old new : MiniAllocator F g) (who : Owners) : Type 0 where
+    pub last : ℕ
+    pub far : MeansAsFar letters moment tree path count last new
+    pub strays : HasNoMoreStrays old new who far.means.who

@@ -11,7 +11,8 @@ use Rattle.cfb_tree.specs.Names.{Letters}
 use Rattle.cfb_tree.specs.Objects.{a_storage, object_at, Object}
 use Rattle.cfb_tree.specs.Paths.{Path}
 use Rattle.cfb_tree.specs.Tree.{nothing, Content, Facts, Tree}
-use Rattle.cfb_live.specs.Live.{MeansLive}
+use Rattle.cfb_owners.specs.Owners.{Owners}
+use Rattle.cfb_live.specs.Strays.{ComesToMean}
 
 -- the link leads to entry `id`, the child of this name of the storage at a path, and it holds nothing: it is a stream, or has no child
 pub record IsLeafAt (letters : Letters) (entries : List Entry) (path : Path) (name : List ℕ) (link : Link) (id : ℕ) : Type 0 where
@@ -66,15 +67,15 @@ pub record LosesBelow (letters : Letters) (path : Path) (tree later : Tree) : Ty
   pub is : later ≡ removed letters (path_to (path ++ more) name) tree
 
 module _ {F : Type 0} {g : Ghosts F} where
-  -- the file means the tree without an object below the path
-  pub record TakesBelow (letters : Letters) (path : Path) (tree : Tree) (new : MiniAllocator F g) : Type 0 where
+  -- the file comes to mean the tree without an object below the path
+  pub record TakesBelow (letters : Letters) (path : Path) (tree : Tree) (old new : MiniAllocator F g) (who : Owners) : Type 0 where
     pub later : Tree
     pub loses : LosesBelow letters path tree later
-    pub means : MeansLive letters new later
+    pub comes : ComesToMean letters old new who later
 
-  -- the file means a tree in which the storage at the path holds nothing, and which is the same without it
-  pub record Empties (letters : Letters) (path : Path) (tree : Tree) (new : MiniAllocator F g) : Type 0 where
+  -- the file comes to mean a tree in which the storage at the path holds nothing, and which is the same without it
+  pub record Empties (letters : Letters) (path : Path) (tree : Tree) (old new : MiniAllocator F g) (who : Owners) : Type 0 where
     pub later : Tree
     pub empty : HasEmptyStorage letters later path
     pub others : removed letters path later ≡ removed letters path tree
-    pub means : MeansLive letters new later
+    pub comes : ComesToMean letters old new who later

@@ -78,11 +78,11 @@ pub(crate) fn make_child<F: Medium>(
     object: NewObject,
 ) -> Result<u32, Error>
     ensures made { IfOk result (λ id. (tree : Tree) (path : Path)
-        → MeansLive (letters_of letters.now) mini.old tree
+        → (m : MeansLive (letters_of letters.now) mini.old tree)
         → IsFreePlace (letters_of letters.now) (entries_held (directory_of mini.old)) tree
         (path_to path (chars name.now)) parent
-        → MakesChild (letters_of letters.now) (path_to path (chars name.now)) object tree mini.new
-        id) }
+        → MakesChild (letters_of letters.now) (path_to path (chars name.now)) object tree
+        mini.old mini.new m.who id) }
     ensures refused { IfErr result (λ e. (tree : Tree) (path : Path)
         → MeansLive (letters_of letters.now) mini.old tree
         → IsFreePlace (letters_of letters.now) (entries_held (directory_of mini.old)) tree
@@ -120,8 +120,10 @@ fn make_named<F: Medium>(
     names: &[&str],
     object: NewObject,
 ) -> Result<(), Error>
-    ensures made { OnOk result ((tree : Tree) → MeansLive (letters_of letters.now) mini.old tree
-        → MakesAt (letters_of letters.now) (path_of names.now) object tree mini.new) }
+    ensures made { OnOk result ((tree : Tree)
+        → (m : MeansLive (letters_of letters.now) mini.old tree)
+        → MakesAt (letters_of letters.now) (path_of names.now) object tree mini.old mini.new
+        m.who) }
     ensures refused { IfErr result (λ e. (tree : Tree)
         → MeansLive (letters_of letters.now) mini.old tree → IsFault e
         ⊎ (((tree_step (letters_of letters.now) tree (making object (path_of names.now))).1

@@ -5,7 +5,7 @@ ghost use Rattle.cfb_fat.specs.Calls.{FatAnswers};
 ghost use Rattle.cfb_fat.specs.Tables.{has_failed_here};
 ghost use Rattle.cfb_live.specs.Doing.{Does, IsFault};
 ghost use Rattle.cfb_live.specs.Making.{IsRefusedMade};
-ghost use Rattle.cfb_live.specs.Parents.{AreNames, IsMadeAsFar, MeansAsFar};
+ghost use Rattle.cfb_live.specs.Parents.{AreNames, ComesAsFar, IsMadeAsFar, MeansAsFar};
 ghost use Rattle.cfb_meaning.specs.TreeRules.{create_storage_all, refused, tree_step};
 ghost use Rattle.cfb_medium.specs.Times.{units_of};
 ghost use Rattle.cfb_medium.specs.declared.error.Error.TheVariants.{AlreadyExists, Full, InvalidInput};
@@ -97,10 +97,10 @@ fn make_missing<F: Medium>(
     moment: Timestamp,
 ) -> Result<(), Error>
     requires { first ≤ length names.now }
-    ensures made { OnOk result ((tree : Tree) → MeansAsFar (letters_of letters.now)
-        (units_of moment) tree (path_of names.now) first top mini.old
-        → (last : ℕ) × MeansAsFar (letters_of letters.now) (units_of moment) tree
-        (path_of names.now) (length names.now) last mini.new) }
+    ensures made { OnOk result ((tree : Tree) → (so : MeansAsFar (letters_of letters.now)
+        (units_of moment) tree (path_of names.now) first top mini.old)
+        → ComesAsFar (letters_of letters.now) (units_of moment) tree (path_of names.now)
+        (length names.now) mini.old mini.new so.means.who) }
     ensures refused { IfErr result (λ e. (tree : Tree) → MeansAsFar (letters_of letters.now)
         (units_of moment) tree (path_of names.now) first top mini.old → IsFault e) }
     ensures failed { OnErr result (has_failed_here (allocator_of mini.new) ≡ true) }

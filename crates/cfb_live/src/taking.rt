@@ -6,6 +6,7 @@ ghost use Rattle.cfb_fat.specs.Tables.{has_failed_here};
 ghost use Rattle.cfb_live.specs.WholeRemoval.{IsLeafAt, KeepsWay};
 ghost use Rattle.cfb_live.specs.Freeing.{GivesUp};
 ghost use Rattle.cfb_live.specs.Live.{MeansLive};
+ghost use Rattle.cfb_live.specs.Strays.{ComesToMean};
 ghost use Rattle.cfb_medium.specs.declared.error.Error.TheVariants.{InvalidData};
 ghost use Rattle.cfb_mini.specs.Changing.{KeepsOwners};
 ghost use Rattle.cfb_mini.specs.Views.{allocator_of, directory_of};
@@ -35,9 +36,9 @@ pub(crate) fn take_out<F: Medium>(
 ) -> Result<(), Error>
     requires { id < length (entries_held (directory_of mini.old)) }
     ensures taken { OnOk result ((letters : Letters) (tree : Tree) (path : Path) (name : List ℕ)
-        → MeansLive letters mini.old tree
+        → (m : MeansLive letters mini.old tree)
         → IsLeafAt letters (entries_held (directory_of mini.old)) path name link id
-        → MeansLive letters mini.new (removed letters (path_to path name) tree)) }
+        → ComesToMean letters mini.old mini.new m.who (removed letters (path_to path name) tree)) }
     ensures ways { OnOk result ((letters : Letters) (tree : Tree) (path : Path) (name : List ℕ)
         → MeansLive letters mini.old tree
         → IsLeafAt letters (entries_held (directory_of mini.old)) path name link id

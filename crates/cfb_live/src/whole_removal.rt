@@ -6,6 +6,7 @@ ghost use Rattle.cfb_fat.specs.Tables.{has_failed_here};
 ghost use Rattle.cfb_live.specs.Doing.{Does};
 ghost use Rattle.cfb_live.specs.WholeRemoval.{Empties, HasEmptyStorage, HasStorage, IsWayTo, TakesBelow};
 ghost use Rattle.cfb_live.specs.Live.{MeansLive};
+ghost use Rattle.cfb_live.specs.Strays.{ComesToMean};
 ghost use Rattle.cfb_live.specs.Removing.{IsRefusedRemoval};
 ghost use Rattle.cfb_meaning.specs.TreeRules.{remove_storage_all};
 ghost use Rattle.cfb_medium.specs.declared.error.Error.TheVariants.{InvalidData};
@@ -41,10 +42,11 @@ fn take_leaf<F: Medium>(
     top: u32,
 ) -> Result<Option<u32>, Error>
     ensures taken { IfOk result (λ next. (letters : Letters) (tree : Tree) (path : Path)
-        → MeansLive letters mini.old tree
+        → (m : MeansLive letters mini.old tree)
         → IsWayTo letters (entries_held (directory_of mini.old)) path above.old.items top
-        → MatchOption next (MeansLive letters mini.new tree × HasEmptyStorage letters tree path)
-        (λ id. TakesBelow letters path tree mini.new
+        → MatchOption next (ComesToMean letters mini.old mini.new m.who tree
+        × HasEmptyStorage letters tree path)
+        (λ id. TakesBelow letters path tree mini.old mini.new m.who
         × IsWayTo letters (entries_held (directory_of mini.new)) path above.new.items id)) }
     ensures refused { IsErrOf result InvalidData → (letters : Letters) (tree : Tree) (path : Path)
         → MeansLive letters mini.old tree
@@ -77,9 +79,9 @@ fn take_leaves<F: Medium>(
     top: u32,
 ) -> Result<(), Error>
     ensures emptied { OnOk result ((letters : Letters) (tree : Tree) (path : Path)
-        → MeansLive letters mini.old tree → HasStorage letters tree path
+        → (m : MeansLive letters mini.old tree) → HasStorage letters tree path
         → IsWayTo letters (entries_held (directory_of mini.old)) path above.old.items top
-        → Empties letters path tree mini.new) }
+        → Empties letters path tree mini.old mini.new m.who) }
     ensures refused { IsErrOf result InvalidData → (letters : Letters) (tree : Tree) (path : Path)
         → MeansLive letters mini.old tree → HasStorage letters tree path
         → IsWayTo letters (entries_held (directory_of mini.old)) path above.old.items top → ⊥ }
@@ -113,9 +115,10 @@ fn take_emptied<F: Medium>(
     letters: &CaseMapper,
     names: &[&str],
 ) -> Result<(), Error>
-    ensures taken { OnOk result ((tree : Tree) → MeansLive (letters_of letters.now) mini.old tree
+    ensures taken { OnOk result ((tree : Tree)
+        → (m : MeansLive (letters_of letters.now) mini.old tree)
         → HasEmptyStorage (letters_of letters.now) tree (path_of names.now)
-        → MeansLive (letters_of letters.now) mini.new
+        → ComesToMean (letters_of letters.now) mini.old mini.new m.who
         (removed (letters_of letters.now) (path_of names.now) tree)) }
     ensures refused { IsErrOf result InvalidData → (tree : Tree)
         → MeansLive (letters_of letters.now) mini.old tree
@@ -149,10 +152,11 @@ fn take_all<F: Medium>(
     names: &[&str],
     top: u32,
 ) -> Result<(), Error>
-    ensures taken { OnOk result ((tree : Tree) → MeansLive (letters_of letters.now) mini.old tree
+    ensures taken { OnOk result ((tree : Tree)
+        → (m : MeansLive (letters_of letters.now) mini.old tree)
         → HasStorage (letters_of letters.now) tree (path_of names.now)
         → IsStorageAt (letters_of letters.now) (entries_held (directory_of mini.old))
-        (path_of names.now) top → MeansLive (letters_of letters.now) mini.new
+        (path_of names.now) top → ComesToMean (letters_of letters.now) mini.old mini.new m.who
         (removed (letters_of letters.now) (path_of names.now) tree)) }
     ensures refused { IsErrOf result InvalidData → (tree : Tree)
         → MeansLive (letters_of letters.now) mini.old tree

@@ -9,8 +9,10 @@ use Rattle.cfb_directory.specs.Views.{directory_ids, entries_held}
 use Rattle.cfb_fat.specs.Tables.{has_failed_here, version_of}
 use Rattle.cfb_live.specs.Freeing.{CarriesBut, FreesStream, Stands}
 use Rattle.cfb_live.specs.Live.{live_of}
+use Rattle.cfb_live.specs.Strays.{HasNoMoreStrays}
 use Rattle.cfb_live.proofs.Carried.{stream_stays, Carries}
 use Rattle.cfb_live.proofs.Directories.{carries, has_owners, kept_later, owners_now}
+use Rattle.cfb_live.proofs.Strays.{directory_strays, strays_then}
 use Rattle.cfb_medium.specs.declared.medium.ReadMedium.{Ghosts}
 use Rattle.cfb_mini.specs.Changing.{ChangesDirectory}
 use Rattle.cfb_mini.specs.LinkViews.{minis_of}
@@ -80,6 +82,11 @@ module _ {F : Type 0} {g : Ghosts F} (old mid : MiniAllocator F g) (who : Owners
     carries = carries_others (stream_owner id) (live_of old) (live_of mid) who frees.now (omega arith) frees.carries;
     entries = inl frees.entries;
   }
+
+  -- and left no more strays
+  pub freed_strays : HasNoMoreStrays old mid who freed_moves.now
+  unfolding freed_moves
+  freed_strays = frees.strays
 
   -- and has no bytes then
   pub freed_has : (e : Entry) → e.start ≡ end_of_chain → e.size ≡ 0 → HasStream (live_of mid) freed_moves.now id e []
@@ -183,6 +190,11 @@ module _ {F : Type 0} {g : Ghosts F} (letters : Letters) (old mid new : MiniAllo
         bits = it.bits;
         at_path = it.at_path;
       }
+
+  -- with no more strays than its sectors' change left
+  pub placed_strays : HasNoMoreStrays old mid at.means.who moved.now → HasNoMoreStrays old new at.means.who stream_placed.means.who
+  unfolding stream_placed
+  placed_strays strays = strays_then old mid new at.means.who moved.now now strays (directory_strays [] none mid new moved.now moved.stands goes live changes)
 
   new_at : slice_get (entries_held (directory_of new)) id ≡ Some f
   new_at = ap (λ l. slice_get l id) p.set ∙ set_found (entries_held (directory_of mid)) id p.entry f p.found

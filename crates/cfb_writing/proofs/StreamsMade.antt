@@ -5,6 +5,7 @@ use Rattle.cfb_entries.specs.Rules.{answer_at}
 use Rattle.cfb_live.specs.Doing.{Does}
 use Rattle.cfb_live.specs.Live.{MeansLive}
 use Rattle.cfb_live.specs.Making.{making}
+use Rattle.cfb_live.specs.Strays.{ComesToMean}
 use Rattle.cfb_live.specs.declared.making.NewObject.TheVariants.{Stream}
 use Rattle.cfb_meaning.specs.TreeRules.{create_new_stream, create_stream, done, refused, tree_step}
 use Rattle.cfb_medium.specs.declared.error.Error.{Error}
@@ -36,11 +37,13 @@ module _ {F : Type 0} {g : Ghosts F} (letters : Letters) (old new : MiniAllocato
     done = λ tree m.
         let it = d.done tree m in
         let same : it.names ≡ path = Some_same (sym it.at_path ∙ is) in
-        let step = step_new letters tree it.names (ap (object_at letters tree) same ∙ free tree m) in record {
+        let step = step_new letters tree it.names (ap (object_at letters tree) same ∙ free tree m) in
+        let comes = subst (ComesToMean letters old new m.who) (ap (λ o. o.0) step) (record { means = it.means; strays = it.strays }) in record {
           names = it.names;
           at_path = it.at_path;
           accepted = ap (λ o. o.1) (sym step) ∙ it.accepted;
-          means = subst (MeansLive letters new) (ap (λ o. o.0) step) it.means;
+          means = comes.means;
+          strays = comes.strays;
         };
     refused = tt;
     rests = tt;

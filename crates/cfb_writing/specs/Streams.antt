@@ -6,6 +6,7 @@ use Rattle.cfb_directory.specs.Views.{entries_held}
 use Rattle.cfb_fat.specs.Growing.{LacksNumbers}
 use Rattle.cfb_fat.specs.Tables.{version_of}
 use Rattle.cfb_live.specs.Live.{MeansLive}
+use Rattle.cfb_live.specs.Strays.{HasNoMoreStrays}
 use Rattle.cfb_medium.specs.declared.medium.ReadMedium.{Ghosts}
 use Rattle.cfb_medium.specs.declared.version.Version.{Version}
 use Rattle.cfb_mini.specs.LinkViews.{minis_of}
@@ -52,10 +53,11 @@ module _ {F : Type 0} {g : Ghosts F} where
     pub bits : ℕ
     pub at_path : object_at letters tree path ≡ Some (a_stream name bits content)
 
-  -- a stream of entry `id` has then the bytes that come of its own by the change, and nothing else of the tree is changed
+  -- a stream of entry `id` has then the bytes that come of its own by the change, and nothing else of the tree is changed; no sector
+  -- and no mini sector is in use without an owner that wasn't so before
   abbrev pub Rewrites : ℕ → (List ℕ → List ℕ) → MiniAllocator F g → MiniAllocator F g → Type 0
-  Rewrites id change old new = (letters : Letters) (tree : Tree) (path : Path) (content : List ℕ) → IsStreamAt letters old tree path id content
-      → IsStreamAt letters new (changed letters (with_bytes (change content)) path tree) path id (change content)
+  Rewrites id change old new = (letters : Letters) (tree : Tree) (path : Path) (content : List ℕ) → (at : IsStreamAt letters old tree path id content)
+      → (then : IsStreamAt letters new (changed letters (with_bytes (change content)) path tree) path id (change content)) × HasNoMoreStrays old new at.means.who then.means.who
 
   -- entry `id` is a stream of no tree that is meant
   abbrev pub IsNoStream : ℕ → MiniAllocator F g → Type 0

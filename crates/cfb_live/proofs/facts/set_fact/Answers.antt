@@ -14,10 +14,11 @@ use Rattle.cfb_directory.specs.Entries.{entries_in}
 use Rattle.cfb_directory.specs.Views.{entries_held}
 use Rattle.cfb_mini.specs.Views.{directory_of}
 use Rattle.cfb_live.specs.Facts.{change_for, setting, MayHave}
-use Rattle.cfb_live.specs.Live.{live_of, MeansLive}
+use Rattle.cfb_live.specs.Live.{live_of}
+use Rattle.cfb_live.specs.Strays.{ComesToMean}
 use Rattle.cfb_live.proofs.FactRules.{as_was, becomes, links_stay, object_kind, place_stays, rule, same_links, step_done, step_missing, step_refused}
 use Rattle.cfb_live.proofs.Resting.{keeps_refl}
-use Rattle.cfb_live.proofs.SetFacts.{means_held, same_means, set_means}
+use Rattle.cfb_live.proofs.SetFacts.{means_held, same_comes, set_comes}
 use Rattle.cfb_live.proofs.Streams.{reads}
 use Rattle.cfb_live.proofs.facts.set_fact.Goals as goal
 
@@ -57,12 +58,8 @@ returns-in-Ok-None-clause-does g c = record {
       let here = subst (λ es. IsEntryAt (ReadBy Reads) l es tree at.0 id) same at.2 in
       let lacks = c.in-Ok-None.ensures.none c.in-Ok-None.field-0-is in
       let step = step_done l tree at.0 id e c.args.fact here.object here.at_path (object_kind Reads l (entries_held (directory_of it)) tree held id e found at.0 here) (inr lacks) in
-      record {
-        names = at.0;
-        at_path = at.1;
-        accepted = ap (λ o. o.1) step;
-        means = subst (MeansLive l it) (sym (ap (λ o. o.0) step)) (same_means l it tree m at.0 id e e (rule c.args.fact at.0) here found (same_links e) (as_was Reads l (entries_held (directory_of it)) tree held id e found c.args.fact at.0 here lacks));
-      };
+      let comes = subst (ComesToMean l it it m.who) (sym (ap (λ o. o.0) step)) (same_comes l it tree m at.0 id e e (rule c.args.fact at.0) here found (same_links e) (as_was Reads l (entries_held (directory_of it)) tree held id e found c.args.fact at.0 here lacks)) in
+      record { names = at.0; at_path = at.1; accepted = ap (λ o. o.1) step; means = comes.means; strays = comes.strays };
   refused = tt;
   rests = tt;
 }
@@ -138,14 +135,10 @@ returns-clause-does g c = record {
       let did = c.in_default.ensures in
       let changes = did.changes m.who.sectors e m.owners found (λ zero. ap (λ (x : Entry). x.start) change ∙ place.0) in
       let set = did.set e found ∙ ap (slice_set (entries_held (directory_of it)) id) change in
-      record {
-        names = at.0;
-        at_path = at.1;
-        accepted = ap (λ o. o.1) step;
-        means = subst (MeansLive l new) (sym (ap (λ o. o.0) step))
-            (set_means l it tree m at.0 id e f (rule fact at.0) here found new (links_stay fact e) place.0 place.1 (becomes Reads l (entries_held (directory_of it)) tree held id e found fact at.0 here may)
-            c.with_dir_entry_mut.ensures.goes_on did.answers.live.1 changes set);
-      };
+      let comes = subst (ComesToMean l it new m.who) (sym (ap (λ o. o.0) step))
+      (set_comes l it tree m at.0 id e f (rule fact at.0) here found new (links_stay fact e) place.0 place.1 (becomes Reads l (entries_held (directory_of it)) tree held id e found fact at.0 here may)
+      c.with_dir_entry_mut.ensures.goes_on did.answers.live.1 changes set) in
+      record { names = at.0; at_path = at.1; accepted = ap (λ o. o.1) step; means = comes.means; strays = comes.strays };
   refused = tt;
   rests = tt;
 }

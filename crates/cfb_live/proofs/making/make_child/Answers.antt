@@ -14,9 +14,10 @@ use Rattle.cfb_meaning.specs.TreeRules.{done}
 use Rattle.cfb_directory.specs.Children.{AddsAt, HoldsStorage}
 use Rattle.cfb_directory.specs.Views.{entries_held}
 use Rattle.cfb_mini.specs.Views.{directory_of}
-use Rattle.cfb_live.specs.Live.{live_of, MeansLive}
+use Rattle.cfb_live.specs.Live.{live_of}
+use Rattle.cfb_live.specs.Strays.{ComesToMean}
 use Rattle.cfb_live.specs.Making.{kind_made, moment_made, object_of}
-use Rattle.cfb_live.proofs.Made.{alone, has_root, made_means, named, starts_nowhere}
+use Rattle.cfb_live.proofs.Made.{alone, has_root, made_comes, named, starts_nowhere}
 use Rattle.cfb_live.proofs.SetFacts.{means_held, means_ids}
 use Rattle.cfb_live.proofs.Streams.{reads, reads_nothing}
 use Rattle.cfb_live.proofs.making.make_child.Goals as goal
@@ -67,8 +68,8 @@ returns-clause-made g c = λ tree path m free.
     record {
       makes = record {
         accepted = ap (λ o. o.1) rule;
-        means = subst (MeansLive l new) (sym (ap (λ o. o.0) rule))
-            (made_means l it tree later m new made whole id adds more refl (starts_nowhere object name) c.insert_dir_entry.ensures.goes_on c.in-Ok.ensures.answers.live.1 (c.in-Ok.ensures.changes m.who.sectors m.owners (has_root l it tree later m)));
+        comes = subst (ComesToMean l it new m.who) (sym (ap (λ o. o.0) rule))
+            (made_comes l it tree later m new made whole id adds more refl (starts_nowhere object name) c.insert_dir_entry.ensures.goes_on c.in-Ok.ensures.answers.live.1 (c.in-Ok.ensures.changes m.who.sectors m.owners (has_root l it tree later m)));
       };
       leads = more.at_path;
       entry = there.0;

@@ -55,4 +55,4 @@ returns-clause-made g c = λ tree m.
     let whole = path_by names c.in-Ok.ensures.some in
     let free = subst (λ es. IsFreePlace l es tree (path_of names) c.in-Ok.parent) same (c.in-Ok.ensures.free Reads tree held) in
     let made = c.in_default.ensures.made tree (parent_of (path_of names)) m (subst (λ p. IsFreePlace l (entries_held (directory_of it)) tree p c.in-Ok.parent) (sym whole) free) in
-    subst (λ p. MakesAt l p c.args.object tree c.make_child.new.mini) whole made.makes
+    subst (λ p. MakesAt l p c.args.object tree it c.make_child.new.mini m.who) whole made.makes

@@ -24,7 +24,8 @@ returns-clause-does g c = record {
         names = path_of c.deref.result.now;
         at_path = names_are c.args.path.now c.in-Ok.names.items c.in-Ok.ensures.names ∙ ap (λ ns. Some (path_of ns)) (sym c.deref.ensures.value);
         accepted = made.accepted;
-        means = made.means;
+        means = made.comes.means;
+        strays = made.comes.strays;
       };
   refused = tt;
   rests = tt;

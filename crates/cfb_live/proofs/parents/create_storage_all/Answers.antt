@@ -13,12 +13,14 @@ use Rattle.cfb_directory.specs.Entries.{entries_in}
 use Rattle.cfb_directory.specs.Views.{entries_held}
 use Rattle.cfb_mini.specs.Views.{allocator_of, directory_of}
 use Rattle.cfb_owned.proofs.GoingOn.{goes_cause, goes_then}
-use Rattle.cfb_live.specs.Live.{live_of, MeansLive}
-use Rattle.cfb_live.specs.Parents.{MeansAsFar}
-use Rattle.cfb_live.proofs.AllMade.{all_made, as_far_more, name_more, next_place, take_end}
+use Rattle.cfb_live.specs.Live.{live_of}
+use Rattle.cfb_live.specs.Strays.{ComesToMean, HasNoMoreStrays}
+use Rattle.cfb_live.specs.Parents.{ComesAsFar, MeansAsFar}
+use Rattle.cfb_live.proofs.AllMade.{all_made, as_far_more, as_far_strays, name_more, next_place, take_end}
 use Rattle.cfb_live.proofs.NewPlaces.{length-path}
 use Rattle.cfb_live.proofs.Resting.{keeps_refl}
 use Rattle.cfb_live.proofs.SetFacts.{means_held}
+use Rattle.cfb_live.proofs.Strays.{strays_same, strays_then}
 use Rattle.cfb_live.proofs.Streams.{reads}
 use Rattle.cfb_live.proofs.parents.create_storage_all.Goals as goal
 
@@ -57,12 +59,8 @@ returns-then-count-len-clause-does g c = record {
       let size : length names ≡ c.len.result = let whole = c.deref.ensures.len in let vec = c.len.ensures in omega (arith, whole, vec) in
       let all : count ≡ length path = let within = c.in-Ok-first_missing.ensures.within in let past = c.if-count-len.true in let names_size = length-path names in omega (arith, within, past, size, names_size) in
       let rule = all_made l moment tree tree path count far (ap (λ n. take n path) all ∙ take_end path) in
-      record {
-        names = path;
-        at_path = at_path;
-        accepted = ap (λ o. o.1) rule;
-        means = subst (MeansLive l it) (sym (ap (λ o. o.0) rule)) m;
-      };
+      let comes = subst (ComesToMean l it it m.who) (sym (ap (λ o. o.0) rule)) (record { means = m; strays = strays_same it m.who }) in
+      record { names = path; at_path = at_path; accepted = ap (λ o. o.1) rule; means = comes.means; strays = comes.strays };
   refused = tt;
   rests = tt;
 }
@@ -173,19 +171,17 @@ returns-clause-does g c = record {
       let place = next_place l c.args.moment tree path count parent it so below _ next in
       let mid = c.make_child.new.mini in
       let top = c.in-Ok-make_child.top in
-      let one = as_far_more l c.args.moment tree path count parent it so below _ next mid top (c.in-Ok-make_child.ensures.made tree (take count path) m place) in
+      let child = c.in-Ok-make_child.ensures.made tree (take count path) m place in
+      let one = as_far_more l c.args.moment tree path count parent it so below _ next mid top child in
       let again = c.deref-2.ensures.value ∙ sym c.deref.ensures.value in
-      let start = subst (λ ns. MeansAsFar l moment tree (path_of ns) (count + 1) top mid) (sym again) one in
+      let start = subst (λ ns. (far : MeansAsFar l moment tree (path_of ns) (count + 1) top mid) × HasNoMoreStrays it mid m.who far.means.who) (sym again)
+      (one, as_far_strays l c.args.moment tree path count parent it so below _ next mid top child) in
       let new = c.make_missing.new.mini in
-      let made = c.in_default.ensures.made tree start in
-      let all = subst (λ ns. MeansAsFar l moment tree (path_of ns) (length ns) made.0 new) again made.1 in
-      let rule = all_made l moment tree all.now path (length names) all.far (ap (λ n. take n path) (sym (length-path names)) ∙ take_end path) in
-      record {
-        names = path;
-        at_path = at_path;
-        accepted = ap (λ o. o.1) rule;
-        means = subst (MeansLive l new) (sym (ap (λ o. o.0) rule)) all.means;
-      };
+      let all = subst (λ ns. ComesAsFar l moment tree (path_of ns) (length ns) mid new start.0.means.who) again (c.in_default.ensures.made tree start.0) in
+      let rule = all_made l moment tree all.far.now path (length names) all.far.far (ap (λ n. take n path) (sym (length-path names)) ∙ take_end path) in
+      let strays = strays_then it mid new m.who start.0.means.who all.far.means.who start.1 all.strays in
+      let comes = subst (ComesToMean l it new m.who) (sym (ap (λ o. o.0) rule)) (record { means = all.far.means; strays = strays }) in
+      record { names = path; at_path = at_path; accepted = ap (λ o. o.1) rule; means = comes.means; strays = comes.strays };
   refused = tt;
   rests = tt;
 }

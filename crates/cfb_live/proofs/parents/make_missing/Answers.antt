@@ -1,13 +1,15 @@
 use Rattle.std.proofs.Common.{◌≡◌, ℕ, List, [], arith, inl, length, subst, rules}
 use Rattle.std.specs.Borrow.{Bor}
 use Rattle.cfb_fat.specs.Keeping.{fails_cause}
+use Rattle.cfb_fat.specs.Resting.{all_rest_refl}
 use Rattle.cfb_medium.specs.Times.{units_of}
 use Rattle.cfb_mini.specs.Views.{allocator_of}
-use Rattle.cfb_owned.proofs.GoingOn.{goes_cause, goes_then}
+use Rattle.cfb_owned.proofs.GoingOn.{goes_cause, goes_then, rests_go_on}
 use Rattle.cfb_siblings.specs.Places.{path_of}
 use Rattle.cfb_tree.specs.LetterViews.{letters_of}
-use Rattle.cfb_live.specs.Parents.{MeansAsFar}
-use Rattle.cfb_live.proofs.AllMade.{as_far_more, name_more, next_place, within_path}
+use Rattle.cfb_live.specs.Parents.{ComesAsFar}
+use Rattle.cfb_live.proofs.AllMade.{as_far_more, as_far_strays, name_more, next_place, within_path}
+use Rattle.cfb_live.proofs.Strays.{strays_same, strays_then}
 use Rattle.cfb_live.proofs.parents.make_missing.Goals as goal
 
 abbrev no_name : Bor (List ℕ)
@@ -19,8 +21,8 @@ returns-in-Err-clause-refused g c = λ tree start.
     let i = c.making.count in
     let so = c.making.invariant.made tree start in
     let below = within_path names i no_name c.making-test.true in
-    c.in-Err.ensures.refused so.now _ so.means
-    (next_place (letters_of c.args.letters.now) c.args.moment tree (path_of names) i c.making.parent c.making.mini so below _ (name_more names i no_name c.making-test.true))
+    c.in-Err.ensures.refused so.0.now _ so.0.means
+    (next_place (letters_of c.args.letters.now) c.args.moment tree (path_of names) i c.making.parent c.making.mini so.0 below _ (name_more names i no_name c.making-test.true))
 
 pub returns-in-Err-clause-answers : goal.returns-in-Err-clause-answers
 returns-in-Err-clause-answers g c =
@@ -36,6 +38,16 @@ returns-in-Err-clause-answers g c =
       fault = told.fault;
     }
 
+pub making-init : goal.making-init
+making-init g c =
+    let it = c.args.mini.now in
+    let a = allocator_of it in
+    record {
+      goes = rests_go_on a a (all_rest_refl a);
+      live = search rules;
+      made = λ tree so. (so, strays_same it so.means.who);
+    }
+
 pub making-preserved : goal.making-preserved
 making-preserved g c = record {
   goes = goes_then _ _ _ c.making.invariant.goes c.make_child.ensures.goes_on;
@@ -48,12 +60,19 @@ making-preserved g c = record {
       let so = c.making.invariant.made tree start in
       let below = within_path names i no_name c.making-test.true in
       let next = name_more names i no_name c.making-test.true in
-      let place = next_place l c.args.moment tree path i c.making.parent c.making.mini so below _ next in
-      as_far_more l c.args.moment tree path i c.making.parent c.making.mini so below _ next c.make_child.new.mini c.in-Ok.id (c.in-Ok.ensures.made so.now _ so.means place);
+      let new = c.make_child.new.mini in
+      let place = next_place l c.args.moment tree path i c.making.parent c.making.mini so.0 below _ next in
+      let child = c.in-Ok.ensures.made so.0.now _ so.0.means place in
+      let later = as_far_more l c.args.moment tree path i c.making.parent c.making.mini so.0 below _ next new c.in-Ok.id child in (
+        later,
+        strays_then c.args.mini.now c.making.mini new start.means.who so.0.means.who later.means.who so.1 (as_far_strays l c.args.moment tree path i c.making.parent c.making.mini so.0 below _ next new c.in-Ok.id child),
+      );
 }
 
 pub returns-clause-made : goal.returns-clause-made
 returns-clause-made g c = λ tree start.
     let names = c.args.names.now in
     let last : c.making.count ≡ length names = let past = c.making-test.false in let within = c.making.auto.count-end in let room = c.requires in omega (arith, past, within, room) in
-    (c.making.parent, subst (λ n. MeansAsFar (letters_of c.args.letters.now) (units_of c.args.moment) tree (path_of names) n c.making.parent c.making.mini) last (c.making.invariant.made tree start))
+    let so = c.making.invariant.made tree start in
+    subst (λ n. ComesAsFar (letters_of c.args.letters.now) (units_of c.args.moment) tree (path_of names) n c.args.mini.now c.making.mini start.means.who) last
+    (record { last = c.making.parent; far = so.0; strays = so.1 })

@@ -13,7 +13,8 @@ use Rattle.cfb_tree.specs.Objects.{HoldsTree}
 use Rattle.cfb_directory.specs.Entries.{entries_in}
 use Rattle.cfb_directory.specs.Views.{entries_held}
 use Rattle.cfb_mini.specs.Views.{directory_of}
-use Rattle.cfb_live.specs.Live.{live_of, MeansLive}
+use Rattle.cfb_live.specs.Live.{live_of}
+use Rattle.cfb_live.specs.Strays.{ComesToMean}
 use Rattle.cfb_live.specs.Removing.{IsChildAt}
 use Rattle.cfb_live.proofs.NewPlaces.{length-path, path_is, storage_of, stream_of}
 use Rattle.cfb_live.proofs.Removals.{kind_of_object, step_missing, step_removed, step_root, step_storage}
@@ -112,12 +113,8 @@ returns-clause-does g c = record {
       let is = stream_of at.object (kind_of_object (entries_held (directory_of it)) (ReadBy Reads) id at.object at.own e at.is_object found) kind in
       let rule = step_removed l tree path is.0 is.1 is.2 (at.at_path ∙ ap Some is.3) in
       let new = c.take_out.new.mini in
-      record {
-        names = path;
-        at_path = at_path;
-        accepted = ap (λ o. o.1) rule;
-        means = subst (MeansLive l new) (ap (λ p. removed l p tree) (path_is path some) ∙ sym (ap (λ o. o.0) rule)) (c.in_default.ensures.taken l tree (parent_of path) (last_of path) m leaf);
-      };
+      let comes = subst (ComesToMean l it new m.who) (ap (λ p. removed l p tree) (path_is path some) ∙ sym (ap (λ o. o.0) rule)) (c.in_default.ensures.taken l tree (parent_of path) (last_of path) m leaf) in
+      record { names = path; at_path = at_path; accepted = ap (λ o. o.1) rule; means = comes.means; strays = comes.strays };
   refused = tt;
   rests = tt;
 }

@@ -15,7 +15,8 @@ use Rattle.cfb_directory.specs.Entries.{entries_in}
 use Rattle.cfb_directory.specs.Views.{entries_held}
 use Rattle.cfb_mini.specs.Views.{directory_of}
 use Rattle.cfb_live.specs.WholeRemoval.{HasStorage}
-use Rattle.cfb_live.specs.Live.{live_of, MeansLive}
+use Rattle.cfb_live.specs.Live.{live_of}
+use Rattle.cfb_live.specs.Strays.{ComesToMean}
 use Rattle.cfb_live.proofs.Emptied.{step_all, step_all_missing, step_all_stream}
 use Rattle.cfb_live.proofs.FactRules.{object_kind}
 use Rattle.cfb_live.proofs.NewPlaces.{storage_of, stream_of}
@@ -141,12 +142,8 @@ returns-clause-does g c = record {
       let has = subst (HasStorage l tree) here (record { name = is.0; facts = is.1; inside = is.2; at_path = there }) in
       let storage = subst (λ p. IsStorageAt l directory p id) here (record { leads = at.leads; owner = record { entry = e; found = found; holds = never } }) in
       let rule = step_all l tree path is.0 is.1 is.2 there in
-      record {
-        names = path;
-        at_path = at_path;
-        accepted = ap (λ o. o.1) rule;
-        means = subst (MeansLive l c.take_all.new.mini) (ap (λ p. removed l p tree) (sym here) ∙ sym (ap (λ o. o.0) rule)) (c.in_default-take_all.ensures.taken tree m has storage);
-      };
+      let comes = subst (ComesToMean l it c.take_all.new.mini m.who) (ap (λ p. removed l p tree) (sym here) ∙ sym (ap (λ o. o.0) rule)) (c.in_default-take_all.ensures.taken tree m has storage) in
+      record { names = path; at_path = at_path; accepted = ap (λ o. o.1) rule; means = comes.means; strays = comes.strays };
   refused = tt;
   rests = tt;
 }

@@ -12,9 +12,11 @@ use Rattle.cfb_siblings.specs.Reading.{ReadBy}
 use Rattle.cfb_tree.specs.LetterViews.{letters_of}
 use Rattle.cfb_tree.specs.Objects.{HoldsTree}
 use Rattle.cfb_live.specs.WholeRemoval.{HasEmptyStorage, IsLeafOnWay, IsWayTo}
-use Rattle.cfb_live.specs.Live.{live_of, MeansLive}
+use Rattle.cfb_live.specs.Live.{live_of}
+use Rattle.cfb_live.specs.Strays.{ComesToMean}
 use Rattle.cfb_live.proofs.Emptied.{takes_below, takes_others, takes_storage}
 use Rattle.cfb_live.proofs.SetFacts.{means_held}
+use Rattle.cfb_live.proofs.Strays.{strays_then}
 use Rattle.cfb_live.proofs.Streams.{reads}
 use Rattle.cfb_live.proofs.Ways.{way_begun, way_kept}
 use Rattle.cfb_live.proofs.whole_removal.take_all.Goals as goal
@@ -97,8 +99,8 @@ returns-in-Err-take_leaves-clause-refused g c = λ wrong tree m has storage_at.
     let first = c.take_out.new.mini in
     let takes = takes_below l path tree it first left c.in-Some.parent c.in-Some.id m below (c.in_default-take_out.ensures.taken l tree (path ++ below.way.more) below.name m below.leaf) in
     let kept = way_kept l directory path left c.in-Some.parent below.way (entries_held (directory_of first)) c.in-Some.id (c.in_default-take_out.ensures.ways l tree (path ++ below.way.more) below.name m below.leaf) below.apart in
-    let storage = takes_storage l path tree first has takes in
-    c.in-Err-take_leaves.ensures.refused wrong l takes.later path takes.means storage kept
+    let storage = takes_storage l path tree it first m.who has takes in
+    c.in-Err-take_leaves.ensures.refused wrong l takes.later path takes.comes.means storage kept
 
 pub returns-in-Err-take_leaves-clause-answers : goal.returns-in-Err-take_leaves-clause-answers
 returns-in-Err-take_leaves-clause-answers g c =
@@ -131,9 +133,9 @@ returns-in-Err-take_emptied-2-clause-refused g c = λ wrong tree m has storage_a
     let first = c.take_out.new.mini in
     let takes = takes_below l path tree it first left c.in-Some.parent c.in-Some.id m below (c.in_default-take_out.ensures.taken l tree (path ++ below.way.more) below.name m below.leaf) in
     let kept = way_kept l directory path left c.in-Some.parent below.way (entries_held (directory_of first)) c.in-Some.id (c.in_default-take_out.ensures.ways l tree (path ++ below.way.more) below.name m below.leaf) below.apart in
-    let storage = takes_storage l path tree first has takes in
-    let emptied = c.in_default-take_leaves.ensures.emptied l takes.later path takes.means storage kept in
-    c.in-Err-take_emptied-2.ensures.refused wrong emptied.later emptied.means emptied.empty
+    let storage = takes_storage l path tree it first m.who has takes in
+    let emptied = c.in_default-take_leaves.ensures.emptied l takes.later path takes.comes.means storage kept in
+    c.in-Err-take_emptied-2.ensures.refused wrong emptied.later emptied.comes.means emptied.empty
 
 pub returns-in-Err-take_emptied-2-clause-goes_on : goal.returns-in-Err-take_emptied-2-clause-goes_on
 returns-in-Err-take_emptied-2-clause-goes_on g c =
@@ -172,9 +174,14 @@ returns-clause-taken g c = λ tree m has storage_at.
     let first = c.take_out.new.mini in
     let takes = takes_below l path tree it first left c.in-Some.parent c.in-Some.id m below (c.in_default-take_out.ensures.taken l tree (path ++ below.way.more) below.name m below.leaf) in
     let kept = way_kept l directory path left c.in-Some.parent below.way (entries_held (directory_of first)) c.in-Some.id (c.in_default-take_out.ensures.ways l tree (path ++ below.way.more) below.name m below.leaf) below.apart in
-    let storage = takes_storage l path tree first has takes in
-    let emptied = c.in_default-take_leaves.ensures.emptied l takes.later path takes.means storage kept in
-    subst (MeansLive l c.take_emptied-2.new.mini) (emptied.others ∙ takes_others l path tree first takes) (c.in_default-take_emptied-2.ensures.taken emptied.later emptied.means emptied.empty)
+    let storage = takes_storage l path tree it first m.who has takes in
+    let emptied = c.in_default-take_leaves.ensures.emptied l takes.later path takes.comes.means storage kept in
+    let left_one = c.take_leaves.new.mini in
+    let new = c.take_emptied-2.new.mini in
+    let ended = c.in_default-take_emptied-2.ensures.taken emptied.later emptied.comes.means emptied.empty in
+    let both = strays_then first left_one new takes.comes.means.who emptied.comes.means.who ended.means.who emptied.comes.strays ended.strays in
+    subst (ComesToMean l it new m.who) (emptied.others ∙ takes_others l path tree it first m.who takes)
+    (record { means = ended.means; strays = strays_then it first new m.who takes.comes.means.who ended.means.who takes.comes.strays both })
 
 pub returns-clause-goes_on : goal.returns-clause-goes_on
 returns-clause-goes_on g c = goes_then _ _ _ (goes_then _ _ _ c.take_out.ensures.goes_on c.take_leaves.ensures.goes_on) c.take_emptied-2.ensures.goes_on

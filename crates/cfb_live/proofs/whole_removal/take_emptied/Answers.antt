@@ -8,13 +8,15 @@ use Rattle.cfb_tree.specs.Changes.{last_of, parent_of, removed}
 use Rattle.cfb_tree.specs.LetterViews.{letters_of}
 use Rattle.cfb_tree.specs.Objects.{HoldsTree}
 use Rattle.cfb_live.specs.WholeRemoval.{HasEmptyStorage}
-use Rattle.cfb_live.specs.Live.{live_of, MeansLive}
+use Rattle.cfb_live.specs.Live.{live_of}
+use Rattle.cfb_live.specs.Strays.{ComesToMean}
 use Rattle.cfb_live.specs.Removing.{IsChildAt}
 use Rattle.cfb_live.proofs.Below.{emptied_root}
 use Rattle.cfb_live.proofs.Emptied.{emptied_leaf, emptied_there}
 use Rattle.cfb_live.proofs.NewPlaces.{length-path, path_is}
 use Rattle.cfb_live.proofs.Removals.{no_names}
 use Rattle.cfb_live.proofs.SetFacts.{means_held}
+use Rattle.cfb_live.proofs.Strays.{strays_same}
 use Rattle.cfb_live.proofs.Streams.{reads}
 use Rattle.cfb_live.proofs.whole_removal.take_emptied.Goals as goal
 
@@ -24,7 +26,7 @@ returns-then-is_empty-clause-taken g c = λ tree m empty.
     let l = letters_of c.args.letters.now in
     let none : length c.args.names.now ≡ 0 = grind (arith, c.is_empty.ensures, c.if-is_empty.true) in
     let root = no_names c.args.names.now none in
-    subst (λ p. HasEmptyStorage l tree p → MeansLive l it (removed l p tree)) (sym root) (λ at. subst (MeansLive l it) (emptied_root l tree tree refl at) m) empty
+    subst (λ p. HasEmptyStorage l tree p → ComesToMean l it it m.who (removed l p tree)) (sym root) (λ at. subst (ComesToMean l it it m.who) (emptied_root l tree tree refl at) (record { means = m; strays = strays_same it m.who })) empty
 
 pub returns-in_default-clause-refused : goal.returns-in_default-clause-refused
 returns-in_default-clause-refused g c = λ wrong tree m empty.
@@ -68,4 +70,4 @@ returns-clause-taken g c = λ tree m empty.
     let id = c.in-Ok.id in
     let at = subst (λ es. IsChildAt l Reads es tree path link id) same (c.in-Ok.ensures.found Reads tree held) in
     let leaf = emptied_leaf l Reads directory tree path link id some empty at in
-    subst (MeansLive l c.take_out.new.mini) (ap (λ p. removed l p tree) (path_is path some)) (c.in_default-take_out.ensures.taken l tree (parent_of path) (last_of path) m leaf)
+    subst (ComesToMean l it c.take_out.new.mini m.who) (ap (λ p. removed l p tree) (path_is path some)) (c.in_default-take_out.ensures.taken l tree (parent_of path) (last_of path) m leaf)

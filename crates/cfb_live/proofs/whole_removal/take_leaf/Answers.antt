@@ -10,6 +10,7 @@ use Rattle.cfb_live.specs.WholeRemoval.{HasEmptyStorage, IsLeafOnWay, IsWayTo}
 use Rattle.cfb_live.specs.Live.{live_of}
 use Rattle.cfb_live.proofs.Emptied.{takes_below}
 use Rattle.cfb_live.proofs.SetFacts.{means_held}
+use Rattle.cfb_live.proofs.Strays.{strays_same}
 use Rattle.cfb_live.proofs.Streams.{reads}
 use Rattle.cfb_live.proofs.Ways.{way_kept}
 use Rattle.cfb_live.proofs.whole_removal.take_leaf.Goals as goal
@@ -33,7 +34,7 @@ returns-in_default-clause-taken g c = λ l tree path m w.
     let same : entries_in c.dir_entries.result.now ≡ entries_held (directory_of it) = c.dir_entries.ensures ∙ ap entries_held c.directory-2.ensures in
     let held = subst (λ es. HoldsTree l (ReadBy Reads) es tree) (sym same) (means_held l it tree m) in
     let way = subst (λ es. IsWayTo l es path items c.args.top) (sym same) w in
-    (m, subst (λ leaf. MatchOption leaf (HasEmptyStorage l tree path) (λ x. IsLeafOnWay l (entries_in c.dir_entries.result.now) path c.next_leaf.new.above.items x.0 x.1)) c.in_default.is (c.in-Ok.ensures.found l Reads tree path held way))
+    (record { means = m; strays = strays_same it m.who }, subst (λ leaf. MatchOption leaf (HasEmptyStorage l tree path) (λ x. IsLeafOnWay l (entries_in c.dir_entries.result.now) path c.next_leaf.new.above.items x.0 x.1)) c.in_default.is (c.in-Ok.ensures.found l Reads tree path held way))
 
 pub returns-in-Err-take_out-clause-refused : goal.returns-in-Err-take_out-clause-refused
 returns-in-Err-take_out-clause-refused g c = λ wrong l tree path m w.

@@ -8,7 +8,7 @@ use Rattle.cfb_mini.specs.Views.{allocator_of, directory_of}
 use Rattle.cfb_owned.proofs.GoingOn.{goes_cause, goes_then, rests_go_on}
 use Rattle.cfb_tree.specs.EntryViews.{entry_in}
 use Rattle.cfb_live.specs.WholeRemoval.{HasEmptyStorage, IsWayTo, TakesBelow}
-use Rattle.cfb_live.specs.Live.{MeansLive}
+use Rattle.cfb_live.specs.Strays.{ComesToMean}
 use Rattle.cfb_live.proofs.Emptied.{emptying_begun, emptying_ended, emptying_more, entries_length}
 use Rattle.cfb_live.proofs.whole_removal.take_leaves.Goals as goal
 
@@ -30,9 +30,9 @@ pub returns-in-Ok-None-clause-emptied : goal.returns-in-Ok-None-clause-emptied
 returns-in-Ok-None-clause-emptied g c = λ l tree path m has way.
     let so = c.taking.invariant.emptying l tree path m has way in
     let new = c.take_leaf.new.mini in
-    let told = subst (λ next. MatchOption next (MeansLive l new so.0.later × HasEmptyStorage l so.0.later path) (λ id. TakesBelow l path so.0.later new × IsWayTo l (entries_held (directory_of new)) path c.take_leaf.new.above.items id))
-    c.in-Ok-None.field-0-is (c.in-Ok-None.ensures.taken l so.0.later path so.0.means so.1) in
-    emptying_ended l path tree c.taking.mini new c.taking._step (length c.dir_entries-count.result.now) so.0 told.0 told.1
+    let told = subst (λ next. MatchOption next (ComesToMean l c.taking.mini new so.0.comes.means.who so.0.later × HasEmptyStorage l so.0.later path) (λ id. TakesBelow l path so.0.later c.taking.mini new so.0.comes.means.who × IsWayTo l (entries_held (directory_of new)) path c.take_leaf.new.above.items id))
+    c.in-Ok-None.field-0-is (c.in-Ok-None.ensures.taken l so.0.later path so.0.comes.means so.1) in
+    emptying_ended l path tree c.args.mini.now c.taking.mini new m.who c.taking._step (length c.dir_entries-count.result.now) so.0 told.0 told.1
 
 pub returns-in-Ok-None-clause-goes_on : goal.returns-in-Ok-None-clause-goes_on
 returns-in-Ok-None-clause-goes_on g c = goes_then _ _ _ c.taking.invariant.goes c.take_leaf.ensures.goes_on
@@ -41,7 +41,7 @@ pub returns-in-Err-clause-refused : goal.returns-in-Err-clause-refused
 returns-in-Err-clause-refused g c = λ wrong l tree path m has way.
     let so = c.taking.invariant.emptying l tree path m has way in
     let is : c.in-Err.error ≡ InvalidData = cc in
-    c.in-Err.ensures.refused (ap Err is) l so.0.later path so.0.means so.1
+    c.in-Err.ensures.refused (ap Err is) l so.0.later path so.0.comes.means so.1
 
 pub returns-in-Err-clause-answers : goal.returns-in-Err-clause-answers
 returns-in-Err-clause-answers g c =
@@ -64,9 +64,9 @@ taking-preserved g c = record {
   emptying = λ l tree path m has way.
       let so = c.taking.invariant.emptying l tree path m has way in
       let new = c.take_leaf.new.mini in
-      let told = subst (λ next. MatchOption next (MeansLive l new so.0.later × HasEmptyStorage l so.0.later path) (λ id. TakesBelow l path so.0.later new × IsWayTo l (entries_held (directory_of new)) path c.take_leaf.new.above.items id))
-      c.in-Ok-Some.field-0-is (c.in-Ok-Some.ensures.taken l so.0.later path so.0.means so.1) in
-      (emptying_more l path tree c.taking.mini new c.taking._step (length c.dir_entries-count.result.now) so.0 told.0, told.1);
+      let told = subst (λ next. MatchOption next (ComesToMean l c.taking.mini new so.0.comes.means.who so.0.later × HasEmptyStorage l so.0.later path) (λ id. TakesBelow l path so.0.later c.taking.mini new so.0.comes.means.who × IsWayTo l (entries_held (directory_of new)) path c.take_leaf.new.above.items id))
+      c.in-Ok-Some.field-0-is (c.in-Ok-Some.ensures.taken l so.0.later path so.0.comes.means so.1) in
+      (emptying_more l path tree c.args.mini.now c.taking.mini new m.who c.taking._step (length c.dir_entries-count.result.now) so.0 told.0, told.1);
 }
 
 pub returns-clause-refused : goal.returns-clause-refused

@@ -15,7 +15,7 @@ abbrev pub invariant-taking : goal.invariant-taking
 invariant-taking g l = record {
   goes : GoesOn (allocator_of l.initial.mini) (allocator_of l.mini);
   live : has_failed_here (allocator_of l.mini) ≡ false;
-  emptying : (letters : Letters) (tree : Tree) (path : Path) → MeansLive letters l.initial.mini tree → HasStorage letters tree path
+  emptying : (letters : Letters) (tree : Tree) (path : Path) → (m : MeansLive letters l.initial.mini tree) → HasStorage letters tree path
       → IsWayTo letters (entries_held (directory_of l.initial.mini)) path l.initial.above.items l.fn.top
-      → Emptying letters path tree l.mini l._step l.count × IsWayTo letters (entries_held (directory_of l.mini)) path l.above.items l.at;
+      → Emptying letters path tree l.initial.mini l.mini m.who l._step l.count × IsWayTo letters (entries_held (directory_of l.mini)) path l.above.items l.at;
 }

@@ -5,7 +5,8 @@ use Rattle.cfb_directory.specs.Entries.{entries_in}
 use Rattle.cfb_directory.specs.Views.{entries_held}
 use Rattle.cfb_entries.specs.Rules.{answer_at}
 use Rattle.cfb_entries.proofs.Found.{names_are}
-use Rattle.cfb_live.specs.Live.{live_of, MeansLive}
+use Rattle.cfb_live.specs.Live.{live_of}
+use Rattle.cfb_live.specs.Strays.{ComesToMean}
 use Rattle.cfb_live.proofs.FactRules.{object_kind}
 use Rattle.cfb_live.proofs.NewPlaces.{storage_of, stream_of}
 use Rattle.cfb_live.proofs.Objects.{object_there}
@@ -116,12 +117,8 @@ returns-clause-does g c = record {
       let here : IsStreamAt l it tree path id is.2 = record { means = m; leads = at.leads; name = is.0; bits = is.1; at_path = at.at_path ∙ ap Some is.3 } in
       let there = c.in_default-empty_stream.ensures.emptied l tree path is.2 here in
       let rule = step_emptied l tree path is.0 is.1 is.2 (at.at_path ∙ ap Some is.3) in
-      record {
-        names = path;
-        at_path = at_path;
-        accepted = ap (λ o. o.1) rule;
-        means = subst (MeansLive l new) (sym (ap (λ o. o.0) rule)) there.means;
-      };
+      let comes = subst (ComesToMean l it new m.who) (sym (ap (λ o. o.0) rule)) (record { means = there.0.means; strays = there.1 }) in
+      record { names = path; at_path = at_path; accepted = ap (λ o. o.1) rule; means = comes.means; strays = comes.strays };
   refused = tt;
   rests = tt;
 }

@@ -3,4 +3,4 @@ use Rattle.cfb.proofs.Done.{does_so}
 use Rattle.cfb.proofs.compound_file.CompoundFile.make.Goals as goal
 
 pub returns-clause-does : goal.returns-clause-does
-returns-clause-does g c = does_so _ c.args.self.now _ _ c.make_object.result refl refl refl (search rules) (search rules) c.make_object.ensures.does
+returns-clause-does g c = does_so _ c.args.self.now _ _ c.make_object.result refl refl refl refl (search rules) (search rules) c.make_object.ensures.does

@@ -1,4 +1,4 @@
-use Rattle.std.proofs.Common.{inr, refl, []}
+use Rattle.std.proofs.Common.{inl, inr, refl, []}
 use Rattle.cfb_entries.specs.Rules.{names_in}
 use Rattle.cfb_fat.specs.Resting.{all_rest_refl}
 use Rattle.cfb_mini.specs.Views.{allocator_of}
@@ -38,3 +38,9 @@ returns-clause-puts g c =
 
 pub returns-clause-goes_on : goal.returns-clause-goes_on
 returns-clause-goes_on g c = goes_then _ _ _ c.create_new_stream.ensures.goes_on c.rewrite_stream-2.ensures.goes_on
+
+pub returns-in-Err-clause-full : goal.returns-in-Err-clause-full
+returns-in-Err-clause-full g c = λ full live. inr (c.in-Err.ensures.full full live)
+
+pub returns-in-Err-create_new_stream-clause-full : goal.returns-in-Err-create_new_stream-clause-full
+returns-in-Err-create_new_stream-clause-full g c = λ full live. inl (c.in-Err-create_new_stream.ensures.full full live)

@@ -4,6 +4,7 @@ use Rattle.cfb_chains.specs.ChainCalls.{IsInvalidPlace}
 use Rattle.cfb_mini.specs.Views.{allocator_of}
 use Rattle.cfb_entries.specs.Rules.{names_in}
 use Rattle.cfb_medium.specs.Bytes.{overwritten}
+use Rattle.cfb_medium.specs.declared.error.Error.TheVariants.{Full}
 use Rattle.cfb_owned.specs.Chains.{IsInvalidPlaceOrFull}
 use Rattle.cfb_owned.proofs.GoingOn.{goes_then, rests_go_on}
 use Rattle.cfb_live.proofs.Resting.{keeps_rests}
@@ -11,6 +12,7 @@ use Rattle.cfb_writing.specs.Streams.{resized}
 use Rattle.cfb.specs.Putting.{IsRefusedRewriting}
 use Rattle.cfb.specs.Views.{mini_of}
 use Rattle.cfb.proofs.Rewriting.{fits_yet, found_answers, not_found, not_found_answers, not_written, overwritten_all, overwritten_whole, place_or_full, place_refused, was_written}
+use Rattle.cfb.proofs.Fullness.{full_at, never_full, never_room}
 use Rattle.cfb.proofs.compound_file.CompoundFile.rewrite_stream.Goals as goal
 
 pub returns-in-Err-clause-puts : goal.returns-in-Err-clause-puts
@@ -91,3 +93,14 @@ returns-clause-puts g c =
 pub returns-clause-goes_on : goal.returns-clause-goes_on
 returns-clause-goes_on g c =
     goes_then _ _ _ (rests_go_on _ _ (keeps_rests (mini_of c.args.self.now) (mini_of c.find_written.new.self) c.find_written.ensures.rests.mini).allocator) c.extend_bytes.ensures.goes_on
+
+pub returns-in-Err-clause-full : goal.returns-in-Err-clause-full
+returns-in-Err-clause-full g c = λ full live. absurd (never_full c.args.self.now c.in-Err.error c.in-Err.ensures.error (let is : c.in-Err.error ≡ Full = cc in is))
+
+pub returns-in-Err-overwrite_bytes-clause-full : goal.returns-in-Err-overwrite_bytes-clause-full
+returns-in-Err-overwrite_bytes-clause-full g c = λ full live. absurd (never_room c.in-Err-overwrite_bytes.error c.in-Err-overwrite_bytes.ensures.answers.fault (let is : c.in-Err-overwrite_bytes.error ≡ Full = cc in is))
+
+pub returns-in-Err-extend_bytes-clause-full : goal.returns-in-Err-extend_bytes-clause-full
+returns-in-Err-extend_bytes-clause-full g c = λ full live tree m.
+    full_at c.args.self.now c.find_written.new.self c.find_written.ensures.rests (names_in c.args.path.now) tree _ _ (length c.args.bytes.now) (c.in-Ok.ensures.found tree m)
+    (let is : c.in-Err-extend_bytes.error ≡ Full = cc in c.in-Err-extend_bytes.ensures.full (ap Err is) live)

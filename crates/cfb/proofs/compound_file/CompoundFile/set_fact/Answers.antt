@@ -3,4 +3,4 @@ use Rattle.cfb.proofs.Done.{does_so}
 use Rattle.cfb.proofs.compound_file.CompoundFile.set_fact.Goals as goal
 
 pub returns-clause-does : goal.returns-clause-does
-returns-clause-does g c = does_so _ c.args.self.now _ _ c.set_fact.result refl refl refl (search rules) (search rules) c.set_fact.ensures.does
+returns-clause-does g c = does_so _ c.args.self.now _ _ c.set_fact.result refl refl refl refl (search rules) (search rules) c.set_fact.ensures.does

@@ -1,0 +1,56 @@
+-- Where a stream that gets other bytes is refused as full.
+use Rattle.std.proofs.Common.{◌≡◌, ◌⊎◌, inl, inr, ℕ, ◌+◌, ◌-◌, ◌<◌, List, length, sym, subst, ◌∙◌}
+use Rattle.std.specs.Prelude.{nat_eq, Option}
+use Rattle.std.specs.List.{count_by}
+use Rattle.cfb_chains.specs.ChainCalls.{IsInvalidPlace}
+use Rattle.cfb_chains.specs.Positions.{sectors_for}
+use Rattle.cfb_fat.specs.Tables.{fat_of, version_of}
+use Rattle.cfb_medium.specs.Calls.{IsFaultUnless}
+use Rattle.cfb_medium.specs.declared.error.Error.{Error}
+use Rattle.cfb_medium.specs.declared.error.Error.TheVariants.{Full}
+use Rattle.cfb_medium.specs.declared.medium.ReadMedium.{Ghosts}
+use Rattle.cfb_medium.specs.declared.version.Version.{Version}
+use Rattle.cfb_mini.specs.Views.{allocator_of}
+use Rattle.cfb_sectors.specs.Sectors.{free, greatest_regular}
+use Rattle.cfb_tree.specs.Paths.{Path}
+use Rattle.cfb_tree.specs.Tree.{Tree}
+use Rattle.cfb_writing.specs.Streams.{LacksRoom}
+use Rattle.cfb.specs.Putting.{HasNoRoomAt, IsRefusedOpening}
+use Rattle.cfb.specs.Streams.{IsWant}
+use Rattle.cfb.specs.Views.{mini_of, FileRests}
+use Rattle.cfb.specs.Writing.{FindsWritten, LacksRoomAt}
+use Rattle.cfb.specs.declared.compound_file.CompoundFile.{CompoundFile}
+
+-- a place that isn't there is no want of numbers
+pub never_room : (e : Error) → IsFaultUnless ⊥ e ⊎ IsInvalidPlace e → e ≡ Full → ⊥
+never_room e why is = elim why [
+  | inl fault ↦ subst (IsFaultUnless ⊥) is fault
+  | inr place ↦ elim place [ inl broken ↦ absurd (cc) | inr input ↦ absurd (cc) ]
+]
+
+abbrev lacks_by : Version → List ℕ → ℕ → ℕ → Type 0
+lacks_by v fat size len = (greatest_regular + 1 + count_by (λ entry. nat_eq entry free) fat < length fat + (sectors_for v len - sectors_for v size)) ⊎ (greatest_regular + 1 < sectors_for v len)
+
+module _ {F : Type 0} {g : Ghosts F} where
+  -- nor is a stream that isn't found
+  pub never_full : (it : CompoundFile F g) (e : Error) → IsWant it e ⊎ IsRefusedOpening e → e ≡ Full → ⊥
+  never_full it e why is = elim why [
+    | inl want ↦ elim want [ inl memory ↦ absurd (cc) | inr failed ↦ let kind = failed.0 in absurd (cc) ]
+    | inr rule ↦ elim rule [ inl broken ↦ absurd (cc) | inr rest ↦ elim rest [ inl input ↦ absurd (cc) | inr missing ↦ absurd (cc) ] ]
+  ]
+
+  -- numbers were missing before the stream was found
+  lacks_before : (old mid : CompoundFile F g) → FileRests old mid → (size len : ℕ) → LacksRoom (mini_of mid) size len → LacksRoom (mini_of old) size len
+  unfolding LacksRoom
+  lacks_before old mid r size len lacks =
+      let rests = r.mini.directory.allocator in
+      subst (λ v. lacks_by v (fat_of (allocator_of (mini_of old))) size len) rests.sectors.version (subst (λ f. lacks_by (version_of (allocator_of (mini_of mid))) f size len) rests.fat lacks)
+
+  pub full_at : (old mid : CompoundFile F g) → FileRests old mid → (path : Option Path) (tree : Tree) (id was len : ℕ) → FindsWritten old mid path tree id was → LacksRoomAt id len mid → HasNoRoomAt old path tree len
+  full_at old mid r path tree id was len found lacks = record {
+    names = found.names;
+    at_path = found.at_path;
+    content = found.content;
+    answer = found.answer;
+    lacks = lacks_before old mid r (length found.content) len (lacks found.names tree found.content found.written);
+  }
