@@ -22,7 +22,7 @@ impl Folder {
 
     /// Takes the folder away with all files.
     pub fn remove(&self, rt: &HostRuntime) -> Result<(), Error> {
-        fs::remove_dir_all(rt, self.path.as_path()).map_err(told)
+        fs::remove_dir_all(rt, self.path.as_path()).map_err(system_refusal)
     }
 
     /// The path of a file in it.
@@ -33,19 +33,19 @@ impl Folder {
     /// The bytes of a file.
     pub fn read(&self, rt: &HostRuntime, name: &str) -> Result<Vec<u8>, Error> {
         let path = self.path_of(rt, name)?;
-        fs::read(rt, path.as_path()).map_err(told)
+        fs::read(rt, path.as_path()).map_err(system_refusal)
     }
 
     /// Writes a file.
     pub fn write(&self, rt: &HostRuntime, name: &str, bytes: &[u8]) -> Result<(), Error> {
         let path = self.path_of(rt, name)?;
-        fs::write(rt, path.as_path(), bytes).map_err(told)
+        fs::write(rt, path.as_path(), bytes).map_err(system_refusal)
     }
 
     /// Takes a file away.
     pub fn take(&self, rt: &HostRuntime, name: &str) -> Result<(), Error> {
         let path = self.path_of(rt, name)?;
-        fs::remove_file(rt, path.as_path()).map_err(told)
+        fs::remove_file(rt, path.as_path()).map_err(system_refusal)
     }
 }
 
