@@ -9,7 +9,7 @@ use Rattle.cfb_tree.specs.Directory.{Entry, Holds as HoldsContent, Siblings}
 use Rattle.cfb_tree.specs.Objects.{HoldsTree}
 use Rattle.cfb_tree.specs.Tree.{Tree}
 use Rattle.cfb_tree.proofs.OneContent.{siblings_unique}
-use Rattle.cfb_directory.specs.Taken.{HasSize}
+use Rattle.cfb_tree.specs.Entries.{HasSize}
 use Rattle.cfb_directory.specs.Views.{entries_held}
 use Rattle.cfb_mini.specs.Views as mini
 use Rattle.cfb_mini.specs.Views.{allocator_of, directory_of}

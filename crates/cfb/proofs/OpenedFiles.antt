@@ -5,7 +5,6 @@ use Rattle.cfb_medium.specs.declared.medium.ReadMedium.{Ghosts}
 use Rattle.cfb_fat.specs.Tables.{bytes_of, medium_of}
 use Rattle.cfb_meaning.specs.Means.{Layout, MeansBy}
 use Rattle.cfb_meaning.specs.Sound.{IsSound}
-use Rattle.cfb_directory.specs.Taken.{HasSize}
 use Rattle.cfb_directory.specs.Views.{entries_held}
 use Rattle.cfb_mini.specs.Views.{allocator_of, directory_of}
 use Rattle.cfb_mini.specs.declared.mini_allocator.MiniAllocator.{MiniAllocator}
@@ -15,6 +14,7 @@ use Rattle.cfb_soundness.specs.Views.{LiesSo}
 use Rattle.cfb_tree.specs.Names.{Letters}
 use Rattle.cfb_tree.specs.Objects.{HoldsTree}
 use Rattle.cfb_tree.specs.Tree.{Tree}
+use Rattle.cfb_tree.specs.Entries.{HasSize}
 
 module _ {F : Type 0} {g : Ghosts F} where
   -- the medium's length was read, and then the file was opened

@@ -14,8 +14,8 @@ use Rattle.cfb_tree.specs.Directory.{entries_of, Holds, Siblings}
 use Rattle.cfb_tree.specs.Names.{Letters}
 use Rattle.cfb_tree.specs.Tree.{Tree}
 use Rattle.cfb_tree.proofs.OneContent.{siblings_unique}
+use Rattle.cfb_tree.specs.Entries.{HasSize}
 use Rattle.cfb_directory.specs.Entries.{SizesFit}
-use Rattle.cfb_directory.specs.Taken.{HasSize}
 use Rattle.cfb_directory.specs.Views.{entries_held}
 use Rattle.cfb_mini.specs.Views.{allocator_of, directory_of}
 use Rattle.cfb_mini.specs.declared.mini_allocator.MiniAllocator.{MiniAllocator}

@@ -5,7 +5,6 @@ use Rattle.cfb_medium.specs.Stops.{LeavesOnly}
 use Rattle.cfb_medium.specs.declared.medium.ReadMedium.{Ghosts}
 use Rattle.cfb_chains.specs.Owned.{Owned}
 use Rattle.cfb_directory.specs.Entries.{SizesFit}
-use Rattle.cfb_directory.specs.Taken.{HasSize}
 use Rattle.cfb_directory.specs.Views.{entries_held}
 use Rattle.cfb_fat.specs.Tables.{bytes_of, fat_of, fat_sectors_of, difat_sectors_of, has_failed_here, is_honest, medium_of, tables_of, version_of}
 use Rattle.cfb_live.specs.Live.{live_of}
@@ -19,6 +18,7 @@ use Rattle.cfb_owners.specs.Held.{MeansHeld}
 use Rattle.cfb_tree.specs.Names.{Letters}
 use Rattle.cfb_tree.specs.Objects.{HoldsTree}
 use Rattle.cfb_tree.specs.Tree.{Tree}
+use Rattle.cfb_tree.specs.Entries.{HasSize}
 use Rattle.cfb.specs.Doing.{FileMeans}
 use Rattle.cfb.specs.Publishing.{Publishes}
 use Rattle.cfb.specs.Streams.{FileHolds}

@@ -4,7 +4,6 @@ use Rattle.std.specs.List.{IsDistinct}
 use Rattle.std.proofs.lemmas.Bool.Decides.{leb_tells}
 use Rattle.cfb_medium.specs.declared.medium.ReadMedium.{Ghosts}
 use Rattle.cfb_sectors.specs.Header.{mini_cutoff, IsHeader}
-use Rattle.cfb_directory.specs.Taken.{HasSize}
 use Rattle.cfb_directory.specs.Views.{entries_held}
 use Rattle.cfb_fat.specs.Tables.{version_of}
 use Rattle.cfb_live.specs.Live.{live_of, MeansLive}
@@ -17,6 +16,7 @@ use Rattle.cfb_soundness.specs.Entries.{AreTreeEntries}
 use Rattle.cfb_tree.specs.Directory.{Entry}
 use Rattle.cfb_tree.specs.Names.{Letters}
 use Rattle.cfb_tree.specs.Tree.{Tree}
+use Rattle.cfb_tree.specs.Entries.{HasSize}
 use Rattle.cfb_copying.specs.Copied.{HoldsCopy, IsCopied, IsTight}
 use Rattle.cfb_copying.specs.Steps.{HasCopy, IsOriginal}
 use Rattle.cfb_copying.proofs.CopiedTight.{copy_tight}

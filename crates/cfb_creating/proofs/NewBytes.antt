@@ -8,12 +8,12 @@ use Rattle.cfb_medium.specs.declared.version.Version.TheVariants.{V3, V4}
 use Rattle.cfb_medium.specs.Numbers.{numbers, number_bytes}
 use Rattle.cfb_medium.specs.Versions.{dir_entries_per_sector, sector_len}
 use Rattle.cfb_medium.proofs.WrittenNumbers.{length-number_bytes, numbers_again}
-use Rattle.cfb_sectors.specs.Copies.{copies}
+use Rattle.cfb_sectors.specs.Copies.{copies, unused_entry}
 use Rattle.cfb_sectors.specs.Header.{header_bytes, FitsHeader, HasFields}
 use Rattle.cfb_sectors.specs.Sectors.{free, joined, sector_start}
 use Rattle.cfb_sectors.proofs.HeaderLemmas.{header_read, length-header_bytes}
 use Rattle.cfb_sectors.proofs.Neighbours.{joined_range}
-use Rattle.cfb_tree.specs.Directory.{entry_bytes, unused_entry}
+use Rattle.cfb_tree.specs.Directory.{entry_bytes}
 use Rattle.cfb_tree.specs.Entries.{empty_root}
 use Rattle.cfb_tree.proofs.EntryRead.{length-entry_bytes}
 use Rattle.cfb_creating.specs.NewFile.{new_directory, new_fat, new_file, new_header}

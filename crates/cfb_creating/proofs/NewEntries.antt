@@ -9,8 +9,8 @@ use Rattle.std.proofs.lemmas.List.{append-nil, length-replicate}
 use Rattle.cfb_medium.specs.declared.version.Version.{Version}
 use Rattle.cfb_medium.specs.Numbers.{pieces, all_pieces}
 use Rattle.cfb_medium.specs.Versions.{dir_entries_per_sector, stream_len_mask}
-use Rattle.cfb_sectors.specs.Copies.{copies}
-use Rattle.cfb_tree.specs.Directory.{FitsEntry, HasName, entry_of, entries_of, entry_bytes, unused_entry}
+use Rattle.cfb_sectors.specs.Copies.{copies, unused_entry}
+use Rattle.cfb_tree.specs.Directory.{FitsEntry, HasName, entry_of, entries_of, entry_bytes}
 use Rattle.cfb_tree.specs.Entries.{empty_root}
 use Rattle.cfb_tree.specs.Names.{name_units}
 use Rattle.cfb_tree.proofs.EntryRead.{length-entry_bytes, entry_again}

@@ -3,11 +3,11 @@ use Rattle.std.specs.Prelude.{ℕ, ◌-◌, ◌/◌, List, ◌∷◌, ◌++◌, 
 use Rattle.cfb_medium.specs.Numbers.{number_bytes}
 use Rattle.cfb_medium.specs.Versions.{dir_entries_per_sector, sector_len}
 use Rattle.cfb_medium.specs.declared.version.Version.{Version}
-use Rattle.cfb_sectors.specs.Copies.{copies}
+use Rattle.cfb_sectors.specs.Copies.{copies, unused_entry}
 use Rattle.cfb_sectors.specs.Header.{header_bytes, HeaderFields}
 use Rattle.cfb_sectors.specs.Sectors.{end_of_chain, fat_sector, free}
 use Rattle.cfb_tree.specs.Changes.{made_at}
-use Rattle.cfb_tree.specs.Directory.{entry_bytes, unused_entry}
+use Rattle.cfb_tree.specs.Directory.{entry_bytes}
 use Rattle.cfb_tree.specs.Entries.{empty_root}
 use Rattle.cfb_tree.specs.Tree.{nothing, Tree}
 use Rattle.cfb_meaning.specs.Means.{directory_count}

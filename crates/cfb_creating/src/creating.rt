@@ -4,9 +4,8 @@ ghost use Rattle.cfb_medium.specs.Bytes.{overwritten};
 ghost use Rattle.cfb_medium.specs.Calls.{Extends, HasCauseSince, IsFaultUnless};
 ghost use Rattle.cfb_medium.specs.Numbers.{number_bytes};
 ghost use Rattle.cfb_medium.specs.declared.error.Error.TheVariants.{Memory};
-ghost use Rattle.cfb_sectors.specs.Copies.{copies};
+ghost use Rattle.cfb_sectors.specs.Copies.{copies, unused_entry};
 ghost use Rattle.cfb_sectors.specs.HeaderViews.{fields_of};
-ghost use Rattle.cfb_tree.specs.Directory.{unused_entry};
 ghost use Rattle.std.specs.Prelude.{replicate, IfErr, IfOk, IsTrue, OnErr, OnOk, ◌++◌, ◌≡◌};
 
 use cfb_medium::{Error, Medium, Version};

@@ -3,8 +3,8 @@ use Rattle.std.proofs.Common.{◌≡◌, ℕ, ◌*◌, ◌<◌, List, ◌++◌, 
 use Rattle.std.specs.List.{AllByRecursion}
 use Rattle.cfb_medium.specs.Bytes.{overwritten}
 use Rattle.cfb_medium.specs.declared.version.Version.{Version}
-use Rattle.cfb_sectors.specs.Copies.{copies}
-use Rattle.cfb_tree.specs.Directory.{Entry, FitsEntry, entries_of, entry_bytes, entry_of, unused_entry}
+use Rattle.cfb_sectors.specs.Copies.{copies, unused_entry}
+use Rattle.cfb_tree.specs.Directory.{Entry, FitsEntry, entries_of, entry_bytes, entry_of}
 use Rattle.cfb_tree.specs.Entries.{empty_entry}
 use Rattle.cfb_tree.proofs.EntryRead.{entry_again, length-entry_bytes}
 use Rattle.cfb_directory.proofs.EntryPlaces.{each, each_copy, length-each, more_behind, one_written}

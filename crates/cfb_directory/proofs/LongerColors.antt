@@ -3,12 +3,12 @@ use Rattle.std.proofs.Common.{◌≡◌, ◌⊎◌, ℕ, List, ◌∷◌, sym, s
 use Rattle.std.specs.Prelude.{slice_get, Option, Some, None, IfSome}
 use Rattle.std.specs.List.{AllByRecursion}
 use Rattle.cfb_tree.specs.Directory.{black, no_entry, red, Entry, Holds, Siblings, none, some}
-use Rattle.cfb_tree.specs.Entries.{IsBlackAt}
+use Rattle.cfb_tree.specs.Entries.{IsBlackAt, IsColored}
 use Rattle.cfb_tree.specs.Names.{Letters}
 use Rattle.cfb_tree.specs.Objects.{HoldsTree}
 use Rattle.cfb_tree.specs.Tree.{nothing, storage, stream, Content, Tree}
 use Rattle.cfb_tree.proofs.NamesRead.{all_append}
-use Rattle.cfb_siblings.specs.Changes.{AreColored, IsColored}
+use Rattle.cfb_siblings.specs.Changes.{AreColored}
 use Rattle.cfb_siblings.proofs.Frames.{outermost}
 use Rattle.cfb_siblings.proofs.Lists.{all_parts}
 

@@ -10,8 +10,9 @@ use Rattle.cfb_tree.specs.Names.{Letters}
 use Rattle.cfb_tree.specs.Tree.{Tree, child_names}
 use Rattle.cfb_tree.specs.Directory.{Entry, no_entry, kind_root}
 use Rattle.cfb_tree.proofs.OneContent.{Some_same}
+use Rattle.cfb_tree.specs.Entries.{HasSize}
 use Rattle.cfb_directory.specs.declared.walk.Link.{Link}
-use Rattle.cfb_directory.specs.Taken.{HasAny, HasSize, IsFit, IsTakenAs, IsTakenAsRoot}
+use Rattle.cfb_directory.specs.Taken.{HasAny, IsFit, IsTakenAs, IsTakenAsRoot}
 use Rattle.cfb_directory.specs.Walk.{child_at, links_at}
 use Rattle.cfb_directory.proofs.Counting.{count_in, count_append, count_here, SameCounts, distinct_from_counts, counts_from_distinct}
 use Rattle.cfb_directory.proofs.Parts.{Part, Node, no_part, part_none, node_of, part_of, no_bound, no_limit}

@@ -3,7 +3,6 @@ pub mod Children
 pub mod Entries
 pub mod Growth
 pub mod Lent
-pub mod Search
 pub mod Taken
 pub mod Views
 pub mod Walk

@@ -1,5 +1,5 @@
 -- Which entries a reader takes as a tree.
-use Rattle.std.specs.Prelude.{◌≡◌, ℕ, ◌≤◌, List, length, codes, slice_get, Option, Some, None, IfSome, ⊤}
+use Rattle.std.specs.Prelude.{◌≡◌, ℕ, ◌≤◌, List, codes, slice_get, Option, Some, None, IfSome, ⊤}
 use Rattle.std.specs.List.{AllByRecursion}
 use Rattle.std.specs.declared.cmp.Ordering.TheVariants.{Less}
 use Rattle.cfb_sectors.specs.declared.validation.Validation.{Validation}
@@ -26,10 +26,6 @@ pub record IsTakenAs (validation : Validation) (letters : Letters) (Reads : Entr
   pub holds : HoldsTree letters Reads directory tree
   pub root : IsTakenAsRoot validation holds.root
   pub below : AllByRecursion (λ id. IfSome (slice_get directory id) (IsTakenIn validation directory)) holds.ids
-
--- what is known of a stream while only its entry was read: how many bytes it has ([MS-CFB] 2.6.3)
-abbrev pub HasSize : Entry → List ℕ → Type 0
-HasSize e content = length content ≡ e.size
 
 -- nothing is asked of a stream's bytes
 abbrev pub HasAny : Entry → List ℕ → Type 0

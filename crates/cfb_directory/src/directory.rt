@@ -1,7 +1,7 @@
 //! The directory in memory, over the sectors that hold it.
 ghost use Rattle.cfb_chains.specs.LinkViews.{ids_of};
 ghost use Rattle.cfb_directory.specs.Entries.{entries_in, AreNoted, IsNoted, SizesFit};
-ghost use Rattle.cfb_directory.specs.Taken.{HasAny, HasSize, IsTakenAs};
+ghost use Rattle.cfb_directory.specs.Taken.{HasAny, IsTakenAs};
 ghost use Rattle.cfb_fat.specs.Tables.{bytes_of, fat_of, has_failed as allocator_failed, has_failed_here, is_honest, medium_of, sectors_of, version_of, AllRests, HasCauseBelow};
 ghost use Rattle.cfb_medium.specs.Calls.{Extends, HasCauseSince, IsFaultUnless};
 ghost use Rattle.cfb_medium.specs.Versions.{sector_len};
@@ -14,6 +14,7 @@ ghost use Rattle.cfb_tree.specs.EntryViews.{entry_in};
 ghost use Rattle.cfb_tree.specs.LetterViews.{letters_of};
 ghost use Rattle.cfb_tree.specs.Objects.{object_at, HoldsTree};
 ghost use Rattle.cfb_tree.specs.Tree.{Tree};
+ghost use Rattle.cfb_tree.specs.Entries.{HasSize};
 ghost use Rattle.cfb_sectors.specs.Held.{LeavesOldOrBytes};
 ghost use Rattle.std.specs.Prelude.{Bool, false, length, slice_get, slice_set, true, IfErr, IfOk, IsErrOf, IsTrue, List, MatchOption, None, OnErr, OnOk, Some, ℕ, ◌<◌, ◌||◌, ◌≡◌, ◌≤◌, ◌↔◌, ◌⊎◌};
 

@@ -1,6 +1,6 @@
 //! The directory as its sectors hold it.
 ghost use Rattle.cfb_directory.specs.Entries.{entries_in, SizesFit};
-ghost use Rattle.cfb_directory.specs.Taken.{HasAny, HasSize, IsTakenAs};
+ghost use Rattle.cfb_directory.specs.Taken.{HasAny, IsTakenAs};
 ghost use Rattle.cfb_chains.specs.LinkViews.{ids_of, links_version};
 ghost use Rattle.cfb_fat.specs.Tables.{bytes_of, fat_of, has_failed_here, is_honest, sectors_of, version_of, AllRests, HasCauseBelow};
 ghost use Rattle.cfb_medium.specs.Calls.{IsFaultUnless};
@@ -12,6 +12,7 @@ ghost use Rattle.cfb_tree.specs.Directory.{entries_of, entry_of};
 ghost use Rattle.cfb_tree.specs.EntryViews.{entry_in};
 ghost use Rattle.cfb_tree.specs.LetterViews.{letters_of};
 ghost use Rattle.cfb_tree.specs.Tree.{Tree};
+ghost use Rattle.cfb_tree.specs.Entries.{HasSize};
 ghost use Rattle.std.specs.Prelude.{false, length, true, IfErr, IfOk, IsErrOf, IsTrue, List, OnOk, ℕ, ◌*◌, ◌≡◌, ◌⊎◌};
 
 use crate::directory::Entries;

@@ -10,9 +10,9 @@ use Rattle.cfb_tree.specs.Paths.{Path, back, is_back, is_dropped, led_from, part
 use Rattle.cfb_tree.specs.Tree.{Tree}
 use Rattle.cfb_tree.proofs.OneContent.{Some_same}
 use Rattle.cfb_tree.proofs.PathSteps.{part_dropped, part_back, part_further}
+use Rattle.cfb_tree.specs.Entries.{HasSize}
 use Rattle.cfb_siblings.specs.Places.{IsStorageAt, LeadsTo, path_to}
 use Rattle.cfb_siblings.proofs.Following.{followed_stream}
-use Rattle.cfb_entries.specs.Holding.{HasSize}
 use Rattle.cfb_entries.specs.Parts.{goes_back}
 use Rattle.cfb_entries.specs.Rules.{HoldsSizes, is_stream_object, kind_at, names_in}
 use Rattle.cfb_entries.proofs.Turning.{turn_dropped, turn_named, turn_found, taken_back, stays_there, one_more}

@@ -15,7 +15,8 @@ use Rattle.cfb_tree.specs.Tree.{Tree}
 use Rattle.cfb_tree.specs.Directory.{Entry, Siblings, kind_root}
 use Rattle.cfb_tree.specs.Objects.{Object, inside_of, root_object, object_at, IsObject, HoldsTree}
 use Rattle.cfb_tree.proofs.OneContent.{Some_same}
-use Rattle.cfb_entries.specs.Holding.{children_link, HasSize, IsHeldAt}
+use Rattle.cfb_tree.specs.Entries.{HasSize, children_of}
+use Rattle.cfb_entries.specs.Holding.{IsHeldAt}
 use Rattle.cfb_entries.specs.Rules.{HoldsSizes, names_in}
 use Rattle.cfb_entries.proofs.Preorder.{inside_held, object_there}
 
@@ -37,7 +38,7 @@ past x xs h = h.1
 pub record Found (letters : Letters) (directory : List Entry) (tree : Tree) (path : Path) (id : ℕ) (e : Entry) : Type 0 where
   pub object : Object
   pub at_path : object_at letters tree path ≡ Some object
-  pub held : IsHeldAt directory (children_link e) (inside_of object)
+  pub held : IsHeldAt directory (children_of e) (inside_of object)
   pub root : path ≡ [] → (object ≡ root_object tree) × (e.facts ≡ tree.root) × (e.kind ≡ kind_root)
   pub own : List ℕ
   pub below : path ≢ [] → IsObject directory HasSize id object own
@@ -47,7 +48,7 @@ pub found : (letters : Letters) (directory : List Entry) (tree : Tree) → Holds
 found letters directory tree h [] id e leads at =
     let is : h.root ≡ e = Some_same (sym h.root_found ∙ ap (slice_get directory) (sym leads) ∙ at) in
     let kind : e.kind ≡ kind_root = ap (λ y. y.kind) (sym is) ∙ h.root_kind in
-    let here : h.root.child ≡ children_link e = ap (λ y. y.child) is ∙ rw kind refl in
+    let here : h.root.child ≡ children_of e = ap (λ y. y.child) is ∙ rw kind refl in
     record {
       object = root_object tree;
       at_path = refl;

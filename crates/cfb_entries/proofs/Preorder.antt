@@ -15,7 +15,8 @@ use Rattle.cfb_tree.specs.Paths.{Path, path_text}
 use Rattle.cfb_tree.specs.Tree.{Content, nothing, stream, storage}
 use Rattle.cfb_tree.proofs.NamesRead.{all_append}
 use Rattle.cfb_tree.proofs.OneContent.{name_unique, Some_same}
-use Rattle.cfb_entries.specs.Holding.{children_link, HasSize, IsHeldAt}
+use Rattle.cfb_tree.specs.Entries.{HasSize, children_of}
+use Rattle.cfb_entries.specs.Holding.{IsHeldAt}
 use Rattle.cfb_entries.specs.Listed.{Listed, listed, listed_at, prefix_of_listed, prefix_text, is_root_path}
 use Rattle.cfb_entries.proofs.Texts.{prefix_more}
 use Rattle.cfb_entries.specs.Walk.{pending_at}
@@ -84,16 +85,16 @@ module _ (directory : List Entry) where
 
   -- what an entry has inside hangs at its link
   pub inside_held : (id : ℕ) (o : Object) (own : List ℕ) (e : Entry) → IsObject directory HasSize id o own → slice_get directory id ≡ Some e
-      → (children : List ℕ) × Siblings directory (children_link e) children × Holds directory HasSize children (inside_of o) own
+      → (children : List ℕ) × Siblings directory (children_of e) children × Holds directory HasSize children (inside_of o) own
   inside_held id (a_stream n b x) own e (g, at, reads, empty) found =
       let is : g ≡ e = Some_same (sym at.found ∙ found) in
       let kind : e.kind ≡ kind_stream = ap (λ y. y.kind) (sym is) ∙ at.of_kind in
-      let nowhere : children_link e ≡ no_entry = rw kind refl in
+      let nowhere : children_of e ≡ no_entry = rw kind refl in
       ([], none nowhere refl, (refl, empty))
   inside_held id (a_storage n f i) own e (g, children, at, siblings, inside) found =
       let is : g ≡ e = Some_same (sym at.found ∙ found) in
       let kind : e.kind ≡ kind_storage = ap (λ y. y.kind) (sym is) ∙ at.of_kind in
-      let here : g.child ≡ children_link e = ap (λ y. y.child) is ∙ rw kind refl in
+      let here : g.child ≡ children_of e = ap (λ y. y.child) is ∙ rw kind refl in
       (children, subst (λ k. Siblings directory k children) here siblings, inside)
 
   pub object_named : (id : ℕ) (o : Object) (own : List ℕ) (e : Entry) → IsObject directory HasSize id o own → slice_get directory id ≡ Some e → HasName e (name_of o)

@@ -13,7 +13,7 @@ use Rattle.cfb_tree.specs.Tree.{Facts, Content, Tree}
 use Rattle.cfb_tree.specs.Directory.{Entry, HasName, kind_stream, kind_storage}
 use Rattle.cfb_tree.specs.Objects.{Object, a_stream, a_storage, name_of, inside_of, root_object, object_at, IsObject}
 use Rattle.cfb_tree.proofs.OneContent.{Some_same}
-use Rattle.cfb_entries.specs.Holding.{HasSize}
+use Rattle.cfb_tree.specs.Entries.{HasSize}
 use Rattle.cfb_entries.specs.Listed.{listed, listed_at, root_listed, prefix_of_listed, prefix_text, Listed}
 use Rattle.cfb_entries.specs.Rules.{answer_at, kind_at, names_in}
 use Rattle.cfb_entries.proofs.Found.{Found}

@@ -10,7 +10,7 @@ use Rattle.cfb_tree.specs.Names.{Letters}
 use Rattle.cfb_tree.specs.Objects.{Object, a_stream, a_storage, object_at, HoldsTree}
 use Rattle.cfb_tree.specs.Paths.{Path, path_names}
 use Rattle.cfb_tree.specs.Tree.{Tree}
-use Rattle.cfb_entries.specs.Holding.{HasSize}
+use Rattle.cfb_tree.specs.Entries.{HasSize}
 use Rattle.cfb_entries.specs.Listed.{listed, listed_in}
 use Rattle.cfb_entries.specs.declared.entry.Entry.{Entry as ShownEntry}
 

@@ -1,13 +1,14 @@
 //! Objects of a tree in the order of a listing, without recursion.
 ghost use Rattle.cfb_entries.specs.Listed.{listed, listed_in, prefix_of_listed, prefix_text};
 ghost use Rattle.cfb_entries.specs.Rules.{IsEntryError};
-ghost use Rattle.cfb_entries.specs.Holding.{children_link, HasSize, IsHeldAt};
+ghost use Rattle.cfb_entries.specs.Holding.{IsHeldAt};
 ghost use Rattle.cfb_entries.specs.Walk.{pending_at};
 ghost use Rattle.cfb_meaning.specs.TreeRules.{all_shown, children_shown};
 ghost use Rattle.cfb_medium.specs.declared.error.Error.TheVariants.{InvalidData, Memory};
 ghost use Rattle.cfb_tree.specs.EntryViews.{entry_in};
 ghost use Rattle.cfb_tree.specs.Paths.{Path};
 ghost use Rattle.cfb_tree.specs.Tree.{Content};
+ghost use Rattle.cfb_tree.specs.Entries.{children_of};
 ghost use Rattle.std.specs.Prelude.{chars, map, reverse, IfErr, IfOk, List, OnOk, ℕ, ◌++◌, ◌∷◌, ◌≡◌};
 
 use crate::entry::{Entry, is_stream};
@@ -26,7 +27,7 @@ struct Pending {
 
 // Where the children of an entry hang: a stream has none.
 pub(crate) fn children_link(entry: &DirEntry) -> u32
-    ensures { result ≡ children_link (entry_in entry.now) }
+    ensures { result ≡ children_of (entry_in entry.now) }
 {
     if is_stream(entry) {
         NO_STREAM

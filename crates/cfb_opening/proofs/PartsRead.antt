@@ -12,8 +12,9 @@ use Rattle.cfb_fat.proofs.DifatChains.{stop_high}
 use Rattle.cfb_tree.specs.Names.{Letters}
 use Rattle.cfb_tree.specs.Tree.{Tree}
 use Rattle.cfb_tree.specs.Directory.{entries_of, kind_root, Entry, Holds, Siblings}
-use Rattle.cfb_directory.specs.Taken.{HasAny, HasSize, IsTakenAs, IsTakenAsRoot, IsTakenIn}
-use Rattle.cfb_meaning.specs.Means.{directory, directory_count, fat, IsColored, IsLaidOut, IsStrict, Layout, MeansBy}
+use Rattle.cfb_tree.specs.Entries.{IsColored, HasSize}
+use Rattle.cfb_directory.specs.Taken.{HasAny, IsTakenAs, IsTakenAsRoot, IsTakenIn}
+use Rattle.cfb_meaning.specs.Means.{directory, directory_count, fat, IsLaidOut, IsStrict, Layout, MeansBy}
 use Rattle.cfb_meaning.proofs.OneTree.{filled_unique}
 use Rattle.cfb_opening.specs.Opened.{CanOpen}
 use Rattle.cfb_opening.specs.Tables.{AreTables, IsExactFor}

@@ -10,7 +10,8 @@ use Rattle.cfb_fat.specs.declared.allocator.Allocator.{Allocator}
 use Rattle.cfb_tree.specs.Names.{Letters}
 use Rattle.cfb_tree.specs.Tree.{Tree}
 use Rattle.cfb_tree.specs.Directory.{entries_of, Entry}
-use Rattle.cfb_directory.specs.Taken.{HasAny, HasSize, IsTakenAs}
+use Rattle.cfb_tree.specs.Entries.{HasSize}
+use Rattle.cfb_directory.specs.Taken.{HasAny, IsTakenAs}
 use Rattle.cfb_directory.specs.Views.{directory_ids, entries_held, IsDirectory}
 use Rattle.cfb_directory.specs.Views as layer
 use Rattle.cfb_directory.specs.declared.directory.Directory.{Directory}

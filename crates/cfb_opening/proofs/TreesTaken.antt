@@ -7,10 +7,10 @@ use Rattle.cfb_sectors.specs.declared.validation.Validation.TheVariants.{Permiss
 use Rattle.cfb_tree.specs.Names.{Letters}
 use Rattle.cfb_tree.specs.Tree.{nothing, storage, stream, Content, Tree}
 use Rattle.cfb_tree.specs.Directory.{black, kind_storage, kind_stream, red, Entry, Holds}
-use Rattle.cfb_tree.specs.Entries.{IsBlackAt}
+use Rattle.cfb_tree.specs.Entries.{IsBlackAt, IsColored}
 use Rattle.cfb_tree.proofs.NamesRead.{all_append}
 use Rattle.cfb_directory.specs.Taken.{HasAny, IsTakenAs, IsTakenAsRoot, IsTakenIn}
-use Rattle.cfb_meaning.specs.Means.{directory, IsColored, IsStrict, Layout, MeansBy}
+use Rattle.cfb_meaning.specs.Means.{directory, IsStrict, Layout, MeansBy}
 use Rattle.cfb_opening.specs.Opened.{CanOpen}
 
 -- a layout in which the bytes mean a tree, and what a strict reader asks of it

@@ -1,5 +1,4 @@
 //! Laws of what opening tells, each of a function that does nothing.
-ghost use Rattle.cfb_directory.specs.Taken.{HasSize};
 ghost use Rattle.cfb_meaning.specs.Means.{HasBytes, IsStrict, Layout, MeansBy};
 ghost use Rattle.cfb_medium.specs.declared.version.Version.{Version};
 ghost use Rattle.cfb_mini.specs.Views.{MiniRests};
@@ -9,6 +8,7 @@ ghost use Rattle.cfb_sectors.specs.declared.validation.Validation.TheVariants.{S
 ghost use Rattle.cfb_sectors.specs.declared.validation.Validation.{Validation};
 ghost use Rattle.cfb_tree.specs.Names.{Letters};
 ghost use Rattle.cfb_tree.specs.Tree.{Tree};
+ghost use Rattle.cfb_tree.specs.Entries.{HasSize};
 ghost use Rattle.std.specs.Prelude.{length, take, List, ℕ, ◌↔◌, ◌≡◌};
 
 use cfb_medium::ReadMedium;

@@ -1,6 +1,6 @@
 -- What sectors hold when they are taken into use.
 use Rattle.std.specs.Prelude.{ℕ, ◌-◌, ◌/◌, List, [], ◌∷◌, ◌++◌, replicate}
-use Rattle.cfb_sectors.specs.Copies.{copies, unallocated_entry}
+use Rattle.cfb_sectors.specs.Copies.{copies, unused_entry}
 use Rattle.cfb_medium.specs.Numbers.{number_bytes}
 use Rattle.cfb_sectors.specs.declared.initial.SectorInit.{SectorInit}
 use Rattle.cfb_sectors.specs.declared.initial.SectorInit.TheVariants.{Zero, Fat, Difat, Dir}
@@ -12,4 +12,4 @@ unfoldable pub initial : SectorInit → ℕ → List ℕ
 initial Zero len = replicate len 0
 initial Fat len = number_bytes (replicate (len / 4) free)
 initial Difat len = number_bytes (replicate (len / 4 - 1) free ++ end_of_chain ∷ [])
-initial Dir len = copies (len / 128) unallocated_entry
+initial Dir len = copies (len / 128) unused_entry

@@ -8,7 +8,8 @@ use Rattle.cfb_tree.specs.Directory.{Entry, Siblings, none, some, Holds, no_entr
 use Rattle.cfb_tree.specs.Objects.{HoldsTree}
 use Rattle.cfb_tree.proofs.NamesRead.{all_append}
 use Rattle.cfb_tree.proofs.OneContent.{Some_same}
-use Rattle.cfb_siblings.specs.Changes.{IsApart, IsColored}
+use Rattle.cfb_tree.specs.Entries.{IsColored}
+use Rattle.cfb_siblings.specs.Changes.{IsApart}
 use Rattle.cfb_siblings.proofs.Lists.{all_parts, all_map}
 use Rattle.cfb_siblings.proofs.Frames.{either_same, outermost}
 use Rattle.cfb_siblings.proofs.Colors.{IsColoredIn, set_other, colored_cleared}

@@ -2,8 +2,7 @@
 use Rattle.std.proofs.Common.{◌≡◌, ℕ, false, List, [], ◌∷◌, zero, suc, inl, inr, ◌⊎◌, arith, refl, sym, ◌∙◌, ap, subst}
 use Rattle.std.specs.Prelude.{slice_get, slice_set, nat_eq, Option, Some, None, IfSome}
 use Rattle.cfb_tree.specs.Directory.{Entry, red, black}
-use Rattle.cfb_tree.specs.Entries.{IsBlackAt}
-use Rattle.cfb_siblings.specs.Changes.{IsColored}
+use Rattle.cfb_tree.specs.Entries.{IsBlackAt, IsColored}
 use Rattle.cfb_siblings.proofs.Frames.{either_same, set_found}
 use Rattle.cfb_siblings.specs.Links.{holder, linked_to, with_entry, relinked}
 use Rattle.cfb_siblings.specs.declared.links.Link.{Link}

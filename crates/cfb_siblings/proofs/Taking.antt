@@ -8,9 +8,9 @@ use Rattle.cfb_tree.specs.Tree.{Content, Tree}
 use Rattle.cfb_tree.specs.Directory.{Entry, Siblings, Holds, no_entry}
 use Rattle.cfb_tree.specs.Objects.{joined_contents, HoldsTree}
 use Rattle.cfb_tree.specs.Changes.{parent_of, removed, changed, holding, without_child}
-use Rattle.cfb_tree.specs.Entries.{IsBlackAt}
+use Rattle.cfb_tree.specs.Entries.{IsBlackAt, IsColored}
 use Rattle.cfb_tree.proofs.OneContent.{Some_same}
-use Rattle.cfb_siblings.specs.Changes.{IsApart, IsColored, HoldsOneLess, TakesOut}
+use Rattle.cfb_siblings.specs.Changes.{IsApart, HoldsOneLess, TakesOut}
 use Rattle.cfb_siblings.specs.Links.{holder, relinked}
 use Rattle.cfb_siblings.specs.Places.{HasEntry, Hangs, IsStorageAt, NameIsTaken, LeadsBy, path_to}
 use Rattle.cfb_siblings.specs.declared.links.Link.{Link}

@@ -1,11 +1,11 @@
 -- What entries hold after one was linked, or taken out.
-use Rattle.std.specs.Prelude.{◌≡◌, ℕ, ◌≤◌, false, List, ◌∷◌, nat_eq, slice_get, slice_set, Some, IfSome, ◌↔◌, ◌⊎◌}
+use Rattle.std.specs.Prelude.{◌≡◌, ℕ, ◌≤◌, false, List, ◌∷◌, nat_eq, slice_get, slice_set, Some, IfSome, ◌↔◌}
 use Rattle.std.specs.List.{AllByRecursion}
 use Rattle.cfb_tree.specs.Names.{Letters}
 use Rattle.cfb_tree.specs.Paths.{Path}
 use Rattle.cfb_tree.specs.Tree.{Tree, nothing}
-use Rattle.cfb_tree.specs.Directory.{Entry, HasName, no_entry, greatest_entry, kind_unallocated, kind_storage, kind_stream, red, black}
-use Rattle.cfb_tree.specs.Entries.{IsBlackAt}
+use Rattle.cfb_tree.specs.Directory.{Entry, HasName, no_entry, greatest_entry, kind_unallocated, kind_storage, kind_stream, black}
+use Rattle.cfb_tree.specs.Entries.{IsBlackAt, IsColored}
 use Rattle.cfb_tree.specs.Objects.{Object, a_stream, a_storage, IsObject, HoldsTree}
 use Rattle.cfb_tree.specs.Changes.{parent_of, removed}
 use Rattle.cfb_siblings.specs.declared.removal.Removal.{Removal}
@@ -36,11 +36,6 @@ pub record IsAlone (Reads : Entry → List ℕ → Type 0) (e : Entry) (object :
   pub left : e.left ≡ no_entry
   pub right : e.right ≡ no_entry
   pub color : e.color ≡ black
-
--- entry `id` is red or black, and where it is red no red sibling hangs under it ([MS-CFB] 2.6.4)
-abbrev pub IsColored : List Entry → ℕ → Type 0
-IsColored directory id = IfSome (slice_get directory id) (λ e.
-    ((e.color ≡ red) ⊎ (e.color ≡ black)) × (e.color ≡ red → IsBlackAt directory e.left × IsBlackAt directory e.right))
 
 -- the root is black, and the entries below it are coloured so ([MS-CFB] 2.6.4)
 abbrev pub AreColored : List Entry → List ℕ → Type 0

@@ -8,8 +8,7 @@ use Rattle.cfb_tree.specs.Tree.{nothing, storage, stream, Content}
 use Rattle.cfb_tree.specs.Directory.{greatest_entry, kind_storage, kind_stream, no_entry, none, some, Entry, Holds, Siblings}
 use Rattle.cfb_tree.proofs.NamesRead.{all_append}
 use Rattle.cfb_tree.proofs.OneContent.{Some_same}
-use Rattle.cfb_directory.specs.Search.{children_of}
-use Rattle.cfb_directory.specs.Taken.{HasSize}
+use Rattle.cfb_tree.specs.Entries.{HasSize, children_of}
 use Rattle.cfb_directory.proofs.Joining.{halves}
 use Rattle.cfb_soundness.specs.Entries.{steps_at, AreTreeEntries}
 use Rattle.cfb_soundness.specs.declared.entries.Step.{Step}

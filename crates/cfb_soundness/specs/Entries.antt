@@ -3,8 +3,7 @@ use Rattle.std.specs.Prelude.{◌≡◌, ℕ, List, [], ◌∷◌, nat_eq, slice
 use Rattle.std.specs.List.{IsDistinct}
 use Rattle.cfb_tree.specs.Tree.{Content}
 use Rattle.cfb_tree.specs.Directory.{Entry, Holds, Siblings}
-use Rattle.cfb_directory.specs.Search.{children_of}
-use Rattle.cfb_directory.specs.Taken.{HasSize}
+use Rattle.cfb_tree.specs.Entries.{HasSize, children_of}
 use Rattle.cfb_soundness.specs.declared.entries.Step.{Step}
 use Rattle.cfb_soundness.specs.declared.entries.Step.TheVariants.{Hanging, Met}
 

@@ -1,10 +1,10 @@
 //! The entries of a directory's tree, in order ([MS-CFB] 2.6.4).
-ghost use Rattle.cfb_directory.specs.Search.{children_of};
 ghost use Rattle.cfb_directory.specs.Views.{entries_held};
 ghost use Rattle.cfb_medium.specs.declared.error.Error.TheVariants.{Memory};
 ghost use Rattle.cfb_soundness.specs.Entries.{steps_at, AreTreeEntries};
 ghost use Rattle.cfb_tree.specs.Directory.{greatest_entry, kind_stream};
 ghost use Rattle.cfb_tree.specs.EntryViews.{entry_in};
+ghost use Rattle.cfb_tree.specs.Entries.{children_of};
 ghost use Rattle.std.specs.Prelude.{length, IfErr, IfOk, IsTrue, OnOk, ◌++◌, ◌<◌, ◌≡◌, ◌≤◌, ◌↔◌};
 
 use cfb_directory::Directory;

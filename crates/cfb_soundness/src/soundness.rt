@@ -1,5 +1,4 @@
 //! Whether a file is sound: each of its parts serves one use at most, and none that is used is missing ([MS-CFB] 2).
-ghost use Rattle.cfb_directory.specs.Taken.{HasSize};
 ghost use Rattle.cfb_fat.specs.Tables.{bytes_of, fat_of, has_failed_here, sectors_of};
 ghost use Rattle.cfb_meaning.specs.Means.{Layout, MeansBy};
 ghost use Rattle.cfb_meaning.specs.Sound.{IsSound};
@@ -11,6 +10,7 @@ ghost use Rattle.cfb_soundness.specs.Uses.{AreInUse, IsWant};
 ghost use Rattle.cfb_soundness.specs.Views.{marks_of, table_sectors, LiesSo};
 ghost use Rattle.cfb_tree.specs.Names.{Letters};
 ghost use Rattle.cfb_tree.specs.Tree.{Tree};
+ghost use Rattle.cfb_tree.specs.Entries.{HasSize};
 ghost use Rattle.std.specs.Prelude.{[], false, length, true, IfErr, IfOk, IsErrOf, IsTrue, ◌∷◌, ◌≡◌, ◌≤◌, ◌↔◌};
 
 use crate::entries::tree_entries;

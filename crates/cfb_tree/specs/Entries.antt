@@ -63,3 +63,16 @@ IsTakenBelow Strict e = ((e.kind ≡ kind_storage) ⊎ (e.kind ≡ kind_stream))
 -- the entry, where the directory has it, is black ([MS-CFB] 2.6.4)
 abbrev pub IsBlackAt : List Entry → ℕ → Type 0
 IsBlackAt directory id = IfSome (slice_get directory id) (λ e. e.color ≡ black)
+
+-- entry `id` is red or black, and where it is red no red sibling hangs under it ([MS-CFB] 2.6.4)
+abbrev pub IsColored : List Entry → ℕ → Type 0
+IsColored directory id = IfSome (slice_get directory id) (λ e.
+    ((e.color ≡ red) ⊎ (e.color ≡ black)) × (e.color ≡ red → IsBlackAt directory e.left × IsBlackAt directory e.right))
+
+-- where the children of an entry in the tree hang: a stream has none ([MS-CFB] 2.6.3)
+abbrev pub children_of : Entry → ℕ
+children_of e = if e.kind == kind_stream then no_entry else e.child
+
+-- what is known of a stream while only its entry was read: how many bytes it has ([MS-CFB] 2.6.3)
+abbrev pub HasSize : Entry → List ℕ → Type 0
+HasSize e content = length content ≡ e.size

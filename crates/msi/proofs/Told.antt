@@ -11,16 +11,9 @@ use Rattle.msi_pool.specs.declared.stringref.ValueRef.{ValueRef}
 use Rattle.msi_pool.specs.declared.stringref.ValueRef.TheVariants as cell
 use Rattle.msi_tables.specs.Held.{rows_held}
 use Rattle.msi_tables.specs.Rows.{Row}
-use Rattle.msi_tables.specs.Table.{datum_at, row_data}
+use Rattle.msi_tables.specs.Table.{row_data}
 use Rattle.msi.specs.Rows.{value_row}
 use Rattle.msi_parts.specs.Whole.{Wide}
-
--- the value of a cell
-pub value_is : (pool : Pool) (v : ValueRef) → value_at pool v ≡ datum_at pool v
-value_is pool cell.Null = refl
-value_is pool (cell.Int z) = refl
-value_is pool (cell.Str n) = refl
-value_is pool cell.Binary = refl
 
 -- a row is as wide as all are
 pub wide_at : (n : ℕ) (rows : List (Vec ValueRef Global)) → Wide n (rows_held rows) → (i : ℕ) (d : Vec ValueRef Global) → i < length rows → length (get_or rows i d).items ≡ n
@@ -37,4 +30,4 @@ values_told columns pool (row ∷ rows) = ap (λ rs. row_data pool row ∷ rs) (
 pub wide_values : (columns : List Column) (pool : Pool) (rows : List Row) → Wide (length columns) rows → All (λ row. length row.values ≡ length columns) (map (value_row columns pool) rows)
 wide_values columns pool [] wide = λ k d l. absurd (omega (arith, l))
 wide_values columns pool (row ∷ rows) wide =
-    All-cons (λ row. length row.values ≡ length columns) (value_row columns pool row) (map (value_row columns pool) rows) (length-map row (datum_at pool) ∙ wide.0) (wide_values columns pool rows wide.1)
+    All-cons (λ row. length row.values ≡ length columns) (value_row columns pool row) (map (value_row columns pool) rows) (length-map row (value_at pool) ∙ wide.0) (wide_values columns pool rows wide.1)

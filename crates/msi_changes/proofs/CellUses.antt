@@ -9,8 +9,8 @@ use Rattle.msi_values.specs.Datum.{Datum, null, number, text, binary}
 use Rattle.msi_pool.specs.Pool.{Pool, at_place, last_place, place_among, used, without_use}
 use Rattle.msi_pool.specs.declared.stringref.ValueRef.{ValueRef}
 use Rattle.msi_pool.specs.declared.stringref.ValueRef.TheVariants as cell
+use Rattle.msi_pool.specs.Refs.{value_at}
 use Rattle.msi_places.proofs.PoolPlaces.{place_among-pos}
-use Rattle.msi_tables.specs.Table.{datum_at}
 use Rattle.msi_changes.specs.Laws.{names_place}
 use Rattle.msi_changes.specs.Changes.{counted, taken_back}
 use Rattle.msi_changes.proofs.Kept.{in_use, kept_at, stands_at}
@@ -52,7 +52,7 @@ pub record Gives {Y D : Type 0} (see : Pool → Y → D) (ok : Y → Type 0) (us
   pub stays : Stays others old r.1
 
 abbrev pub GivesCell : (ℕ → ℕ) → Pool → Datum → ValueRef × Pool → Type 0
-GivesCell others old d r = Gives datum_at IsPlaced use_of others old d r
+GivesCell others old d r = Gives value_at IsPlaced use_of others old d r
 
 -- the first of steps, then the others
 pub after_ok : {A B : Type 0} (P : A → Type 0) (Q : B → Type 0) (r : Result A Error) (f : A → Result B Error) → IfOk r P → ((a : A) → P a → IfOk (f a) Q) → IfOk (r >>= f) Q
@@ -139,7 +139,7 @@ placed_after : (n : ℕ) → IsPlaced (cell.Str n) → 0 < n
 placed_after zero placed = absurd (omega (arith, placed))
 placed_after (suc n) placed = omega arith
 
-pub cell_stays : (p q : Pool) (v : ValueRef) (others : ℕ → ℕ) → IsPlaced v → Stays (λ n. use_of v n + others n) p q → datum_at q v ≡ datum_at p v
+pub cell_stays : (p q : Pool) (v : ValueRef) (others : ℕ → ℕ) → IsPlaced v → Stays (λ n. use_of v n + others n) p q → value_at q v ≡ value_at p v
 cell_stays p q cell.Null others placed s = refl
 cell_stays p q (cell.Int z) others placed s = refl
 cell_stays p q (cell.Str n) others placed s = ap text (s.texts n (placed_after n placed) (own_use n others))

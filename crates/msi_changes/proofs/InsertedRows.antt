@@ -7,17 +7,17 @@ use Rattle.cfb_medium.specs.declared.error.Error.TheVariants.{InvalidInput}
 use Rattle.msi_texts.specs.Results.{◌>>=◌, or_refused}
 use Rattle.msi_values.specs.Datum.{Datum, null, number, text, binary}
 use Rattle.msi_pool.specs.Pool.{Pool, last_place, place_among, used}
-use Rattle.msi_pool.specs.Refs.{is_counted}
+use Rattle.msi_pool.specs.Refs.{is_counted, value_at}
 use Rattle.msi_pool.specs.declared.stringref.ValueRef.{ValueRef}
 use Rattle.msi_pool.specs.declared.stringref.ValueRef.TheVariants as cell
-use Rattle.msi_tables.specs.Table.{datum_at, row_data}
+use Rattle.msi_tables.specs.Table.{row_data}
 use Rattle.msi_tables.specs.Rows.{Row}
 use Rattle.msi_changes.specs.Changes.{counted, in_turn, row_counted, rows_counted}
 use Rattle.msi_changes.proofs.Kept.{kept_at, stands_at}
 
 -- each counted cell is read as it was, and stays counted
 pub record Keeps (old new : Pool) : Type 0 where
-  pub cells : (v : ValueRef) → is_counted old v ≡ true → (datum_at new v ≡ datum_at old v) × (is_counted new v ≡ true)
+  pub cells : (v : ValueRef) → is_counted old v ≡ true → (value_at new v ≡ value_at old v) × (is_counted new v ≡ true)
 
 keeps_all : (p : Pool) → Keeps p p
 keeps_all p = record { cells = λ v c. (refl, c) }
@@ -28,7 +28,7 @@ keeps_then p q r a b = record { cells = λ v c. (let one = a.cells v c in let tw
 use_keeps : (p : Pool) (t : List ℕ) → Keeps p (used p t)
 use_keeps p t = record { cells = kept }
   where
-    kept : (v : ValueRef) → is_counted p v ≡ true → (datum_at (used p t) v ≡ datum_at p v) × (is_counted (used p t) v ≡ true)
+    kept : (v : ValueRef) → is_counted p v ≡ true → (value_at (used p t) v ≡ value_at p v) × (is_counted (used p t) v ≡ true)
     kept cell.Null c = (refl, refl)
     kept (cell.Int z) c = (refl, refl)
     kept (cell.Str n) c = (let h = kept_at t p.places (n - 1) c in (ap text h.0, h.1))
@@ -38,12 +38,12 @@ use_keeps p t = record { cells = kept }
 abbrev IsGiven : {X Y : Type 0} → (Pool → Y → X) → (Pool → Y → Bool) → Pool → X → Y × Pool → Type 0
 IsGiven see ok p x r = Keeps p r.1 × (see r.1 r.0 ≡ x) × (ok r.1 r.0 ≡ true)
 
-cell_given : (p : Pool) (d : Datum) → IfOk (counted p d) (IsGiven datum_at is_counted p d)
+cell_given : (p : Pool) (d : Datum) → IfOk (counted p d) (IsGiven value_at is_counted p d)
 cell_given p null = (keeps_all p, refl, refl)
 cell_given p (number z) = (keeps_all p, refl, refl)
 cell_given p (text t) = on (nat_le (place_among t p.places) (last_place p.long))
   where
-    on : (b : Bool) → IfOk (or_refused {A = ValueRef × Pool} (option_map (λ n. (cell.Str n, used p t)) (if b then Some (place_among t p.places) else None)) InvalidInput) (IsGiven datum_at is_counted p (text t))
+    on : (b : Bool) → IfOk (or_refused {A = ValueRef × Pool} (option_map (λ n. (cell.Str n, used p t)) (if b then Some (place_among t p.places) else None)) InvalidInput) (IsGiven value_at is_counted p (text t))
     on true = (let h = stands_at t p.places in (use_keeps p t, ap text h.0, h.1))
     on false = tt
 cell_given p binary = (keeps_all p, refl, refl)
@@ -75,17 +75,17 @@ module _ {X Y : Type 0} (see : Pool → Y → X) (ok : Pool → Y → Bool)
       on (Ok y) first deeper = then_on y.0 y.1 first (in_turn f y.1 xs) (deeper y.1)
       on (Err e) first deeper = tt
 
-cell_stays : (p q : Pool) → Keeps p q → (v : ValueRef) → is_counted p v ≡ true → (datum_at q v ≡ datum_at p v) × (is_counted q v ≡ true)
+cell_stays : (p q : Pool) → Keeps p q → (v : ValueRef) → is_counted p v ≡ true → (value_at q v ≡ value_at p v) × (is_counted q v ≡ true)
 cell_stays p q k v c = k.cells v c
 
 abbrev pub row_ok : Pool → Row → Bool
 row_ok p row = list_all (is_counted p) row
 
 row_given : (p : Pool) (ds : List Datum) → IfOk (row_counted p ds) (IsGiven row_data row_ok p ds)
-row_given p ds = list_given datum_at is_counted cell_stays counted cell_given p ds
+row_given p ds = list_given value_at is_counted cell_stays counted cell_given p ds
 
 pub rows_stay : (p q : Pool) → Keeps p q → (rows : List Row) → list_all (row_ok p) rows ≡ true → (map (row_data q) rows ≡ map (row_data p) rows) × (list_all (row_ok q) rows ≡ true)
-rows_stay p q k rows c = list_stays row_data row_ok (list_stays datum_at is_counted cell_stays) p q k rows c
+rows_stay p q k rows c = list_stays row_data row_ok (list_stays value_at is_counted cell_stays) p q k rows c
 
 pub rows_given : (p : Pool) (rs : List (List Datum)) → IfOk (rows_counted p rs) (λ r. Keeps p r.1 × (map (row_data r.1) r.0 ≡ rs) × (list_all (row_ok r.1) r.0 ≡ true))
-rows_given p rs = list_given row_data row_ok (list_stays datum_at is_counted cell_stays) row_counted row_given p rs
+rows_given p rs = list_given row_data row_ok (list_stays value_at is_counted cell_stays) row_counted row_given p rs

@@ -12,9 +12,10 @@ use Rattle.msi_values.specs.Datum.{Datum}
 use Rattle.msi_pool.specs.Pool.{Pool}
 use Rattle.msi_pool.specs.declared.stringref.ValueRef.{ValueRef}
 use Rattle.msi_pool.specs.declared.stringref.ValueRef.TheVariants as cell
+use Rattle.msi_pool.specs.Refs.{value_at}
 use Rattle.msi_columns.specs.Column.{Column, column_place, is_valid}
 use Rattle.msi_tables.specs.Rows.{Row}
-use Rattle.msi_tables.specs.Table.{datum_at, row_data}
+use Rattle.msi_tables.specs.Table.{row_data}
 use Rattle.msi_tables.proofs.Searches.{place_below}
 use Rattle.msi_changes.specs.Changes.{all_taken_back, cell_set, cells_set, counted, is_valid_set, option_first, row_counted, row_set, rows_counted, rows_set, taken_back, values_set}
 use Rattle.std.proofs.lemmas.Bool.{and_parts}
@@ -31,7 +32,7 @@ pub record IsWhole (width : ℕ) (row : Row) : Type 0 where
   pub placed : All IsPlaced row
 
 pub row_stays : (width : ℕ) (p q : Pool) (row : Row) (others : ℕ → ℕ) → IsWhole width row → Stays (λ n. row_uses row n + others n) p q → row_data q row ≡ row_data p row
-row_stays width p q row others whole s = list_stays datum_at IsPlaced use_of cell_stays p q row others whole.placed s
+row_stays width p q row others whole s = list_stays value_at IsPlaced use_of cell_stays p q row others whole.placed s
 
 abbrev pub GivesRow : ℕ → (ℕ → ℕ) → Pool → List Datum → Row × Pool → Type 0
 GivesRow width others p ds r = Gives row_data (IsWhole width) row_uses others p ds r
@@ -53,13 +54,13 @@ beside_nothing p others h = same_uses (λ n at. omega arith) h
 
 row_given : (width : ℕ) (p : Pool) (ds : List Datum) (others : ℕ → ℕ) → length ds ≡ width → HasUses p others → IfOk (row_counted p ds) (GivesRow width others p ds)
 row_given width p ds others wide h = on (row_counted p ds)
-    (turns_give counted (λ d n. 0) (λ d. Unit {0}) (λ q d. d) use_of IsPlaced datum_at (λ q d more u k. cell_counted more q (beside_nothing q more k) d) (λ q r d more u s. refl) cell_stays
+    (turns_give counted (λ d n. 0) (λ d. Unit {0}) (λ q d. d) use_of IsPlaced value_at (λ q d more u k. cell_counted more q (beside_nothing q more k) d) (λ q r d more u s. refl) cell_stays
     p ds others (λ k d in_it. tt) (beside_none p ds others h))
   where
     on : (r : Result (Row × Pool) Error) → IfOk r (Gives row_data (All IsPlaced) row_uses others p (map (λ d. d) ds)) → IfOk r (GivesRow width others p ds)
     on (Ok r) g =
         let same : row_data r.1 r.0 ≡ ds = g.reads ∙ map-id ds in
-        let many : length (row_data r.1 r.0) ≡ length r.0 = length-map r.0 (datum_at r.1) in
+        let many : length (row_data r.1 r.0) ≡ length r.0 = length-map r.0 (value_at r.1) in
         record { counts = g.counts; reads = same; fine = record { cells = sym many ∙ ap length same ∙ wide; placed = g.fine }; stays = g.stays }
     on (Err e) g = tt
 
@@ -81,16 +82,16 @@ uses_but row i n = row_uses row n - use_of (get_or row i cell.Null) n
 use_within : (row : Row) (i n : ℕ) → i < length row → use_of (get_or row i cell.Null) n ≤ row_uses row n
 use_within row i n within = get_or-le-sum_by (λ v. use_of v n) row i cell.Null within
 
-set_reads : (p q : Pool) (row : Row) (i : ℕ) (w : ValueRef) (d : Datum) (others : ℕ → ℕ) → datum_at q w ≡ d → All IsPlaced row → i < length row
+set_reads : (p q : Pool) (row : Row) (i : ℕ) (w : ValueRef) (d : Datum) (others : ℕ → ℕ) → value_at q w ≡ d → All IsPlaced row → i < length row
     → Stays (λ n. uses_but row i n + others n) p q → row_data q (slice_set row i w) ≡ slice_set (row_data p row) i d
 set_reads p q [] i w d others is placed within s = absurd (omega (arith, within))
 set_reads p q (v ∷ vs) zero w d others is placed within s =
     let rest : row_data q vs ≡ row_data p vs =
-    list_stays datum_at IsPlaced use_of cell_stays p q vs others (All-tail IsPlaced v vs placed) (fewer_stay (λ n at some. omega (arith, sum_by-cons (λ x. use_of x n) v vs, some)) s) in
+    list_stays value_at IsPlaced use_of cell_stays p q vs others (All-tail IsPlaced v vs placed) (fewer_stay (λ n at some. omega (arith, sum_by-cons (λ x. use_of x n) v vs, some)) s) in
     rw (is, rest) refl
 set_reads p q (v ∷ vs) (suc i) w d others is placed within s =
     let inside : i < length vs = omega (arith, within) in
-    let here : datum_at q v ≡ datum_at p v =
+    let here : value_at q v ≡ value_at p v =
     cell_stays p q v others (All-head IsPlaced v vs placed) (fewer_stay (λ n at some. omega (arith, sum_by-cons (λ x. use_of x n) v vs, use_within vs i n inside, some)) s) in
     let rest : row_data q (slice_set vs i w) ≡ slice_set (row_data p vs) i d =
     set_reads p q vs i w d (λ n. use_of v n + others n) is (All-tail IsPlaced v vs placed) inside
@@ -99,7 +100,7 @@ set_reads p q (v ∷ vs) (suc i) w d others is placed within s =
 
 module _ (width : ℕ) where
   set_gives : (p q : Pool) (row : Row) (i : ℕ) (d : Datum) (others : ℕ → ℕ) → IsWhole width row → i < length row → Leaves (λ n. uses_but row i n + others n) p q
-      → (r : ValueRef × Pool) → Gives datum_at IsPlaced use_of (λ n. uses_but row i n + others n) q d r → GivesRow width others p (slice_set (row_data p row) i d) (slice_set row i r.0, r.1)
+      → (r : ValueRef × Pool) → Gives value_at IsPlaced use_of (λ n. uses_but row i n + others n) q d r → GivesRow width others p (slice_set (row_data p row) i d) (slice_set row i r.0, r.1)
   set_gives p q row i d others whole within left r given =
       record {
         counts = same_uses (λ n at. omega (arith, sum_by-set (λ v. use_of v n) row i r.0 cell.Null within, use_within row i n within)) given.counts;

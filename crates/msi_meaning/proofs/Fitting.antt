@@ -1,5 +1,5 @@
 -- Pools that are fit can be written.
-use Rattle.std.proofs.Common.{◌≡◌, ℕ, ◌<◌, ◌^◌, true, List, [], ◌∷◌, map, length, refl, arith}
+use Rattle.std.proofs.Common.{◌≡◌, ℕ, ◌<◌, ◌^◌, true, List, [], ◌∷◌, map, length, arith}
 use Rattle.std.specs.Prelude.{All, IsTrue, nat_lt}
 use Rattle.std.specs.List.{list_all}
 use Rattle.std.specs.Str.{is_utf8}
@@ -11,9 +11,7 @@ use Rattle.msi_texts.specs.declared.codepage.CodePage.{CodePage}
 use Rattle.msi_pool.specs.Pool.{Place, Pool, pool_stream, stored_of, stored_place}
 use Rattle.msi_pool.specs.PoolKept.{AreFreeEmpty, AreKept, IsWritable}
 use Rattle.msi_pool.specs.PoolState.{is_in_size, length_limit}
-use Rattle.msi_meaning.specs.Calls.{bare_package}
-use Rattle.msi_meaning.specs.Fit.{is_fit, is_fit_pool}
-use Rattle.msi_meaning.specs.declared.kind.PackageType.TheVariants.{Installer}
+use Rattle.msi_meaning.specs.Fit.{is_fit_pool}
 
 abbrev IsHeld : Place → Type 0
 IsHeld p = IsTrue (is_utf8 p.text) × (p.count < 2 ^ 16)
@@ -40,7 +38,3 @@ fit_pool_is_writable pool fit held few free =
     let one = and_parts (list_all (λ p. fits pool.page p.text) pool.places) (is_in_size pool) fit in
     let two = and_parts (nat_lt (length (pool_stream pool)) length_limit) (list_all (λ s. nat_lt (length s.0) length_limit) (stored_of pool)) one.1 in
     (kept pool.page pool.places one.0 two.1 held free, few)
-
--- a package without tables is fit
-bare_is_fit : is_fit true (bare_package Installer) ≡ true
-bare_is_fit = refl

@@ -24,11 +24,6 @@ less_is Less is = refl
 less_is Equal is = absurd (cc)
 less_is Greater is = absurd (cc)
 
-equal_is : (o : Ordering) → is_eq o ≡ true → o ≡ Equal
-equal_is Less is = absurd (cc)
-equal_is Equal is = refl
-equal_is Greater is = absurd (cc)
-
 less_differs : (o : Ordering) → o ≡ Less → is_eq o ≡ false
 less_differs Less is = refl
 less_differs Equal is = absurd (cc)

@@ -15,11 +15,12 @@ use Rattle.msi_values.specs.contracts.borrowed.BorrowedValueOrd.TheImpl.{ghosts 
 use Rattle.msi_values.proofs.BorrowedOrder.{derived_order}
 use Rattle.msi_pool.specs.Pool.{Pool}
 use Rattle.msi_pool.specs.declared.stringref.ValueRef.{ValueRef}
+use Rattle.msi_pool.specs.Refs.{value_at}
 use Rattle.msi_columns.specs.Column.{Column, column_place}
 use Rattle.msi_tables.specs.Held.{rows_held}
 use Rattle.msi_tables.specs.Row.{cell_named, named_cells}
 use Rattle.msi_tables.specs.Rows.{Row}
-use Rattle.msi_tables.specs.Table.{datum_at, row_data}
+use Rattle.msi_tables.specs.Table.{row_data}
 use Rattle.msi_tables.proofs.Keys.{datum_cmp_total}
 use Rattle.msi_tables.proofs.Searches.{position_cons}
 use Rattle.msi_expr.specs.Formula.{Formula, literal, column, unary, two, both, either, column_name, equated_in, is_equality, or_null, pair_of, worth}
@@ -140,8 +141,8 @@ module _ (columns : List Column) (on : Formula) (a b : List ℕ) (i j width : �
 module _ (pool : Pool) (columns : List Column) (on : Formula) (width place right : ℕ) (is : IsEquation columns on width place right) (left : Row) (whole : length left ≡ width) where
   pair_decided : (r : Row) → matches pool columns (Some on) (left ++ r) ≡ has_value pool right (value_in pool left place) r
   pair_decided r =
-      let size : length (row_data pool left) ≡ width = length-map left (datum_at pool) ∙ whole in
-      let joined : row_data pool (left ++ r) ≡ row_data pool left ++ row_data pool r = map-append (datum_at pool) left r in
+      let size : length (row_data pool left) ≡ width = length-map left (value_at pool) ∙ whole in
+      let joined : row_data pool (left ++ r) ≡ row_data pool left ++ row_data pool r = map-append (value_at pool) left r in
       let low : place < length (row_data pool left) = omega (arith, size, is.inside) in
       let first : value_in pool (left ++ r) place ≡ value_in pool left place = ap (λ ds. get_or ds place null) joined ∙ get_or_append_left (row_data pool left) (row_data pool r) null place low in
       let second : value_in pool (left ++ r) (width + right) ≡ value_in pool r right =

@@ -45,9 +45,6 @@ and_none : (a b : Bool) → b ≡ true → (a && not b) ≡ false
 and_none true b e = ap not e
 and_none false b e = refl
 
-and_all : (a b : Bool) → a ≡ true → b ≡ false → (a && not b) ≡ true
-and_all a b e f = rw (e, f) refl
-
 -- ---- tables by their names
 
 pub found_at : (ts : List Table) (m : List ℕ) (u : Table) → table_named ts m ≡ Some u → (j : ℕ) × (j < length ts) × (get_or ts j u ≡ u) × (u.name ≡ m)

@@ -9,8 +9,9 @@ use Rattle.msi_changes.specs.Laws.{names_place, uses_in}
 use Rattle.msi_pool.specs.Pool.{at_place, Pool}
 use Rattle.msi_pool.specs.declared.stringref.ValueRef.{ValueRef}
 use Rattle.msi_pool.specs.declared.stringref.ValueRef.TheVariants as cell
+use Rattle.msi_pool.specs.Refs.{value_at}
 use Rattle.msi_tables.specs.Rows.{Row}
-use Rattle.msi_tables.specs.Table.{datum_at, row_data}
+use Rattle.msi_tables.specs.Table.{row_data}
 use Rattle.msi_values.specs.Datum.{text}
 use Rattle.msi_meaning.specs.Sound.{IsUsed}
 
@@ -44,7 +45,7 @@ module _ (old new : Pool) where
   abbrev Stays : ℕ → Type 0
   Stays n = (at_place new.places n).text ≡ (at_place old.places n).text
 
-  cell_stays : (v : ValueRef) → use_of 0 v ≡ 0 → ((n : ℕ) → 0 < n → 0 < use_of n v → Stays n) → datum_at new v ≡ datum_at old v
+  cell_stays : (v : ValueRef) → use_of 0 v ≡ 0 → ((n : ℕ) → 0 < n → 0 < use_of n v → Stays n) → value_at new v ≡ value_at old v
   cell_stays cell.Null none each = refl
   cell_stays (cell.Int z) none each = refl
   cell_stays (cell.Str m) none each = ap text (placed Stays m none each)

@@ -15,26 +15,9 @@ use Rattle.msi_texts.specs.declared.category.Category.{Category}
 use Rattle.msi_columns.specs.Column.{Column, has_bit, kind_of_bits, of_category, one_of, plain, with_bits}
 use Rattle.msi_columns.specs.declared.column.ColumnType.{ColumnType}
 use Rattle.msi_tables.specs.Schema.{category_read, choices_read, column_of_bits, column_read, described, described_by, foreign_of, range_of}
-use Rattle.msi_schema.specs.Columns.{column_by, first_some, head_in, number_in, said_by, text_in, with_answer, with_category, with_choices, with_foreign, with_range}
+use Rattle.msi_schema.specs.Columns.{column_by, first_some, head_in, said_by, text_in, with_answer, with_category, with_choices, with_foreign, with_range}
 
 -- ---- rows of four values
-
-pub head_short : (ds : List Datum) → (length ds ≡ 4 → ⊥) → head_in ds ≡ None
-head_short [] few = refl
-head_short (a ∷ []) few = refl
-head_short (a ∷ b ∷ []) few = refl
-head_short (a ∷ b ∷ c ∷ []) few = refl
-head_short (a ∷ b ∷ c ∷ d ∷ []) few = absurd (few refl)
-head_short (a ∷ b ∷ c ∷ d ∷ e ∷ ds) few = refl
-
-pub head_parts : (ds : List Datum) → length ds ≡ 4 → head_in ds
-    ≡ option_and_then (λ _. option_and_then (λ _. option_and_then (λ t. option_map (λ z. (t, z)) (number_in (get_or ds 3 null))) (text_in (get_or ds 2 null))) (number_in (get_or ds 1 null))) (text_in (get_or ds 0 null))
-head_parts [] four = absurd (omega (arith, four))
-head_parts (a ∷ []) four = absurd (omega (arith, four))
-head_parts (a ∷ b ∷ []) four = absurd (omega (arith, four))
-head_parts (a ∷ b ∷ c ∷ []) four = absurd (omega (arith, four))
-head_parts (a ∷ b ∷ c ∷ d ∷ []) four = refl
-head_parts (a ∷ b ∷ c ∷ d ∷ e ∷ ds) four = absurd (omega (arith, four))
 
 -- ---- rows of ten values
 

@@ -9,7 +9,6 @@ use Rattle.cfb.specs.Streams.{FindsStream, FileHolds, IsStreamAt, bytes_found}
 use Rattle.cfb.specs.Streams as file
 use Rattle.cfb.specs.Views.{FileRests, FileShows, letters_in, links_held, mini_of}
 use Rattle.cfb.specs.declared.compound_file.CompoundFile.{CompoundFile}
-use Rattle.cfb_directory.specs.Taken.{HasSize}
 use Rattle.cfb_directory.specs.Views.{entries_held}
 use Rattle.cfb_entries.proofs.StreamsHeld.{StreamHeld, stream_held}
 use Rattle.cfb_entries.specs.Rules.{answer_at, names_in}
@@ -37,6 +36,7 @@ use Rattle.cfb_tree.specs.Names.{Letters}
 use Rattle.cfb_tree.specs.Objects.{HoldsTree}
 use Rattle.cfb_tree.specs.Paths.{Path}
 use Rattle.cfb_tree.specs.Tree.{Tree}
+use Rattle.cfb_tree.specs.Entries.{HasSize}
 use Rattle.msi_meaning.specs.Package.{objects, stream_at}
 use Rattle.msi_stored.proofs.Children.{some_of}
 use Rattle.msi_stored.specs.Shown.{Breaks, HasBytesOrBreaks, HoldsShown, ShowsTree, bytes_in}

@@ -7,7 +7,8 @@ use Rattle.std.proofs.lemmas.Grind.{flat_map-append}
 use Rattle.std.proofs.lemmas.List.Folds.{flat_map-map}
 use Rattle.cfb_medium.specs.declared.version.Version.TheVariants.{V4}
 use Rattle.cfb_medium.specs.Numbers.{pieces, all_pieces}
-use Rattle.cfb_tree.specs.Directory.{Entry, FitsEntry, entry_of, entries_of, entry_bytes, unused_entry}
+use Rattle.cfb_sectors.specs.Copies.{unused_entry}
+use Rattle.cfb_tree.specs.Directory.{Entry, FitsEntry, entry_of, entries_of, entry_bytes}
 use Rattle.cfb_tree.proofs.EntryRead.{length-entry_bytes, entry_again}
 use Rattle.cfb_tree.proofs.NamesRead.{all_append}
 

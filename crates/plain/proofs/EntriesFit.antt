@@ -11,9 +11,10 @@ use Rattle.cfb_tree.specs.Names.{name_units}
 use Rattle.cfb_tree.specs.Tree.{Facts}
 use Rattle.cfb_tree.specs.Directory.{FitsEntry, no_entry, greatest_entry, kind_stream}
 use Rattle.cfb_tree.proofs.NamesRead.{units_fit, all_append}
+use Rattle.cfb_tree.specs.Changes.{no_facts}
 use Rattle.plain.specs.Plans.{FitFacts}
 use Rattle.plain.specs.Runs.{run_start}
-use Rattle.plain.specs.WholeImage.{NamedStream, parts, is_short, no_facts, named_entry, right_of, stream_entries, counts, sum_of}
+use Rattle.plain.specs.WholeImage.{NamedStream, parts, is_short, named_entry, right_of, stream_entries, counts, sum_of}
 use Rattle.std.proofs.lemmas.Bool.{ltb-true}
 use Rattle.plain.proofs.Filled.{covers}
 use Rattle.plain.proofs.StreamsPlaced.{kept, left_out, short_or_long, entries_short, entries_long}

@@ -11,12 +11,14 @@ use Rattle.cfb_medium.specs.Numbers.{number_bytes}
 use Rattle.cfb_medium.proofs.WrittenNumbers.{length-number_bytes}
 use Rattle.cfb_sectors.specs.Header.{HeaderFields, header_bytes}
 use Rattle.cfb_sectors.specs.Sectors.{free}
+use Rattle.cfb_sectors.specs.Copies.{unused_entry}
 use Rattle.cfb_tree.specs.Names.{name_units}
 use Rattle.cfb_tree.specs.Tree.{Facts}
-use Rattle.cfb_tree.specs.Directory.{Entry, entry_bytes, unused_entry, kind_stream, no_entry}
+use Rattle.cfb_tree.specs.Directory.{Entry, entry_bytes, kind_stream, no_entry}
 use Rattle.cfb_tree.proofs.EntryRead.{length-units}
+use Rattle.cfb_tree.specs.Changes.{no_facts}
 use Rattle.plain.specs.Runs.{run_start}
-use Rattle.plain.specs.WholeImage.{NamedStream, Plan, AreFewShort, ShortImagesGrow, parts, filled, is_short, counts, sum_of, plan_of, fat_of, header_of, first_long_of, directory_of, named_entry, right_of, stream_entries, no_facts, image}
+use Rattle.plain.specs.WholeImage.{NamedStream, Plan, AreFewShort, ShortImagesGrow, parts, filled, is_short, counts, sum_of, plan_of, fat_of, header_of, first_long_of, directory_of, named_entry, right_of, stream_entries, image}
 use Rattle.plain.proofs.EntriesFit.{length-stream_entries}
 use Rattle.plain.proofs.Filled.{length-filled}
 use Rattle.plain.proofs.ImageParts.{whole}

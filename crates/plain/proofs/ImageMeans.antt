@@ -13,9 +13,10 @@ use Rattle.cfb_medium.proofs.WrittenNumbers.{numbers_again}
 use Rattle.cfb_sectors.specs.Header.{header_bytes, FitsHeader, HasFields, header_difat}
 use Rattle.cfb_sectors.specs.Sectors.{joined, AreInFile, Chain, greatest_regular, free, end_of_chain}
 use Rattle.cfb_sectors.proofs.HeaderLemmas.{header_read}
+use Rattle.cfb_sectors.specs.Copies.{unused_entry}
 use Rattle.cfb_tree.specs.Names.{Letters, name_cmp}
 use Rattle.cfb_tree.specs.Tree.{Facts, Tree, child_names, IsOrderedInside}
-use Rattle.cfb_tree.specs.Directory.{Entry, FitsEntry, entries_of, entry_of, entry_bytes, unused_entry, kind_root, no_entry}
+use Rattle.cfb_tree.specs.Directory.{Entry, FitsEntry, entries_of, entry_of, entry_bytes, kind_root, no_entry}
 use Rattle.cfb_tree.proofs.NamesRead.{all_append}
 use Rattle.cfb_meaning.specs.Means.{Layout, IsLaidOut, IsStrict, IsStrictlyOpenable, HasBytes, Means, fat, mini_fat, mini_stream, directory}
 use Rattle.plain.specs.Runs.{run, run_start, runs}

@@ -10,12 +10,13 @@ use Rattle.cfb_medium.specs.Numbers.{number_bytes}
 use Rattle.cfb_sectors.specs.Header.{HeaderFields, header_bytes, signature}
 use Rattle.cfb_sectors.specs.Sectors.{end_of_chain, free}
 use Rattle.cfb_tree.specs.Tree.{Facts}
-use Rattle.cfb_tree.specs.Directory.{Entry, entry_bytes, kind_root, no_entry, unused_entry}
+use Rattle.cfb_tree.specs.Directory.{Entry, entry_bytes, kind_root, no_entry}
 use Rattle.plain.specs.declared.plan.Plan.{Plan as MadePlan}
 use Rattle.plain.specs.Plans.{IsPlan, link_after}
 use Rattle.plain.specs.Runs.{run, run_start, runs}
 use Rattle.plain.specs.WholeImage.{NamedStream, Plan, counts, fat_of, filled, header_of, is_short, named_entry, right_of, directory_of, stream_entries, parts, plan_of, sum_of}
 use Rattle.cfb_sectors.proofs.Appending.{appended_2, appended_3, appended_4}
+use Rattle.cfb_sectors.specs.Copies.{unused_entry}
 use Rattle.plain.proofs.Plans.{directory_holds, long_counts_are, mini_count, mini_fat_parts, mini_stream_len, mini_stream_parts, fat_len, fat_parts}
 
 -- numbers appended in two parts

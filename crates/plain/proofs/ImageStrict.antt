@@ -4,8 +4,8 @@ use Rattle.std.specs.Prelude.{⊤, slice_get, Some, IfSome, Option}
 use Rattle.std.specs.List.{range_with_len, AllByRecursion}
 use Rattle.cfb_tree.specs.Tree.{Content, nothing, stream, storage}
 use Rattle.cfb_tree.specs.Directory.{Entry, Holds, red, black}
-use Rattle.cfb_meaning.specs.Means.{Layout, IsColored}
-use Rattle.cfb_tree.specs.Entries.{IsBlackAt}
+use Rattle.cfb_meaning.specs.Means.{Layout}
+use Rattle.cfb_tree.specs.Entries.{IsBlackAt, IsColored}
 use Rattle.plain.specs.WholeImage.{NamedStream}
 use Rattle.plain.proofs.StreamsPlaced.{ArePlaced}
 

@@ -12,7 +12,8 @@ use Rattle.cfb_meaning.specs.Means.{IsStrictlyOpenable, Means}
 use Rattle.cfb_medium.specs.Numbers.{number_bytes}
 use Rattle.cfb_sectors.specs.Header.{header_bytes}
 use Rattle.cfb_sectors.specs.Sectors.{free}
-use Rattle.cfb_tree.specs.Directory.{entry_bytes, unused_entry}
+use Rattle.cfb_sectors.specs.Copies.{unused_entry}
+use Rattle.cfb_tree.specs.Directory.{entry_bytes}
 use Rattle.cfb_tree.specs.Names.{name_cmp, name_units, Letters}
 use Rattle.cfb_tree.specs.Tree.{Facts}
 use Rattle.plain.specs.declared.image.NamedStream.{NamedStream as GivenStream}

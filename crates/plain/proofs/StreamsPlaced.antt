@@ -12,9 +12,10 @@ use Rattle.cfb_tree.specs.Names.{name_units}
 use Rattle.cfb_tree.specs.Tree.{Facts}
 use Rattle.cfb_tree.specs.Directory.{Entry, HasName, Siblings, none, some, Holds, no_entry, greatest_entry, kind_stream}
 use Rattle.cfb_tree.proofs.NamesRead.{units_spell}
+use Rattle.cfb_tree.specs.Changes.{no_facts}
 use Rattle.cfb_meaning.specs.Means.{Layout, HasBytes, fat, mini_fat, mini_stream}
 use Rattle.plain.specs.Runs.{run_start}
-use Rattle.plain.specs.WholeImage.{NamedStream, parts, is_short, no_facts, named_entry, right_of, stream_entries, content_of_streams}
+use Rattle.plain.specs.WholeImage.{NamedStream, parts, is_short, named_entry, right_of, stream_entries, content_of_streams}
 use Rattle.plain.proofs.StreamsHeld.{AreHeldShort, AreHeldLong, IsHeldShort, IsHeldLong, minis}
 
 -- the entry has the name

@@ -1,9 +1,11 @@
 //! Directory entries, written.
 ghost use Rattle.cfb_sectors.specs.Sectors.{end_of_chain};
-ghost use Rattle.cfb_tree.specs.Directory.{clsid_of, entry_bytes, no_entry, unused_entry};
+ghost use Rattle.cfb_sectors.specs.Copies.{unused_entry};
+ghost use Rattle.cfb_tree.specs.Directory.{clsid_of, entry_bytes, no_entry};
 ghost use Rattle.cfb_tree.specs.Names.{name_units};
+ghost use Rattle.cfb_tree.specs.Changes.{no_facts};
 ghost use Rattle.plain.specs.Views.{entry_view, facts_view};
-ghost use Rattle.plain.specs.WholeImage.{named_entry, no_facts};
+ghost use Rattle.plain.specs.WholeImage.{named_entry};
 ghost use Rattle.std.specs.Int.{to_le_bytes, w16, w32, w64};
 ghost use Rattle.std.specs.List.{flat_map, range_with_len};
 ghost use Rattle.std.specs.Prelude.{chars, length, replicate, IfOk, OnOk, ◌+◌, ◌++◌, ◌-◌, ◌≡◌, ◌≤◌, ◌∷◌};

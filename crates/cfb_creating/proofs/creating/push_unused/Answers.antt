@@ -1,7 +1,7 @@
 use Rattle.std.proofs.Common.{ap, ◌∙◌, ◌++◌}
-use Rattle.cfb_tree.specs.Directory.{unused_entry}
 use Rattle.cfb_creating.proofs.NewEntries.{copies_more}
 use Rattle.cfb_creating.proofs.creating.push_unused.Goals as goal
+use Rattle.cfb_sectors.specs.Copies.{unused_entry}
 
 pub loop-i-preserved : goal.loop-i-preserved
 loop-i-preserved c =

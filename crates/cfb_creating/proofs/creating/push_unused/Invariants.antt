@@ -1,6 +1,5 @@
 use Rattle.std.proofs.Common.{◌≡◌, ◌++◌}
-use Rattle.cfb_sectors.specs.Copies.{copies}
-use Rattle.cfb_tree.specs.Directory.{unused_entry}
+use Rattle.cfb_sectors.specs.Copies.{copies, unused_entry}
 use Rattle.cfb_creating.proofs.creating.push_unused.Given as goal
 
 abbrev pub invariant-loop-i : goal.invariant-loop-i

@@ -4,7 +4,7 @@ use Rattle.cfb_siblings.specs.Places.{path_of}
 use Rattle.cfb_tree.specs.Directory.{kind_stream}
 use Rattle.cfb_tree.specs.EntryViews.{entry_in}
 use Rattle.cfb_tree.specs.LetterViews.{letters_of}
-use Rattle.cfb_entries.specs.Holding.{HasSize}
+use Rattle.cfb_tree.specs.Entries.{HasSize}
 use Rattle.cfb_entries.specs.Rules.{answer_at}
 use Rattle.cfb_entries.proofs.Found.{found}
 use Rattle.cfb_entries.proofs.StreamsHeld.{is_kind, stream_held}

@@ -3,7 +3,8 @@ use Rattle.cfb_sectors.specs.declared.validation.Validation.{Validation}
 use Rattle.cfb_sectors.specs.declared.validation.Validation.TheVariants.{Permissive, Strict}
 use Rattle.cfb_tree.specs.Names.{Letters}
 use Rattle.cfb_tree.specs.Tree.{Tree}
-use Rattle.cfb_directory.specs.Taken.{HasAny, HasSize}
+use Rattle.cfb_tree.specs.Entries.{HasSize}
+use Rattle.cfb_directory.specs.Taken.{HasAny}
 use Rattle.cfb_meaning.specs.Means.{HasBytes, IsStrict, Layout, MeansBy}
 use Rattle.cfb_opening.specs.Opened.{CanOpen}
 use Rattle.cfb_opening.proofs.Readings.{bytes_have_size, means_less}

@@ -5,7 +5,8 @@ use Rattle.cfb_directory.proofs.EntrySizes.{sizes_same}
 use Rattle.cfb_sectors.specs.HeaderViews.{fields_of}
 use Rattle.cfb_sectors.specs.Sectors.{Chain}
 use Rattle.cfb_tree.specs.LetterViews.{letters_of}
-use Rattle.cfb_directory.specs.Taken.{HasSize, IsTakenAs}
+use Rattle.cfb_tree.specs.Entries.{HasSize}
+use Rattle.cfb_directory.specs.Taken.{IsTakenAs}
 use Rattle.cfb_directory.specs.Views as layer
 use Rattle.cfb_mini.specs.Views.{allocator_of, directory_of, mini_fat_ids, mini_stream_ids}
 use Rattle.cfb_opening.specs.Tables.{OnlyReads}

@@ -1,10 +1,10 @@
-use Rattle.cfb_siblings.specs.Changes.{IsColored}
 use Rattle.cfb_siblings.specs.Reading.{ReadBy}
 use Rattle.cfb_siblings.proofs.Lists.{all_map}
 use Rattle.cfb_siblings.proofs.Colors.{black_kept, colored_kept}
 use Rattle.cfb_siblings.proofs.Editing.{edited}
 use Rattle.std.specs.Prelude.{slice_set}
 use Rattle.cfb_siblings.proofs.laws.changed_entries_change_the_tree.Goals as goal
+use Rattle.cfb_tree.specs.Entries.{IsColored}
 
 pub returns-clause-tree : goal.returns-clause-tree
 returns-clause-tree c reads reads' letters directory tree path id e f change object h leads at found same is keep =

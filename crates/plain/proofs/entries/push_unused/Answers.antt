@@ -1,6 +1,6 @@
 use Rattle.std.proofs.Common.{replicate}
-use Rattle.cfb_tree.specs.Directory.{unused_entry}
 use Rattle.cfb_sectors.proofs.Appending.{appended_3}
+use Rattle.cfb_sectors.specs.Copies.{unused_entry}
 use Rattle.plain.proofs.AppendSteps.{parts_from_zero_more}
 use Rattle.plain.proofs.entries.push_unused.Goals as goal
 

@@ -1,6 +1,6 @@
 use Rattle.std.proofs.Common.{◌≡◌, ◌++◌}
 use Rattle.std.specs.List.{flat_map, range_with_len}
-use Rattle.cfb_tree.specs.Directory.{unused_entry}
+use Rattle.cfb_sectors.specs.Copies.{unused_entry}
 use Rattle.plain.proofs.entries.push_unused.Given as goal
 
 abbrev pub invariant-loop-i : goal.invariant-loop-i

@@ -1,10 +1,11 @@
 use Rattle.std.proofs.Common.{◌≡◌, ◌-◌, ◌*◌, ◌++◌, sym, arith, length}
 use Rattle.std.specs.List.{flat_map, range_with_len}
 use Rattle.std.proofs.lemmas.List.{length-map}
-use Rattle.cfb_tree.specs.Directory.{entry_bytes, unused_entry}
+use Rattle.cfb_tree.specs.Directory.{entry_bytes}
 use Rattle.plain.specs.Views.{facts_view, stream_view, stream_views}
 use Rattle.plain.specs.WholeImage.{directory_of, plan_of}
 use Rattle.cfb_sectors.proofs.Appending.{on_ok}
+use Rattle.cfb_sectors.specs.Copies.{unused_entry}
 use Rattle.plain.proofs.ImageSteps.{directory_room, directory_written, longs_made, minis_made}
 use Rattle.plain.proofs.image.push_directory.Goals as goal
 
