@@ -89,6 +89,7 @@ module _ {F : Type 0} {g : Ghosts F} where
             let told = (opened (so is)).opened in
             told.shows.version ∙ version_new v letters (g.bytes old) (g.bytes mid) (written is) (opened (so is)).layout told.means.laid_out;
         compared = named;
+        live = opens.live;
         honest = opens.honest ∙ same;
         continues = λ start from. opens.continues start (extends start from);
         bytes = λ is. opens.bytes (so is) ∙ written is;

@@ -1,7 +1,7 @@
 -- A file that was made over a medium ([MS-CFB] 2).
-use Rattle.std.specs.Prelude.{◌≡◌, ◌⊎◌, ℕ, ◌*◌, ◌≤◌, length, Bool, List, IsTrue}
+use Rattle.std.specs.Prelude.{◌≡◌, ◌⊎◌, ℕ, ◌*◌, ◌≤◌, false, length, Bool, List, IsTrue}
 use Rattle.cfb_creating.specs.NewFile.{empty_tree, new_file}
-use Rattle.cfb_fat.specs.Tables.{bytes_of, is_honest, medium_of, version_of}
+use Rattle.cfb_fat.specs.Tables.{bytes_of, has_failed_here, is_honest, medium_of, version_of}
 use Rattle.cfb_medium.specs.Bytes.{overwritten}
 use Rattle.cfb_medium.specs.Calls.{Extends, IsFaultUnless}
 use Rattle.cfb_medium.specs.Versions.{sector_len}
@@ -28,10 +28,11 @@ IsCreateFault {M} honest medium e = IsFaultUnless ⊥ e ⊎ ((e ≡ InvalidData)
 
 module _ {F : Type 0} {g : Ghosts F} where
   -- A NEW FILE over what the medium held: it holds the empty tree, and where the medium held no more bytes than a new file has, it
-  -- means that tree. Nothing was published.
+  -- means that tree. It has not failed, and nothing was published.
   pub record IsCreated (version : Version) (letters : Letters) (medium : F) (it : CompoundFile F g) : Type 0 where
     pub of_version : IsTrue (g.honest medium) → version_of (allocator_of (mini_of it)) ≡ version
     pub compared : letters_in it ≡ letters
+    pub live : has_failed_here (allocator_of (mini_of it)) ≡ false
     pub honest : is_honest (allocator_of (mini_of it)) ≡ g.honest medium
     pub continues : Extends g.continues medium (medium_of (allocator_of (mini_of it)))
     pub bytes : IsTrue (g.honest medium) → bytes_of (allocator_of (mini_of it)) ≡ overwritten (g.bytes medium) 0 (new_file version)
