@@ -1,5 +1,10 @@
 //! Values of properties.
-use cfb_medium::Timestamp;
+ghost use Rattle.cfb_medium.specs.declared.error.Error.TheVariants.{Memory};
+ghost use Rattle.msi_props.specs.Held.{property_in};
+ghost use Rattle.std.specs.Prelude.{◌≡◌, IfErr, IfOk};
+
+use cfb_medium::{Error, Timestamp};
+use std::alloc::Global;
 
 /// The value of a property.
 #[derive(Debug, PartialEq, Eq, Drop)]
@@ -18,4 +23,24 @@ pub enum PropertyValue {
     LpStr(String),
     /// A moment.
     FileTime(Timestamp),
+}
+
+impl PropertyValue {
+    /// A copy of its own. The one error is `Memory`.
+    pub fn clone(&self, alloc: Global) -> Result<PropertyValue, Error>
+        ensures value { IfOk result (λ v. property_in v ≡ property_in self.now) }
+        ensures kinds { IfErr result (λ e. e ≡ Memory) }
+    {
+        match self {
+            PropertyValue::Empty => Ok(PropertyValue::Empty),
+            PropertyValue::Null => Ok(PropertyValue::Null),
+            PropertyValue::I1(number) => Ok(PropertyValue::I1(*number)),
+            PropertyValue::I2(number) => Ok(PropertyValue::I2(*number)),
+            PropertyValue::I4(number) => Ok(PropertyValue::I4(*number)),
+            PropertyValue::LpStr(text) => {
+                Ok(PropertyValue::LpStr(String::from_str(alloc, text.as_str())?))
+            }
+            PropertyValue::FileTime(moment) => Ok(PropertyValue::FileTime(*moment)),
+        }
+    }
 }
