@@ -154,13 +154,6 @@ impl SummaryInfo {
         Ok(SummaryInfo { alloc, properties })
     }
 
-    /// The numbers and values of all its properties; the numbers rise.
-    pub fn properties(&self) -> &[(u32, PropertyValue)]
-        ensures { map pair_in result.now ≡ self.now.props.values }
-    {
-        self.properties.properties()
-    }
-
     /// Appends the summary. InvalidInput where it would take 2^32 - 1 bytes or more. After an error, which may also be Memory,
     /// nothing is appended.
     pub fn write(&self, writer: &mut Vec<u8>) -> Result<(), Error>
