@@ -57,15 +57,22 @@ module _ (letters : Letters) (P : Packed) (usable : may_use letters ≡ true) (n
         ap (λ os. stream_at letters os summary_name) put.objects
         ∙ ap (option_and_then object_bytes) (put_beside letters (stream_name t.name) bytes summary_name (summary_apart letters usable t.name own_identifier) (objects old.content))
 
+    pub pool_beside : table_stream letters (objects new.content) pool_name ≡ table_stream letters (objects old.content) pool_name
+    pool_beside =
+        beside pool_name (tables_apart letters usable pool_name t.name refl own_identifier (λ same. not_true (bytes_eq t.name pool_name) (free_parts t.name own_free).1 (subst (λ n. bytes_eq n pool_name ≡ true) same refl)))
+
+    pub data_beside : table_stream letters (objects new.content) data_name ≡ table_stream letters (objects old.content) data_name
+    data_beside =
+        beside data_name (tables_apart letters usable data_name t.name refl own_identifier (λ same. not_true (bytes_eq t.name data_name) (free_parts t.name own_free).2 (subst (λ n. bytes_eq n data_name ≡ true) same refl)))
+
     pub pool_after : (held : Pool) → HasPool letters old held → HasPool letters new held
-    pool_after held has =
-        let free = free_parts t.name own_free in record {
-          pool_bytes = has.pool_bytes;
-          data_bytes = has.data_bytes;
-          pool_at = beside pool_name (tables_apart letters usable pool_name t.name refl own_identifier (λ same. not_true (bytes_eq t.name pool_name) free.1 (subst (λ n. bytes_eq n pool_name ≡ true) same refl))) ∙ has.pool_at;
-          data_at = beside data_name (tables_apart letters usable data_name t.name refl own_identifier (λ same. not_true (bytes_eq t.name data_name) free.2 (subst (λ n. bytes_eq n data_name ≡ true) same refl))) ∙ has.data_at;
-          pooled = has.pooled;
-        }
+    pool_after held has = record {
+      pool_bytes = has.pool_bytes;
+      data_bytes = has.data_bytes;
+      pool_at = pool_beside ∙ has.pool_at;
+      data_at = data_beside ∙ has.data_at;
+      pooled = has.pooled;
+    }
 
     pub summary_after : (summary : Props) → HasSummary letters old summary → HasSummary letters new summary
     summary_after summary has = record {

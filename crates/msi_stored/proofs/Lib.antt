@@ -1,3 +1,4 @@
 pub mod Children
+pub mod Kept
 pub mod Later
 pub mod StoredLaws

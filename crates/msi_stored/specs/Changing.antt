@@ -13,13 +13,11 @@ use Rattle.cfb_mini.specs.Views.{allocator_of}
 use Rattle.cfb_tree.specs.Names.{Letters}
 use Rattle.cfb_tree.specs.Tree.{Tree}
 use Rattle.msi_meaning.specs.Opening.{may_use}
-use Rattle.msi_meaning.specs.Package.{Packed}
+use Rattle.msi_meaning.specs.Package.{Packed, data_name, objects, pool_name, stream_at, summary_name, table_stream}
 use Rattle.msi_meaning.specs.SoundParts.{IsNamed}
-use Rattle.msi_meaning.specs.Split.{HasPool, HasSummary, Stores}
+use Rattle.msi_meaning.specs.Split.{Stores}
 use Rattle.msi_meaning.specs.Uses.{TextsAreCounted}
-use Rattle.msi_pool.specs.Pool.{Pool}
 use Rattle.msi_pool.specs.PoolKept.{AreFreeEmpty}
-use Rattle.msi_props.specs.Props.{Props}
 
 -- THE TREE STORES A SOUND PACKAGE, but for pool and summary, which memory may have ahead of their streams
 pub record StoresSound (letters : Letters) (tree : Tree) (P : Packed) : Type 0 where
@@ -29,10 +27,11 @@ pub record StoresSound (letters : Letters) (tree : Tree) (P : Packed) : Type 0 w
   pub free : AreFreeEmpty P.pool.places
   pub named : IsNamed letters P
 
--- whatever the streams of pool and summary hold they hold still
+-- the streams of pool and summary stay as they were
 pub record KeepsParts (letters : Letters) (old new : Tree) : Type 0 where
-  pub pool : (pool : Pool) → HasPool letters old pool → HasPool letters new pool
-  pub summary : (summary : Props) → HasSummary letters old summary → HasSummary letters new summary
+  pub pool : table_stream letters (objects new.content) pool_name ≡ table_stream letters (objects old.content) pool_name
+  pub pool_data : table_stream letters (objects new.content) data_name ≡ table_stream letters (objects old.content) data_name
+  pub summary : stream_at letters (objects new.content) summary_name ≡ stream_at letters (objects old.content) summary_name
 
 -- what a call makes of a package, and what it answers
 abbrev pub PackageRule : Type 1

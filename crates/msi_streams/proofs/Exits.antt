@@ -113,7 +113,7 @@ module _ {F : Type 0} {g : Ghosts F} where
       rule_rests accepts = record {
         failed = λ failed. was_live failed;
         unsound = λ live unsound. was_sound unsound;
-        done = λ tree P m s. record { next = P; after = tree; answered = accepts tree P m s; means = m; stores = s; keeps = record { pool = λ pool h. h; summary = λ summary h. h } };
+        done = λ tree P m s. record { next = P; after = tree; answered = accepts tree P m s; means = m; stores = s; keeps = record { pool = refl; pool_data = refl; summary = refl } };
         refused = tt;
         rests = tt;
         seen = (refl, refl, refl);

@@ -13,11 +13,11 @@ use Rattle.cfb_tree.specs.Tree.{child_names, Tree}
 use Rattle.msi_meaning.specs.Package.{Packed, at_name, is_stream, objects, summary_name}
 use Rattle.msi_meaning.specs.Streams.{stream_put, without_stream}
 use Rattle.msi_meaning.proofs.UnderRoot.{at_path}
-use Rattle.msi_stored.specs.Changing.{KeepsParts, PackageRule, StoresSound}
+use Rattle.msi_stored.specs.Changing.{PackageRule, StoresSound}
 use Rattle.msi_texts.specs.StreamName.{is_marked}
 use Rattle.msi_streams.proofs.Changes.{put_differs, put_streams, put_unmarked, put_where_none, put_where_one, taken_differs, taken_from, taken_streams, taken_unmarked, IsUnmarked}
 use Rattle.msi_streams.proofs.Exits.{Accepts}
-use Rattle.msi_streams.proofs.Stored.{is_kept, named_yet, pool_yet, stores_yet, summary_yet, Differs}
+use Rattle.msi_streams.proofs.Stored.{is_kept, named_yet, parts_yet, stores_yet, Differs}
 
 module _ (letters : Letters) (tree : Tree) (name : List ℕ) (rising : IsStrictlySortedBy (name_cmp letters) (child_names tree.content)) (P : Packed) (s : StoresSound letters tree P)
     (plain : is_marked name ≡ false) (other : is_same_name letters summary_name name ≡ false) where
@@ -30,9 +30,6 @@ module _ (letters : Letters) (tree : Tree) (name : List ℕ) (rising : IsStrictl
     free = s.free;
     named = named_yet letters s.usable name plain other tree new d P streams s.named unmarked;
   }
-
-  parts_yet : (new : Tree) → Differs letters name tree new → KeepsParts letters tree new
-  parts_yet new d = record { pool = pool_yet letters s.usable name plain other tree new d; summary = summary_yet letters s.usable name plain other tree new d }
 
   module _ (rule : PackageRule) where
     -- ---- a stream is put where no storage stands
@@ -48,7 +45,7 @@ module _ (letters : Letters) (tree : Tree) (name : List ℕ) (rising : IsStrictl
             answered = answered;
             stores = sound_yet new d (stream_put letters name bytes P.streams) (put_streams letters name tree rising new root s.usable plain other P bytes put streams s.stores.streams)
                 (put_unmarked letters name bytes plain P.streams s.named.no_strays);
-            keeps = parts_yet new d;
+            keeps = parts_yet letters s.usable name plain other tree new d;
           }
 
       pub put_accepts : Accepts rule letters tree P (putting bytes letters tree (name ∷ []))
@@ -81,7 +78,7 @@ module _ (letters : Letters) (tree : Tree) (name : List ℕ) (rising : IsStrictl
             next = record P { streams = without_stream letters name P.streams };
             answered = answered;
             stores = sound_yet new d (without_stream letters name P.streams) (taken_streams letters name tree rising new refl is P s.stores.streams) (taken_unmarked letters name P.streams s.named.no_strays);
-            keeps = parts_yet new d;
+            keeps = parts_yet letters s.usable name plain other tree new d;
           }
         where
           of_stream : (o : Object) → is_stream o ≡ true → on_stream tree (λ b. (removed letters (name ∷ []) tree, done)) (Some o) ≡ (removed letters (name ∷ []) tree, done)

@@ -10,9 +10,8 @@ use Rattle.msi_columns.specs.Column.{Column}
 use Rattle.msi_meaning.specs.Opening.{may_use}
 use Rattle.msi_meaning.specs.Package.{Packed, at_name, data_name, has_slash, is_own, is_stream, object_bytes, objects, pool_name, stream_name, summary_name, table_stream}
 use Rattle.msi_meaning.specs.SoundParts.{IsNamed}
-use Rattle.msi_meaning.specs.Split.{HasPool, HasSummary, Stores}
-use Rattle.msi_pool.specs.Pool.{Pool}
-use Rattle.msi_props.specs.Props.{Props}
+use Rattle.msi_meaning.specs.Split.{Stores}
+use Rattle.msi_stored.specs.Changing.{KeepsParts}
 use Rattle.msi_tables.specs.Rows.{Row, kinds_of, rows_of}
 use Rattle.msi_tables.specs.Schema.{validation_columns, validation_name}
 use Rattle.msi_tables.specs.Table.{Table}
@@ -71,21 +70,12 @@ module _ (letters : Letters) (may : may_use letters ≡ true) (name : List ℕ) 
       tables_yet : (table : List ℕ) → table_stream letters (objects new.content) table ≡ table_stream letters (objects old.content) table
       tables_yet table = ap (λ o. cond (has_slash table) None (option_and_then object_bytes o)) (d.others (stream_name table) (marked_differs (stream_name table) refl))
 
-      pub pool_yet : (pool : Pool) → HasPool letters old pool → HasPool letters new pool
-      pool_yet pool h = record {
-        pool_bytes = h.pool_bytes;
-        data_bytes = h.data_bytes;
-        pool_at = tables_yet pool_name ∙ h.pool_at;
-        data_at = tables_yet data_name ∙ h.data_at;
-        pooled = h.pooled;
-      }
-
-      pub summary_yet : (summary : Props) → HasSummary letters old summary → HasSummary letters new summary
-      summary_yet summary h = record {
-        summary_bytes = h.summary_bytes;
-        summary_at = ap (option_and_then object_bytes) (d.others summary_name other) ∙ h.summary_at;
-        read = h.read;
-        of_kind = h.of_kind;
+      -- so are those of pool and summary
+      pub parts_yet : KeepsParts letters old new
+      parts_yet = record {
+        pool = tables_yet pool_name;
+        pool_data = tables_yet data_name;
+        summary = ap (option_and_then object_bytes) (d.others summary_name other);
       }
 
       abbrev read_by : Bool → List Column → Option (List ℕ) → Option (List Row)

@@ -101,7 +101,7 @@ module _ {F : Type 0} {g : Ghosts F} (first : Packed → Packed) where
             answered = (refl, q.answered.1 ∙ ap second p.answered.1);
             means = q.means;
             stores = subst (λ l. StoresSound l q.after q.next) a.seen.0 q.stores;
-            keeps = record { pool = λ pool has. keeps.pool pool (p.keeps.pool pool has); summary = λ summary has. keeps.summary summary (p.keeps.summary summary has) };
+            keeps = record { pool = keeps.pool ∙ p.keeps.pool; pool_data = keeps.pool_data ∙ p.keeps.pool_data; summary = keeps.summary ∙ p.keeps.summary };
           };
       refused = tt;
       rests = tt;
