@@ -6,3 +6,4 @@ pub mod Laid
 pub mod Made
 pub mod Prepared
 pub mod Steps
+pub mod Writable

@@ -12,12 +12,15 @@ use Rattle.msi_meaning.specs.declared.kind.PackageType.{PackageType}
 use Rattle.msi_meaning.specs.declared.kind.PackageType.TheVariants.{Installer}
 use Rattle.msi_parts.specs.Parts.{heading}
 use Rattle.msi_pool.specs.Pool.{Pool}
+use Rattle.msi_pool.specs.PoolKept.{IsWritable}
 use Rattle.msi_pool.specs.PoolState.{PoolState}
+use Rattle.msi_props.specs.Kept.{SetIsWritable}
 use Rattle.msi_props.specs.Props.{Props}
 use Rattle.msi_rewritten.specs.Rewriting.{HasPut}
 use Rattle.msi_store.specs.Stores.{file_in, tables_in}
 use Rattle.msi_store.specs.declared.store.Store.{Store}
 use Rattle.msi_stored.specs.Changing.{StoresSound}
+use Rattle.msi_summary.specs.Summary.{summary_format}
 use Rattle.msi_tables.specs.Rows.{kinds_of, rows_bytes, Row}
 use Rattle.msi_tables.specs.Schema.{columns_columns, columns_name, tables_columns, tables_name, validation_columns, validation_name}
 use Rattle.msi_tables.specs.Table.{Heading, IsStoredByKeys}
@@ -61,6 +64,13 @@ IsCounted pool c t v = (kind : PackageType) → described (bare_package kind) va
 -- the three tables without their rows
 abbrev pub system_headings : List Heading
 system_headings = map (heading false) (bare_package Installer).tables
+
+-- pool and summary of a package come back from their streams
+pub record PartsComeBack (P : Packed) : Type 0 where
+  pub pool : IsWritable P.pool
+  pub summary : SetIsWritable P.summary
+  pub one_section : P.summary.sections ≡ 1
+  pub format : P.summary.format ≡ summary_format
 
 module _ {F : Type 0} {g : Ghosts F} where
   -- the file means a tree that got the identifier and the streams

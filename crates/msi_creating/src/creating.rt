@@ -1,13 +1,14 @@
 //! New packages in new compound files.
-ghost use Rattle.std.specs.Prelude.{◌≡◌, [], true, IfErr, IfOk, OnErr, OnOk};
+ghost use Rattle.std.specs.Prelude.{◌≡◌, [], false, true, IfErr, IfOk, OnErr, OnOk};
 ghost use Rattle.cfb.specs.Doing.{FileMeans};
 ghost use Rattle.cfb.specs.Views.{letters_in, mini_of, sound_of};
-ghost use Rattle.cfb_fat.specs.Tables.{HasCauseBelow};
+ghost use Rattle.cfb_fat.specs.Tables.{has_failed_here, HasCauseBelow};
 ghost use Rattle.cfb_live.specs.Doing.{IsFault};
 ghost use Rattle.cfb_mini.specs.Views.{allocator_of};
 ghost use Rattle.cfb_owned.specs.Chains.{GoesOn};
 ghost use Rattle.cfb_tree.specs.Tree.{Tree};
 ghost use Rattle.msi_creating.specs.New.{IsNewPackage, LaysDown};
+ghost use Rattle.msi_edits.specs.Edited.{IsEditError};
 ghost use Rattle.msi_meaning.specs.Opening.{may_use};
 ghost use Rattle.msi_meaning.specs.Package.{class_of, objects};
 
@@ -43,8 +44,11 @@ pub fn create_package<F: Medium>(
         → IsNewPackage kind it.store it.pool it.summary.props) }
     ensures seen { IfOk result (λ it. (letters_in it.store.file ≡ letters_in file)
         × (sound_of it.store.file ≡ true)) }
+    ensures live { IfOk result (λ it.
+        has_failed_here (allocator_of (mini_of it.store.file)) ≡ false) }
     ensures fault { IfErr result (λ e. (tree : Tree) → FileMeans file tree
         → objects tree.content ≡ [] → IsFault e.1) }
+    ensures kinds { IfErr result (λ e. IsEditError e.1) }
     ensures goes_on { IfOk result (λ it. GoesOn (allocator_of (mini_of file))
         (allocator_of (mini_of it.store.file))) }
     ensures left { IfErr result (λ e. GoesOn (allocator_of (mini_of file))
@@ -96,8 +100,10 @@ fn lay_down<F: Medium>(
         parts.now.tables_bytes.items parts.now.validation_bytes.items file.old file.new) }
     ensures seen { OnOk result ((letters_in file.new ≡ letters_in file.old)
         × (sound_of file.new ≡ true)) }
+    ensures live { OnOk result (has_failed_here (allocator_of (mini_of file.new)) ≡ false) }
     ensures fault { IfErr result (λ e. (tree : Tree) → FileMeans file.old tree
         → objects tree.content ≡ [] → IsFault e) }
+    ensures kinds { IfErr result IsEditError }
     ensures goes_on { GoesOn (allocator_of (mini_of file.old)) (allocator_of (mini_of file.new)) }
     ensures cause { IfErr result (HasCauseBelow (allocator_of (mini_of file.old))
         (allocator_of (mini_of file.new))) }

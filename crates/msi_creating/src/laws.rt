@@ -2,10 +2,11 @@
 ghost use Rattle.std.specs.Prelude.{◌≡◌, false, true, ℕ, List, Ok, Some};
 ghost use Rattle.cfb_tree.specs.Names.{Letters};
 ghost use Rattle.cfb_tree.specs.Tree.{Tree};
-ghost use Rattle.msi_creating.specs.New.{new_package, IsLaidDown};
+ghost use Rattle.msi_creating.specs.New.{new_package, IsLaidDown, PartsComeBack};
 ghost use Rattle.msi_meaning.specs.Back.{ComeBack};
-ghost use Rattle.msi_meaning.specs.Calls.{bare_package, described, Rows3};
+ghost use Rattle.msi_meaning.specs.Calls.{bare_package, described, IsNew, Rows3};
 ghost use Rattle.msi_meaning.specs.Opening.{may_use};
+ghost use Rattle.msi_meaning.specs.Package.{Packed};
 ghost use Rattle.msi_meaning.specs.declared.kind.PackageType.{PackageType};
 ghost use Rattle.msi_pool.specs.Pool.{Pool};
 ghost use Rattle.msi_stored.specs.Changing.{StoresSound};
@@ -33,4 +34,9 @@ pub fn new_packages_are_stored()
         → IsStoredByKeys x.1 validation_columns x.0.2 v
         → ComeBack false columns_columns c × ComeBack false tables_columns t
         × ComeBack false validation_columns v }
+{}
+
+/// Pool and summary of a new package come back from their streams.
+pub fn new_parts_come_back()
+    ensures { (kind : PackageType) (P : Packed) → IsNew kind P → PartsComeBack P }
 {}

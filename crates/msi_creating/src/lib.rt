@@ -7,4 +7,5 @@ mod preparing;
 mod rows;
 
 pub use creating::{NewPackage, create_package};
-pub use laws::new_packages_are_stored;
+pub use laws::{new_packages_are_stored, new_parts_come_back};
+pub use rows::{columns_rows, validation_rows};

@@ -13,7 +13,7 @@ use msi_values::Value;
 use std::alloc::Global;
 
 /// The rows of _Columns that describe a table with these columns, at most 32. The one error is `Memory`.
-pub(crate) fn columns_rows(
+pub fn columns_rows(
     alloc: Global,
     table: &str,
     columns: &[Column],
@@ -53,7 +53,7 @@ fn columns_row(
 }
 
 /// The rows of _Validation that describe a table with these columns. The one error is `Memory`.
-pub(crate) fn validation_rows(
+pub fn validation_rows(
     alloc: Global,
     table: &str,
     columns: &[Column],

@@ -38,7 +38,7 @@ use Rattle.msi_rewritten.proofs.Before.{uses_before}
 use Rattle.msi_rewritten.proofs.Counted.{counted_after}
 use Rattle.msi_rewritten.proofs.Edited.{delete_rewrites, deleted_come_back, update_rewrites, updated_come_back}
 use Rattle.msi_rewritten.proofs.Inserted.{insert_rewrites, inserted_come_back}
-use Rattle.msi_rewritten.proofs.Put.{pool_after, summary_after}
+use Rattle.msi_rewritten.proofs.Put.{data_beside, pool_beside, summary_beside}
 use Rattle.msi_rewritten.proofs.Stored.{found_at, named_after, stores_after}
 use Rattle.msi_rewritten.proofs.Tables.{columns_kept, name_kept}
 use Rattle.msi_edits.specs.Asked.{deleting, inserting, rows_after, rule_of, updating, IsPrepared, IsStoredFor, RowsAsked}
@@ -211,8 +211,9 @@ module _ {F : Type 0} {g : Ghosts F} (old new : CompoundFile F g) (tree : Tree) 
               named = named_after letters tree next P s.usable s.named s.stores k t i.stored after.pool rewriting;
             };
             keeps = record {
-              pool = λ held has. pool_after letters P s.usable s.named k t at tree next bytes put_there held has;
-              summary = λ summary has. summary_after letters P s.usable s.named k t at tree next bytes put_there summary has;
+              pool = pool_beside letters P s.usable s.named k t at tree next bytes put_there;
+              pool_data = data_beside letters P s.usable s.named k t at tree next bytes put_there;
+              summary = summary_beside letters P s.usable s.named k t at tree next bytes put_there;
             };
           };
           pool = refl;

@@ -6,3 +6,4 @@ pub mod Listed
 pub mod Prepared
 pub mod PutTable
 pub mod Refusals
+pub mod Joined

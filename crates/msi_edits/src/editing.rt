@@ -230,8 +230,8 @@ pub fn delete_rows<F: Medium>(
     edit(alloc, store, pool, name, &RowsQuery::Delete(delete))
 }
 
-// Refuses to change a file: `Failed` after an earlier fault; then `InvalidData` where the file isn't sound.
-fn check_changeable<F: ReadMedium>(file: &CompoundFile<F>) -> Result<(), Error>
+/// Refuses to change a file: `Failed` after an earlier fault; then `InvalidData` where the file isn't sound.
+pub fn check_changeable<F: ReadMedium>(file: &CompoundFile<F>) -> Result<(), Error>
     ensures open { OnOk result ((has_failed_here (allocator_of (mini_of file.now)) ≡ false)
         × (sound_of file.now ≡ true)) }
     ensures refused { IfErr result (λ e. ((e ≡ Failed)

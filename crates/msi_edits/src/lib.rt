@@ -8,5 +8,5 @@ mod query;
 mod system_rows;
 mod writing;
 
-pub use editing::{delete_rows, insert_rows, update_rows};
-pub use system_rows::{bytes_by_keys, put_table_bytes};
+pub use editing::{check_changeable, delete_rows, insert_rows, update_rows};
+pub use system_rows::{bytes_by_keys, bytes_with_new_rows, put_table_bytes};

@@ -1,5 +1,6 @@
 //! Streams of tables: the bytes of rows listed by their keys, and bytes that are put.
-ghost use Rattle.std.specs.Prelude.{◌≡◌, false, IfErr, IfOk, OnOk};
+ghost use Rattle.std.specs.Prelude.{◌≡◌, ◌++◌, false, map, All, IfErr, IfOk, IsTrue, OnOk};
+ghost use Rattle.std.specs.List.{list_all};
 ghost use Rattle.cfb.specs.Views.{mini_of};
 ghost use Rattle.cfb_fat.specs.Tables.{has_failed_here, HasCauseBelow};
 ghost use Rattle.cfb_medium.specs.declared.error.Error.TheVariants.{Memory};
@@ -8,15 +9,19 @@ ghost use Rattle.cfb_owned.specs.Chains.{GoesOn};
 ghost use Rattle.msi_edits.specs.Edited.{IsEditError, PutsTable};
 ghost use Rattle.msi_edits.specs.Asked.{IsWrittenByKeys};
 ghost use Rattle.msi_tables.specs.Held.{heading_of, rows_held};
-ghost use Rattle.msi_tables.specs.Rows.{AreWritable};
+ghost use Rattle.msi_pool.specs.Pool.{Pool};
+ghost use Rattle.msi_tables.specs.Rows.{has_place, AreWritable};
+ghost use Rattle.msi_tables.specs.Table.{row_data};
+ghost use Rattle.msi_values.specs.Datum.{data_of};
 
-use crate::listing::{rows_in_order, stored_values};
-use crate::writing::bytes_of_table;
+use crate::listing::{rows_in_order, stored_values, with_new_values};
+use crate::writing::{bytes_of_table, have_places};
 use cfb::CompoundFile;
 use cfb_medium::{Error, Medium};
 use msi_pool::{StringPool, ValueRef};
 use msi_tables::Table;
 use msi_texts::encode;
+use msi_values::Value;
 use std::alloc::Global;
 
 /// The bytes of a table's stream that holds these rows, listed by their keys and then in the stored order. The one error is `Memory`.
@@ -35,6 +40,40 @@ pub fn bytes_by_keys(
     let values = stored_values(alloc, pool, &rows)?;
     let rows = rows_in_order(alloc, table.columns(), values, rows)?;
     match bytes_of_table(alloc, table, rows) {
+        Err(error) => Err(error),
+        Ok(bytes) => Ok(bytes),
+    }
+}
+
+/// The bytes of a table's stream that holds these rows and cells of new ones behind them, listed by their keys and then in the stored
+/// order, in each pool in which the old rows are read as in this one and the new ones as these values. Each text of theirs has a place
+/// that three bytes hold. The one error is `Memory`.
+pub fn bytes_with_new_rows(
+    alloc: Global,
+    table: &Table,
+    pool: &StringPool,
+    rows: Vec<Vec<ValueRef>>,
+    cells: Vec<Vec<ValueRef>>,
+    new_rows: &[Vec<Value>],
+) -> Result<Vec<u8>, Error>
+    requires { AreWritable (heading_of table.now).long (heading_of table.now).columns
+        (rows_held rows.items ++ rows_held cells.items) }
+    ensures ok { IfOk result (λ bytes. (next : Pool) → map (row_data next) (rows_held rows.items ++ rows_held cells.items)
+        ≡ map (row_data pool.now.pool) (rows_held rows.items) ++ map (λ row. data_of row.items) new_rows.now
+        → IsWrittenByKeys next (heading_of table.now).long (heading_of table.now).columns
+        (rows_held rows.items ++ rows_held cells.items) bytes.items) }
+    ensures places { IfOk result (λ bytes. All (λ row. IsTrue (list_all has_place row))
+        (rows_held rows.items ++ rows_held cells.items)) }
+    ensures err { IfErr result (λ e. e ≡ Memory) }
+{
+    let old_values = stored_values(alloc, pool, &rows)?;
+    let values = with_new_values(alloc, old_values, new_rows)?;
+    let mut joined = rows;
+    let mut behind = cells;
+    joined.append(&mut behind)?;
+    have_places(&joined);
+    let listed = rows_in_order(alloc, table.columns(), values, joined)?;
+    match bytes_of_table(alloc, table, listed) {
         Err(error) => Err(error),
         Ok(bytes) => Ok(bytes),
     }

@@ -152,8 +152,8 @@ pub(crate) fn bytes_of_table(
     }
 }
 
-// Each text of rows in memory has a place that three bytes hold.
-fn have_places(rows: &[Vec<ValueRef>])
+/// Each text of rows in memory has a place that three bytes hold.
+pub(crate) fn have_places(rows: &[Vec<ValueRef>])
     ensures { list_all (λ row. list_all has_place row.items) rows.now ≡ true }
 {
     for row in rows {

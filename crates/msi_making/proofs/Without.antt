@@ -11,7 +11,7 @@ module _ (name : List ℕ) where
   abbrev other : Table → Bool
   other u = not (bytes_eq u.name name)
 
-  names_left : (ts : List Table) → map (λ u. u.name) (filter other ts) ≡ filter (λ n. not (bytes_eq n name)) (map (λ u. u.name) ts)
+  pub names_left : (ts : List Table) → map (λ u. u.name) (filter other ts) ≡ filter (λ n. not (bytes_eq n name)) (map (λ u. u.name) ts)
   names_left [] = refl
   names_left (u ∷ us) = by (other u) (names_left us)
     where

@@ -1,6 +1,17 @@
-//! What becomes of the tables of a package where one is made or dropped.
+//! What becomes of the tables of a package where one is made or dropped, and the call that drops one.
 #![tactic(auto)]
 
+mod created;
+mod dropped;
+mod dropping;
 mod laws;
+mod placing;
+mod putting;
+mod remaining;
+mod replacing;
+mod testing;
 
+pub use created::new_tables_are_stored;
+pub use dropped::dropped_packages_are_stored;
+pub use dropping::drop_table;
 pub use laws::{dropped_tables_are_gone, new_tables_are_among_the_others};

@@ -1,4 +1,4 @@
-use Rattle.std.proofs.Common.{◌≡◌, ◌∙◌, ap, refl, subst}
+use Rattle.std.proofs.Common.{◌≡◌, ◌∙◌, ⊎_elim, ap, inl, inr, refl, subst}
 use Rattle.cfb.specs.Views.{letters_in, mini_of}
 use Rattle.cfb_mini.specs.Views.{allocator_of}
 use Rattle.cfb_owned.proofs.GoingOn.{goes_cause, goes_then}
@@ -10,6 +10,10 @@ use Rattle.msi_creating.proofs.creating.lay_down.Goals as goal
 
 pub returns-in-Err-clause-fault : goal.returns-in-Err-clause-fault
 returns-in-Err-clause-fault g c = λ tree means none. start_fault (letters_in c.args.file.now) c.class_of.result c.args.file.now c.set_storage_clsid.new.self refl c.in-Err.error c.in-Err.ensures.does tree means
+
+pub returns-in-Err-clause-kinds : goal.returns-in-Err-clause-kinds
+returns-in-Err-clause-kinds g c =
+    ⊎_elim (λ fault. inl fault) (λ refused. inr (inl (inl (⊎_elim (λ missing. inr (inr missing)) (⊎_elim (λ input. inr (inl input)) (λ broken. inl broken)) refused)))) c.in-Err.ensures.answers.fault
 
 pub returns-in-Err-put_table_bytes-clause-fault : goal.returns-in-Err-put_table_bytes-clause-fault
 returns-in-Err-put_table_bytes-clause-fault g c = λ tree means none.

@@ -1,0 +1,77 @@
+-- The three tables that describe others, as memory has them.
+use Rattle.std.proofs.Common.{◌≡◌, ◌∙◌, ℕ, Bool, true, false, cond, List, [], ◌∷◌, map, refl, sym, ap, subst, Option, Some, None, option_map}
+use Rattle.std.specs.Prelude.{bytes_eq, unwrap_or}
+use Rattle.cfb_tree.specs.Names.{Letters}
+use Rattle.cfb_tree.specs.Tree.{Tree}
+use Rattle.cfb_tree.proofs.OneContent.{Some_same}
+use Rattle.msi_columns.specs.Column.{Column}
+use Rattle.msi_meaning.specs.Calls.{own_columns, stored_rows}
+use Rattle.msi_meaning.specs.Package.{objects, table_stream, Packed}
+use Rattle.msi_parts.specs.Judged.{heading_named}
+use Rattle.msi_parts.specs.Parts.{heading}
+use Rattle.msi_stored.specs.Changing.{StoresSound}
+use Rattle.msi_stored.specs.Stored.{rows_in}
+use Rattle.msi_tables.specs.Rows.{kinds_of, rows_of, Row}
+use Rattle.msi_tables.specs.Schema.{columns_columns, columns_name, tables_columns, tables_name, validation_name}
+use Rattle.msi_tables.specs.Table.{table_named, Heading, Table}
+use Rattle.msi_making.proofs.CreatedFrom.{of_columns, of_tables}
+use Rattle.msi_making.proofs.Holding.{holding, is_there, there_has, IsThere}
+use Rattle.msi_rewritten.proofs.Stored.{found_at}
+
+named_heading : (long : Bool) (ts : List Table) (name : List ℕ) → heading_named (map (heading long) ts) name ≡ option_map (heading long) (table_named ts name)
+named_heading long [] name = refl
+named_heading long (t ∷ ts) name = by (bytes_eq t.name name) (named_heading long ts name)
+  where
+    by : (b : Bool) → heading_named (map (heading long) ts) name ≡ option_map (heading long) (table_named ts name)
+        → cond b (Some (heading long t)) (heading_named (map (heading long) ts) name) ≡ option_map (heading long) (cond b (Some t) (table_named ts name))
+    by true rest = refl
+    by false rest = rest
+
+none_of : (long : Bool) (o : Option Table) → option_map (heading long) o ≡ None → o ≡ None
+none_of long None is = refl
+none_of long (Some t) is = (let never : Some (heading long t) ≡ None = is in absurd (cc))
+
+some_of : (long : Bool) (o : Option Table) (h : Heading) → option_map (heading long) o ≡ Some h → (t : Table) × (o ≡ Some t)
+some_of long None h is = (let never : None ≡ Some h = is in absurd (cc))
+some_of long (Some t) h is = (t, refl)
+
+module _ (letters : Letters) (tree : Tree) (P : Packed) (sound : StoresSound letters tree P) (headings : List Heading) (memory : headings ≡ map (heading P.pool.long) P.tables) where
+  in_memory : (name : List ℕ) → heading_named headings name ≡ option_map (heading P.pool.long) (table_named P.tables name)
+  in_memory name = ap (λ hs. heading_named hs name) memory ∙ named_heading P.pool.long P.tables name
+
+  pub not_there : (name : List ℕ) → heading_named headings name ≡ None → table_named P.tables name ≡ None
+  not_there name none = none_of P.pool.long (table_named P.tables name) (sym (in_memory name) ∙ none)
+
+  pub is_one : (name : List ℕ) (h : Heading) → heading_named headings name ≡ Some h → (t : Table) × (table_named P.tables name ≡ Some t)
+  is_one name h there = some_of P.pool.long (table_named P.tables name) h (sym (in_memory name) ∙ there)
+
+  -- a table, its heading, and its rows
+  module _ (t : Table) (there : IsThere P.tables t) (h : Heading) (is : heading_named headings t.name ≡ Some h) where
+    pub heading_is : h ≡ heading P.pool.long t
+    heading_is = Some_same (sym is ∙ in_memory t.name ∙ ap (option_map (heading P.pool.long)) there.found)
+
+    pub rows_are : (rows : List Row) → rows_in letters tree h ≡ Some rows → rows ≡ t.rows
+    rows_are rows read =
+        let stored : rows_of P.pool.long (kinds_of t.columns) (unwrap_or (table_stream letters (objects tree.content) t.name) []) ≡ Some t.rows =
+        there_has (λ u. rows_of P.pool.long (kinds_of u.columns) (unwrap_or (table_stream letters (objects tree.content) u.name) []) ≡ Some u.rows) P.tables t there sound.stores.rows in
+        Some_same (sym read ∙ ap (rows_in letters tree) heading_is ∙ stored)
+
+    pub are_there : (rows_in letters tree h ≡ None) → ⊥
+    are_there none =
+        let stored : rows_of P.pool.long (kinds_of t.columns) (unwrap_or (table_stream letters (objects tree.content) t.name) []) ≡ Some t.rows =
+        there_has (λ u. rows_of P.pool.long (kinds_of u.columns) (unwrap_or (table_stream letters (objects tree.content) u.name) []) ≡ Some u.rows) P.tables t there sound.stores.rows in
+        let never : None ≡ Some t.rows = sym none ∙ ap (rows_in letters tree) heading_is ∙ stored in
+        cc
+
+  -- the three
+  pub columns_table : IsThere P.tables (holding columns_name columns_columns (of_columns letters tree P sound).rows)
+  columns_table = (of_columns letters tree P sound).there
+
+  pub tables_table : IsThere P.tables (holding tables_name tables_columns (of_tables letters tree P sound).rows)
+  tables_table = (of_tables letters tree P sound).there
+
+  pub validation_table : (w : Table) → table_named P.tables validation_name ≡ Some w → IsThere P.tables (holding validation_name w.columns w.rows)
+  validation_table w found =
+      let at = found_at P.tables validation_name w found in
+      let same : w ≡ holding validation_name w.columns w.rows = ap (λ n. holding n w.columns w.rows) at.3 in
+      is_there P.tables (holding validation_name w.columns w.rows) (found ∙ ap (λ (u : Table). Some u) same)

@@ -1,0 +1,106 @@
+-- The streams of the three tables are put one after the other.
+use Rattle.std.proofs.Common.{◌≡◌, ◌∙◌, ℕ, List, ap, inl, refl, sym, subst, true, Ok, Err}
+use Rattle.std.specs.Prelude.{filter, not}
+use Rattle.cfb.specs.Doing.{FileMeans}
+use Rattle.cfb.specs.Views.{letters_in, mini_of, sound_of, validation_of}
+use Rattle.cfb.specs.declared.compound_file.CompoundFile.{CompoundFile}
+use Rattle.cfb_fat.specs.Tables.{has_failed_here}
+use Rattle.cfb_live.specs.Doing.{IsFault}
+use Rattle.cfb_medium.specs.declared.error.Error.{Error}
+use Rattle.cfb_medium.specs.declared.medium.ReadMedium.{Ghosts}
+use Rattle.cfb_mini.specs.Views.{allocator_of}
+use Rattle.cfb_tree.specs.Names.{Letters}
+use Rattle.cfb_tree.specs.Tree.{Tree}
+use Rattle.msi_edits.specs.Edited.{CanPut, PutsTable}
+use Rattle.msi_meaning.specs.Package.{at_name, is_stream, objects, stream_name}
+use Rattle.msi_rewritten.specs.Rewriting.{HasPut}
+use Rattle.msi_rewritten.proofs.Beside.{put_keeps_storages}
+use Rattle.msi_tables.specs.Schema.{columns_name, tables_name, validation_name}
+use Rattle.msi_making.specs.Making.{CanPutThree, PutsThree}
+
+-- what can be put can be put behind another
+can_still : (letters : Letters) (name bytes other : List ℕ) (a b : Tree) → HasPut letters name bytes a b → CanPut letters name a → CanPut letters other a → CanPut letters other b
+can_still letters name bytes other a b put own can = record {
+  free = can.free;
+  no_storage = ap (λ os. at_name letters os (stream_name other)) (ap (filter (λ o. not (is_stream o))) put.objects ∙ put_keeps_storages letters (stream_name name) bytes (objects a.content) own.no_storage) ∙ can.no_storage;
+}
+
+module _ {F : Type 0} {g : Ghosts F} (letters : Letters) (name bytes : List ℕ) (a b : CompoundFile F g) (same : letters_in a ≡ letters) where
+  record Stepped (tree : Tree) : Type 0 where
+    after : Tree
+    means : FileMeans b after
+    put : HasPut letters name bytes tree after
+
+  stepped : PutsTable {T = Unit {0}} name bytes (Ok tt) a b → (tree : Tree) → FileMeans a tree → CanPut letters name tree → Stepped tree
+  stepped puts tree means can =
+      let d = puts.done tree means (subst (λ l. CanPut l name tree) (sym same) can) in
+      record { after = d.0; means = d.1; put = subst (λ l. HasPut l name bytes tree d.0) same d.2 }
+
+  step_fault : (e : Error) → PutsTable {T = Unit {0}} name bytes (Err e) a b → (tree : Tree) → FileMeans a tree → CanPut letters name tree → IsFault e
+  step_fault e puts tree means can = puts.refused tree means (subst (λ l. CanPut l name tree) (sym same) can)
+
+module _ {F : Type 0} {g : Ghosts F} (bc bt bv : List ℕ) (old one : CompoundFile F g) where
+  abbrev letters : Letters
+  letters = letters_in old
+
+  pub first_unput : (e : Error) → PutsTable {T = Unit {0}} columns_name bc (Err e) old one → PutsThree {T = Unit {0}} bc bt bv (Err e) old one
+  first_unput e p = record { done = tt; refused = λ tree means can. p.refused tree means can.columns; rests = p.rests; seen = p.seen }
+
+  module _ (p : PutsTable {T = Unit {0}} columns_name bc (Ok tt) old one) (two : CompoundFile F g) where
+    abbrev First : Tree → Type 0
+    First tree = Stepped letters columns_name bc old one refl tree
+
+    first_step : (tree : Tree) → FileMeans old tree → CanPutThree letters tree → First tree
+    first_step tree means can = stepped letters columns_name bc old one refl p tree means can.columns
+
+    tables_can : (tree : Tree) (can : CanPutThree letters tree) (s : First tree) → CanPut letters tables_name s.after
+    tables_can tree can s = can_still letters columns_name bc tables_name tree s.after s.put can.columns can.tables
+
+    pub second_unput : (failed_file : CompoundFile F g) (e : Error) → PutsTable {T = Unit {0}} tables_name bt (Err e) one two → has_failed_here (allocator_of (mini_of failed_file)) ≡ true
+        → (letters_in failed_file ≡ letters_in two) × (sound_of failed_file ≡ sound_of two) × (validation_of failed_file ≡ validation_of two) → PutsThree {T = Unit {0}} bc bt bv (Err e) old failed_file
+    second_unput failed_file e q failed seen = record {
+      done = tt;
+      refused = λ tree means can.
+          let s = first_step tree means can in
+          step_fault letters tables_name bt one two p.seen.0 e q s.after s.means (tables_can tree can s);
+      rests = inl failed;
+      seen = (seen.0 ∙ q.seen.0 ∙ p.seen.0, seen.1 ∙ q.seen.1 ∙ p.seen.1, seen.2 ∙ q.seen.2 ∙ p.seen.2);
+    }
+
+    module _ (q : PutsTable {T = Unit {0}} tables_name bt (Ok tt) one two) (three : CompoundFile F g) where
+      abbrev Second : Tree → Type 0
+      Second tree = Stepped letters tables_name bt one two p.seen.0 tree
+
+      second_step : (tree : Tree) (can : CanPutThree letters tree) (s : First tree) → Second s.after
+      second_step tree can s = stepped letters tables_name bt one two p.seen.0 q s.after s.means (tables_can tree can s)
+
+      validation_can : (tree : Tree) (can : CanPutThree letters tree) (s : First tree) (u : Second s.after) → CanPut letters validation_name u.after
+      validation_can tree can s u =
+          can_still letters tables_name bt validation_name s.after u.after u.put (tables_can tree can s) (can_still letters columns_name bc validation_name tree s.after s.put can.columns can.validation)
+
+      two_letters : letters_in two ≡ letters
+      two_letters = q.seen.0 ∙ p.seen.0
+
+      pub third_unput : (failed_file : CompoundFile F g) (e : Error) → PutsTable {T = Unit {0}} validation_name bv (Err e) two three → has_failed_here (allocator_of (mini_of failed_file)) ≡ true
+          → (letters_in failed_file ≡ letters_in three) × (sound_of failed_file ≡ sound_of three) × (validation_of failed_file ≡ validation_of three) → PutsThree {T = Unit {0}} bc bt bv (Err e) old failed_file
+      third_unput failed_file e r failed seen = record {
+        done = tt;
+        refused = λ tree means can.
+            let s = first_step tree means can in
+            let u = second_step tree can s in
+            step_fault letters validation_name bv two three two_letters e r u.after u.means (validation_can tree can s u);
+        rests = inl failed;
+        seen = (seen.0 ∙ r.seen.0 ∙ two_letters, seen.1 ∙ r.seen.1 ∙ q.seen.1 ∙ p.seen.1, seen.2 ∙ r.seen.2 ∙ q.seen.2 ∙ p.seen.2);
+      }
+
+      pub all_put : PutsTable {T = Unit {0}} validation_name bv (Ok tt) two three → PutsThree {T = Unit {0}} bc bt bv (Ok tt) old three
+      all_put r = record {
+        done = λ tree means can.
+            let s = first_step tree means can in
+            let u = second_step tree can s in
+            let w = stepped letters validation_name bv two three two_letters r u.after u.means (validation_can tree can s u) in
+            (w.after, w.means, record { first = s.after; second = u.after; columns = s.put; tables = u.put; validation = w.put });
+        refused = tt;
+        rests = tt;
+        seen = (r.seen.0 ∙ two_letters, r.seen.1 ∙ q.seen.1 ∙ p.seen.1, r.seen.2 ∙ q.seen.2 ∙ p.seen.2);
+      }

@@ -1,0 +1,37 @@
+use Rattle.std.proofs.Common.{◌≡◌, ◌∙◌, ap, inl, inr, subst, sym}
+use Rattle.cfb.specs.Views.{letters_in, mini_of}
+use Rattle.cfb_medium.specs.Calls.{IsFaultUnless}
+use Rattle.cfb_mini.specs.Views.{allocator_of}
+use Rattle.msi_edits.proofs.Refusals.{own_kind, own_so, IsOwn}
+use Rattle.msi_schema.specs.Headings.{headings_in}
+use Rattle.msi_tables.specs.Held.{heading_of}
+use Rattle.msi_tables.specs.Schema.{columns_columns, columns_name, tables_columns, tables_name}
+use Rattle.msi_making.proofs.RemainsSo.{missing_own, refused_so, remains_told}
+use Rattle.msi_making.proofs.remaining.prepared_drop.Goals as goal
+
+pub returns-in-Err-clause-told : goal.returns-in-Err-clause-told
+returns-in-Err-clause-told g c = λ tree P m s memory. inr (refused_so P c.args.name.now (headings_in c.args.tables.now) c.args.pool.now.pool memory c.in-Err.error c.in-Err.ensures)
+
+pub returns-in-Err-clause-cause : goal.returns-in-Err-clause-cause
+returns-in-Err-clause-cause g c =
+    own_so (allocator_of (mini_of c.args.file.now)) (allocator_of (mini_of c.args.file.now)) c.in-Err.error (missing_own (headings_in c.args.tables.now) c.args.name.now c.in-Err.error c.in-Err.ensures)
+
+pub returns-in-Err-clause-kinds : goal.returns-in-Err-clause-kinds
+returns-in-Err-clause-kinds g c = own_kind c.in-Err.error (missing_own (headings_in c.args.tables.now) c.args.name.now c.in-Err.error c.in-Err.ensures)
+
+pub returns-in-Err-fixed_tables-clause-told : goal.returns-in-Err-fixed_tables-clause-told
+returns-in-Err-fixed_tables-clause-told g c = λ tree P m s memory. inl (subst (IsFaultUnless ⊥) (sym c.in-Err-fixed_tables.ensures.err) tt)
+
+pub returns-in-Err-fixed_tables-clause-cause : goal.returns-in-Err-fixed_tables-clause-cause
+returns-in-Err-fixed_tables-clause-cause g c =
+    own_so (allocator_of (mini_of c.args.file.now)) (allocator_of (mini_of c.args.file.now)) c.in-Err-fixed_tables.error (subst IsOwn (sym c.in-Err-fixed_tables.ensures.err) tt)
+
+pub returns-in-Err-fixed_tables-clause-kinds : goal.returns-in-Err-fixed_tables-clause-kinds
+returns-in-Err-fixed_tables-clause-kinds g c = own_kind c.in-Err-fixed_tables.error (subst IsOwn (sym c.in-Err-fixed_tables.ensures.err) tt)
+
+pub returns-clause-told : goal.returns-clause-told
+returns-clause-told g c = λ tree P m s memory.
+    let long : c.long_string_refs.result ≡ c.args.pool.now.pool.long = c.long_string_refs.ensures in
+    remains_told P c.args.name.now (headings_in c.args.tables.now) c.args.pool.now memory (heading_of c.in-Ok.found.0.now) (heading_of c.in-Ok.found.1.now) c.in-Ok.ensures (letters_in c.args.file.now) tree s
+    (heading_of c.deref.result.now) (heading_of c.deref-2.result.now) (ap heading_of c.deref.ensures ∙ c.in-Ok-fixed_tables.ensures.columns ∙ ap (λ l. record { name = columns_name; columns = columns_columns; long = l }) long) (ap heading_of c.deref-2.ensures ∙ c.in-Ok-fixed_tables.ensures.tables ∙ ap (λ l. record { name = tables_name; columns = tables_columns; long = l }) long)
+    c.remaining_bytes.result (λ rows v cs ts one two three four. c.remaining_bytes.ensures.told tree m rows v cs ts one two three four)

@@ -1,0 +1,6 @@
+pub mod Created
+pub mod Making
+pub mod Testing
+pub mod Dropping
+pub mod Drops
+pub mod Remains

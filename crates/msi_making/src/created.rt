@@ -1,0 +1,28 @@
+//! Laws of packages that got one table more, each the contract of a function.
+ghost use Rattle.std.specs.Prelude.{ℕ, List};
+ghost use Rattle.cfb_tree.specs.Names.{Letters};
+ghost use Rattle.cfb_tree.specs.Tree.{Tree};
+ghost use Rattle.msi_columns.specs.Column.{Column};
+ghost use Rattle.msi_making.specs.Created.{with_table, AreReadThree, CanBeStoredThree, ComeBackThree, HasPutThree, IsAccepted};
+ghost use Rattle.msi_meaning.specs.Package.{Packed};
+ghost use Rattle.msi_pool.specs.Pool.{Pool};
+ghost use Rattle.msi_stored.specs.Changing.{KeepsParts, StoresSound};
+ghost use Rattle.msi_tables.specs.Rows.{Row};
+
+/// Where a new table is accepted, the tree in which the streams of _Columns, _Tables and _Validation got the rows that describe it
+/// stores the package with that table, and it is sound; the streams of pool and summary stay. The rows come back from their bytes.
+pub fn new_tables_are_stored()
+    ensures stored { (letters : Letters) (old new : Tree) (P : Packed) → StoresSound letters old P
+        → (name : List ℕ) (columns : List Column) (pool : Pool) (c t v : List Row)
+        → IsAccepted letters P name columns pool c t v → (bc bt bv : List ℕ)
+        → HasPutThree letters bc bt bv old new → AreReadThree P bc bt bv c t v
+        → StoresSound letters new (with_table P name columns pool c t v) }
+    ensures keeps { (letters : Letters) (old new : Tree) (P : Packed) → StoresSound letters old P
+        → (name : List ℕ) (columns : List Column) (pool : Pool) (c t v : List Row)
+        → IsAccepted letters P name columns pool c t v → (bc bt bv : List ℕ)
+        → HasPutThree letters bc bt bv old new → KeepsParts letters old new }
+    ensures come_back { (letters : Letters) (tree : Tree) (P : Packed) → StoresSound letters tree P
+        → (name : List ℕ) (columns : List Column) (pool : Pool) (c t v : List Row)
+        → (is : IsAccepted letters P name columns pool c t v) → CanBeStoredThree P is.rows
+        → ComeBackThree P c t v }
+{}

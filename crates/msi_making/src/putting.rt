@@ -1,0 +1,49 @@
+//! The streams of the three tables that describe others, put one after the other.
+ghost use Rattle.std.specs.Prelude.{IfErr};
+ghost use Rattle.cfb.specs.Views.{mini_of};
+ghost use Rattle.cfb_fat.specs.Tables.{HasCauseBelow};
+ghost use Rattle.cfb_mini.specs.Views.{allocator_of};
+ghost use Rattle.cfb_owned.specs.Chains.{GoesOn};
+ghost use Rattle.msi_edits.specs.Edited.{IsEditError};
+ghost use Rattle.msi_making.specs.Making.{PutsThree};
+
+use cfb::CompoundFile;
+use cfb_medium::{Error, Medium};
+use msi_edits::put_table_bytes;
+use std::alloc::Global;
+
+/// Puts the bytes of _Columns, _Tables and _Validation as their streams. After an error nothing is changed, or the file has failed: so it
+/// has where the first was put, and another wasn't.
+pub(crate) fn put_three<F: Medium>(
+    alloc: Global,
+    file: &mut CompoundFile<F>,
+    columns: &[u8],
+    tables: &[u8],
+    validation: &[u8],
+) -> Result<(), Error>
+    ensures puts { PutsThree columns.now tables.now validation.now result file.old file.new }
+    ensures goes_on { GoesOn (allocator_of (mini_of file.old)) (allocator_of (mini_of file.new)) }
+    ensures cause { IfErr result (HasCauseBelow (allocator_of (mini_of file.old))
+        (allocator_of (mini_of file.new))) }
+    ensures kinds { IfErr result IsEditError }
+{
+    match put_table_bytes(alloc, file, "_Columns", columns) {
+        Err(error) => return Err(error),
+        Ok(()) => {}
+    }
+    match put_table_bytes(alloc, file, "_Tables", tables) {
+        Err(error) => {
+            file.fail();
+            return Err(error);
+        }
+        Ok(()) => {}
+    }
+    match put_table_bytes(alloc, file, "_Validation", validation) {
+        Err(error) => {
+            file.fail();
+            return Err(error);
+        }
+        Ok(()) => {}
+    }
+    Ok(())
+}
