@@ -1,5 +1,5 @@
 -- A package whose file was changed by a rule is held as the rule makes it.
-use Rattle.std.proofs.Common.{◌≡◌, ◌∙◌, ◌⊎◌, IsTrue, ap, false, inl, inr, map, subst, sym, true}
+use Rattle.std.proofs.Common.{◌≡◌, ◌∙◌, ◌⊎◌, ℕ, List, IsTrue, ap, false, inl, inr, map, subst, sym, true}
 use Rattle.std.specs.Prelude.{Err, IfErr, Ok, OnErr, OnOk, Result, ◌||◌}
 use Rattle.cfb.proofs.LiveMeaning.{holds_meant}
 use Rattle.cfb.specs.Doing.{FileMeans}
@@ -11,18 +11,28 @@ use Rattle.cfb_live.specs.Doing.{IsFault}
 use Rattle.cfb_medium.specs.declared.error.Error.{Error}
 use Rattle.cfb_medium.specs.declared.medium.ReadMedium.{Ghosts}
 use Rattle.cfb_mini.specs.Views.{allocator_of}
+use Rattle.cfb_tree.specs.Names.{Letters}
 use Rattle.cfb_tree.specs.Tree.{Tree}
 use Rattle.msi_edits.specs.Edited.{Edits, IsEdited}
 use Rattle.msi_edits.specs.Edited as edited
+use Rattle.msi_making.specs.Drops.{DropsTable}
+use Rattle.msi_making.specs.Dropping.{without_table}
+use Rattle.msi_meaning.specs.Calls.{dropped, own_columns, rows_beside, Drops, Ends}
+use Rattle.msi_tables.specs.Rows.{IsStored, Row}
+use Rattle.msi_tables.specs.Schema.{columns_columns, columns_name, tables_columns, tables_name, validation_name}
+use Rattle.msi_tables.specs.Table.{Table}
 use Rattle.msi_meaning.specs.Opening.{may_use}
 use Rattle.msi_meaning.specs.Package.{Packed}
 use Rattle.msi_meaning.specs.Split.{HasPool, HasSummary, Stores}
 use Rattle.msi_parts.specs.Parts.{heading}
 use Rattle.msi_pool.specs.Pool.{Pool}
+use Rattle.msi_pool.specs.PoolKept.{IsWritable}
 use Rattle.msi_pool.specs.PoolState.{PoolState}
-use Rattle.msi_stored.specs.Changing.{ChangesBy, StoreIsChanged, PackageRule, StoresSound}
+use Rattle.msi_stored.proofs.Kept.{pool_kept, summary_kept}
+use Rattle.msi_stored.specs.Changing.{ChangesBy, KeepsParts, StoreIsChanged, PackageRule, StoresSound}
+use Rattle.msi_streams.specs.Parts.{HasThree}
 use Rattle.msi.specs.Changing.{PackageChanges, KeepsHeld, failed_in}
-use Rattle.msi.specs.Opened.{LastParts, PackageHolds, file_in, kind_in, pool_in, sound_in, store_in, summary_in, tables_in, written_in}
+use Rattle.msi.specs.Opened.{PackageHolds, SummaryIsFit, file_in, kind_in, pool_in, sound_in, store_in, summary_in, tables_in, written_in}
 use Rattle.msi.specs.declared.package.Package.{Package}
 
 -- two packages in memory that differ by their files and pools alone
@@ -34,9 +44,31 @@ pub record DifferByFile {F : Type 0} {g : Ghosts F} (old new : Package F g) : Ty
   pub sound : sound_in new ≡ sound_in old
   pub written : written_in new ≡ written_in old
 
+-- the same, where tables may differ too
+pub record DifferByStore {F : Type 0} {g : Ghosts F} (old new : Package F g) : Type 0 where
+  pub letters : letters_in (file_in new) ≡ letters_in (file_in old)
+  pub kind : kind_in new ≡ kind_in old
+  pub summary : summary_in new ≡ summary_in old
+  pub sound : sound_in new ≡ sound_in old
+  pub written : written_in new ≡ written_in old
+
+by_store : {F : Type 0} {g : Ghosts F} (old new : Package F g) → DifferByFile old new → DifferByStore old new
+by_store old new d = record { letters = d.letters; kind = d.kind; summary = d.summary; sound = d.sound; written = d.written }
+
 -- a fault in the file is one of the package
 pub failed_too : {F : Type 0} {g : Ghosts F} (file : CompoundFile F g) → has_failed_here (allocator_of (mini_of file)) ≡ true → has_failed (allocator_of (mini_of file)) ≡ true
 failed_too {F} {g} file is = ap (λ b. b || g.failed (medium_of (allocator_of (mini_of file)))) is
+
+-- streams stand in the places of the three yet
+three_kept : (letters : Letters) (old new : Tree) → KeepsParts letters old new → HasThree letters old → HasThree letters new
+three_kept letters old new keeps h = record {
+  summary = h.summary;
+  summary_at = keeps.summary ∙ h.summary_at;
+  pool = h.pool;
+  pool_at = keeps.pool ∙ h.pool_at;
+  pool_data = h.pool_data;
+  data_at = keeps.pool_data ∙ h.data_at;
+}
 
 module _ {F : Type 0} {g : Ghosts F} (old new : Package F g) (d : DifferByFile old new) where
   -- where the file means what it meant, and the pool is as it was, what was held is held
@@ -56,16 +88,17 @@ module _ {F : Type 0} {g : Ghosts F} (old new : Package F g) (d : DifferByFile o
             pool = ap (λ (p : PoolState). p.pool) pool ∙ h.memory.pool;
             tables = d.tables ∙ h.memory.tables ∙ ap (λ l. map (heading l) P.tables) (sym (ap (λ (p : PoolState). p.pool.long) pool));
           };
-          pool = λ unmodified. subst (λ l. HasPool l h.tree P.pool) (sym d.letters) (h.pool (sym (ap (λ (p : PoolState). p.modified) pool) ∙ unmodified));
-          summary = λ written. subst (λ l. HasSummary l h.tree P.summary) (sym d.letters) (h.summary (sym d.written ∙ written));
-          last = subst (λ l. LastParts l h.tree) (sym d.letters) h.last;
+          pool = λ unmodified writable. subst (λ l. HasPool l h.tree P.pool) (sym d.letters) (h.pool (sym (ap (λ (p : PoolState). p.modified) pool) ∙ unmodified) writable);
+          summary = λ written fit. subst (λ l. HasSummary l h.tree P.summary) (sym d.letters) (h.summary (sym d.written ∙ written) fit);
+          three = subst (λ l. HasThree l h.tree) (sym d.letters) h.three;
           sound = λ yes. (means, subst (λ l. StoresSound l h.tree P) (sym d.letters) both.1);
         };
   }
 
+module _ {F : Type 0} {g : Ghosts F} (old new : Package F g) (d : DifferByStore old new) where
   -- what the rule gives is held
-  next_held : (rule : PackageRule) (P : Packed) (h : PackageHolds old P) (c : StoreIsChanged rule h.tree P (file_in old) (file_in new)) → c.next.kind ≡ P.kind → c.next.summary ≡ P.summary
-      → (pool_in new).pool ≡ c.next.pool → tables_in new ≡ map (heading (pool_in new).pool.long) c.next.tables → ((pool_in new).modified ≡ false → HasPool (letters_in (file_in old)) c.after c.next.pool) → PackageHolds new c.next
+  pub next_held : (rule : PackageRule) (P : Packed) (h : PackageHolds old P) (c : StoreIsChanged rule h.tree P (file_in old) (file_in new)) → c.next.kind ≡ P.kind → c.next.summary ≡ P.summary
+      → (pool_in new).pool ≡ c.next.pool → tables_in new ≡ map (heading (pool_in new).pool.long) c.next.tables → ((pool_in new).modified ≡ false → IsWritable c.next.pool → HasPool (letters_in (file_in old)) c.after c.next.pool) → PackageHolds new c.next
   next_held rule P h c kind summary pool tables has = record {
     tree = c.after;
     file = holds_meant (file_in new) c.after c.means;
@@ -77,10 +110,9 @@ module _ {F : Type 0} {g : Ghosts F} (old new : Package F g) (d : DifferByFile o
       pool = pool;
       tables = tables;
     };
-    pool = λ unmodified. subst (λ l. HasPool l c.after c.next.pool) (sym d.letters) (has unmodified);
-    summary = λ written. subst (λ l. HasSummary l c.after c.next.summary) (sym d.letters) (subst (λ s. HasSummary (letters_in (file_in old)) c.after s) (sym summary) (c.keeps.summary P.summary (h.summary (sym d.written ∙ written))));
-    last = subst (λ l. LastParts l c.after) (sym d.letters)
-        (record { pool = h.last.pool; has_pool = c.keeps.pool h.last.pool h.last.has_pool; summary = h.last.summary; has_summary = c.keeps.summary h.last.summary h.last.has_summary });
+    pool = λ unmodified writable. subst (λ l. HasPool l c.after c.next.pool) (sym d.letters) (has unmodified writable);
+    summary = λ written fit. subst (λ l. HasSummary l c.after c.next.summary) (sym d.letters) (subst (λ s. HasSummary (letters_in (file_in old)) c.after s) (sym summary) (summary_kept (letters_in (file_in old)) h.tree c.after c.keeps P.summary (h.summary (sym d.written ∙ written) (subst SummaryIsFit summary fit))));
+    three = subst (λ l. HasThree l c.after) (sym d.letters) (three_kept (letters_in (file_in old)) h.tree c.after c.keeps h.three);
     sound = λ yes. (c.means, subst (λ l. StoresSound l c.after c.next) (sym d.letters) c.stores);
   }
 
@@ -115,10 +147,10 @@ module _ {F : Type 0} {g : Ghosts F} (rule : PackageRule) (leaves : LeavesTables
           let pool : c.next.pool ≡ P.pool = leaves.pool P c.next c.answered in (
             c.next,
             c.answered,
-            next_held old new d rule P h c (leaves.kind P c.next c.answered) (leaves.summary P c.next c.answered)
+            next_held old new (by_store old new d) rule P h c (leaves.kind P c.next c.answered) (leaves.summary P c.next c.answered)
                 (ap (λ (p : PoolState). p.pool) same ∙ h.memory.pool ∙ sym pool)
                 (d.tables ∙ h.memory.tables ∙ ap (λ l. map (heading l) P.tables) (sym (ap (λ (p : PoolState). p.pool.long) same)) ∙ ap (λ ts. map (heading (pool_in new).pool.long) ts) (sym (leaves.tables P c.next c.answered)))
-                (λ unmodified. subst (λ p. HasPool (letters_in (file_in old)) c.after p) (sym pool) (c.keeps.pool P.pool (h.pool (sym (ap (λ (p : PoolState). p.modified) same) ∙ unmodified)))),
+                (λ unmodified writable. subst (λ p. HasPool (letters_in (file_in old)) c.after p) (sym pool) (pool_kept (letters_in (file_in old)) h.tree c.after c.keeps P.pool (h.pool (sym (ap (λ (p : PoolState). p.modified) same) ∙ unmodified) (subst IsWritable pool writable)))),
           )
       done (Err e) told = tt
 
@@ -152,10 +184,11 @@ module _ {F : Type 0} {g : Ghosts F} (rule : PackageRule) (kind : (P Q : Packed)
       memory P h = record { pool = h.memory.pool; tables = h.memory.tables ∙ ap (λ (p : Pool). map (heading p.long) P.tables) h.memory.pool }
 
       has : ((pool_in new).modified ≡ false → pool_in new ≡ pool_in old) → (P : Packed) (h : PackageHolds old P) (c : StoreIsChanged rule h.tree P (file_in old) (file_in new)) → (pool_in new).pool ≡ c.next.pool
-          → (pool_in new).modified ≡ false → HasPool (letters_in (file_in old)) c.after c.next.pool
-      has marked P h c pool unmodified =
+          → (pool_in new).modified ≡ false → IsWritable c.next.pool → HasPool (letters_in (file_in old)) c.after c.next.pool
+      has marked P h c pool unmodified writable =
           let same = marked unmodified in
-          subst (λ p. HasPool (letters_in (file_in old)) c.after p) (sym h.memory.pool ∙ sym (ap (λ (p : PoolState). p.pool) same) ∙ pool) (c.keeps.pool P.pool (h.pool (sym (ap (λ (p : PoolState). p.modified) same) ∙ unmodified)))
+          let kept : P.pool ≡ c.next.pool = sym h.memory.pool ∙ sym (ap (λ (p : PoolState). p.pool) same) ∙ pool in
+          subst (λ p. HasPool (letters_in (file_in old)) c.after p) kept (pool_kept (letters_in (file_in old)) h.tree c.after c.keeps P.pool (h.pool (sym (ap (λ (p : PoolState). p.modified) same) ∙ unmodified) (subst IsWritable (sym kept) writable)))
 
       done : ((pool_in new).modified ≡ false → pool_in new ≡ pool_in old) → (r : Result (Unit {0}) Error)
           → OnOk r ((tree : Tree) (P : Packed) → FileMeans (file_in old) tree → StoresSound (letters_in (file_in old)) tree P → edited.IsMemoryOf (store_in old) (pool_in old).pool P → IsEdited rule tree P (file_in old) (file_in new) (pool_in new))
@@ -167,7 +200,7 @@ module _ {F : Type 0} {g : Ghosts F} (rule : PackageRule) (kind : (P Q : Packed)
           let c = e.changed in (
             c.next,
             c.answered,
-            next_held old new d rule P h c (kind P c.next c.answered) (summary P c.next c.answered) e.pool
+            next_held old new (by_store old new d) rule P h c (kind P c.next c.answered) (summary P c.next c.answered) e.pool
                 (d.tables ∙ (memory P h).tables ∙ sym e.tables ∙ ap (λ (p : Pool). map (heading p.long) c.next.tables) (sym e.pool))
                 (has marked P h c e.pool),
           )
@@ -183,3 +216,60 @@ module _ {F : Type 0} {g : Ghosts F} (rule : PackageRule) (kind : (P Q : Packed)
           → OnErr r ((failed_in new ≡ true) ⊎ KeepsHeld old new)
       rests (Ok u) told same = tt
       rests (Err e) told same = elim told [ inl failed ↦ inl (failed_too (file_in new) failed) | inr keeps ↦ inr (keeps_held old new d yes same keeps) ]
+
+-- a drop keeps kind and summary
+drop_keeps : (name : List ℕ) (P Q : Packed) → Drops P name Q (Ok tt) → (Q.kind ≡ P.kind) × (Q.summary ≡ P.summary)
+drop_keeps name P Q told = by (dropped P name) told
+  where
+    by : (r : Result (Table × Pool) Error)
+        → Ends r P Q (Ok tt) (λ x. (c : List Row) × (t : List Row) × (v : List Row)
+        × IsStored columns_columns (rows_beside P columns_name name) c × IsStored tables_columns (rows_beside P tables_name name) t × IsStored (own_columns P) (rows_beside P validation_name name) v
+        × (Q ≡ without_table P name x.1 c t v)) → (Q.kind ≡ P.kind) × (Q.summary ≡ P.summary)
+    by (Err e) told = let never : Ok tt ≡ Err e = told.1 in absurd (cc)
+    by (Ok x) told = let is = told.1.6 in (ap (λ (X : Packed). X.kind) is, ap (λ (X : Packed). X.summary) is)
+
+-- a call that changes the tables too is one of the package, where they are as they were after an error
+module _ {F : Type 0} {g : Ghosts F} (name : List ℕ) (old new : Package F g) (d : DifferByStore old new) (live : failed_in old ≡ false) (sound : sound_in old ≡ true) where
+  abbrev rule : PackageRule
+  rule P Q answer = Drops P name Q answer
+
+  pub tables_changed : (r : Result (Unit {0}) Error) → DropsTable name r (store_in old) (store_in new) (pool_in old) (pool_in new) → PackageChanges rule r old new
+  tables_changed (Ok u) c = record {
+    failed = λ yes. let never : true ≡ false = sym yes ∙ live in absurd (cc);
+    unsound = λ no wrong. let never : true ≡ false = sym sound ∙ wrong in absurd (cc);
+    done = λ P h.
+        let both = h.sound sound in
+        let e = c.done h.tree P both.0 both.1 (memory P h) in
+        let k = drop_keeps name P e.changed.next e.changed.answered in (
+          e.changed.next,
+          e.changed.answered,
+          next_held old new d rule P h e.changed k.0 k.1 e.memory.pool (e.memory.tables ∙ ap (λ (p : Pool). map (heading p.long) e.changed.next.tables) (sym e.memory.pool)) (has P h e.changed e.memory.pool),
+        );
+    refused = tt;
+    rests = tt;
+    seen = (c.seen.0, d.sound);
+  }
+    where
+      memory : (P : Packed) → PackageHolds old P → edited.IsMemoryOf (store_in old) (pool_in old).pool P
+      memory P h = record { pool = h.memory.pool; tables = h.memory.tables ∙ ap (λ (p : Pool). map (heading p.long) P.tables) h.memory.pool }
+
+      has : (P : Packed) (h : PackageHolds old P) (s : StoreIsChanged rule h.tree P (file_in old) (file_in new)) → (pool_in new).pool ≡ s.next.pool
+          → (pool_in new).modified ≡ false → IsWritable s.next.pool → HasPool (letters_in (file_in old)) s.after s.next.pool
+      has P h s pool unmodified writable =
+          let same = c.marked unmodified in
+          let kept : P.pool ≡ s.next.pool = sym h.memory.pool ∙ sym (ap (λ (p : PoolState). p.pool) same) ∙ pool in
+          subst (λ p. HasPool (letters_in (file_in old)) s.after p) kept (pool_kept (letters_in (file_in old)) h.tree s.after s.keeps P.pool (h.pool (sym (ap (λ (p : PoolState). p.modified) same) ∙ unmodified) (subst IsWritable (sym kept) writable)))
+  tables_changed (Err e) c = record {
+    failed = λ yes. let never : true ≡ false = sym yes ∙ live in absurd (cc);
+    unsound = λ no wrong. let never : true ≡ false = sym sound ∙ wrong in absurd (cc);
+    done = tt;
+    refused = λ P h is. let both = h.sound is in elim (c.refused h.tree P both.0 both.1 (memory P h)) [ inl fault ↦ inl fault | inr rule ↦ inr (rule.0, keeps_held old new same is c.pool rule.1) ];
+    rests = elim c.rests [ inl failed ↦ inl (failed_too (file_in new) failed) | inr keeps ↦ inr (keeps_held old new same sound c.pool keeps) ];
+    seen = (c.seen.0, d.sound);
+  }
+    where
+      memory : (P : Packed) → PackageHolds old P → edited.IsMemoryOf (store_in old) (pool_in old).pool P
+      memory P h = record { pool = h.memory.pool; tables = h.memory.tables ∙ ap (λ (p : Pool). map (heading p.long) P.tables) h.memory.pool }
+
+      same : DifferByFile old new
+      same = record { letters = d.letters; tables = c.tables; kind = d.kind; summary = d.summary; sound = d.sound; written = d.written }

@@ -48,9 +48,10 @@ module _ {F : Type 0} {g : Ghosts F} (honest : Type 0) (bytes : List ℕ) where
   failed_copies it is = record {
     failed = λ yes. (refl, refl);
     unsound = λ no wrong. let never : true ≡ false = sym is ∙ no in absurd (cc);
+    holds = tt;
     done = tt;
     refused = λ P h sound. inl (inl tt);
-    rests = inr (inl (record { holds = λ P h. h }));
+    rests = inr (record { holds = λ P h. h });
     seen = (refl, refl);
   }
 
@@ -58,9 +59,10 @@ module _ {F : Type 0} {g : Ghosts F} (honest : Type 0) (bytes : List ℕ) where
   unsound_copies it live wrong = record {
     failed = λ yes. let never : true ≡ false = sym yes ∙ live in absurd (cc);
     unsound = λ no is. (refl, refl);
+    holds = tt;
     done = tt;
     refused = λ P h sound. let never : true ≡ false = sym sound ∙ wrong in absurd (cc);
-    rests = inr (inl (record { holds = λ P h. h }));
+    rests = inr (record { holds = λ P h. h });
     seen = (refl, refl);
   }
 
@@ -69,9 +71,10 @@ module _ {F : Type 0} {g : Ghosts F} (honest : Type 0) (bytes : List ℕ) where
     unsaved_copies e s = record {
       failed = λ yes. let never : true ≡ false = sym yes ∙ live in absurd (cc);
       unsound = λ no wrong. let never : true ≡ false = sym sound ∙ wrong in absurd (cc);
+      holds = tt;
       done = tt;
       refused = s.refused;
-      rests = elim s.rests [ inl failed ↦ inl failed | inr keeps ↦ inr (inl (keeps sound)) ];
+      rests = elim s.rests [ inl failed ↦ inl failed | inr keeps ↦ inr (keeps sound) ];
       seen = s.seen;
     }
 
@@ -91,6 +94,7 @@ module _ {F : Type 0} {g : Ghosts F} (honest : Type 0) (bytes : List ℕ) where
       saved_copies (Ok v) version copies refused = record {
         failed = λ yes. let never : true ≡ false = sym yes ∙ live in absurd (cc);
         unsound = λ no wrong. let never : true ≡ false = sym sound ∙ wrong in absurd (cc);
+        holds = λ P h is. (keeps_flushed mid new d same rests (s.seen.1 ∙ sound)).holds P (s.holds P h is);
         done = λ P h is fit.
             let saved = s.done P h is fit in
             (written_yet mid new d same rests (s.seen.1 ∙ sound) P (saved_written mid P saved), copied version copies P saved);
@@ -101,8 +105,9 @@ module _ {F : Type 0} {g : Ghosts F} (honest : Type 0) (bytes : List ℕ) where
       saved_copies (Err e) version copies refused = record {
         failed = λ yes. let never : true ≡ false = sym yes ∙ live in absurd (cc);
         unsound = λ no wrong. let never : true ≡ false = sym sound ∙ wrong in absurd (cc);
+        holds = tt;
         done = tt;
-        refused = λ P h is. let there = s.stands P h is in inl (refused there.0 there.1);
-        rests = inr (inr (λ P h is fit. (keeps_flushed mid new d same rests (s.seen.1 ∙ sound)).holds P (s.done P h is fit).holds));
+        refused = λ P h is. let after = s.holds P h is in inl (refused after.tree (after.sound (s.seen.1 ∙ is)).0);
+        rests = inr (record { holds = λ P h. (keeps_flushed mid new d same rests (s.seen.1 ∙ sound)).holds P (s.holds P h sound) });
         seen = (d.letters ∙ s.seen.0, d.sound ∙ s.seen.1);
       }

@@ -1,7 +1,7 @@
 -- A package whose pool and summary were written is packed by its file.
 use Rattle.std.proofs.Common.{◌≡◌, ◌∙◌, ◌⊎◌, Bool, IsTrue, ap, false, inl, inr, map, refl, subst, sym, true}
 use Rattle.std.specs.Prelude.{Err, IfErr, Ok, OnErr, OnOk, Result, not, ◌&&◌, ◌||◌}
-use Rattle.cfb.proofs.LiveMeaning.{holds_meant, means_read}
+use Rattle.cfb.proofs.LiveMeaning.{means_read}
 use Rattle.cfb.specs.Publishing.{medium_in}
 use Rattle.cfb.specs.Putting.{KeepsMeant}
 use Rattle.cfb.specs.Views.{letters_in, mini_of}
@@ -15,20 +15,19 @@ use Rattle.cfb_medium.specs.declared.error.Error.TheVariants.{Failed, InvalidInp
 use Rattle.cfb_medium.specs.declared.medium.ReadMedium.{Ghosts}
 use Rattle.cfb_mini.specs.Views.{allocator_of}
 use Rattle.cfb_tree.specs.Names.{Letters}
-use Rattle.cfb_tree.specs.Tree.{Tree}
-use Rattle.msi_meaning.proofs.Splitting.{joined, parted}
+use Rattle.msi_meaning.proofs.Splitting.{joined}
 use Rattle.msi_meaning.specs.Opening.{may_use}
 use Rattle.msi_meaning.specs.Package.{Packed, Packs}
 use Rattle.msi_parts.specs.Parts.{heading}
 use Rattle.msi_pool.specs.Pool.{Pool}
 use Rattle.msi_props.specs.Props.{Props}
-use Rattle.msi_streams.specs.Parts.{HasParts, HasThree, IsTooLong, OfPackage, PartBytes, PutsParts, bytes_of_parts}
+use Rattle.msi_streams.specs.Parts.{HasParts, IsTooLong, OfPackage, PartBytes, PutsParts, bytes_of_parts}
 use Rattle.msi_streams.specs.Writing.{most_bytes}
-use Rattle.msi_stored.specs.Changing.{StoresSound}
 use Rattle.msi.proofs.Changed.{DifferByFile, failed_too, keeps_held}
-use Rattle.msi.proofs.SavedSound.{PacksSound, packs_sound, saved_written}
+use Rattle.msi.proofs.HeldParts.{held_parts}
+use Rattle.msi.proofs.SavedSound.{packs_sound, saved_written}
 use Rattle.msi.specs.Changing.{IsUnsaved, IsChangeError, PackageIsFit, PackageIsWritten, KeepsHeld, PackageWrites, failed_in}
-use Rattle.msi.specs.Opened.{LastParts, PackageHolds, file_in, kind_in, pool_in, sound_in, summary_in, tables_in, written_in}
+use Rattle.msi.specs.Opened.{PackageHolds, file_in, kind_in, pool_in, sound_in, summary_in, tables_in, written_in}
 use Rattle.msi.specs.Steps.{PackageIsSaved, SavesMemory}
 use Rattle.msi.specs.declared.package.Package.{Package}
 
@@ -45,26 +44,15 @@ pub on_err : {A : Type 0} (r : Result (Unit {0}) Error) → A → OnErr r A
 on_err (Ok u) a = tt
 on_err (Err e) a = a
 
--- streams stand in the places of the three
-three_held : (letters : Letters) (tree : Tree) → LastParts letters tree → HasThree letters tree
-three_held letters tree l = record {
-  summary = l.has_summary.summary_bytes;
-  summary_at = l.has_summary.summary_at;
-  pool = l.has_pool.pool_bytes;
-  pool_at = l.has_pool.pool_at;
-  pool_data = l.has_pool.data_bytes;
-  data_at = l.has_pool.data_at;
-}
-
 module _ {F : Type 0} {g : Ghosts F} where
   -- nothing is to be written where memory has nothing ahead
-  pub written_already : (it : Package F g) → not (pool_in it).modified && written_in it ≡ true → (P : Packed) → PackageHolds it P → IsTrue (sound_in it) → PackageIsWritten it P
-  written_already it is P h sound =
+  pub written_already : (it : Package F g) → not (pool_in it).modified && written_in it ≡ true → (P : Packed) → PackageHolds it P → IsTrue (sound_in it) → PackageIsFit P → PackageIsWritten it P
+  written_already it is P h sound fit =
       let both = both_written (pool_in it).modified (written_in it) is in record {
         holds = h;
         tree = h.tree;
         means = (h.sound sound).0;
-        packs = joined (letters_in (file_in it)) h.tree P h.stores (h.pool both.0) (h.summary both.1);
+        packs = joined (letters_in (file_in it)) h.tree P h.stores (h.pool both.0 fit.pool) (h.summary both.1 fit.summary);
       }
 
   meant_yet : (old new : Package F g) → read.FileRests (file_in old) (file_in new) → KeepsMeant (file_in old) (file_in new)
@@ -94,39 +82,24 @@ module _ {F : Type 0} {g : Ghosts F} where
   }
 
   -- the parts were written, the file was flushed, and memory notes it
-  pub parts_written : (old new : Package F g) (mid : CompoundFile F g) → letters_in (file_in new) ≡ letters_in (file_in old) → tables_in new ≡ tables_in old → kind_in new ≡ kind_in old
-      → summary_in new ≡ summary_in old → (pool_in new).pool ≡ (pool_in old).pool → read.FileRests mid (file_in new) → (P : Packed) (h : PackageHolds old P) → PackageIsFit P
-      → HasParts (letters_in (file_in old)) P (bytes_of_parts (pool_in old).pool (summary_in old).props) mid → PackageIsSaved new P
-  parts_written old new mid same_letters tables kind summary pool rests P h fit written =
-      let letters = letters_in (file_in old) in
-      let parts = parts_yet mid (file_in new) letters P (bytes_of_parts (pool_in old).pool (summary_in old).props) rests written in
-      let p : HasParts letters P (bytes_of_parts P.pool P.summary) (file_in new) =
-      subst (λ (x : Props). HasParts letters P (bytes_of_parts P.pool x) (file_in new)) h.memory.summary
-      (subst (λ (x : Pool). HasParts letters P (bytes_of_parts x (summary_in old).props) (file_in new)) h.memory.pool parts) in
-      let both = subst (λ l. PacksSound l p.after P) (sym same_letters) (packs_sound letters p.after P p.stores fit p.summary_at p.pool_at p.data_at) in
-      let three = parted (letters_in (file_in new)) p.after P both.packs in
-      record {
-        holds = record {
-          tree = p.after;
-          file = holds_meant (file_in new) p.after p.means;
-          usable = ap may_use same_letters ∙ h.usable;
-          stores = three.0;
-          memory = record {
-            kind = kind ∙ h.memory.kind;
-            summary = ap (λ s. s.props) summary ∙ h.memory.summary;
-            pool = pool ∙ h.memory.pool;
-            tables = tables ∙ h.memory.tables ∙ ap (λ (x : Pool). map (heading x.long) P.tables) (sym pool);
-          };
-          pool = λ unmodified. three.1;
-          summary = λ written. three.2;
-          last = record { pool = P.pool; has_pool = three.1; summary = P.summary; has_summary = three.2 };
-          sound = λ yes. (p.means, subst (λ l. StoresSound l p.after P) (sym same_letters) p.stores);
-        };
-        tree = p.after;
-        means = p.means;
-        packs = both.packs;
-        sound = both.sound;
-      }
+  module _ (old new : Package F g) (mid : CompoundFile F g) (same_letters : letters_in (file_in new) ≡ letters_in (file_in old)) (tables : tables_in new ≡ tables_in old) (kind : kind_in new ≡ kind_in old)
+      (summary : summary_in new ≡ summary_in old) (pool : (pool_in new).pool ≡ (pool_in old).pool) (rests : read.FileRests mid (file_in new)) (P : Packed) (h : PackageHolds old P)
+      (written : HasParts (letters_in (file_in old)) P (bytes_of_parts (pool_in old).pool (summary_in old).props) mid) where
+    parts : HasParts (letters_in (file_in new)) P (bytes_of_parts P.pool P.summary) (file_in new)
+    parts =
+        subst (λ l. HasParts l P (bytes_of_parts P.pool P.summary) (file_in new)) (sym same_letters)
+        (subst (λ (x : Props). HasParts (letters_in (file_in old)) P (bytes_of_parts P.pool x) (file_in new)) h.memory.summary
+        (subst (λ (x : Pool). HasParts (letters_in (file_in old)) P (bytes_of_parts x (summary_in old).props) (file_in new)) h.memory.pool
+        (parts_yet mid (file_in new) (letters_in (file_in old)) P (bytes_of_parts (pool_in old).pool (summary_in old).props) rests written)))
+
+    pub parts_held : PackageHolds new P
+    parts_held = held_parts new P (kind ∙ h.memory.kind) (ap (λ s. s.props) summary ∙ h.memory.summary) (pool ∙ h.memory.pool)
+        (tables ∙ h.memory.tables ∙ ap (λ (x : Pool). map (heading x.long) P.tables) (sym pool)) (ap may_use same_letters ∙ h.usable) parts
+
+    pub parts_written : PackageIsFit P → PackageIsSaved new P
+    parts_written fit =
+        let both = packs_sound (letters_in (file_in new)) parts.after P parts.stores fit parts.summary_at parts.pool_at parts.data_at in
+        record { holds = parts_held; tree = parts.after; means = parts.means; packs = both.packs; sound = both.sound }
 
   -- ---- the exits of writing both
 
@@ -134,10 +107,10 @@ module _ {F : Type 0} {g : Ghosts F} where
   pub parts_unwritten : (old new : Package F g) (d : DifferByFile old new) → pool_in new ≡ pool_in old → (e : Error) → PutsParts {T = Unit {0}} (bytes_of_parts (pool_in old).pool (summary_in old).props) (Err e) (file_in old) (file_in new)
       → OfPackage (file_in old) (IsFault e ⊎ ((e ≡ InvalidInput) × IsTooLong (most_bytes (file_in old)) (pool_in old).pool (summary_in old).props × KeepsMeant (file_in old) (file_in new))) → SavesMemory (Err e) old new
   parts_unwritten old new d same e put told = record {
+    holds = tt;
     done = tt;
-    stands = tt;
     live = tt;
-    refused = λ P h sound. let both = h.sound sound in elim (told h.tree P both.0 both.1 (three_held (letters_in (file_in old)) h.tree h.last)) [
+    refused = λ P h sound. let both = h.sound sound in elim (told h.tree P both.0 both.1 h.three) [
       | inl fault ↦ inl fault
       | inr long ↦ inr (long.0, long.1, keeps_held old new d sound same long.2)
     ];
@@ -149,7 +122,7 @@ module _ {F : Type 0} {g : Ghosts F} where
   pub parts_unflushed : (old new : Package F g) (e : Error) → IsFaultUnless ⊥ e → has_failed_here (allocator_of (mini_of (file_in new))) ≡ true → letters_in (file_in new) ≡ letters_in (file_in old) → sound_in new ≡ sound_in old
       → SavesMemory (Err e) old new
   parts_unflushed old new e fault failed letters sound =
-      record { done = tt; stands = tt; live = tt; refused = λ P h sound. inl (inl fault); rests = inl (failed_too (file_in new) failed); seen = (letters, sound) }
+      record { holds = tt; done = tt; live = tt; refused = λ P h sound. inl (inl fault); rests = inl (failed_too (file_in new) failed); seen = (letters, sound) }
 
   -- ---- what a flush answers
 
@@ -157,6 +130,7 @@ module _ {F : Type 0} {g : Ghosts F} where
   failed_writes it is = record {
     failed = λ yes. refl;
     unsound = λ no wrong. let never : true ≡ false = sym is ∙ no in absurd (cc);
+    holds = tt;
     done = tt;
     refused = λ P h sound. inl (inl tt);
     rests = inr (record { holds = λ P h. h });
@@ -167,6 +141,7 @@ module _ {F : Type 0} {g : Ghosts F} where
   unsound_writes it live wrong = record {
     failed = λ yes. let never : true ≡ false = sym yes ∙ live in absurd (cc);
     unsound = λ no is. (refl, refl);
+    holds = λ P h sound. let never : true ≡ false = sym sound ∙ wrong in absurd (cc);
     done = λ P h sound fit. let never : true ≡ false = sym sound ∙ wrong in absurd (cc);
     refused = tt;
     rests = tt;
@@ -174,12 +149,14 @@ module _ {F : Type 0} {g : Ghosts F} where
   }
 
   module _ (old new : Package F g) (live : failed_in old ≡ false) (sound : sound_in old ≡ true) where
-    pub sound_writes : (r : Result (Unit {0}) Error) → OnOk r ((P : Packed) → PackageHolds old P → IsTrue (sound_in old) → PackageIsFit P → PackageIsWritten new P)
+    pub sound_writes : (r : Result (Unit {0}) Error) → OnOk r ((P : Packed) → PackageHolds old P → IsTrue (sound_in old) → PackageHolds new P)
+        → OnOk r ((P : Packed) → PackageHolds old P → IsTrue (sound_in old) → PackageIsFit P → PackageIsWritten new P)
         → IfErr r (λ e. (P : Packed) → PackageHolds old P → IsTrue (sound_in old) → IsUnsaved old new e) → OnErr r ((failed_in new ≡ true) ⊎ (IsTrue (sound_in old) → KeepsHeld old new))
         → (letters_in (file_in new) ≡ letters_in (file_in old)) × (sound_in new ≡ sound_in old) → PackageWrites r old new
-    sound_writes r done refused rests seen = record {
+    sound_writes r holds done refused rests seen = record {
       failed = λ yes. let never : true ≡ false = sym yes ∙ live in absurd (cc);
       unsound = λ no wrong. let never : true ≡ false = sym sound ∙ wrong in absurd (cc);
+      holds = holds;
       done = done;
       refused = refused;
       rests = kept r rests;
@@ -192,8 +169,8 @@ module _ {F : Type 0} {g : Ghosts F} where
 
     -- both were written
     pub saved_writes : (r : Result (Unit {0}) Error) → SavesMemory r old new → PackageWrites r old new
-    saved_writes (Ok u) s = sound_writes (Ok u) (λ P h is fit. saved_written new P (s.done P h is fit)) tt tt s.seen
-    saved_writes (Err e) s = sound_writes (Err e) tt s.refused s.rests s.seen
+    saved_writes (Ok u) s = sound_writes (Ok u) s.holds (λ P h is fit. saved_written new P (s.done P h is fit)) tt tt s.seen
+    saved_writes (Err e) s = sound_writes (Err e) tt tt s.refused s.rests s.seen
 
 -- errors that are faults, whatever is held
 pub fault_unsaved : {F : Type 0} {g : Ghosts F} (old new : Package F g) (r : Result (Unit {0}) Error) → IfErr r (IsFaultUnless ⊥) → IfErr r (λ e. (P : Packed) → PackageHolds old P → IsTrue (sound_in old) → IsUnsaved old new e)

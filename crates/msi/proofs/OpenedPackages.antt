@@ -32,13 +32,14 @@ use Rattle.msi_meaning.proofs.SoundAnyway.{sound_anyway}
 use Rattle.msi_meaning.proofs.Splitting.{parted}
 use Rattle.msi_meaning.specs.SoundParts.{IsSound as IsSoundPart}
 use Rattle.msi_meaning.specs.Split.{HasPool, HasSummary, Stores}
+use Rattle.msi_streams.specs.Parts.{HasThree}
 use Rattle.msi_stored.specs.Changing.{StoresSound}
 use Rattle.msi_parts.proofs.Collected.{opened_is, schema_of}
 use Rattle.msi_parts.proofs.Memory.{memory_is}
 use Rattle.msi_parts.specs.Held.{AreHeld}
 use Rattle.msi_parts.specs.Parts.{AreParts, IsSoundIn}
 use Rattle.msi_parts.specs.declared.parts.PackageParts.{PackageParts}
-use Rattle.msi.specs.Opened.{LastParts, PackageHolds, IsOpenedPackage, IsRefused, IsSoundFile, file_in, kind_in, pool_in, sound_in, summary_in, tables_in}
+use Rattle.msi.specs.Opened.{PackageHolds, IsOpenedPackage, IsRefused, IsSoundFile, file_in, kind_in, pool_in, sound_in, summary_in, tables_in}
 use Rattle.msi_store.proofs.ShownTrees.{means_shown, shown_opened}
 use Rattle.msi_stored.specs.Shown.{FindsPart, HoldsShown, IsLostPart, ShowsTree, bytes_in}
 use Rattle.msi.specs.Steps.{IsFound, IsGivenUp}
@@ -115,9 +116,16 @@ module _ {F : Type 0} {g : Ghosts F} (medium : F) (a : CompoundFile F g) (opens 
             usable = ap may_use named_here ∙ may;
             stores = subst (λ l. Stores l tree P) (sym named_here) three.0;
             memory = memory_is letters tree (kind_in it) (summary_in it) (pool_in it).pool here.0 (tables_in it) here.1 P packs;
-            pool = λ unmodified. subst (λ l. HasPool l tree P.pool) (sym named_here) three.1;
-            summary = λ written. subst (λ l. HasSummary l tree P.summary) (sym named_here) three.2;
-            last = subst (λ l. LastParts l tree) (sym named_here) (record { pool = P.pool; has_pool = three.1; summary = P.summary; has_summary = three.2 });
+            pool = λ unmodified writable. subst (λ l. HasPool l tree P.pool) (sym named_here) three.1;
+            summary = λ written fit. subst (λ l. HasSummary l tree P.summary) (sym named_here) three.2;
+            three = subst (λ l. HasThree l tree) (sym named_here) (record {
+              summary = three.2.summary_bytes;
+              summary_at = three.2.summary_at;
+              pool = three.1.pool_bytes;
+              pool_at = three.1.pool_at;
+              pool_data = three.1.data_bytes;
+              data_at = three.1.data_at;
+            });
             sound = sound_yet tree P means packs;
           }
 

@@ -63,8 +63,8 @@ holds_paged old new page P file tables kind summary sound written pool h = recor
     pool = ap (λ (p : PoolState). p.pool) pool ∙ ap (λ (p : Pool). record p { page = page }) h.memory.pool;
     tables = tables ∙ h.memory.tables ∙ ap (λ l. map (heading l) P.tables) (sym (ap (λ (p : PoolState). p.pool.long) pool));
   };
-  pool = λ unmodified. let no : true ≡ false = sym (ap (λ (p : PoolState). p.modified) pool) ∙ unmodified in absurd (cc);
-  summary = λ is. rw file (h.summary (sym written ∙ is));
-  last = rw file h.last;
+  pool = λ unmodified writable. let no : true ≡ false = sym (ap (λ (p : PoolState). p.modified) pool) ∙ unmodified in absurd (cc);
+  summary = λ is fit. rw file (h.summary (sym written ∙ is) fit);
+  three = rw file h.three;
   sound = λ is. let both = h.sound (subst IsTrue sound is) in rw file (both.0, sound_paged (letters_in (file_in old)) h.tree page P both.1);
 }

@@ -1,6 +1,7 @@
 -- A package that was committed: which bytes were published, and what a stop may leave.
 use Rattle.std.proofs.Common.{◌≡◌, ◌∙◌, ◌⊎◌, ◌≤◌, ℕ, Bool, List, Option, Some, ap₂, false, inl, inr, refl, subst, sym, true, ⊎_elim}
 use Rattle.std.specs.Prelude.{Err, IfErr, IsOk, Ok, OnErr, OnOk, Result, ◌||◌}
+use Rattle.cfb.specs.Doing.{FileMeans}
 use Rattle.cfb.specs.Publishing.{IsUntouched, Publishes, medium_in}
 use Rattle.cfb.specs.Views.{IsLive, mini_of, sound_of}
 use Rattle.cfb.specs.declared.compound_file.CompoundFile.{CompoundFile}
@@ -13,14 +14,15 @@ use Rattle.cfb_medium.specs.declared.medium.ReadMedium.{Ghosts}
 use Rattle.cfb_mini.specs.Views.{allocator_of}
 use Rattle.cfb_owned.specs.Chains.{GoesOn}
 use Rattle.cfb_sectors.specs.Held.{LeavesOldOrBytes}
+use Rattle.cfb_tree.specs.Tree.{Tree}
 use Rattle.msi_meaning.specs.Package.{Packed, Packs}
 use Rattle.msi_stored.specs.Shown.{bytes_in}
 use Rattle.staged.proofs.Leaving.{leaves_then, leaves_told}
 use Rattle.msi.proofs.Changed.{DifferByFile, failed_too, keeps_held}
 use Rattle.msi.proofs.SavedSound.{saved_found}
-use Rattle.msi.specs.Changing.{failed_in}
+use Rattle.msi.specs.Changing.{PackageIsFit, failed_in}
 use Rattle.msi.specs.Committing.{HoldWhatWasHeld, HoldsSound, LeavesOldOrHeld, PackageCommits, PackageIsPublished}
-use Rattle.msi.specs.Opened.{file_in, pool_in, sound_in}
+use Rattle.msi.specs.Opened.{PackageHolds, file_in, pool_in, sound_in}
 use Rattle.msi.specs.Steps.{PackageIsSaved, SavesMemory}
 use Rattle.msi.specs.declared.package.Package.{Package}
 
@@ -44,7 +46,7 @@ module _ {F : Type 0} {g : Ghosts F} (has_published : F → List ℕ → Type 0)
   unsound_commits it live wrong = record {
     failed = λ yes. let never : true ≡ false = sym yes ∙ live in absurd (cc);
     unsound = λ no is. (refl, refl);
-    done = λ P h sound fit. let never : true ≡ false = sym sound ∙ wrong in absurd (cc);
+    done = λ P h sound. let never : true ≡ false = sym sound ∙ wrong in absurd (cc);
     live = (live, live);
     refused = tt;
     rests = tt;
@@ -65,17 +67,22 @@ module _ {F : Type 0} {g : Ghosts F} (has_published : F → List ℕ → Type 0)
     }
 
     module _ (u : Unit {0}) (s : SavesMemory (Ok u) old mid) (new : Package F g) (d : DifferByFile mid new) (same : pool_in new ≡ pool_in mid) where
-      published : (P : Packed) → PackageIsSaved mid P → Publishes has_published (file_in mid) (file_in new) → PackageIsPublished has_published new P
-      published P saved p = record {
-        written = record {
-          holds = (keeps_held mid new d (s.seen.1 ∙ sound) same (record { means = p.means })).holds P saved.holds;
-          tree = saved.tree;
-          means = p.means saved.tree saved.means;
-          packs = subst (λ l. Packs l saved.tree P) (sym d.letters) saved.packs;
-        };
+      still : ((tree : Tree) → FileMeans (file_in mid) tree → FileMeans (file_in new) tree) → (P : Packed) → PackageHolds mid P → PackageHolds new P
+      still means P h = (keeps_held mid new d (s.seen.1 ∙ sound) same (record { means = means })).holds P h
+
+      published : (P : Packed) (h : PackageHolds mid P) → FileMeans (file_in mid) h.tree → (PackageIsFit P → PackageIsSaved mid P) → Publishes has_published (file_in mid) (file_in new) → PackageIsPublished has_published new P
+      published P h means saved p = record {
+        holds = still p.means P h;
         bytes = bytes_in (file_in mid);
-        published = p.published saved.means.live.owners.honest;
-        found = subst (λ l. HoldsSound l (bytes_in (file_in mid)) P) (sym d.letters) (saved_found mid P saved);
+        published = p.published means.live.owners.honest;
+        found = λ fit. subst (λ l. HoldsSound l (bytes_in (file_in mid)) P) (sym d.letters) (saved_found mid P (saved fit));
+        written = λ fit.
+            let s = saved fit in record {
+              holds = still p.means P s.holds;
+              tree = s.tree;
+              means = p.means s.tree s.means;
+              packs = subst (λ l. Packs l s.tree P) (sym d.letters) s.packs;
+            };
       }
 
       live_here : (b : Bool) → sound_of (file_in mid) ≡ b → (sound_of (file_in mid) ≡ true → Publishes has_published (file_in mid) (file_in new))
@@ -91,7 +98,10 @@ module _ {F : Type 0} {g : Ghosts F} (has_published : F → List ℕ → Type 0)
       saved_commits (Ok v) publishes rests err fault alike before = record {
         failed = λ yes. let never : true ≡ false = sym yes ∙ live in absurd (cc);
         unsound = λ no wrong. let never : true ≡ false = sym sound ∙ wrong in absurd (cc);
-        done = λ P h is fit. let saved = s.done P h is fit in published P saved (publishes saved.means.sound);
+        done = λ P h is.
+            let after = s.holds P h is in
+            let meant = (after.sound (s.seen.1 ∙ is)).0 in
+            published P after meant (λ fit. s.done P h is fit) (publishes meant.sound);
         live = (
           live,
           ap₂ (λ a b. a || b) (live_here (sound_of (file_in mid)) refl publishes (λ is. (rests s.live.1 is).1))

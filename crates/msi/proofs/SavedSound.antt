@@ -32,7 +32,7 @@ pub record PacksSound (letters : Letters) (tree : Tree) (P : Packed) : Type 0 wh
 module _ (letters : Letters) (tree : Tree) (P : Packed) (s : StoresSound letters tree P) (fit : PackageIsFit P) where
   -- what was written of the summary is read as it was
   summary_back : props_read (props_bytes P.summary) ≡ Ok P.summary
-  summary_back = written_set_is_read P.summary fit.summary ∙ ap (λ n. Ok (record P.summary { sections = n })) (sym s.named.one_section)
+  summary_back = written_set_is_read P.summary fit.summary.writable ∙ ap (λ n. Ok (record P.summary { sections = n })) (sym s.named.one_section)
 
   pub packs_sound : stream_at letters (objects tree.content) summary_name ≡ Some (props_bytes P.summary) → table_stream letters (objects tree.content) pool_name ≡ Some (pool_stream P.pool)
       → table_stream letters (objects tree.content) data_name ≡ Some (data_stream P.pool) → PacksSound letters tree P
@@ -57,7 +57,7 @@ module _ (letters : Letters) (tree : Tree) (P : Packed) (s : StoresSound letters
           summary_bytes = props_bytes P.summary;
           summary_at = summary_at;
           summary = summary_back;
-          summary_kind = fit.format;
+          summary_kind = fit.summary.format;
           streams = s.stores.streams;
           storages = s.stores.storages;
         };
@@ -66,7 +66,7 @@ module _ (letters : Letters) (tree : Tree) (P : Packed) (s : StoresSound letters
           counts = s.counted.counts;
           free = s.free;
           texts = b.texts;
-          summary_texts = written_summary_gives_back P.summary fit.summary;
+          summary_texts = written_summary_gives_back P.summary fit.summary.writable;
           one_section = s.named.one_section;
           no_strays = s.named.no_strays;
           table_names = s.named.table_names;

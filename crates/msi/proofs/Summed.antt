@@ -54,8 +54,8 @@ module _ {F : Type 0} {g : Ghosts F} (it : Package F g) (P : Packed) (h : Packag
     stores = stores_summed (letters_in (file_in it)) h.tree s.props P h.stores;
     memory = record { kind = h.memory.kind; summary = refl; pool = h.memory.pool; tables = h.memory.tables };
     pool = h.pool;
-    summary = λ written. let never : false ≡ true = written in absurd (cc);
-    last = h.last;
+    summary = λ written fit. let never : false ≡ true = written in absurd (cc);
+    three = h.three;
     sound = λ is. let both = h.sound is in (both.0, sound_summed (letters_in (file_in it)) h.tree s.props P one both.1);
   }
 

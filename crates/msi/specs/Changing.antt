@@ -14,13 +14,11 @@ use Rattle.cfb_mini.specs.Views.{allocator_of}
 use Rattle.cfb_tree.specs.Tree.{Tree}
 use Rattle.msi_meaning.specs.Package.{Packed, Packs}
 use Rattle.msi_pool.specs.PoolKept.{IsWritable}
-use Rattle.msi_props.specs.Kept.{SetIsWritable}
 use Rattle.msi_stored.specs.Changing.{PackageRule}
 use Rattle.msi_streams.specs.Parts.{IsTooLong}
 use Rattle.msi_streams.specs.Writing.{most_bytes}
-use Rattle.msi_summary.specs.Summary.{summary_format}
 use Rattle.msi_texts.specs.declared.codepage.CodePage.{CodePage}
-use Rattle.msi.specs.Opened.{PackageHolds, file_in, pool_in, sound_in, summary_in}
+use Rattle.msi.specs.Opened.{PackageHolds, SummaryIsFit, file_in, pool_in, sound_in, summary_in}
 use Rattle.msi.specs.declared.package.Package.{Package}
 
 -- the package whose texts are written under another page
@@ -46,8 +44,7 @@ IsRemovalError e = IsFaultUnless ⊥ e ⊎ IsRefusedRemoval e
 -- pool and summary can be written, and are then read as they are
 pub record PackageIsFit (P : Packed) : Type 0 where
   pub pool : IsWritable P.pool
-  pub summary : SetIsWritable P.summary
-  pub format : P.summary.format ≡ summary_format
+  pub summary : SummaryIsFit P.summary
 
 module _ {F : Type 0} {g : Ghosts F} where
   -- every call is refused after a fault
@@ -81,11 +78,13 @@ module _ {F : Type 0} {g : Ghosts F} where
   abbrev pub IsUnsaved : Package F g → Package F g → Error → Type 0
   IsUnsaved old new e = IsFault e ⊎ ((e ≡ InvalidInput) × IsTooLong (most_bytes (file_in old)) (pool_in old).pool (summary_in old).props × KeepsHeld old new)
 
-  -- `Failed` after a fault. Where it isn't sound it is done, and nothing was touched. Each sound package that was held and can be written
-  -- is packed by the file; what comes in between is a fault, or too long. After any error it has failed, or holds what it held.
+  -- `Failed` after a fault. Where it isn't sound it is done, and nothing was touched. Each sound package that was held is held, and where
+  -- it can be written it is packed by the file; what comes in between is a fault, or too long. After any error it has failed, or holds
+  -- what it held.
   pub record PackageWrites (result : Result (Unit {0}) Error) (old new : Package F g) : Type 0 where
     pub failed : failed_in old ≡ true → IsErrOf result Failed
     pub unsound : failed_in old ≡ false → sound_in old ≡ false → (result ≡ Ok tt) × (new ≡ old)
+    pub holds : OnOk result ((P : Packed) → PackageHolds old P → IsTrue (sound_in old) → PackageHolds new P)
     pub done : OnOk result ((P : Packed) → PackageHolds old P → IsTrue (sound_in old) → PackageIsFit P → PackageIsWritten new P)
     pub refused : IfErr result (λ e. (P : Packed) → PackageHolds old P → IsTrue (sound_in old) → IsUnsaved old new e)
     pub rests : OnErr result ((failed_in new ≡ true) ⊎ KeepsHeld old new)

@@ -31,20 +31,20 @@ module _ {F : Type 0} {g : Ghosts F} where
   abbrev pub HoldWhatWasHeld : Package F g → List ℕ → Type 0
   HoldWhatWasHeld old bytes = (P : Packed) → PackageHolds old P → IsTrue (sound_in old) → PackageIsFit P → HoldsSound (letters_in (file_in old)) bytes P
 
-  -- it holds the package, its file means a tree that packs it, and bytes were published that hold it
+  -- it holds the package, and bytes were published; where the package can be written they hold it, and the file means a tree that packs it
   pub record PackageIsPublished (has_published : F → List ℕ → Type 0) (it : Package F g) (P : Packed) : Type 0 where
-    pub written : PackageIsWritten it P
+    pub holds : PackageHolds it P
     pub bytes : List ℕ
     pub published : has_published (medium_in (file_in it)) bytes
-    pub found : HoldsSound (letters_in (file_in it)) bytes P
+    pub found : PackageIsFit P → HoldsSound (letters_in (file_in it)) bytes P
+    pub written : PackageIsFit P → PackageIsWritten it P
 
-  -- `Failed` after a fault. Where it isn't sound it is done, and nothing was touched. Of each sound package that was held and can be
-  -- written bytes are published that hold it; what comes in between is a fault, or too long. After `Ok` it has not failed; after any error
-  -- it has failed, or holds what it held.
+  -- `Failed` after a fault. Where it isn't sound it is done, and nothing was touched. Each sound package that was held is published; what
+  -- comes in between is a fault, or too long. After `Ok` it has not failed; after any error it has failed, or holds what it held.
   pub record PackageCommits (has_published : F → List ℕ → Type 0) (result : Result (Unit {0}) Error) (old new : Package F g) : Type 0 where
     pub failed : failed_in old ≡ true → IsErrOf result Failed × (new ≡ old)
     pub unsound : failed_in old ≡ false → sound_in old ≡ false → (result ≡ Ok tt) × (new ≡ old)
-    pub done : OnOk result ((P : Packed) → PackageHolds old P → IsTrue (sound_in old) → PackageIsFit P → PackageIsPublished has_published new P)
+    pub done : OnOk result ((P : Packed) → PackageHolds old P → IsTrue (sound_in old) → PackageIsPublished has_published new P)
     pub live : OnOk result ((failed_in old ≡ false) × (failed_in new ≡ false))
     pub refused : IfErr result (λ e. (P : Packed) → PackageHolds old P → IsTrue (sound_in old) → IsUnsaved old new e)
     pub rests : OnErr result ((failed_in new ≡ true) ⊎ KeepsHeld old new)

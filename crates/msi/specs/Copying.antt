@@ -33,18 +33,15 @@ module _ {F : Type 0} {g : Ghosts F} where
     pub cause : IfErr result (HasCauseBelow (allocator_of (mini_of (file_in old))) (allocator_of (mini_of (file_in new))))
     pub medium_is : medium ≡ medium_in (file_in new)
 
-  -- each package that it held and that can be written it holds still
-  abbrev pub KeepsFit : Package F g → Package F g → Type 0
-  KeepsFit old new = (P : Packed) → PackageHolds old P → IsTrue (sound_in old) → PackageIsFit P → PackageHolds new P
-
-  -- `Failed` after a fault, `InvalidData` where it isn't sound, and it is as it was. Each sound package that was held and can be written is
-  -- packed by its file, and copied, where the target is honest; what comes in between is a fault, or too long. After any error it has
-  -- failed, or holds what it held, at least what can be written.
+  -- `Failed` after a fault, `InvalidData` where it isn't sound, and it is as it was. Each sound package that was held is held, and where it
+  -- can be written it is packed by its file, and copied, where the target is honest; what comes in between is a fault, or too long. After
+  -- any error it has failed, or holds what it held.
   pub record PackageCopies (honest : Type 0) (bytes : List ℕ) (result : Result (Unit {0}) Error) (old new : Package F g) : Type 0 where
     pub failed : failed_in old ≡ true → IsErrOf result Failed × (new ≡ old)
     pub unsound : failed_in old ≡ false → sound_in old ≡ false → IsErrOf result InvalidData × (new ≡ old)
+    pub holds : OnOk result ((P : Packed) → PackageHolds old P → IsTrue (sound_in old) → PackageHolds new P)
     pub done : OnOk result ((P : Packed) → PackageHolds old P → IsTrue (sound_in old) → PackageIsFit P
         → PackageIsWritten new P × (honest → HoldsPackageCopy (version_of (allocator_of (mini_of (file_in old)))) (letters_in (file_in old)) bytes P))
     pub refused : IfErr result (λ e. (P : Packed) → PackageHolds old P → IsTrue (sound_in old) → IsUnsaved old new e)
-    pub rests : OnErr result ((failed_in new ≡ true) ⊎ KeepsHeld old new ⊎ KeepsFit old new)
+    pub rests : OnErr result ((failed_in new ≡ true) ⊎ KeepsHeld old new)
     pub seen : (letters_in (file_in new) ≡ letters_in (file_in old)) × (sound_in new ≡ sound_in old)

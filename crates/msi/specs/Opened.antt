@@ -18,16 +18,24 @@ use Rattle.msi_meaning.specs.Sound.{IsSoundPackage}
 use Rattle.msi_meaning.specs.Split.{HasPool, HasSummary, Stores}
 use Rattle.msi_meaning.specs.declared.kind.PackageType.{PackageType}
 use Rattle.msi_parts.specs.Parts.{HasSchema, IsMemoryOf}
-use Rattle.msi_pool.specs.Pool.{Pool}
+use Rattle.msi_pool.specs.PoolKept.{IsWritable}
 use Rattle.msi_pool.specs.PoolState.{PoolState}
 use Rattle.msi_props.specs.Held.{SetState}
+use Rattle.msi_props.specs.Kept.{SetIsWritable}
 use Rattle.msi_props.specs.Props.{Props}
 use Rattle.msi_store.specs.Stores as store
 use Rattle.msi_store.specs.declared.store.Store.{Store}
 use Rattle.msi_stored.specs.Changing.{StoresSound}
 use Rattle.msi_stored.specs.Shown.{IsBrokenPart, ShowsTree}
+use Rattle.msi_streams.specs.Parts.{HasThree}
+use Rattle.msi_summary.specs.Summary.{summary_format}
 use Rattle.msi_tables.specs.Table.{Heading}
 use Rattle.msi.specs.declared.package.Package.{Package}
+
+-- a summary that can be written, and is then read as it is
+pub record SummaryIsFit (s : Props) : Type 0 where
+  pub writable : SetIsWritable s
+  pub format : s.format ≡ summary_format
 
 -- THE BYTES HOLD A SOUND PACKAGE: their container is sound, and the tree that it means packs a package that is
 abbrev pub IsSoundFile : Letters → List ℕ → Type 0
@@ -41,13 +49,6 @@ IsRefused letters bytes e =
     ((e ≡ InvalidInput) × (may_use letters ≡ false))
     ⊎ ((e ≡ InvalidData) × (IsOpenable letters bytes → ⊥))
     ⊎ ((tree : Tree) → ShowsTree letters bytes tree → IsBrokenPart letters bytes e ⊎ (opened letters tree ≡ Err e))
-
--- the streams of pool and summary hold some pool and some summary: those that were written last, where memory is ahead of them
-pub record LastParts (letters : Letters) (tree : Tree) : Type 0 where
-  pub pool : Pool
-  pub has_pool : HasPool letters tree pool
-  pub summary : Props
-  pub has_summary : HasSummary letters tree summary
 
 module _ {F : Type 0} {g : Ghosts F} where
   -- the tables and their file; the file; and the tables without their rows
@@ -87,16 +88,16 @@ module _ {F : Type 0} {g : Ghosts F} where
     pub written : written_in new ≡ written_in old
 
   -- THE PACKAGE IN MEMORY IS THIS ONE: a tree that its file holds stores it, and memory has its other parts, which are those of their
-  -- streams unless they were changed. Of a sound package the file means the tree, which stores a sound one.
+  -- streams unless they were changed, or can't be written as they are. Of a sound package the file means the tree, which stores a sound one.
   pub record PackageHolds (it : Package F g) (P : Packed) : Type 0 where
     pub tree : Tree
     pub file : FileHolds (file_in it) tree
     pub usable : may_use (letters_in (file_in it)) ≡ true
     pub stores : Stores (letters_in (file_in it)) tree P
     pub memory : IsMemoryOf (kind_in it) (summary_in it).props (pool_in it).pool (tables_in it) P
-    pub pool : (pool_in it).modified ≡ false → HasPool (letters_in (file_in it)) tree P.pool
-    pub summary : written_in it ≡ true → HasSummary (letters_in (file_in it)) tree P.summary
-    pub last : LastParts (letters_in (file_in it)) tree
+    pub pool : (pool_in it).modified ≡ false → IsWritable P.pool → HasPool (letters_in (file_in it)) tree P.pool
+    pub summary : written_in it ≡ true → SummaryIsFit P.summary → HasSummary (letters_in (file_in it)) tree P.summary
+    pub three : HasThree (letters_in (file_in it)) tree
     pub sound : IsTrue (sound_in it) → FileMeans (file_in it) tree × StoresSound (letters_in (file_in it)) tree P
 
   -- Opened over these bytes under this letter table: kind, summary and pool are those that each tree tells that they show, and so are the

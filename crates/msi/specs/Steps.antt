@@ -47,7 +47,7 @@ module _ {F : Type 0} {g : Ghosts F} where
   -- pool and summary were written to their streams, whether or not memory was ahead of these
   pub record SavesMemory (result : Result (Unit {0}) Error) (old new : Package F g) : Type 0 where
     pub done : OnOk result ((P : Packed) → PackageHolds old P → IsTrue (sound_in old) → PackageIsFit P → PackageIsSaved new P)
-    pub stands : OnOk result ((P : Packed) → PackageHolds old P → IsTrue (sound_in old) → (tree : Tree) × FileMeans (file_in new) tree)
+    pub holds : OnOk result ((P : Packed) → PackageHolds old P → IsTrue (sound_in old) → PackageHolds new P)
     pub live : OnOk result ((has_failed_here (allocator_of (mini_of (file_in old))) ≡ false) × (has_failed_here (allocator_of (mini_of (file_in new))) ≡ false))
     pub refused : IfErr result (λ e. (P : Packed) → PackageHolds old P → IsTrue (sound_in old) → IsUnsaved old new e)
     pub rests : OnErr result ((failed_in new ≡ true) ⊎ (IsTrue (sound_in old) → KeepsHeld old new))

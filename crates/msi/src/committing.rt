@@ -1,5 +1,5 @@
 //! Packages that are committed.
-ghost use Rattle.std.specs.Prelude.{◌≤◌, IfErr, IsTrue};
+ghost use Rattle.std.specs.Prelude.{◌≡◌, ◌≤◌, IfErr, IsTrue};
 ghost use Rattle.cfb.specs.Publishing.{medium_in};
 ghost use Rattle.cfb.specs.Views.{mini_of};
 ghost use Rattle.cfb_fat.specs.Tables.{HasCauseBelow};
@@ -25,6 +25,8 @@ impl<F: Medium> Package<F> {
         ensures cause { IfErr result (HasCauseBelow (allocator_of (mini_of (file_in self.old)))
             (allocator_of (mini_of (file_in self.new)))) }
         ensures kinds { IfErr result IsChangeError }
+        ensures honest { F.honest (medium_in (file_in self.new))
+            ≡ F.honest (medium_in (file_in self.old)) }
         ensures counted { F.failures (medium_in (file_in self.old))
             ≤ F.failures (medium_in (file_in self.new)) }
     {

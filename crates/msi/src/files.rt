@@ -5,12 +5,15 @@ ghost use Rattle.cfb.specs.Views.{letters_in, mini_of};
 ghost use Rattle.cfb_opening.specs.Opened.{OpensAt};
 ghost use Rattle.cfb_tree.specs.LetterViews.{letters_of};
 ghost use Rattle.file_device.specs.FileDevice.{IsOpenRefusal};
+ghost use Rattle.msi.specs.Changing.{IsChangeError};
+ghost use Rattle.msi.specs.Creating.{IsPackageMadeOnDisk};
 ghost use Rattle.msi.specs.Opened.{file_in};
 ghost use Rattle.msi_stored.specs.Reading.{IsOpeningError};
 
 use crate::package::Package;
 use cfb::{CaseMapper, FileMedium};
 use cfb_medium::Error;
+use msi_meaning::PackageType;
 use std::alloc::Global;
 use std::fs::File;
 use std::rt::Files;
@@ -28,8 +31,48 @@ pub fn open<R: Files<File = File>>(
     ensures error { IfErr result (λ e. IsOpenRefusal e ⊎ IsOpeningError e) }
 {
     match FileMedium::open(rt, path) {
+        Ok(read_only) => package_in_medium(alloc, read_only, letters),
+        Err(error) => Err(error),
+    }
+}
+
+/// Opens the package at a path of the disk, to be read and changed. It is changed in its place: a stop may leave anything of it. Errors
+/// are those of `open`, and `Device` also where it may not be written, or another program has it.
+pub fn open_rw<R: Files<File = File>>(
+    rt: &R,
+    alloc: Global,
+    path: &str,
+    letters: CaseMapper,
+) -> Result<Package<FileMedium>, Error>
+    ensures opened { IfOk result (λ it. IsOpenedOnDisk (file_in it)) }
+    ensures letters { IfOk result (λ it. letters_in (file_in it) ≡ letters_of letters) }
+    ensures error { IfErr result (λ e. IsOpenRefusal e ⊎ IsOpeningError e) }
+{
+    match FileMedium::open_rw(rt, path) {
         Ok(medium) => package_in_medium(alloc, medium, letters),
         Err(error) => Err(error),
+    }
+}
+
+/// Makes a new package at a path of the disk; a file that is there is emptied first. `NotFound` where the folder is missing, `Device`
+/// where no regular file can be made or written there, or another program has it; the other errors are those of `Package::create`.
+pub fn create<R: Files<File = File>>(
+    rt: &R,
+    alloc: Global,
+    kind: PackageType,
+    path: &str,
+    letters: CaseMapper,
+) -> Result<Package<FileMedium>, Error>
+    ensures made { IfOk result (IsPackageMadeOnDisk (letters_of letters) kind) }
+    ensures error { IfErr result (λ e. IsOpenRefusal e ⊎ IsChangeError e) }
+{
+    let medium = match FileMedium::create(rt, path) {
+        Ok(medium) => medium,
+        Err(error) => return Err(error),
+    };
+    match Package::create(alloc, kind, medium, letters) {
+        Ok(package) => Ok(package),
+        Err((_, error)) => Err(error),
     }
 }
 

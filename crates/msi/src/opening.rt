@@ -26,9 +26,9 @@ use msi_store::{Store, read_parts};
 use std::alloc::Global;
 
 // The first and the last character of encoded names.
-const FIRST_ENCODED: char = '\u{3800}';
+pub(crate) const FIRST_ENCODED: char = '\u{3800}';
 
-const LAST_ENCODED: char = '\u{4840}';
+pub(crate) const LAST_ENCODED: char = '\u{4840}';
 
 impl<F: ReadMedium> Package<F> {
     /// Opens a package, whose names are compared under the letter table. `InvalidInput` where the table has a pair with a character

@@ -69,3 +69,9 @@ returns-clause-counted g c =
     let m = medium_in (file_in c.args.self.now) in
     let keeps = G.continues_keeps m _ (c.write_memory.ensures.goes_on.continues m (G.continues_refl m)) in
     omega (arith, keeps.counted, c.commit.ensures.medium.0)
+
+pub returns-in-Err-clause-honest : goal.returns-in-Err-clause-honest
+returns-in-Err-clause-honest g c = c.write_memory.ensures.goes_on.honest
+
+pub returns-clause-honest : goal.returns-clause-honest
+returns-clause-honest g c = c.commit.ensures.memory.directory.honest ∙ c.write_memory.ensures.goes_on.honest

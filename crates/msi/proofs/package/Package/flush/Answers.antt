@@ -20,7 +20,8 @@ returns-then-is_written-clause-writes g c =
     let it = c.args.self.now in
     let rests = c.flush.ensures.rests in
     sound_writes it _ (sym c.has_failed.ensures ∙ c.if-has_failed.false) c.if-not-self.false c.flush.result
-    (on_ok c.flush.result (λ P h sound fit. written_yet it _ (record { letters = rests.letters; tables = refl; kind = refl; summary = refl; sound = refl; written = refl }) refl rests sound P (written_already it (sym c.is_written.ensures ∙ c.if-is_written.true) P h sound)))
+    (on_ok c.flush.result (λ P h sound. (keeps_flushed it _ (record { letters = rests.letters; tables = refl; kind = refl; summary = refl; sound = refl; written = refl }) refl rests sound).holds P h))
+    (on_ok c.flush.result (λ P h sound fit. written_yet it _ (record { letters = rests.letters; tables = refl; kind = refl; summary = refl; sound = refl; written = refl }) refl rests sound P (written_already it (sym c.is_written.ensures ∙ c.if-is_written.true) P h sound fit)))
     (fault_unsaved it _ c.flush.result c.flush.ensures.fault)
     (on_err c.flush.result (inr (λ sound. keeps_flushed it _ (record { letters = rests.letters; tables = refl; kind = refl; summary = refl; sound = refl; written = refl }) refl rests sound)))
     (rests.letters, refl)

@@ -1,5 +1,4 @@
 use Rattle.std.proofs.Common.{◌∙◌, [], ap, inl, inr, refl}
-use Rattle.cfb.proofs.LiveMeaning.{means_read}
 use Rattle.cfb.specs.Views.{mini_of}
 use Rattle.cfb_fat.specs.Keeping.{fails_cause}
 use Rattle.cfb_fat.specs.Resting.{all_rest_refl}
@@ -7,7 +6,7 @@ use Rattle.cfb_mini.specs.Views.{allocator_of}
 use Rattle.cfb_owned.proofs.GoingOn.{fails_go_on, goes_cause, goes_then, rests_go_on}
 use Rattle.msi_pool.specs.PoolState.{PoolState}
 use Rattle.msi.specs.Opened.{file_in}
-use Rattle.msi.proofs.Flushed.{parts_unflushed, parts_unwritten, parts_written}
+use Rattle.msi.proofs.Flushed.{parts_held, parts_unflushed, parts_unwritten, parts_written}
 use Rattle.msi.proofs.package.Package.write_memory.Goals as goal
 
 pub returns-in-Err-clause-saves : goal.returns-in-Err-clause-saves
@@ -48,12 +47,12 @@ returns-clause-saves g c =
     let it = c.args.self.now in
     let did = c.in_default.ensures in
     let rests = c.flush.ensures.rests in record {
+      holds = λ P h sound.
+          let both = h.sound sound in
+          parts_held it _ c.write_parts.new.file (rests.letters ∙ did.changes.seen.0) refl refl refl (ap (λ (p : PoolState). p.pool) c.mark_unmodified.ensures) rests P h (did.changes.done h.tree P both.0 both.1);
       done = λ P h sound fit.
           let both = h.sound sound in
-          parts_written it _ c.write_parts.new.file (rests.letters ∙ did.changes.seen.0) refl refl refl (ap (λ (p : PoolState). p.pool) c.mark_unmodified.ensures) rests P h fit (did.changes.done h.tree P both.0 both.1);
-      stands = λ P h sound.
-          let both = h.sound sound in
-          let parts = did.changes.done h.tree P both.0 both.1 in (parts.after, means_read c.write_parts.new.file c.flush.new.self parts.after rests parts.means);
+          parts_written it _ c.write_parts.new.file (rests.letters ∙ did.changes.seen.0) refl refl refl (ap (λ (p : PoolState). p.pool) c.mark_unmodified.ensures) rests P h (did.changes.done h.tree P both.0 both.1) fit;
       live = (did.answers.live.0, rests.mini.directory.allocator.sectors.failed ∙ did.answers.live.1);
       refused = tt;
       rests = tt;

@@ -1,0 +1,73 @@
+use Rattle.std.proofs.Common.{◌∙◌, refl, sym}
+use Rattle.cfb.specs.Views.{mini_of}
+use Rattle.cfb_mini.specs.Views.{allocator_of}
+use Rattle.cfb_owned.proofs.GoingOn.{goes_cause, goes_then}
+use Rattle.cfb_tree.specs.LetterViews.{letters_of}
+use Rattle.msi_parts.proofs.Touching.{may_be_used}
+use Rattle.msi.proofs.Created.{create_fault, created_package, goes_first, left_made, letters_first, live_first, new_of, not_both, since_made}
+use Rattle.msi.specs.Opened.{file_in}
+use Rattle.msi.proofs.package.Package.create.Goals as goal
+
+pub returns-in-Err-clause-letters : goal.returns-in-Err-clause-letters
+returns-in-Err-clause-letters g c = not_both (may_be_used (letters_of c.args.letters) (sym c.touches.ensures ∙ c.if-touches.false))
+
+pub returns-in-Err-clause-kinds : goal.returns-in-Err-clause-kinds
+returns-in-Err-clause-kinds g c = create_fault g.F.ReadMedium.honest c.args.medium c.in-Err.refusal.1 c.in-Err.ensures.fault
+
+pub returns-in-Err-create_package-clause-letters : goal.returns-in-Err-create_package-clause-letters
+returns-in-Err-create_package-clause-letters g c = not_both (may_be_used (letters_of c.args.letters) (sym c.touches.ensures ∙ c.if-touches.false))
+
+pub returns-in-Err-create_package-clause-kinds : goal.returns-in-Err-create_package-clause-kinds
+returns-in-Err-create_package-clause-kinds g c = c.in-Err-create_package.ensures.kinds
+
+pub returns-in-Err-write_parts-clause-letters : goal.returns-in-Err-write_parts-clause-letters
+returns-in-Err-write_parts-clause-letters g c = not_both (may_be_used (letters_of c.args.letters) (sym c.touches.ensures ∙ c.if-touches.false))
+
+pub returns-clause-letters : goal.returns-clause-letters
+returns-clause-letters g c = not_both (may_be_used (letters_of c.args.letters) (sym c.touches.ensures ∙ c.if-touches.false))
+
+pub returns-in-Err-create_package-clause-left : goal.returns-in-Err-create_package-clause-left
+returns-in-Err-create_package-clause-left g c =
+    rw c.into_inner.ensures (left_made (letters_of c.args.letters) c.args.medium c.in-Ok.file c.in-Ok.ensures.created c.in-Err-create_package.file c.in-Err-create_package.ensures.left)
+
+pub returns-in-Err-create_package-clause-cause : goal.returns-in-Err-create_package-clause-cause
+returns-in-Err-create_package-clause-cause g c =
+    let made = c.in-Ok.ensures.created in
+    rw c.into_inner.ensures (
+    since_made (letters_of c.args.letters) c.args.medium c.in-Ok.file made made.live c.in-Err-create_package.file c.in-Err-create_package.error c.in-Err-create_package.ensures.cause
+    )
+
+pub returns-in-Err-write_parts-clause-left : goal.returns-in-Err-write_parts-clause-left
+returns-in-Err-write_parts-clause-left g c =
+    let a = c.in-Ok.file in
+    let first = goes_first a c.in-Ok-create_package.made.store c.from_new-it.result c.from_new-it.ensures.store c.in-Ok-create_package.ensures.goes_on in
+    rw c.into_medium.ensures (
+    left_made (letters_of c.args.letters) c.args.medium a c.in-Ok.ensures.created c.write_parts.new.file
+    (goes_then (allocator_of (mini_of a)) (allocator_of (mini_of (file_in c.from_new-it.result))) (allocator_of (mini_of c.write_parts.new.file)) first c.write_parts.ensures.goes_on)
+    )
+
+pub returns-in-Err-write_parts-clause-cause : goal.returns-in-Err-write_parts-clause-cause
+returns-in-Err-write_parts-clause-cause g c =
+    let a = c.in-Ok.file in
+    let made = c.in-Ok.ensures.created in
+    let m = allocator_of (mini_of (file_in c.from_new-it.result)) in
+    let first = goes_first a c.in-Ok-create_package.made.store c.from_new-it.result c.from_new-it.ensures.store c.in-Ok-create_package.ensures.goes_on in
+    rw c.into_medium.ensures (
+    since_made (letters_of c.args.letters) c.args.medium a made made.live c.write_parts.new.file c.in-Err-write_parts.error
+    (goes_cause (allocator_of (mini_of a)) m (allocator_of (mini_of c.write_parts.new.file)) c.in-Err-write_parts.error first
+    (live_first c.in-Ok-create_package.made.store c.from_new-it.result c.from_new-it.ensures.store c.in-Ok-create_package.ensures.live) c.in-Err-write_parts.ensures.answers.cause)
+    )
+
+pub returns-clause-created : goal.returns-clause-created
+returns-clause-created g c =
+    let a = c.in-Ok.file in
+    let first = c.from_new-it.result in
+    let made = c.in-Ok-create_package.made in
+    let is = c.from_new-it.ensures.store in
+    let did = c.in_default.ensures in
+    let goes = goes_first a made.store first is c.in-Ok-create_package.ensures.goes_on in
+    created_package (letters_of c.args.letters) c.args.medium a c.in-Ok.ensures.created c.args.kind first _ (may_be_used (letters_of c.args.letters) (sym c.touches.ensures ∙ c.if-touches.false))
+    (letters_first a made.store first is c.in-Ok-create_package.ensures.seen.0) c.from_new-it.ensures.parts.0 c.from_new-it.ensures.flags.0 did.answers.live.1
+    (goes_then (allocator_of (mini_of a)) (allocator_of (mini_of (file_in first))) (allocator_of (mini_of c.write_parts.new.file)) goes c.write_parts.ensures.goes_on)
+    (record { letters = did.changes.seen.0; tables = refl; kind = refl; pool = refl; summary = refl; parts = λ tree P m s. did.changes.done tree P m s })
+    (λ tree means none may. new_of c.args.kind made.store made.pool made.summary first is c.from_new-it.ensures.parts.1 c.from_new-it.ensures.parts.2 (c.in-Ok-create_package.ensures.made tree means none may))

@@ -1,0 +1,24 @@
+use Rattle.std.proofs.Common.{◌∙◌, refl, sym}
+use Rattle.msi_meaning.specs.Calls.{Drops}
+use Rattle.msi.specs.Changing.{failed_in}
+use Rattle.msi.specs.Opened.{sound_in}
+use Rattle.msi.proofs.Causes.{refused_cause, refused_change}
+use Rattle.msi.proofs.Changed.{tables_changed}
+use Rattle.msi.proofs.Permitted.{not_permitted, permitted}
+use Rattle.msi.proofs.package.Package.drop_table.Goals as goal
+
+pub returns-in-Err-clause-changes : goal.returns-in-Err-clause-changes
+returns-in-Err-clause-changes g c = not_permitted (λ P Q answer. Drops P c.args.name.now Q answer) c.args.self.now c.in-Err.error (sym c.may_change.ensures ∙ c.in-Err.is)
+
+pub returns-clause-changes : goal.returns-clause-changes
+returns-clause-changes g c =
+    let it = c.args.self.now in
+    let may = permitted (failed_in it) (sound_in it) (sym c.may_change.ensures ∙ c.in_default.is) in
+    let done = c.drop_table.ensures.drops in
+    tables_changed c.args.name.now it _ (record { letters = done.seen.0; kind = refl; summary = refl; sound = refl; written = refl }) may.0 may.1 c.drop_table.result done
+
+pub returns-in-Err-clause-cause : goal.returns-in-Err-clause-cause
+returns-in-Err-clause-cause g c = refused_cause (λ m n from. (g.met.F.ReadMedium.continues_keeps m n from).as_failed) c.args.self.now c.in-Err.error (sym c.may_change.ensures ∙ c.in-Err.is)
+
+pub returns-in-Err-clause-kinds : goal.returns-in-Err-clause-kinds
+returns-in-Err-clause-kinds g c = refused_change c.args.self.now c.in-Err.error (sym c.may_change.ensures ∙ c.in-Err.is)
