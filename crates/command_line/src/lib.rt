@@ -2,11 +2,15 @@
 #![tactic(auto)]
 
 mod commands;
+mod export;
 mod files;
 mod line;
 mod progress;
+mod refusals;
 mod run;
+mod show;
 mod words;
 
 pub use line::{Line, read_words};
 pub use run::msidb;
+pub use show::Parts;

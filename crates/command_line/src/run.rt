@@ -2,7 +2,9 @@
 ghost use Rattle.std.specs.Prelude.{◌≤◌};
 
 use crate::commands::{Ending, run, text_in};
+use crate::export::export;
 use crate::progress::Progress;
+use crate::show::show;
 use crate::{Line, files, read_words};
 use cfb_medium::Error;
 use clap::error::ErrorKind;
@@ -16,10 +18,11 @@ use std::rt::Files;
 use std::time::Clock;
 
 /// Does what the words after the program's name ask for. Answers go to `out`, what went wrong goes to `err`. The status is 0 where all
-/// was done, or help was asked for; 1 where a command was refused by a rule; 2 where the words or the command file can't be read, and
-/// then no package was opened; 3 for a fault, where home file or log were refused, and where nothing more can be written. A fault comes
-/// before a refusal. A file that is named as the log and is none is refused before anything is written. Commands are run to the end of
-/// their list, also where their answers can't be written.
+/// was done, or help was asked for; 1 where a command was refused by a rule, or a table that is to be shown isn't there; 2 where the
+/// words or the command file can't be read, and then no package was opened; 3 for a fault, where home file or log were refused, or a
+/// file that is to be shown, and where nothing more can be written. A fault comes before a refusal. A file that is named as the log
+/// and is none is refused before anything is written. Commands are run to the end of their list, also where their answers can't be
+/// written. What is shown is only read.
 pub fn msidb<R: Files<File = File> + AllocGlobal + Clock, O: Write, E: Write>(
     rt: &R,
     words: &[String],
@@ -71,6 +74,8 @@ fn carry_out<R: Files<File = File> + AllocGlobal + Clock, O: Write, E: Write>(
             let commands = [Command::Tables, Command::Streams];
             (run(rt, home, log, &commands, out, &mut progress), home, log)
         }
+        Line::Export(path, folder) => return export(rt, path, folder, err),
+        Line::Show(path, parts) => return show(rt, path, parts, out, err),
         Line::Run(home, log, path) => {
             let commands = match commands_in(rt, path, err) {
                 Ok(commands) => commands,

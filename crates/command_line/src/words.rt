@@ -2,10 +2,10 @@
 ghost use Rattle.std.specs.Prelude.{◌≡◌, codes, true, false, IfOk, IfErr, map, string_bytes};
 ghost use Rattle.clap.specs.Words.{app_of, kind_of, takes, with_subcommand, HasMatchesOf};
 ghost use Rattle.clap.specs.declared.Command.TheViews.{out-Command as fields_of};
-ghost use Rattle.command_line.specs.Words.{two_paths, three_paths, bare, msidb};
+ghost use Rattle.command_line.specs.Words.{two_paths, three_paths, table_shown, summary_shown, shown, exported, bare, msidb};
 
 use clap::error::ErrorKind;
-use clap::{Arg, ArgMatches, Command, Error};
+use clap::{Arg, ArgAction, ArgMatches, Command, Error};
 use std::alloc::{AllocError, Global};
 
 // What stands behind each help.
@@ -47,6 +47,64 @@ fn with_commands<'a>(
         "The command file: a JSON array of objects, each with its `op`",
     );
     with_paths(alloc, name, about, example)?.arg(commands)
+}
+
+// The word that shows a package, with the path of a file and the name of a table.
+fn with_table<'a>(alloc: Global) -> Result<Command<'a>, AllocError>
+    ensures app { IfOk result (λ c. app_of c ≡ table_shown) }
+    ensures local { IfOk result (λ c. (fields_of c).has_globals ≡ false) }
+{
+    let file = Arg::new(alloc, "FILE").required(true).help("The package");
+    let table = Arg::new(alloc, "TABLE").help("The table of this name, its columns and rows");
+    Command::new(alloc, "show")
+        .about("Shows what a package of any maker holds")
+        .after_help(
+            "Example: msidb show setup.msi Property\nPrints a line of JSON for each part that is asked for, or for all; a table's rows stand behind its columns. Nothing is written.\nStatus: 0 done, 1 no table has the name, 3 the file is no package, or a part of it can't be read.",
+        )
+        .arg(file)?
+        .arg(table)
+}
+
+// The same with a flag for the summary.
+fn with_summary<'a>(alloc: Global) -> Result<Command<'a>, AllocError>
+    ensures app { IfOk result (λ c. app_of c ≡ summary_shown) }
+    ensures local { IfOk result (λ c. (fields_of c).has_globals ≡ false) }
+{
+    let summary = Arg::new(alloc, "summary")
+        .long("summary")
+        .action(ArgAction::SetTrue)
+        .help("The properties of the summary");
+    with_table(alloc)?.arg(summary)
+}
+
+// The same with one for the streams.
+fn with_file<'a>(alloc: Global) -> Result<Command<'a>, AllocError>
+    ensures app { IfOk result (λ c. app_of c ≡ shown) }
+    ensures local { IfOk result (λ c. (fields_of c).has_globals ≡ false) }
+{
+    let streams = Arg::new(alloc, "streams")
+        .long("streams")
+        .action(ArgAction::SetTrue)
+        .help("The streams that hold no tables, with lengths and SHA-256");
+    with_summary(alloc)?.arg(streams)
+}
+
+// The word that exports a package, with the paths of a file and of a folder.
+fn with_folder<'a>(alloc: Global) -> Result<Command<'a>, AllocError>
+    ensures app { IfOk result (λ c. app_of c ≡ exported) }
+    ensures local { IfOk result (λ c. (fields_of c).has_globals ≡ false) }
+{
+    let file = Arg::new(alloc, "FILE").required(true).help("The package");
+    let folder = Arg::new(alloc, "FOLDER")
+        .required(true)
+        .help("The folder, which is made and must not be there");
+    Command::new(alloc, "export")
+        .about("Writes what a package of any maker holds to files of a new folder")
+        .after_help(
+            "Example: msidb export setup.msi setup\nWrites each table as TABLE.idt, as Windows Installer exports it, and each other stream to _Streams.\nIn names of files each byte but letters, digits, `_`, `-` and a dot that isn't the first stands as % and two digits.\nStatus: 0 done, 3 the file is no package, or not all could be read and written.",
+        )
+        .arg(file)?
+        .arg(folder)
 }
 
 fn root<'a>(alloc: Global) -> Command<'a>
@@ -101,7 +159,11 @@ fn definition<'a>(alloc: Global) -> Result<Command<'a>, AllocError>
     let first = with(root(alloc), create)?;
     let second = with(first, recover)?;
     let third = with(second, run)?;
-    with(third, list)
+    let fourth = with(third, list)?;
+    let show = with_file(alloc)?;
+    let fifth = with(fourth, show)?;
+    let export = with_folder(alloc)?;
+    with(fifth, export)
 }
 
 // What was found among the words.

@@ -85,7 +85,8 @@ fn names_value(alloc: Global, names: &[String]) -> Result<Json, AllocError>
     Ok(Json::Array(list))
 }
 
-fn cell_value(alloc: Global, cell: &Value) -> Result<Json, AllocError>
+/// A value of a row.
+pub fn cell_value(alloc: Global, cell: &Value) -> Result<Json, AllocError>
     ensures { IfOk result (λ v. view v ≡ cell_data (datum_of cell.now)) }
 {
     match cell {
@@ -132,7 +133,8 @@ fn column_value(alloc: Global, column: &Column) -> Result<Json, AllocError>
     })
 }
 
-fn columns_value(alloc: Global, columns: &[Column]) -> Result<Json, AllocError>
+/// The columns of a table.
+pub fn columns_value(alloc: Global, columns: &[Column]) -> Result<Json, AllocError>
     ensures { IfOk result (λ v. view v
         ≡ json.array (items_of (map column_data (columns_of columns.now)))) }
 {
@@ -150,7 +152,8 @@ fn hex_of(alloc: Global, bytes: &[u8]) -> Result<String, AllocError>
     hex::encode(alloc, bytes)
 }
 
-fn property_value(alloc: Global, property: &PropertyValue) -> Result<Json, AllocError>
+/// The value of a property of the summary.
+pub fn property_value(alloc: Global, property: &PropertyValue) -> Result<Json, AllocError>
     ensures { IfOk result (λ v. view v ≡ property_data (property_in property.now)) }
 {
     match property {

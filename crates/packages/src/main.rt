@@ -3,16 +3,12 @@
 #![tactic(auto)]
 
 use anyhow::Result;
-use cfb::{CaseMapper, FileMedium, ReadMedium};
-use hex::encode;
+use cfb::{CaseMapper, FileMedium};
 use msi::{Package, open};
-use msi_columns::{Column, ColumnType};
+use msi_export::{StreamFacts, facts_of_stream, heading_lines, row_text};
 use msi_props::PropertyValue;
 use msi_query::Select;
 use msi_summary::SummaryInfo;
-use msi_tables::{Row, Table};
-use msi_values::Value;
-use sha2::{Digest, Sha256};
 use std::env;
 
 fn main(rt: HostRuntime) -> Result<()> {
@@ -66,97 +62,13 @@ fn print_table(rt: &HostRuntime, package: &mut Package<FileMedium>, name: &str) 
         return Ok(());
     }
     if let Some(table) = package.get_table(name) {
-        print_columns(rt, table)?;
+        for line in &heading_lines(rt.alloc(), table)? {
+            println!(rt; "{line}")?;
+        }
     }
     let select = Select::table(rt.alloc(), name)?;
     for row in package.select_rows(&select)? {
-        print_row(rt, package, name, &row)?;
-    }
-    Ok(())
-}
-
-fn print_columns(rt: &HostRuntime, table: &Table) -> Result<()> {
-    let mut names = String::new(rt.alloc());
-    let mut types = String::new(rt.alloc());
-    let mut keys = String::from_str(rt.alloc(), table.name())?;
-    for column in table.columns() {
-        let tab = if names.is_empty() { "" } else { "\t" };
-        names.push_str(tab)?;
-        names.push_str(column.name())?;
-        types.push_str(tab)?;
-        types.push_str(&type_of(rt, column)?)?;
-        if column.is_primary_key() {
-            keys.push_str("\t")?;
-            keys.push_str(column.name())?;
-        }
-    }
-    println!(rt; "{names}\n{types}\n{keys}")?;
-    Ok(())
-}
-
-// The type as exports write it: a letter, in capitals where the column may be null, and the width.
-fn type_of(rt: &HostRuntime, column: &Column) -> Result<String> {
-    let (is_nullable, is_localizable) = (column.is_nullable(), column.is_localizable());
-    let (letter, width) = match column.coltype() {
-        ColumnType::Int16 => (if is_nullable { 'I' } else { 'i' }, 2),
-        ColumnType::Int32 => (if is_nullable { 'I' } else { 'i' }, 4),
-        ColumnType::Str(width) if is_localizable => (if is_nullable { 'L' } else { 'l' }, width),
-        ColumnType::Str(width) => (if is_nullable { 'S' } else { 's' }, width),
-        ColumnType::Binary => (if is_nullable { 'V' } else { 'v' }, 0),
-    };
-    Ok(format!(in rt.alloc(); "{letter}{width}")?)
-}
-
-// The values of a row. Bytes that lie in a stream stand as its name, which has those of the table and the key.
-fn print_row(
-    rt: &HostRuntime,
-    package: &Package<FileMedium>,
-    table: &str,
-    row: &Row,
-) -> Result<()> {
-    let mut line = String::new(rt.alloc());
-    for place in 0..row.len() {
-        if place > 0 {
-            line.push_str("\t")?;
-        }
-        match row.value(place) {
-            Some(Value::Int(number)) => line.push_str(&format!(in rt.alloc(); "{number}")?)?,
-            Some(Value::Str(text)) => push_exported(&mut line, text)?,
-            Some(Value::Binary) => push_stream(rt, package, &mut line, table, row)?,
-            Some(Value::Null) | None => {}
-        }
-    }
-    println!(rt; "{line}")?;
-    Ok(())
-}
-
-// A text, with other characters for a tab and for ends of lines, as exports have them.
-fn push_exported(line: &mut String, text: &str) -> Result<()> {
-    for letter in text.chars() {
-        line.push(match letter {
-            '\t' => '\u{10}',
-            '\r' => '\u{11}',
-            '\n' => '\u{19}',
-            other => other,
-        })?;
-    }
-    Ok(())
-}
-
-// The name of a stream that is there.
-fn push_stream(
-    rt: &HostRuntime,
-    package: &Package<FileMedium>,
-    line: &mut String,
-    table: &str,
-    row: &Row,
-) -> Result<()> {
-    let mut name = format!(in rt.alloc(); "{table}.")?;
-    if let Some(Value::Str(key)) = row.value(0) {
-        name.push_str(key)?;
-    }
-    if package.has_stream(&name) {
-        line.push_str(&name)?;
+        println!(rt; "{}", row_text(rt.alloc(), package, name, &row)?)?;
     }
     Ok(())
 }
@@ -165,14 +77,8 @@ fn print_streams(rt: &HostRuntime, package: &mut Package<FileMedium>) -> Result<
     println!(rt; "signed: {}", package.has_digital_signature())?;
     for name in package.streams()? {
         let there = package.has_stream(&name);
-        let mut reader = package.read_stream(&name)?;
-        let mut bytes = vec![in rt.alloc(); 0u8; reader.len() as usize]?;
-        reader.read(&mut bytes)?;
-        let digest = encode(rt.alloc(), &Sha256::digest(&bytes))?;
-        println!(rt;
-            "stream {name}, there: {there}: {} bytes, {digest}",
-            bytes.len()
-        )?;
+        let StreamFacts { len, digest } = facts_of_stream(rt.alloc(), package, &name)?;
+        println!(rt; "stream {name}, there: {there}: {len} bytes, {digest}")?;
     }
     Ok(())
 }

@@ -6,8 +6,8 @@ use file_device::FileDevice;
 use msi_texts::decode;
 use plain::{Content, read_tree};
 use std::alloc::Global;
-use std::io;
 use std::io::Write;
+use std::{fs, io};
 use test_support::{Row, Subject, bytes_at, copy_of, runs, yes_or_no};
 
 /// Runs the program in a folder, whose files rows name by their names alone.
@@ -35,6 +35,7 @@ impl Subject for Programs<'_> {
     fn answer(&mut self, alloc: Global, row: &Row) -> Result<String, Error> {
         match row.call() {
             "msidb" => run_of_program(self.rt, &self.folder, row),
+            "export" => export_of(self.rt, &self.folder, row),
             "msidb unheard" => run_without_output(self.rt, &self.folder, row),
             "keep" => {
                 self.kept = self.folder.read(self.rt, row.text(1))?;
@@ -51,6 +52,7 @@ impl Subject for Programs<'_> {
                 copy_of(alloc, "done")
             }
             "run of" => run_of(self.rt, &self.folder, row.text(1)),
+            "as it stands" => run_as_it_stands(self.rt, row),
             "streams" => streams(alloc, &self.folder.read(self.rt, row.text(1))?),
             _ => of_files(self.rt, &self.folder, row),
         }
@@ -76,13 +78,32 @@ fn of_files(rt: &HostRuntime, folder: &Folder, row: &Row) -> Result<String, Erro
     match row.call() {
         "text" => folder.write(rt, name, row.text(2).as_bytes())?,
         "bytes" => folder.write(rt, name, &bytes_at(rt.alloc(), row, 2)?)?,
+        "patch" => patch(rt, folder, row)?,
         "remove" => folder.take(rt, name)?,
         "end" => folder.remove(rt)?,
         "show" => return runs(rt.alloc(), &folder.read(rt, name)?),
+        "said in" => {
+            let bytes = folder.read(rt, name)?;
+            let text = str::from_utf8(&bytes).unwrap_or("no text");
+            return Ok(format!(in rt.alloc(); "{text:?}")?);
+        }
         "length" => return Ok(format!(in rt.alloc(); "{}", folder.read(rt, name)?.len())?),
         _ => return Err(Error::NotFound),
     }
     copy_of(rt.alloc(), "done")
+}
+
+// A copy of a file beside the rows, in which other bytes stand at a place.
+fn patch(rt: &HostRuntime, folder: &Folder, row: &Row) -> Result<(), Error> {
+    let mut bytes = fs::read(rt, row.text(1)).map_err(|_| Error::NotFound)?;
+    let mut place = usize::try_from(row.number(3)).unwrap_or(0);
+    for byte in &bytes_at(rt.alloc(), row, 4)? {
+        if let Some(old) = bytes.get_mut(place) {
+            *old = *byte;
+        }
+        place = place.saturating_add(1);
+    }
+    folder.write(rt, row.text(2), &bytes)
 }
 
 // The words of a row: the first as it stands, the others as files of the folder.
@@ -117,18 +138,42 @@ fn what_went_wrong(rt: &HostRuntime, folder: &Folder, err: &[u8]) -> Result<Stri
     Ok(text.replace(rt.alloc(), front.as_str(), "")?)
 }
 
-// The program on a new package and the command file of this name beside the rows: its status, its answers, a line each, and what it says
-// went wrong.
+// The program on a new package and the command file of this name beside the rows.
 fn run_of(rt: &HostRuntime, folder: &Folder, name: &str) -> Result<String, Error> {
-    let (mut out, mut err) = (Vec::new(rt.alloc()), Vec::new(rt.alloc()));
-    let words = words_on(rt, folder, "create")?;
-    msidb(rt, &words, &mut out, &mut err, false);
-    out.clear();
+    told(rt, &words_on(rt, folder, "create")?)?;
     let mut words = words_on(rt, folder, "run")?;
     words.push(copy_of(rt.alloc(), name)?)?;
-    let status = msidb(rt, &words, &mut out, &mut err, false);
+    let said = told(rt, &words)?;
     folder.take(rt, "new.msi")?;
     folder.take(rt, "new.log")?;
+    Ok(said)
+}
+
+// The program with the words of a row as they stand, on files beside the rows.
+fn run_as_it_stands(rt: &HostRuntime, row: &Row) -> Result<String, Error> {
+    let mut words = Vec::new(rt.alloc());
+    for cell in row.list(1) {
+        words.push(copy_of(rt.alloc(), cell.as_str().unwrap_or(""))?)?;
+    }
+    told(rt, &words)
+}
+
+// The program on a file beside the rows, and a folder within the folder.
+fn export_of(rt: &HostRuntime, folder: &Folder, row: &Row) -> Result<String, Error> {
+    let mut words = Vec::new(rt.alloc());
+    words.push(copy_of(rt.alloc(), "export")?)?;
+    words.push(copy_of(rt.alloc(), row.text(1))?)?;
+    words.push(copy_of(rt.alloc(), folder.path_of(rt, row.text(2))?.as_str())?)?;
+    let (mut out, mut err) = (Vec::new(rt.alloc()), Vec::new(rt.alloc()));
+    let status = msidb(rt, &words, &mut out, &mut err, false);
+    let said = what_went_wrong(rt, folder, &err)?;
+    Ok(format!(in rt.alloc(); "{status} {said:?}")?)
+}
+
+// The status of the program, its answers, a line each, and what it says went wrong.
+fn told(rt: &HostRuntime, words: &[String]) -> Result<String, Error> {
+    let (mut out, mut err) = (Vec::new(rt.alloc()), Vec::new(rt.alloc()));
+    let status = msidb(rt, words, &mut out, &mut err, false);
     let answered = str::from_utf8(&out).unwrap_or("no text");
     let lines = answered.replace(rt.alloc(), "\n", " | ")?;
     let said = str::from_utf8(&err).unwrap_or("no text");

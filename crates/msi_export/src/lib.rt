@@ -1,0 +1,14 @@
+//! What packages hold, as text: tables as packages are exported, the names of properties, streams with their digests.
+#![tactic(auto)]
+
+mod headings;
+mod names;
+mod properties;
+mod rows;
+mod streams;
+
+pub use headings::heading_lines;
+pub use names::safe_name;
+pub use properties::property_name;
+pub use rows::row_text;
+pub use streams::{StreamFacts, facts_of_stream, stream_bytes};
