@@ -1,6 +1,6 @@
 """The merge gate: proves every crate from nothing, looks at the layout, runs the programs, tries the wrong bodies of each
 crate whose line in must-fail.tried is missing or differs (many at a time, rt-many), ends runs of msidb by force, and refuses
-each request for memory of test_changes in turn. It works on a copy."""
+each request for memory of test_changes and test_packages in turn. It works on a copy."""
 import os
 import re
 import resource
@@ -41,17 +41,22 @@ def run(room):
     return last, ran.returncode
 
 
-# Scripts that try a program from outside, and the program with its words.
-TRIALS = {"kill-runs": ["msidb"], "refuse-memory": ["test_changes", "memory"]}
+# Scripts that try a program from outside, each with the program and its words, which are read in the program's data.
+TRIALS = (
+    ("kill-runs", "msidb"),
+    ("refuse-memory", "test_changes", "memory"),
+    ("refuse-memory", "test_packages", "memory", "counted_c_empty.msi", "course.json"),
+)
 
 
-def is_well(room, script):
+def is_well(room, script, name, *words):
     """Whether a program stands its trial, where there is such a one; the script says what was seen."""
-    name, *words = TRIALS[script]
-    program = f"{room}/crates/{name}/out/{name}"
+    folder = f"{room}/crates/{name}"
+    program = f"{folder}/out/{name}"
     if not os.path.isfile(program):
         return True
-    return subprocess.run([tried.ROOT / ".ci" / script, program, *words], stdin=subprocess.DEVNULL).returncode == 0
+    inside = f"{folder}/data" if os.path.isdir(f"{folder}/data") else folder
+    return subprocess.run([tried.ROOT / ".ci" / script, program, *words], cwd=inside, stdin=subprocess.DEVNULL).returncode == 0
 
 
 def main():
@@ -61,7 +66,7 @@ def main():
     with tempfile.TemporaryDirectory(prefix="gate-") as room:
         copy_to(f"{room}/checkout", standing)
         last, status = run(f"{room}/checkout")
-        if not status and not all([is_well(f"{room}/checkout", it) for it in TRIALS]):
+        if not status and not all([is_well(f"{room}/checkout", *it) for it in TRIALS]):
             last, status = "0 passed, 1 failed", 1
     used = resource.getrusage(resource.RUSAGE_CHILDREN)
     print(f"processor minutes: {(used.ru_utime + used.ru_stime) / 60:.0f}")

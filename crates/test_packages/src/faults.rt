@@ -1,0 +1,107 @@
+//! Each call of the medium failing in turn, while a package is opened, read and changed; and commands of which some may be refused.
+use crate::commands::change;
+use crate::opening::{MANY, calls_of_opening, open_failing, opened_failing, opened_package};
+use crate::replies::count_rows;
+use cfb_medium::{Error, Medium};
+use command_file::Command;
+use msi::Package;
+use std::alloc::Global;
+use test_support::FailingMedium;
+
+/// Opens the package while each call fails in turn, until none is left: the fault is told, and nothing is changed.
+pub fn open_fails(alloc: Global, bytes: &[u8]) -> Result<&'static str, Error> {
+    for failing in 0..MANY {
+        match open_failing(alloc, bytes, failing) {
+            Ok(package) => return Ok(end_after(package.into_medium().failures())),
+            Err((medium, error)) if is_told(&medium, error, bytes) => {}
+            Err(_refused) => return Ok("another answer to a fault"),
+        }
+    }
+    Ok("endless")
+}
+
+// Whether one call has failed, is told, and has changed nothing.
+fn is_told(medium: &FailingMedium, error: Error, bytes: &[u8]) -> bool {
+    error == Error::Device && medium.failures() == 1 && medium.inner().bytes() == bytes
+}
+
+// It was done: no call has failed meanwhile.
+fn end_after(failures: u64) -> &'static str {
+    if failures > 0 {
+        return "done in spite of a fault";
+    }
+    "each fault told, then done"
+}
+
+/// Reads all rows while each call behind the opening fails in turn: the fault is told, and a second reading finds all rows.
+pub fn read_fails(alloc: Global, bytes: &[u8]) -> Result<&'static str, Error> {
+    let rows = count_rows(alloc, &mut opened_package(alloc, bytes)?)?;
+    for failing in calls_of_opening(alloc, bytes)?..MANY {
+        if let Some(told) = end_of_reading(alloc, opened_failing(alloc, bytes, failing)?, rows) {
+            return Ok(told);
+        }
+    }
+    Ok("endless")
+}
+
+// What is told of a reading: nothing where a fault was told and a second one finds so many rows.
+fn end_of_reading(
+    alloc: Global,
+    mut package: Package<FailingMedium>,
+    rows: usize,
+) -> Option<&'static str> {
+    match count_rows(alloc, &mut package) {
+        Ok(_) => Some(end_after(package.into_medium().failures())),
+        Err(Error::Device) if count_rows(alloc, &mut package) == Ok(rows) => None,
+        Err(_) => Some("another answer to a fault"),
+    }
+}
+
+/// Runs a command on the package of these bytes while each call behind the opening fails in turn: the fault is told, and the package
+/// has failed, or the same command is done then.
+pub fn change_fails(alloc: Global, bytes: &[u8], command: &Command) -> Result<&'static str, Error> {
+    for failing in calls_of_opening(alloc, bytes)?..MANY {
+        if let Some(told) = end_of_change(opened_failing(alloc, bytes, failing)?, command) {
+            return Ok(told);
+        }
+    }
+    Ok("endless")
+}
+
+// What is told of a command: nothing where a fault was told, and the package has failed, or the same command is done then.
+fn end_of_change(mut package: Package<FailingMedium>, command: &Command) -> Option<&'static str> {
+    match change(&mut package, command) {
+        Ok(()) => Some(end_after(package.into_medium().failures())),
+        Err(error) if is_well_after(&mut package, command, error) => None,
+        Err(_) => Some("another answer to a fault"),
+    }
+}
+
+// Whether a fault was told, and the package has failed, or the same command is done then.
+fn is_well_after<F: Medium>(package: &mut Package<F>, command: &Command, error: Error) -> bool {
+    match error {
+        Error::Failed => package.has_failed(),
+        Error::Device | Error::Memory => package.has_failed() || change(package, command).is_ok(),
+        _ => false,
+    }
+}
+
+/// Runs commands on the package of these bytes, and tells whether each was done, or a fault was told and left the package so that
+/// the command can be done, or failed.
+pub fn course_is_well(alloc: Global, bytes: &[u8], commands: &[Command]) -> Result<bool, Error> {
+    let mut package = opened_package(alloc, bytes)?;
+    for command in commands {
+        if !is_well(&mut package, command) {
+            return Ok(false);
+        }
+    }
+    Ok(true)
+}
+
+// Whether a command is done, or a fault in it was told and left the package so that it can be done, or failed.
+fn is_well<F: Medium>(package: &mut Package<F>, command: &Command) -> bool {
+    match change(package, command) {
+        Ok(()) => true,
+        Err(error) => is_well_after(package, command, error),
+    }
+}
