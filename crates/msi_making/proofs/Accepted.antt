@@ -19,7 +19,7 @@ use Rattle.msi_values.specs.Datum.{text}
 
 -- ---- steps of a chain
 
-same_ok : {A : Type 0} (x y : A) → ◌≡◌ {A = Result A Error} (Ok x) (Ok y) → y ≡ x
+pub same_ok : {A : Type 0} (x y : A) → ◌≡◌ {A = Result A Error} (Ok x) (Ok y) → y ≡ x
 same_ok {A} x y e = ap value (sym e)
   where
     value : Result A Error → A

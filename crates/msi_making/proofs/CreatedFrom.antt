@@ -62,7 +62,7 @@ first_two [] = refl
 first_two (a ∷ []) = refl
 first_two (a ∷ b ∷ vs) = ap (λ l. a ∷ b ∷ l) (no_more (drop 2 validation_columns) refl vs)
 
-keys_are : (pool : Pool) (cs : List Column) → map (λ c. c.key) cs ≡ map (λ c. c.key) validation_columns → (rows : List Row)
+pub keys_are : (pool : Pool) (cs : List Column) → map (λ c. c.key) cs ≡ map (λ c. c.key) validation_columns → (rows : List Row)
     → map (λ row. key_values cs (row_data pool row)) rows ≡ map (take 2) (map (row_data pool) rows)
 keys_are pool cs e [] = refl
 keys_are pool cs e (row ∷ rows) = ap₂ (λ k ks. k ∷ ks) (same_flags cs validation_columns e (row_data pool row) ∙ first_two (row_data pool row)) (keys_are pool cs e rows)

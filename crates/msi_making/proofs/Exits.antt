@@ -1,8 +1,7 @@
 -- What the making of a table did, at each of its exits.
-use Rattle.std.proofs.Common.{◌≡◌, ◌∙◌, ◌⊎◌, ℕ, Bool, true, false, List, [], ◌∷◌, map, refl, sym, ap, ap₂, subst, inl, inr, ⊎_elim, Ok, Err, Result, None, Some}
+use Rattle.std.proofs.Common.{◌≡◌, ◌∙◌, ◌⊎◌, ℕ, Bool, true, false, List, [], ◌∷◌, map, refl, sym, ap, ap₂, subst, inl, inr, ⊎_elim, Ok, Err, Result, None}
 use Rattle.std.specs.Prelude.{is_none}
 use Rattle.cfb.specs.Doing.{FileMeans}
-use Rattle.cfb.specs.Putting.{KeepsMeant}
 use Rattle.cfb.specs.Views.{letters_in, mini_of, sound_of, validation_of, FileRests}
 use Rattle.cfb.specs.declared.compound_file.CompoundFile.{CompoundFile}
 use Rattle.cfb.proofs.LiveMeaning.{means_read}
@@ -18,7 +17,7 @@ use Rattle.msi_creating.proofs.Laid.{names_free}
 use Rattle.msi_edits.specs.Edited.{CanPut, IsMemoryOf}
 use Rattle.msi_edits.proofs.Exits.{IsFirst, IsOpen}
 use Rattle.msi_meaning.specs.Calls.{created, new_table, own_columns, rows_put, table_put, with_rows, Creates, Ends, Rows3}
-use Rattle.msi_meaning.specs.Package.{at_name, objects, stream_name, Packed}
+use Rattle.msi_meaning.specs.Package.{at_name, stream_name, Packed}
 use Rattle.msi_meaning.specs.Sound.{is_free_table_name}
 use Rattle.msi_parts.specs.Parts.{heading}
 use Rattle.msi_pool.specs.Pool.{Pool}
@@ -31,7 +30,7 @@ use Rattle.msi_tables.specs.Rows.{Row}
 use Rattle.msi_tables.specs.Schema.{columns_columns, columns_name, tables_columns, tables_name, validation_name}
 use Rattle.msi_tables.specs.Table.{Heading, IsStoredByKeys, Table}
 use Rattle.msi_making.specs.Created.{with_table, AreReadThree, HasPutThree, IsAccepted}
-use Rattle.msi_making.specs.Making.{CanPutThree, IsMade, Makes, PutsThree}
+use Rattle.msi_making.specs.Making.{CanPutThree, Makes, PutsThree}
 use Rattle.msi_making.proofs.Holding.{there_has, IsThere}
 use Rattle.msi_making.proofs.NewStored.{as_new, parts_kept, stored_after}
 use Rattle.msi_making.proofs.NewTable.{IsNewTable}

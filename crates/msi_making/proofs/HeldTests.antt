@@ -1,12 +1,12 @@
 -- What is tested of columns in memory is tested of what they say.
-use Rattle.std.proofs.Common.{◌≡◌, ◌∙◌, ◌+◌, arith, ℕ, Bool, true, false, cond, List, [], ◌∷◌, map, length, nat_lt, refl, sym, ap, ap₂, Option, Some, None, not, position}
-use Rattle.std.specs.Prelude.{◌&&◌, ◌||◌, ◌==◌, ◌<◌, ◌≤◌, bytes_eq, nat_le}
+use Rattle.std.proofs.Common.{◌≡◌, ◌∙◌, ◌+◌, arith, ℕ, Bool, true, false, cond, List, [], ◌∷◌, map, length, nat_lt, refl, sym, ap, ap₂, Some, None, not, position}
+use Rattle.std.specs.Prelude.{◌&&◌, ◌||◌, ◌==◌, ◌≤◌, bytes_eq, nat_le}
 use Rattle.std.specs.List.{list_all, list_any, position_or_len, prefix_len}
 use Rattle.std.proofs.lemmas.Bool.{or_parts}
 use Rattle.std.proofs.lemmas.Bool.Decides.{nat_tests}
 use Rattle.std.proofs.lemmas.List.{length-map}
 use Rattle.std.proofs.lemmas.List.Folds.{list_all-map}
-use Rattle.msi_columns.specs.Column.{listed, Column}
+use Rattle.msi_columns.specs.Column.{listed}
 use Rattle.msi_columns.specs.Held.{column_of, columns_of}
 use Rattle.msi_columns.specs.declared.column.Column.{Column as HeldColumn}
 use Rattle.msi_meaning.specs.Calls.{is_kept, names_distinct}
@@ -15,7 +15,7 @@ use Rattle.msi_tables.specs.Table.{is_valid_table_name}
 use Rattle.msi_texts.specs.Category.{is_identifier}
 use Rattle.msi_making.specs.Testing.{can_be_kept, may_have_columns}
 
-list_any-map : {X Y : Type 0} (p : Y → Bool) (f : X → Y) (xs : List X) → list_any p (map f xs) ≡ list_any (λ x. p (f x)) xs
+pub list_any-map : {X Y : Type 0} (p : Y → Bool) (f : X → Y) (xs : List X) → list_any p (map f xs) ≡ list_any (λ x. p (f x)) xs
 list_any-map p f [] = refl
 list_any-map p f (x ∷ xs) = ap (λ b. p (f x) || b) (list_any-map p f xs)
 

@@ -25,3 +25,8 @@ pub mod Storages
 pub mod Ready
 pub mod Exits
 pub mod SystemFound
+pub mod RowsChecked
+pub mod ThreeCounted
+pub mod ReadyFrom
+pub mod JoinedRows
+pub mod NewSo

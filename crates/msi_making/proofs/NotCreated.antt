@@ -1,6 +1,6 @@
 -- A new table that is refused, test by test, and what follows where a test is passed.
-use Rattle.std.proofs.Common.{◌≡◌, ◌∙◌, ℕ, Bool, true, false, List, [], ◌∷◌, ◌++◌, map, refl, sym, ap, Option, Some, None, Result, Ok, Err, not}
-use Rattle.std.specs.Prelude.{◌&&◌, is_some}
+use Rattle.std.proofs.Common.{◌≡◌, ◌∙◌, ℕ, Bool, true, false, List, [], ◌∷◌, ◌++◌, map, refl, ap, Some, None, Result, Ok, Err, not}
+use Rattle.std.specs.Prelude.{is_some}
 use Rattle.cfb_medium.specs.declared.error.Error.{Error}
 use Rattle.cfb_medium.specs.declared.error.Error.TheVariants.{AlreadyExists, InvalidInput, NotFound}
 use Rattle.msi_changes.specs.Changes.{rows_counted}
@@ -14,7 +14,7 @@ use Rattle.msi_tables.specs.Table.{table_named, Table}
 use Rattle.msi_texts.specs.Results.{◌>>=◌, or_refused, unless_not}
 use Rattle.msi_values.specs.Datum.{text, Datum}
 use Rattle.msi_making.specs.Testing.{may_have_columns, three_counted}
-use Rattle.msi_making.proofs.Accepted.{both, first, first_test, fits_rows, fourth, second, second_test, third}
+use Rattle.msi_making.proofs.Accepted.{both, first, first_test, fits_rows, second, second_test, third}
 
 abbrev Answer : Type 0
 Answer = Result (Rows3 × Pool) Error

@@ -16,7 +16,7 @@ use Rattle.msi_rewritten.proofs.Stored.{found_at}
 use Rattle.msi_stored.specs.Changing.{StoresSound}
 use Rattle.msi_tables.specs.Rows.{kinds_of, rows_bytes, rows_of, Row}
 use Rattle.msi_tables.specs.Schema.{columns_columns, columns_name, columns_rows, tables_columns, tables_name, validation_name, validation_row}
-use Rattle.msi_tables.specs.Table.{row_data, table_named, IsStoredByKeys, Table}
+use Rattle.msi_tables.specs.Table.{row_data, table_named, Table}
 use Rattle.msi_values.specs.Datum.{text, Datum}
 use Rattle.msi_making.specs.Created.{AreReadThree, CanBeStoredThree, ComeBackThree, IsAccepted}
 use Rattle.msi_making.proofs.Accepted.{AreCounted}

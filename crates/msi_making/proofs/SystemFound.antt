@@ -1,22 +1,50 @@
 -- The three tables that describe others, as memory has them.
-use Rattle.std.proofs.Common.{◌≡◌, ◌∙◌, ℕ, Bool, true, false, cond, List, [], ◌∷◌, map, refl, sym, ap, subst, Option, Some, None, option_map}
-use Rattle.std.specs.Prelude.{bytes_eq, unwrap_or}
+use Rattle.std.proofs.Common.{◌≡◌, ◌∙◌, ℕ, Bool, true, false, cond, List, [], ◌∷◌, map, refl, sym, ap, Option, Some, None, option_map, ◌⊎◌, inl, inr}
+use Rattle.std.specs.Prelude.{bytes_eq, find, unwrap_or}
+use Rattle.std.specs.Rc.{rc_value}
+use Rattle.std.specs.declared.alloc.Global.{Global}
+use Rattle.std.specs.declared.rc.Rc.{Rc}
+use Rattle.cfb_live.specs.Doing.{IsFault}
+use Rattle.cfb_medium.specs.Calls.{IsFaultUnless}
+use Rattle.cfb_medium.specs.declared.error.Error.{Error}
+use Rattle.cfb_medium.specs.declared.error.Error.TheVariants.{InvalidData}
 use Rattle.cfb_tree.specs.Names.{Letters}
 use Rattle.cfb_tree.specs.Tree.{Tree}
 use Rattle.cfb_tree.proofs.OneContent.{Some_same}
-use Rattle.msi_columns.specs.Column.{Column}
-use Rattle.msi_meaning.specs.Calls.{own_columns, stored_rows}
+use Rattle.msi_meaning.specs.Calls.{stored_rows}
 use Rattle.msi_meaning.specs.Package.{objects, table_stream, Packed}
 use Rattle.msi_parts.specs.Judged.{heading_named}
 use Rattle.msi_parts.specs.Parts.{heading}
+use Rattle.msi_schema.specs.Headings.{headings_in}
 use Rattle.msi_stored.specs.Changing.{StoresSound}
 use Rattle.msi_stored.specs.Stored.{rows_in}
+use Rattle.msi_tables.specs.Held.{heading_of}
 use Rattle.msi_tables.specs.Rows.{kinds_of, rows_of, Row}
 use Rattle.msi_tables.specs.Schema.{columns_columns, columns_name, tables_columns, tables_name, validation_name}
 use Rattle.msi_tables.specs.Table.{table_named, Heading, Table}
+use Rattle.msi_tables.specs.declared.table.Table.{Table as HeldTable}
 use Rattle.msi_making.proofs.CreatedFrom.{of_columns, of_tables}
 use Rattle.msi_making.proofs.Holding.{holding, is_there, there_has, IsThere}
 use Rattle.msi_rewritten.proofs.Stored.{found_at}
+
+-- a table as it is found in memory
+pub found_so : (ts : List (Rc HeldTable Global)) (name : List ℕ) (o : Option (Rc HeldTable Global)) → o ≡ find (λ t. bytes_eq (heading_of (rc_value t)).name name) ts
+    → heading_named (headings_in ts) name ≡ option_map (λ t. heading_of (rc_value t)) o
+found_so ts name o is = along ts ∙ ap (option_map (λ t. heading_of (rc_value t))) (sym is)
+  where
+    along : (ts : List (Rc HeldTable Global)) → heading_named (headings_in ts) name ≡ option_map (λ t. heading_of (rc_value t)) (find (λ t. bytes_eq (heading_of (rc_value t)).name name) ts)
+    along [] = refl
+    along (t ∷ ts) = by (bytes_eq (heading_of (rc_value t)).name name) (along ts)
+      where
+        by : (b : Bool) → heading_named (headings_in ts) name ≡ option_map (λ t. heading_of (rc_value t)) (find (λ t. bytes_eq (heading_of (rc_value t)).name name) ts)
+            → cond b (Some (heading_of (rc_value t))) (heading_named (headings_in ts) name)
+            ≡ option_map (λ t. heading_of (rc_value t)) (cond b (Some t) (find (λ t. bytes_eq (heading_of (rc_value t)).name name) ts))
+        by true rest = refl
+        by false rest = rest
+
+pub held_so : (ts : List (Rc HeldTable Global)) (name : List ℕ) (o : Option (Rc HeldTable Global)) → o ≡ find (λ t. bytes_eq (heading_of (rc_value t)).name name) ts
+    → (t : Rc HeldTable Global) → o ≡ Some t → (copy : HeldTable) → copy ≡ rc_value t → heading_named (headings_in ts) name ≡ Some (heading_of copy)
+held_so ts name o is t some copy same = found_so ts name o is ∙ ap (option_map (λ t. heading_of (rc_value t))) some ∙ ap (λ (u : HeldTable). Some (heading_of u)) (sym same)
 
 named_heading : (long : Bool) (ts : List Table) (name : List ℕ) → heading_named (map (heading long) ts) name ≡ option_map (heading long) (table_named ts name)
 named_heading long [] name = refl
@@ -62,6 +90,18 @@ module _ (letters : Letters) (tree : Tree) (P : Packed) (sound : StoresSound let
         there_has (λ u. rows_of P.pool.long (kinds_of u.columns) (unwrap_or (table_stream letters (objects tree.content) u.name) []) ≡ Some u.rows) P.tables t there sound.stores.rows in
         let never : None ≡ Some t.rows = sym none ∙ ap (rows_in letters tree) heading_is ∙ stored in
         cc
+
+    -- an error of the reading is a fault, and the rows are the package's
+    pub unread : {A : Type 0} (l : Letters) → l ≡ letters → (e : Error) → IsFaultUnless ⊥ e ⊎ ((e ≡ InvalidData) × (rows_in l tree h ≡ None)) → IsFault e ⊎ A
+    unread l same e (inl fault) = inl (inl fault)
+    unread l same e (inr none) = absurd (are_there (ap (λ l. rows_in l tree h) (sym same) ∙ none.1))
+
+    pub stored_so : (l : Letters) → l ≡ letters → (rows : List Row) → rows_in l tree h ≡ Some rows → rows ≡ stored_rows P t.name
+    stored_so l same rows read = rows_are rows (ap (λ l. rows_in l tree h) (sym same) ∙ read) ∙ sym (ap (λ (o : Option Table). unwrap_or (option_map (λ t. t.rows) o) []) there.found)
+
+  -- one that is there isn't missing
+  pub not_missing : {A : Type 0} (t : Table) → IsThere P.tables t → heading_named headings t.name ≡ None → A
+  not_missing t there none = (let never : None ≡ Some t = sym (not_there t.name none) ∙ there.found in absurd (cc))
 
   -- the three
   pub columns_table : IsThere P.tables (holding columns_name columns_columns (of_columns letters tree P sound).rows)

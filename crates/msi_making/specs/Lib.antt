@@ -4,3 +4,4 @@ pub mod Testing
 pub mod Dropping
 pub mod Drops
 pub mod Remains
+pub mod Describing

@@ -1,5 +1,5 @@
 -- What is tested of a new table, and how its rows are counted.
-use Rattle.std.specs.Prelude.{ℕ, Bool, not, ◌&&◌, ◌==◌, List, length, map, nat_le, bytes_eq, Ok, Result, Vec}
+use Rattle.std.specs.Prelude.{ℕ, Bool, not, ◌&&◌, ◌==◌, List, length, nat_le, bytes_eq, Ok, Result, Vec}
 use Rattle.std.specs.declared.alloc.Global.{Global}
 use Rattle.std.specs.List.{list_all, list_any}
 use Rattle.cfb_medium.specs.declared.error.Error.{Error}

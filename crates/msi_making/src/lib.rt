@@ -1,10 +1,12 @@
-//! What becomes of the tables of a package where one is made or dropped, and the call that drops one.
+//! What becomes of the tables of a package where one is made or dropped, and the two calls.
 #![tactic(auto)]
 
 mod created;
+mod describing;
 mod dropped;
 mod dropping;
 mod laws;
+mod making;
 mod placing;
 mod putting;
 mod remaining;
@@ -15,3 +17,4 @@ pub use created::new_tables_are_stored;
 pub use dropped::dropped_packages_are_stored;
 pub use dropping::drop_table;
 pub use laws::{dropped_tables_are_gone, new_tables_are_among_the_others};
+pub use making::create_table;
