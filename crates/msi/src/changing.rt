@@ -34,6 +34,7 @@ impl<F: Medium> Package<F> {
     /// file isn't touched before a flush; a text that the page lacks is then written with `?` in it.
     pub fn set_database_codepage(&mut self, codepage: CodePage) -> Result<(), Error>
         ensures changes { PackageChanges (setting_page codepage) result self.old self.new }
+        ensures answer { result ≡ permission (failed_in self.old) (sound_in self.old) }
         ensures file { file_in self.new ≡ file_in self.old }
     {
         if let Err(error) = self.may_change() {

@@ -35,6 +35,13 @@ impl StreamReader {
         StreamReader { bytes, position: 0 }
     }
 
+    /// All bytes of the stream.
+    pub fn into_bytes(self) -> Vec<u8>
+        ensures { result.items ≡ self.bytes }
+    {
+        self.bytes
+    }
+
     /// How many bytes the stream has.
     pub fn len(&self) -> u64
         ensures { result ≡ length self.now.bytes }

@@ -1,0 +1,31 @@
+use Rattle.std.proofs.Common.{◌∙◌, refl, sym}
+use Rattle.cfb.specs.Views.{letters_in}
+use Rattle.msi_columns.specs.Held.{columns_of}
+use Rattle.msi_meaning.specs.Calls.{Creates}
+use Rattle.msi.specs.Changing.{failed_in}
+use Rattle.msi.specs.Opened.{file_in, sound_in}
+use Rattle.msi.proofs.Causes.{refused_cause, refused_change}
+use Rattle.msi.proofs.Made.{made_changes, made_keeps}
+use Rattle.msi.proofs.Permitted.{not_permitted, permitted}
+use Rattle.msi.proofs.package.Package.create_table.Goals as goal
+
+pub returns-in-Err-clause-changes : goal.returns-in-Err-clause-changes
+returns-in-Err-clause-changes g c =
+    not_permitted (λ P Q answer. Creates (letters_in (file_in c.args.self.now)) P c.args.name.now (columns_of c.args.columns.items) Q answer) c.args.self.now c.in-Err.error (sym c.may_change.ensures ∙ c.in-Err.is)
+
+pub returns-clause-changes : goal.returns-clause-changes
+returns-clause-changes g c =
+    let it = c.args.self.now in
+    let l = letters_in (file_in it) in
+    let name = c.args.name.now in
+    let cs = columns_of c.args.columns.items in
+    let may = permitted (failed_in it) (sound_in it) (sym c.may_change.ensures ∙ c.in_default.is) in
+    let done = c.create_table.ensures.makes in
+    made_changes (λ P Q answer. Creates l P name cs Q answer) (λ P Q told. made_keeps l P name cs Q told) it _ (record { letters = done.seen.0; kind = refl; summary = refl; sound = refl; written = refl }) may.0 may.1
+    c.create_table.result done
+
+pub returns-in-Err-clause-cause : goal.returns-in-Err-clause-cause
+returns-in-Err-clause-cause g c = refused_cause (λ m n from. (g.met.F.ReadMedium.continues_keeps m n from).as_failed) c.args.self.now c.in-Err.error (sym c.may_change.ensures ∙ c.in-Err.is)
+
+pub returns-in-Err-clause-kinds : goal.returns-in-Err-clause-kinds
+returns-in-Err-clause-kinds g c = refused_change c.args.self.now c.in-Err.error (sym c.may_change.ensures ∙ c.in-Err.is)
