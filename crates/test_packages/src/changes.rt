@@ -7,6 +7,7 @@ use cfb_medium::{Error, MemoryMedium};
 use command_file::{Command, read_commands};
 use installer::{Answer, answer_text};
 use msi::Package;
+use msi_meaning::PackageType;
 use staged::{Device, MemoryDevice, Staged, Which};
 use std::alloc::Global;
 use std::fs;
@@ -48,6 +49,11 @@ impl<'a> Changes<'a> {
     // Opens these bytes, and tells whether the package is sound.
     fn open(&mut self, alloc: Global, bytes: Vec<u8>) -> Result<String, Error> {
         let package = package_in_store(alloc, bytes)?;
+        self.take(alloc, package)
+    }
+
+    // Goes on with a package, and tells whether it is sound.
+    fn take(&mut self, alloc: Global, package: Stored) -> Result<String, Error> {
         let is_sound = package.is_sound();
         self.package = Some(package);
         yes_or_no(alloc, is_sound)
@@ -72,6 +78,10 @@ impl Subject for Changes<'_> {
             "open" => {
                 let bytes = fs::read(self.rt, row.text(1)).map_err(|_| Error::NotFound)?;
                 self.open(alloc, bytes)
+            }
+            "new" => {
+                let package = new_in_store(alloc)?;
+                self.take(alloc, package)
             }
             "again" => {
                 let bytes = self.committed_bytes(alloc)?;
@@ -101,6 +111,17 @@ fn package_in_store(alloc: Global, bytes: Vec<u8>) -> Result<Stored, Error> {
     }
 }
 
+// A new package, in an empty store.
+fn new_in_store(alloc: Global) -> Result<Stored, Error> {
+    let device = MemoryDevice::new(Vec::new(alloc), Vec::new(alloc));
+    let store = Staged::new(alloc, device).map_err(|refused| refused.1)?;
+    let letters = CaseMapper::ascii(alloc)?;
+    match Package::create(alloc, PackageType::Installer, store, letters) {
+        Ok(package) => Ok(package),
+        Err((_, error)) => Err(error),
+    }
+}
+
 // The commands of a row, behind its call.
 fn commands_of(alloc: Global, row: &Row) -> Result<Vec<Command>, Error> {
     let mut text = copy_of(alloc, "[")?;
@@ -117,7 +138,7 @@ fn answers_of(alloc: Global, package: &mut Stored, row: &Row) -> Result<String, 
     for command in &commands_of(alloc, row)? {
         let answer = match row.call() {
             "ask" => reply(alloc, package, command),
-            _ => change(package, command).map(|()| Answer::Done),
+            _ => change(alloc, package, command).map(|()| Answer::Done),
         };
         let answer = answer.unwrap_or_else(Answer::Refused);
         told.push_str(&answer_text(alloc, &answer)?)?;

@@ -3,12 +3,20 @@ use cfb_medium::{Error, Medium};
 use command_file::{Command, SummaryEdit};
 use msi::Package;
 use msi_changes::{Delete, Insert, Update};
+use msi_columns::Column;
 use msi_summary::SummaryInfo;
 use msi_texts::CodePage;
+use std::alloc::Global;
 
 /// Makes the change that a command asks for. `InvalidInput` where it asks for none, or for one that no row tries.
-pub fn change<F: Medium>(package: &mut Package<F>, command: &Command) -> Result<(), Error> {
+pub fn change<F: Medium>(
+    alloc: Global,
+    package: &mut Package<F>,
+    command: &Command,
+) -> Result<(), Error> {
     match command {
+        Command::CreateTable(name, columns) => create_table(alloc, package, name, columns),
+        Command::DropTable(name) => drop_table(package, name),
         Command::Insert(query) => insert(package, query),
         Command::Update(query) => update(package, query),
         Command::Delete(query) => delete(package, query),
@@ -24,6 +32,23 @@ pub fn change<F: Medium>(package: &mut Package<F>, command: &Command) -> Result<
 }
 
 // A function for each call: what is told of a call costs time wherever it is seen.
+fn create_table<F: Medium>(
+    alloc: Global,
+    package: &mut Package<F>,
+    name: &str,
+    columns: &[Column],
+) -> Result<(), Error> {
+    let mut copies = Vec::new(alloc);
+    for column in columns {
+        copies.push(column.clone(alloc)?)?;
+    }
+    package.create_table(name, copies)
+}
+
+fn drop_table<F: Medium>(package: &mut Package<F>, name: &str) -> Result<(), Error> {
+    package.drop_table(name)
+}
+
 fn insert<F: Medium>(package: &mut Package<F>, query: &Insert) -> Result<(), Error> {
     package.insert_rows(query)
 }

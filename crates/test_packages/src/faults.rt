@@ -61,7 +61,7 @@ fn end_of_reading(
 /// has failed, or the same command is done then.
 pub fn change_fails(alloc: Global, bytes: &[u8], command: &Command) -> Result<&'static str, Error> {
     for failing in calls_of_opening(alloc, bytes)?..MANY {
-        if let Some(told) = end_of_change(opened_failing(alloc, bytes, failing)?, command) {
+        if let Some(told) = end_of_change(alloc, opened_failing(alloc, bytes, failing)?, command) {
             return Ok(told);
         }
     }
@@ -69,19 +69,29 @@ pub fn change_fails(alloc: Global, bytes: &[u8], command: &Command) -> Result<&'
 }
 
 // What is told of a command: nothing where a fault was told, and the package has failed, or the same command is done then.
-fn end_of_change(mut package: Package<FailingMedium>, command: &Command) -> Option<&'static str> {
-    match change(&mut package, command) {
+fn end_of_change(
+    alloc: Global,
+    mut package: Package<FailingMedium>,
+    command: &Command,
+) -> Option<&'static str> {
+    match change(alloc, &mut package, command) {
         Ok(()) => Some(end_after(package.into_medium().failures())),
-        Err(error) if is_well_after(&mut package, command, error) => None,
+        Err(error) if is_well_after(alloc, &mut package, command, error) => None,
         Err(_) => Some("another answer to a fault"),
     }
 }
 
 // Whether a fault was told, and the package has failed, or the same command is done then.
-fn is_well_after<F: Medium>(package: &mut Package<F>, command: &Command, error: Error) -> bool {
+fn is_well_after<F: Medium>(
+    alloc: Global,
+    package: &mut Package<F>,
+    command: &Command,
+    error: Error,
+) -> bool {
     match error {
         Error::Failed => package.has_failed(),
-        Error::Device | Error::Memory => package.has_failed() || change(package, command).is_ok(),
+        Error::Device | Error::Memory => package.has_failed()
+            || change(alloc, package, command).is_ok(),
         _ => false,
     }
 }
@@ -91,7 +101,7 @@ fn is_well_after<F: Medium>(package: &mut Package<F>, command: &Command, error: 
 pub fn course_is_well(alloc: Global, bytes: &[u8], commands: &[Command]) -> Result<bool, Error> {
     let mut package = opened_package(alloc, bytes)?;
     for command in commands {
-        if !is_well(&mut package, command) {
+        if !is_well(alloc, &mut package, command) {
             return Ok(false);
         }
     }
@@ -99,9 +109,9 @@ pub fn course_is_well(alloc: Global, bytes: &[u8], commands: &[Command]) -> Resu
 }
 
 // Whether a command is done, or a fault in it was told and left the package so that it can be done, or failed.
-fn is_well<F: Medium>(package: &mut Package<F>, command: &Command) -> bool {
-    match change(package, command) {
+fn is_well<F: Medium>(alloc: Global, package: &mut Package<F>, command: &Command) -> bool {
+    match change(alloc, package, command) {
         Ok(()) => true,
-        Err(error) => is_well_after(package, command, error),
+        Err(error) => is_well_after(alloc, package, command, error),
     }
 }
