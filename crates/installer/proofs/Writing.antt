@@ -1,44 +1,85 @@
--- Writing a whole medium over.
-use Rattle.std.proofs.Common.{◌≡◌, ◌≢◌, ◌≤◌, ◌+◌, ◌-◌, ℕ, List, [], ◌∷◌, ◌++◌, length, drop, replicate, ◌⊎◌, refl, ap, arith, ⊎_elim, inl, inr, rules, Bool, true, false}
-use Rattle.std.proofs.lemmas.Bool.{both_ways}
-use Rattle.std.proofs.lemmas.List.{drop_all, nil_from_length, append-nil}
-use Rattle.std.specs.Prelude.{Result, Err}
-use Rattle.cfb_medium.specs.Bytes.{overwritten}
-use Rattle.cfb_medium.specs.Calls.{IsFaultUnless}
+-- How a flush and a commit go.
+use Rattle.std.proofs.Common.{◌≡◌, ◌⊎◌, ◌≤◌, ◌∙◌, ℕ, Bool, List, ap, false, inl, inr, refl, subst, sym, true, ⊎_elim}
+use Rattle.std.specs.Prelude.{Err, IfErr, IsTrue, None, Ok, OnErr, OnOk, Result, Some}
+use Rattle.cfb.specs.Publishing.{medium_in}
+use Rattle.cfb.specs.Views.{letters_in, mini_of}
+use Rattle.cfb_fat.specs.Tables.{version_of, HasCauseBelow}
+use Rattle.cfb_medium.specs.Versions.{stream_len_mask}
 use Rattle.cfb_medium.specs.declared.error.Error.{Error}
-use Rattle.cfb_medium.specs.declared.error.Error.TheVariants.{InvalidData, InvalidInput, NotFound, AlreadyExists, UnexpectedEof, Full, Memory, Device, Failed}
+use Rattle.cfb_medium.specs.declared.error.Error.TheVariants.{InvalidInput}
+use Rattle.cfb_medium.specs.declared.medium.ReadMedium.{Ghosts}
+use Rattle.cfb_medium.specs.declared.version.Version.{Version}
+use Rattle.cfb_mini.specs.Views.{allocator_of}
+use Rattle.cfb_tree.specs.Names.{Letters}
+use Rattle.command_file.specs.Request.{Request}
+use Rattle.command_file.specs.Request as asked
+use Rattle.msi.specs.Changing.{failed_in, IsUnsaved, KeepsHeld, PackageWrites}
+use Rattle.msi.specs.Committing.{PackageCommits}
+use Rattle.msi.specs.Opened.{file_in, pool_in, sound_in, summary_in, PackageHolds}
+use Rattle.msi.specs.declared.package.Package.{Package}
+use Rattle.msi_meaning.specs.Package.{Packed}
+use Rattle.msi_streams.specs.Parts.{IsTooLong}
+use Rattle.installer.proofs.Faults.{fault_of}
+use Rattle.installer.proofs.Going.{by_sound, held_here, more, stepped, undone, was, goes_told, Leads, Moves}
+use Rattle.installer.specs.Course.{Course, IsTooMuch, IsUndone, StepAs, steps}
+use Rattle.installer.specs.Reply as told
+use Rattle.installer.specs.Sessions.{phase_of, IsAt}
+use Rattle.installer.specs.Step.{told_of}
 
-no_zeros : (n : ℕ) → ◌≡◌ {A = List ℕ} (replicate (0 - n) 0) []
-no_zeros n = let none : 0 - n ≡ 0 = omega arith in rw none refl
+-- both leave the package
+pub step_flush : (letters : Letters) (sound : Bool) (P : Packed) → StepAs sound letters P asked.flush told.done P
+step_flush letters true P = (refl, refl)
+step_flush letters false P = (refl, refl)
 
-over : (old new : List ℕ) (n : ℕ) → length old ≤ n → new ++ drop n old ≡ new
-over old new n le = rw (drop_all n old le) (append-nil new)
+pub step_commit : (letters : Letters) (sound : Bool) (P : Packed) → StepAs sound letters P asked.commit told.done P
+step_commit letters true P = (refl, refl)
+step_commit letters false P = (refl, refl)
 
--- bytes that are as long cover all
-pub written_over : (old new : List ℕ) → length old ≤ length new → overwritten old 0 new ≡ new
-written_over old [] le = nil_from_length old (omega (arith, le))
-written_over old (b ∷ bs) le = rw (no_zeros (length old)) (over old (b ∷ bs) (0 + length (b ∷ bs)) (omega (arith, le)))
+not_err : {e : Error} → ◌≡◌ {A = Result (Unit {0}) Error} (Err e) (Ok tt) → ⊥
+not_err is = cc
 
--- what a fault of a medium may be
-pub fault_kind : (e : Error) (refused : Type 0) → IsFaultUnless refused e → ¬ refused → e ≢ Failed → (e ≡ Memory) ⊎ (e ≡ Device)
-fault_kind InvalidInput refused is not_refused sound = absurd (not_refused is)
-fault_kind Memory refused is not_refused sound = inl refl
-fault_kind Device refused is not_refused sound = inr refl
-fault_kind Failed refused is not_refused sound = absurd (sound refl)
-fault_kind InvalidData refused is not_refused sound = absurd is
-fault_kind NotFound refused is not_refused sound = absurd is
-fault_kind AlreadyExists refused is not_refused sound = absurd is
-fault_kind UnexpectedEof refused is not_refused sound = absurd is
-fault_kind Full refused is not_refused sound = absurd is
+module _ {F : Type 0} {g : Ghosts F} (refl_continues : (m : F) → g.continues m m) (old new : Package F g) (start : Course) (at : IsAt old start) (live : failed_in old ≡ false) where
+  abbrev holds : PackageHolds old start.held
+  holds = at.held (at.phase ∙ ap phase_of live)
 
-abbrev tag : Error → Bool
-tag Failed = true
-tag _ = false
+  -- what can't be saved is a fault, or too much
+  unsaved : (request : Request) (much : ((v : Version) × IsTooLong (stream_len_mask v) start.held.pool start.held.summary) → IsTooMuch start.held request) (e : Error)
+      → HasCauseBelow (allocator_of (mini_of (file_in old))) (allocator_of (mini_of (file_in new))) e → IsUnsaved old new e
+      → (end : Course) → end.failures ≡ g.failures (medium_in (file_in new)) → IsUndone start request e end
+  unsaved request much e cause is end last = ⊎_elim
+      (λ fault. inl (fault_of refl_continues old new start end e live at.failures last cause fault))
+      (λ long. inr (
+        long.0,
+        much (
+          version_of (allocator_of (mini_of (file_in old))),
+          subst (λ s. IsTooLong (stream_len_mask (version_of (allocator_of (mini_of (file_in old))))) start.held.pool s) holds.memory.summary
+              (subst (λ p. IsTooLong (stream_len_mask (version_of (allocator_of (mini_of (file_in old))))) p (summary_in old).props) holds.memory.pool long.1),
+        ),
+      )) is
 
--- a fault isn't that of an earlier one
-pub not_earlier : (e : Error) → (e ≡ Memory) ⊎ (e ≡ Device) → e ≡ Failed → ⊥
-not_earlier e kind is = ⊎_elim (λ memory. both_ways (tag e) (ap tag memory) (ap tag is)) (λ device. both_ways (tag e) (ap tag device) (ap tag is)) kind
+  -- nothing was touched
+  untouched : new ≡ old → KeepsHeld old new
+  untouched same = record { holds = λ P h. subst (λ it. PackageHolds it P) (sym same) h }
 
--- errors that are equal as results
-pub err_same : {X : Type 0} (a b : Error) → ◌≡◌ {A = Result X Error} (Err a) (Err b) → a ≡ b
-err_same a b same = search (rules, same)
+  pub goes_writes : (result : Result (Unit {0}) Error) → Moves old new → PackageWrites result old new → IfErr result (HasCauseBelow (allocator_of (mini_of (file_in old))) (allocator_of (mini_of (file_in new))))
+      → Leads new (letters_in (file_in old)) start asked.flush (told_of result)
+  goes_writes (Ok u) moves writes cause = goes_told refl_continues old new start at live moves asked.flush told.done refl
+      (⊎_elim (λ sound. record { holds = λ P h. writes.holds P h (sym at.sound ∙ sound) }) (λ unsound. untouched (writes.unsound live (sym at.sound ∙ unsound)).1) (by_sound start.sound))
+      (step_flush (letters_in (file_in old)) start.sound start.held)
+  goes_writes (Err e) moves writes cause = ⊎_elim
+      (λ sound. undone old new start at live moves.counted moves.sound asked.flush e refl (unsaved asked.flush (λ is. is) e cause (writes.refused start.held holds (sym at.sound ∙ sound))) writes.rests)
+      (λ unsound. absurd (not_err (writes.unsound live (sym at.sound ∙ unsound)).0)) (by_sound start.sound)
+
+  pub goes_commits : (has_published : F → List ℕ → Type 0) (result : Result (Unit {0}) Error) → g.failures (medium_in (file_in old)) ≤ g.failures (medium_in (file_in new)) → PackageCommits has_published result old new
+      → IfErr result (HasCauseBelow (allocator_of (mini_of (file_in old))) (allocator_of (mini_of (file_in new)))) → Leads new (letters_in (file_in old)) start asked.commit (told_of result)
+  goes_commits has_published (Ok u) counted commits cause =
+      let kept : PackageHolds new start.held = ⊎_elim (λ sound. (commits.done start.held holds (sym at.sound ∙ sound)).holds)
+      (λ unsound. (untouched (commits.unsound live (sym at.sound ∙ unsound)).1).holds start.held holds) (by_sound start.sound) in
+      let now : start.phase ≡ phase_of false = at.phase ∙ ap phase_of live in (
+        record start { failures = g.failures (medium_in (file_in new)); committed = Some start.held },
+        steps now (step_commit (letters_in (file_in old)) start.sound start.held) refl now refl (more old new start at live counted commits.seen.1),
+        record { phase = now ∙ ap phase_of (sym commits.live.1); held = λ _. kept; failures = refl; sound = at.sound ∙ sym commits.seen.1 },
+      )
+  goes_commits has_published (Err e) counted commits cause = ⊎_elim
+      (λ sound. undone old new start at live counted commits.seen.1 asked.commit e refl (unsaved asked.commit (λ is. is) e cause (commits.refused start.held holds (sym at.sound ∙ sound))) commits.rests)
+      (λ unsound. absurd (not_err (commits.unsound live (sym at.sound ∙ unsound)).0)) (by_sound start.sound)

@@ -1,11 +1,12 @@
 -- What happens to a device: calls of sessions, stops, and recoveries.
 use Rattle.std.specs.Prelude.{◌≡◌, List, [], ◌∷◌, ◌++◌, map, IsTrue}
+use Rattle.cfb_tree.specs.Names.{Letters}
 use Rattle.staged.specs.Files.{Files}
 use Rattle.staged.specs.declared.device.Device.{Ghosts}
 use Rattle.installer.specs.Course.{Mark}
 use Rattle.installer.specs.Survival.{begun, Survives}
 
-module _ {D : Type 0} (g : Ghosts D) where
+module _ (letters : Letters) {D : Type 0} (g : Ghosts D) where
   -- a stop in a call that leads from one device to another: after it the device is one that a stop might have left since the call began
   pub record IsLeftBy (old new after : D) : Type 0 where
     pub honest : IsTrue (g.honest after)
@@ -20,6 +21,6 @@ module _ {D : Type 0} (g : Ghosts D) where
   -- these events in order, with the commits that they begin
   abbrev pub Happen : D → List Event → List Mark → D → Type 0
   Happen d [] marks last = (last ≡ d) × (marks ≡ [])
-  Happen d (returned own next ∷ events) marks last = (later : List Mark) × Survives g d next own × Happen next events later last × (marks ≡ own ++ later)
+  Happen d (returned own next ∷ events) marks last = (later : List Mark) × Survives letters g d next own × Happen next events later last × (marks ≡ own ++ later)
   Happen d (stopped own next after ∷ events) marks last =
-      (later : List Mark) × Survives g d next own × IsLeftBy d next after × Happen after events later last × (marks ≡ map begun own ++ later)
+      (later : List Mark) × Survives letters g d next own × IsLeftBy d next after × Happen after events later last × (marks ≡ map begun own ++ later)

@@ -1,21 +1,34 @@
 -- Why no session begins.
-use Rattle.std.specs.Prelude.{◌≡◌, ◌⊎◌, ◌<◌, ◌-◌, ◌^◌, ℕ, [], Some, IsTrue}
+use Rattle.std.specs.Prelude.{◌≡◌, ◌⊎◌, ◌<◌, ◌-◌, ◌^◌, ℕ, [], List, Some, false, IsTrue}
+use Rattle.cfb_medium.specs.Calls.{IsFaultUnless}
+use Rattle.cfb_medium.specs.declared.error.Error.{Error}
+use Rattle.cfb_medium.specs.declared.error.Error.TheVariants.{InvalidData, InvalidInput, AlreadyExists, Device}
+use Rattle.cfb_tree.specs.Names.{Letters}
+use Rattle.msi.specs.Changing.{IsChangeError}
+use Rattle.msi.specs.Opened.{IsRefused}
+use Rattle.msi_meaning.specs.Opening.{may_use}
 use Rattle.staged.specs.Log.{recovered, logged, MalformedLog}
 use Rattle.staged.specs.declared.device.Device.{Ghosts}
-use Rattle.cfb_medium.specs.declared.error.Error.{Error}
-use Rattle.cfb_medium.specs.declared.error.Error.TheVariants.{InvalidData, AlreadyExists, Memory, Device}
 
--- the device has failed, and counted it
-abbrev pub IsCounted : {D : Type 0} → (D → ℕ) → D → D → Error → Type 0
-IsCounted failures old new e = (e ≡ Device) × (failures old < 2 ^ 64 - 1 → failures old < failures new)
+module _ {D : Type 0} (g : Ghosts D) (old new : D) (e : Error) where
+  -- where it names the device, the device has failed, and counted it
+  abbrev pub IsCounted : Type 0
+  IsCounted = e ≡ Device → g.failures old < 2 ^ 64 - 1 → g.failures old < g.failures new
 
--- a malformed log, a home file that isn't empty once recovered, or a fault of the device
-abbrev pub IsCreateRefusal : {D : Type 0} → Ghosts D → D → D → Error → Type 0
-IsCreateRefusal g old new e =
-    ((e ≡ InvalidData) × (IsTrue (g.honest old) → logged (g.content old) ≡ MalformedLog))
-    ⊎ (((e ≡ AlreadyExists) × (IsTrue (g.honest old) → ¬ (recovered (g.content old) ≡ Some [])))
-    ⊎ IsCounted g.failures old new e)
+  -- the log is malformed
+  abbrev pub IsMalformed : Type 0
+  IsMalformed = (e ≡ InvalidData) × (IsTrue (g.honest old) → logged (g.content old) ≡ MalformedLog)
 
--- a malformed log or a home file that no session has written, want of memory, or a fault of the device
-abbrev pub IsReadRefusal : {D : Type 0} → (D → ℕ) → D → D → Error → Type 0
-IsReadRefusal failures old new e = (e ≡ InvalidData) ⊎ ((e ≡ Memory) ⊎ IsCounted failures old new e)
+-- A malformed log; a home file that isn't empty once recovered; a letter table that touches encoded names; or what a new package is
+-- refused for.
+pub record IsCreateRefusal (letters : Letters) {D : Type 0} (g : Ghosts D) (old new : D) (e : Error) : Type 0 where
+  pub kind : IsMalformed g old new e
+      ⊎ (((e ≡ AlreadyExists) × (IsTrue (g.honest old) → ¬ (recovered (g.content old) ≡ Some [])))
+      ⊎ (((e ≡ InvalidInput) × (may_use letters ≡ false)) ⊎ IsChangeError e))
+  pub counted : IsCounted g old new e
+
+-- a malformed log; a fault; or what the package of the home file is refused for, once recovered
+pub record IsOpenRefusal (letters : Letters) {D : Type 0} (g : Ghosts D) (old new : D) (e : Error) : Type 0 where
+  pub kind : IsTrue (g.honest old) → IsMalformed g old new e ⊎ (IsFaultUnless ⊥ e
+      ⊎ ((bytes : List ℕ) × (recovered (g.content old) ≡ Some bytes) × IsRefused letters bytes e))
+  pub counted : IsCounted g old new e

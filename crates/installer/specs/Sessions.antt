@@ -1,40 +1,51 @@
 -- A session as what is seen of it.
-use Rattle.std.specs.Prelude.{◌≡◌, ◌⊎◌, ◌<◌, ◌-◌, ◌^◌, Bool, true, false, Option}
+use Rattle.std.specs.Prelude.{◌≡◌, Bool, true, false, None}
+use Rattle.cfb.specs.Publishing.{medium_in}
+use Rattle.cfb.specs.Views as file
+use Rattle.cfb_medium.specs.declared.medium.ReadMedium.{Ghosts}
+use Rattle.cfb_tree.specs.Names.{Letters}
+use Rattle.msi.specs.Changing.{failed_in}
+use Rattle.msi.specs.Opened.{PackageHolds, file_in, sound_in}
+use Rattle.msi.specs.declared.package.Package.{Package}
 use Rattle.msi_meaning.specs.Package.{Packed}
-use Rattle.staged.specs.Staged.{device_of, is_failed}
-use Rattle.staged.specs.declared.device.Device.{Ghosts}
-use Rattle.one_table.specs.Held.{package_in}
-use Rattle.cfb_medium.specs.declared.error.Error.{Error}
-use Rattle.cfb_medium.specs.declared.error.Error.TheVariants.{Memory, Device}
+use Rattle.staged.specs.Staged.{device_of}
+use Rattle.staged.specs.declared.device.Device as device
+use Rattle.staged.specs.declared.staged.Staged.{Staged}
 use Rattle.installer.specs.Course.{Course, Phase, running, failed}
-use Rattle.installer.specs.declared.session.Session.{Session}
-
--- the device below it
-abbrev pub device_below : {D : Type 0} {g : Ghosts D} → Session D g → D
-device_below s = device_of s.medium
-
--- a fault has ended it
-abbrev pub has_failed : {D : Type 0} {g : Ghosts D} → Session D g → Bool
-has_failed s = is_failed s.medium
-
--- the package that it holds
-abbrev pub package_of : {D : Type 0} {g : Ghosts D} → Session D g → Packed
-package_of s = package_in s.contents
+use Rattle.installer.specs.declared.session.SessionOver.{SessionOver}
 
 abbrev pub phase_of : Bool → Phase
 phase_of true = failed
 phase_of false = running
 
--- where it is, after a commit of such a package, or none
-abbrev pub course_of : {D : Type 0} {g : Ghosts D} → Session D g → Option Packed → Course
-course_of {D} {g} s committed =
-    record { held = package_of s; committed = committed; failures = g.failures (device_below s); phase = phase_of (has_failed s) }
+module _ {F : Type 0} {g : Ghosts F} where
+  -- The package is at this place of a course. Its rows and streams lie in the file, so this is a relation.
+  pub record IsAt (it : Package F g) (course : Course) : Type 0 where
+    pub phase : course.phase ≡ phase_of (failed_in it)
+    pub held : course.phase ≡ running → PackageHolds it course.held
+    pub failures : course.failures ≡ g.failures (medium_in (file_in it))
+    pub sound : course.sound ≡ sound_in it
 
--- the session is at this place of its course
-abbrev pub IsAt : {D : Type 0} {g : Ghosts D} → Session D g → Course → Type 0
-IsAt s course = course ≡ course_of s course.committed
+  -- its package
+  abbrev pub package_in : SessionOver F g → Package F g
+  package_in s = s.package
 
--- want of memory, or a fault of the device that was counted
-pub record IsFaultOf {D : Type 0} {g : Ghosts D} (old new : Session D g) (e : Error) : Type 0 where
-  pub kind : (e ≡ Memory) ⊎ (e ≡ Device)
-  pub counted : e ≡ Device → g.failures (device_below old) < 2 ^ 64 - 1 → g.failures (device_below old) < g.failures (device_below new)
+  -- a fault has ended it
+  abbrev pub is_failed : SessionOver F g → Bool
+  is_failed s = failed_in (package_in s)
+
+  -- whether its package is sound
+  abbrev pub is_sound : SessionOver F g → Bool
+  is_sound s = sound_in (package_in s)
+
+  -- by which names are told apart
+  abbrev pub letters_in : SessionOver F g → Letters
+  letters_in s = file.letters_in (file_in (package_in s))
+
+  -- the place at which it begins with a package that is held
+  abbrev pub beginning : SessionOver F g → Packed → Course
+  beginning s P = record { held = P; committed = None; failures = g.failures (medium_in (file_in (package_in s))); phase = running; sound = is_sound s }
+
+-- the device below it
+abbrev pub device_below : {D : Type 0} {g : device.Ghosts D} {h : Ghosts (Staged D g)} → SessionOver (Staged D g) h → D
+device_below s = device_of (medium_in (file_in (package_in s)))

@@ -1,30 +1,23 @@
 -- What a recovery gives after a call, and after a stop in one.
 use Rattle.std.specs.Prelude.{◌≡◌, ◌⊎◌, ◌≤◌, ℕ, false, List, [], ◌∷◌, map, Option, Some, IsTrue}
 use Rattle.cfb_medium.specs.Stops.{LeavesOnly}
-use Rattle.cfb_tree.specs.Names.{ascii_letters}
-use Rattle.msi_meaning.specs.Package.{MeansPackage}
-use Rattle.staged.specs.Files.{Files}
-use Rattle.staged.specs.Log.{recovered}
+use Rattle.cfb_tree.specs.Names.{Letters}
+use Rattle.msi.specs.Changing.{PackageIsFit}
+use Rattle.msi.specs.Committing.{HoldsSound}
+use Rattle.msi_meaning.specs.Package.{Packed}
 use Rattle.staged.specs.Steps.{GivenBy}
 use Rattle.staged.specs.declared.device.Device.{Ghosts}
 use Rattle.installer.specs.Course.{Mark}
 
--- What may be found after these commits where one of the lists might be found before: one that means a package whose commit was begun, or what
+-- what is found of a package that was committed: where it can be written as it is, bytes that hold it, sound
+abbrev pub IsFound : Letters → List ℕ → Packed → Type 0
+IsFound letters bytes P = PackageIsFit P → HoldsSound letters bytes P
+
+-- What may be found after these commits where one of the lists might be found before: bytes of a package whose commit was begun, or what
 -- might be found before that commit, unless it was answered Ok.
-abbrev pub MayBeFound : (List ℕ → Type 0) → List Mark → List ℕ → Type 0
-MayBeFound lists [] bytes = lists bytes
-MayBeFound lists (m ∷ marks) bytes = MayBeFound (λ b. MeansPackage ascii_letters b m.held ⊎ ((m.done ≡ false) × lists b)) marks bytes
-
--- a recovery of these files gives one of the lists
-abbrev pub GivesOneOf : (List ℕ → Type 0) → Files → Type 0
-GivesOneOf lists files = (bytes : List ℕ) × (recovered files ≡ Some bytes) × lists bytes
-
--- what a recovery of the files that are shown gives when a call that begins these commits has returned
-pub record FoundAtReturn {D : Type 0} (g : Ghosts D) (old new : D) (marks : List Mark) : Type 0 where
-  pub honest : g.honest new ≡ g.honest old
-  pub counted : g.failures old ≤ g.failures new
-  pub at_return : IsTrue (g.honest old) → (given : List ℕ) → recovered (g.content old) ≡ Some given
-      → GivesOneOf (MayBeFound (λ b. b ≡ given) marks) (g.content new)
+abbrev pub MayBeFound : Letters → (List ℕ → Type 0) → List Mark → List ℕ → Type 0
+MayBeFound letters lists [] bytes = lists bytes
+MayBeFound letters lists (m ∷ marks) bytes = MayBeFound letters (λ b. IsFound letters b m.held ⊎ ((m.done ≡ false) × lists b)) marks bytes
 
 -- the same commit, as one that was only begun
 abbrev pub begun : Mark → Mark
@@ -51,11 +44,12 @@ module _ {D : Type 0} (g : Ghosts D) where
   abbrev pub listed : D → List ℕ → Type 0
   listed d bytes = gives d (Some bytes)
 
+module _ (letters : Letters) {D : Type 0} (g : Ghosts D) where
   -- A call that begins these commits. Where a recovery gives a list of whatever a stop may leave when the call begins, then of whatever
   -- one leaves in the call it gives what might be found before, or a package whose commit the call began; and at the call's return
   -- what the commits that were answered leave of these.
   pub record Survives (old new : D) (marks : List Mark) : Type 0 where
     pub honest : g.honest new ≡ g.honest old
     pub counted : g.failures old ≤ g.failures new
-    pub any_moment : IsTrue (g.honest old) → AllGive AnyList (gives old) → LeavesOnly g.moment given_since old new (IsGiven (MayBeFound (listed old) (map begun marks)))
-    pub at_return : IsTrue (g.honest old) → AllGive AnyList (gives old) → AllGive (MayBeFound (listed old) marks) (gives new)
+    pub any_moment : IsTrue (g.honest old) → AllGive AnyList (gives g old) → LeavesOnly g.moment (given_since g) old new (IsGiven (MayBeFound letters (listed g old) (map begun marks)))
+    pub at_return : IsTrue (g.honest old) → AllGive AnyList (gives g old) → AllGive (MayBeFound letters (listed g old) marks) (gives g new)

@@ -1,63 +1,88 @@
-//! A session on a package.
-ghost use Rattle.std.specs.Prelude.{◌≡◌, ◌≢◌, ◌⊎◌, ◌≤◌, ◌<◌, ◌-◌, ◌^◌, ℕ, List, [], ◌∷◌, ◌++◌, Option, Some, None, map, length, take, IsTrue, true, false, IfOk, IfErr, OnOk, OnErr, IsErrOf, MatchResult, refl};
-ghost use Rattle.cfb_medium.specs.Calls.{Extends};
-ghost use Rattle.cfb_medium.specs.Stops.{LeavesOnly};
+//! A session on a package over the two files of a device.
 ghost use Rattle.cfb_medium.specs.declared.error.Error.TheVariants as error;
-ghost use Rattle.cfb_tree.specs.Names.{ascii_letters};
-ghost use Rattle.msi_meaning.specs.Package.{Packed, MeansPackage};
-ghost use Rattle.staged.specs.Device.{DeviceRests, IsDeviceFault, IsMemoryOrFault};
-ghost use Rattle.staged.specs.Log.{recovered, logged, MalformedLog, IsPublished};
-ghost use Rattle.staged.specs.Steps.{GivesAlike};
-ghost use Rattle.staged.specs.Settled.{IsSettled, HasPublished};
-ghost use Rattle.staged.specs.Staged.{device_of, staged_bytes, staged_moment, staged_left_since, staged_may_leave, is_failed, Continues};
-ghost use Rattle.staged.specs.Recovery.{IsMalformedOrFault};
-ghost use Rattle.one_table.specs.Held.{image_in, package_in};
-ghost use Rattle.one_table.specs.Contents.{package_of as bare};
-ghost use Rattle.installer.specs.Course.{Course, Mark, Runs, Goes, committed_after, commit_marks, marks_of, running};
-ghost use Rattle.installer.specs.Survival.{FoundAtReturn, Survives};
-ghost use Rattle.installer.specs.Refusals.{IsCreateRefusal, IsReadRefusal};
+ghost use Rattle.cfb_tree.specs.LetterViews.{letters_of};
+ghost use Rattle.command_file.specs.Request as asked;
 ghost use Rattle.command_file.specs.Said.{said};
+ghost use Rattle.installer.specs.Course.{Course, Mark, Runs};
+ghost use Rattle.installer.specs.Follows.{Follows};
+ghost use Rattle.installer.specs.Refusals.{IsCreateRefusal, IsOpenRefusal};
 ghost use Rattle.installer.specs.Said.{told_by};
-ghost use Rattle.command_file.specs.Request.{is_commit};
+ghost use Rattle.installer.specs.Step.{told_of};
+ghost use Rattle.installer.specs.Survival.{IsFound, Survives};
+ghost use Rattle.msi.specs.Changing.{PackageIsFit};
+ghost use Rattle.msi.specs.Committing.{HoldsSound};
+ghost use Rattle.msi.specs.Opened.{IsOpenedPackage, PackageHolds};
+ghost use Rattle.msi_meaning.specs.Calls.{IsNew};
+ghost use Rattle.msi_meaning.specs.Package.{Packed};
+ghost use Rattle.msi_meaning.specs.declared.kind.PackageType.TheVariants.{Installer};
+ghost use Rattle.staged.specs.Log.{logged, recovered, MalformedLog};
+ghost use Rattle.staged.specs.Settled.{HasPublished, IsSettled};
+ghost use Rattle.std.specs.Prelude.{◌≡◌, ℕ, List, [], Some, false, map, true, IfErr, IfOk, IsTrue, MatchResult, OnOk};
+ghost use Rattle.cfb_medium.specs.Calls.{Extends, IsFaultUnless};
 
 use crate::Answer;
-use crate::replies::{answer_of, reply_to};
+use crate::beginning::recovered_medium;
+use crate::changes::answer_of;
+use cfb::CaseMapper;
 use cfb_medium::{Error, Medium, ReadMedium};
 use command_file::Command;
-use one_table::Contents;
-use staged::{Device, Staged, recover};
+use msi::Package;
+use msi_meaning::PackageType;
+use staged::{Device, Staged};
 use std::alloc::Global;
 
-/// A package that commands read and change, over the two files of a device.
+/// A package that commands read and change.
 #[derive(Drop)]
-pub struct Session<D: Device> {
-    alloc: Global,
-    medium: Staged<D>,
-    contents: Contents,
-    ghost covered: { IsTrue (D.honest (device_of medium)) → is_failed medium ≡ false → length (staged_bytes medium) ≤ length (image_in contents) },
-    ghost settled: { IsTrue (D.honest (device_of medium)) → is_failed medium ≡ false → IsSettled D.Device (device_of medium) },
+pub struct SessionOver<F: Medium> {
+    pub(crate) alloc: Global,
+    pub(crate) package: Package<F>,
 }
 
-impl<D: Device> Session<D> {
-    ghost use Rattle.installer.specs.Sessions.{device_below, has_failed, package_of, course_of, IsAt, IsFaultOf};
+/// A session over the two files of a device, which survives a stop at any moment.
+pub type Session<D> = SessionOver<Staged<D>>;
 
-    /// Recovers, and begins a new package on an empty home file; nothing is committed. `AlreadyExists` where the home file isn't empty,
-    /// `InvalidData` for a malformed log, `Device` for a fault of the device, which is handed back. A malformed log leaves both files.
-    pub fn create(alloc: Global, device: D) -> Result<Session<D>, (D, Error)>
-        ensures package { IfOk result (λ session. package_of session ≡ bare None) }
-        ensures sound { IfOk result (λ session. has_failed session ≡ false) }
-        ensures empty { IsTrue (D.honest device)
-            → IfOk result (λ session. recovered (D.content device) ≡ Some []) }
+impl<F: Medium> SessionOver<F> {
+    ghost use Rattle.installer.specs.Sessions.{is_failed, is_sound};
+
+    /// Whether a fault has left the session in a state in which every command is refused.
+    pub fn has_failed(&self) -> bool
+        ensures { result ≡ is_failed self.now }
+    {
+        self.package.has_failed()
+    }
+
+    /// Whether the package is sound, as it was judged when the session began. One that isn't is read alone.
+    pub fn is_sound(&self) -> bool
+        ensures { result ≡ is_sound self.now }
+    {
+        self.package.is_sound()
+    }
+}
+
+impl<D: Device> SessionOver<Staged<D>> {
+    ghost use Rattle.installer.specs.Sessions.{beginning, device_below, is_failed, is_sound, letters_in, package_in, IsAt};
+
+    /// Recovers, and begins a new installer package on an empty home file, whose names are compared under the letter table; nothing
+    /// is committed. `InvalidData` for a malformed log, which leaves both files; `AlreadyExists` where the home file isn't empty;
+    /// `InvalidInput` where the letter table has a pair with a character from U+3800 to U+4840; then as `Package::create` is refused.
+    /// An error hands the device back.
+    pub fn create(
+        alloc: Global,
+        device: D,
+        letters: CaseMapper,
+    ) -> Result<SessionOver<Staged<D>>, (D, Error)>
+        ensures began { IsTrue (D.honest device) → IfOk result (λ s.
+            (recovered (D.content device) ≡ Some []) × (P : Packed) × IsNew Installer P
+            × PackageIsFit P × IsAt (package_in s) (beginning s P)) }
+        ensures letters { IfOk result (λ s. letters_in s ≡ letters_of letters) }
+        ensures sound { IfOk result (λ s. (is_failed s ≡ false) × (is_sound s ≡ true)) }
         ensures survives { MatchResult result
-            (λ session. Survives D.Device device (device_below session) [])
-            (λ refusal. Survives D.Device device refusal.0 []) }
-        ensures found { IfOk result (λ session. FoundAtReturn D.Device device (device_below session)
-            []) }
-        ensures refused { IfErr result (λ refusal. IsCreateRefusal D.Device device refusal.0
-            refusal.1) }
-        ensures found_too { IfErr result (λ refusal. refusal.1 ≢ error.Device
-            → FoundAtReturn D.Device device refusal.0 []) }
-        ensures left { IfErr result (λ refusal. refusal.1 ≡ error.InvalidData
+            (λ s. Survives (letters_of letters) D.Device device (device_below s) [])
+            (λ refusal. Survives (letters_of letters) D.Device device refusal.0 []) }
+        ensures refused { IfErr result (λ refusal. IsCreateRefusal (letters_of letters) D.Device
+            device refusal.0 refusal.1) }
+        ensures left { IsTrue (D.honest device) → logged (D.content device) ≡ MalformedLog
+            → IfErr result (λ refusal. refusal.1 ≡ error.InvalidData
             → Extends D.rests device refusal.0) }
     {
         let mut medium = match recovered_medium(alloc, device) {
@@ -65,60 +90,63 @@ impl<D: Device> Session<D> {
             Err((device, error)) => return Err((device, error)),
         };
         match medium.len() {
-            Ok(0) => Ok(Session {
-                alloc,
-                medium,
-                contents: Contents::new(alloc),
-            }),
-            Ok(_) => Err((medium.into_device(), Error::AlreadyExists)),
-            Err(error) => Err((medium.into_device(), error)),
+            Ok(0) => {}
+            Ok(_) => return Err((medium.into_device(), Error::AlreadyExists)),
+            Err(error) => return Err((medium.into_device(), error)),
+        }
+        match Package::create(alloc, PackageType::Installer, medium, letters) {
+            Ok(package) => Ok(SessionOver { alloc, package }),
+            Err((medium, error)) => Err((medium.into_device(), error)),
         }
     }
 
-    /// Recovers, and goes on with the package of the home file. `InvalidData` for a malformed log and for a home file that no session has
-    /// written, `Memory` where there is no room, `Device` for a fault of the device, which is handed back. A malformed log leaves both
-    /// files.
-    pub fn open(alloc: Global, device: D) -> Result<Session<D>, (D, Error)>
-        ensures package { IsTrue (D.honest device)
-            → IfOk result (λ session. (bytes : List ℕ) × (recovered (D.content device) ≡ Some bytes)
-            × MeansPackage ascii_letters bytes (package_of session)) }
-        ensures sound { IfOk result (λ session. has_failed session ≡ false) }
+    /// Recovers, and goes on with the package of the home file, whose names are compared under the letter table. `InvalidData` for a
+    /// malformed log, which leaves both files; then as `Package::open` is refused. An error hands the device back. A package that isn't
+    /// sound is read alone. What a session committed is opened as the same package, sound, unless there is a fault.
+    pub fn open(
+        alloc: Global,
+        device: D,
+        letters: CaseMapper,
+    ) -> Result<SessionOver<Staged<D>>, (D, Error)>
+        ensures opened { IsTrue (D.honest device) → IfOk result (λ s. (bytes : List ℕ)
+            × (recovered (D.content device) ≡ Some bytes)
+            × IsOpenedPackage (letters_of letters) bytes (package_in s)) }
+        ensures began { IfOk result (λ s. (P : Packed) → PackageHolds (package_in s) P
+            → IsAt (package_in s) (beginning s P)) }
+        ensures reopens { IsTrue (D.honest device) → (bytes : List ℕ) (P : Packed)
+            → recovered (D.content device) ≡ Some bytes
+            → HoldsSound (letters_of letters) bytes P → MatchResult result
+            (λ s. PackageHolds (package_in s) P × (is_sound s ≡ true))
+            (λ refusal. IsFaultUnless ⊥ refusal.1) }
+        ensures letters { IfOk result (λ s. letters_in s ≡ letters_of letters) }
+        ensures live { IfOk result (λ s. is_failed s ≡ false) }
         ensures survives { MatchResult result
-            (λ session. Survives D.Device device (device_below session) [])
-            (λ refusal. Survives D.Device device refusal.0 []) }
-        ensures found { IfOk result (λ session. FoundAtReturn D.Device device (device_below session)
-            []) }
-        ensures refused { IfErr result (λ refusal. IsReadRefusal D.failures device refusal.0
-            refusal.1) }
-        ensures found_too { IfErr result (λ refusal. refusal.1 ≢ error.Device
-            → FoundAtReturn D.Device device refusal.0 []) }
+            (λ s. Survives (letters_of letters) D.Device device (device_below s) [])
+            (λ refusal. Survives (letters_of letters) D.Device device refusal.0 []) }
+        ensures refused { IfErr result (λ refusal. IsOpenRefusal (letters_of letters) D.Device
+            device refusal.0 refusal.1) }
         ensures left { IsTrue (D.honest device) → logged (D.content device) ≡ MalformedLog
             → IfErr result (λ refusal. refusal.1 ≡ error.InvalidData
             → Extends D.rests device refusal.0) }
     {
-        let mut medium = match recovered_medium(alloc, device) {
+        let medium = match recovered_medium(alloc, device) {
             Ok(medium) => medium,
             Err(refusal) => return Err(refusal),
         };
-        match read_contents(alloc, &mut medium) {
-            Ok(contents) => Ok(Session {
-                alloc,
-                medium,
-                contents,
-            }),
-            Err(error) => Err((medium.into_device(), error)),
+        match Package::open(alloc, medium, letters) {
+            Ok(package) => Ok(SessionOver { alloc, package }),
+            Err((medium, error)) => Err((medium.into_device(), error)),
         }
     }
 
     /// Runs commands in order, with an answer for each. `Memory` where there is no room for the answers: then none was run.
     pub fn run(&mut self, commands: &[Command]) -> Result<Vec<Answer>, Error>
-        ensures ran { IfOk result (λ answers. (start : Course) → IsAt self.old start
+        ensures ran { IfOk result (λ answers. (start : Course) → IsAt (package_in self.old) start
             → (end : Course) × (marks : List Mark)
-            × Runs start (map said commands.now) (map told_by answers.items) marks end
-            × IsAt self.new end
-            × Survives D.Device (device_below self.old) (device_below self.new) marks
-            × (end.phase ≡ running
-            → FoundAtReturn D.Device (device_below self.old) (device_below self.new) marks)) }
+            × Runs (letters_in self.old) start (map said commands.now) (map told_by answers.items)
+            marks end × IsAt (package_in self.new) end
+            × Survives (letters_in self.old) D.Device (device_below self.old)
+            (device_below self.new) marks) }
         ensures none_ran { IfErr result (λ e. (e ≡ error.Memory) × (self.new ≡ self.old)) }
     {
         let mut answers = Vec::with_capacity(self.alloc, commands.len())?;
@@ -130,193 +158,54 @@ impl<D: Device> Session<D> {
 
     // Runs one command.
     fn answer(&mut self, command: &Command) -> Answer
-        ensures goes { (committed : Option Packed)
-            → Goes (course_of self.old committed) (said command.now) (told_by result)
-            (course_of self.new (committed_after (course_of self.old committed) (said command.now)
-            (told_by result))) }
-        ensures survives { (committed : Option Packed)
-            → Survives D.Device (device_below self.old) (device_below self.new)
-            (marks_of (course_of self.old committed) (said command.now) (told_by result)) }
-        ensures found { has_failed self.new ≡ false → (committed : Option Packed)
-            → FoundAtReturn D.Device (device_below self.old) (device_below self.new)
-            (marks_of (course_of self.old committed) (said command.now) (told_by result)) }
+        ensures { Follows (said command.now) (told_by result) self.old self.new }
     {
         if self.has_failed() {
             return Answer::Refused(Error::Failed);
         }
-        if is_commit(command) {
-            return answer_of(self.commit());
+        match command {
+            Command::CreateTable(name, columns) => self.create_table(name, columns),
+            Command::DropTable(name) => self.drop_table(name),
+            Command::Insert(insert) => self.insert(insert),
+            Command::Update(update) => self.update(update),
+            Command::Delete(delete) => self.delete(delete),
+            Command::Select(select) => self.select(select),
+            Command::Tables => self.tables(),
+            Command::Columns(name) => self.columns(name),
+            Command::Streams => self.streams(),
+            Command::ReadStream(name) => self.read_stream(name),
+            Command::WriteStream(name, bytes) => self.write_stream(name, bytes),
+            Command::RemoveStream(name) => self.remove_stream(name),
+            Command::HasSignature => self.has_signature(),
+            Command::RemoveSignature => self.remove_signature(),
+            Command::Summary => self.summary(),
+            Command::SetSummary(change) => self.set_summary(change),
+            Command::Codepage => self.codepage(),
+            Command::SetCodepage(page) => self.set_codepage(*page),
+            Command::Flush => self.flush(),
+            Command::Commit => answer_of(self.commit()),
         }
-        reply_to(self.alloc, &mut self.contents, command)
     }
 
-    /// Writes the package into the home file. `Memory` where there is no room and `Device` for a fault of the device: then either all is
-    /// as it was, or the session has failed. `Failed` where it has failed before.
+    /// Publishes the package: after `Ok` the log is closed, and whatever a stop leaves, a recovery gives bytes that hold it, where it can
+    /// be written as it is; of a package that isn't sound nothing is written. `Failed` where the session has failed before; else as
+    /// `Package::commit` is refused: then either all is as it was, or the session has failed.
     pub fn commit(&mut self) -> Result<(), Error>
-        ensures published { IsTrue (D.honest (device_below self.old))
-            → OnOk result ((bytes : List ℕ) × IsPublished (D.content (device_below self.new)) bytes
-            × MeansPackage ascii_letters bytes (package_of self.old)) }
-        ensures survives { Survives D.Device (device_below self.old) (device_below self.new)
-            (commit_marks (has_failed self.old) (package_of self.old) result) }
-        ensures package { package_of self.new ≡ package_of self.old }
-        ensures sound { OnOk result (has_failed self.new ≡ false) }
-        ensures earlier { IsErrOf result error.Failed → has_failed self.old ≡ true }
-        ensures refused { has_failed self.old ≡ true
-            → (result ≡ Err error.Failed) × (self.new ≡ self.old) }
-        ensures fault { has_failed self.old ≡ false → IfErr result (IsFaultOf self.old self.new) }
-        ensures left { OnErr result (has_failed self.new ≡ false
-            → Extends D.rests (device_below self.old) (device_below self.new)) }
-        ensures honest { D.honest (device_below self.new) ≡ D.honest (device_below self.old) }
-        ensures failures { D.failures (device_below self.old) ≤ D.failures (device_below self.new) }
+        ensures follows { Follows asked.commit (told_of result) self.old self.new }
+        ensures published { OnOk result ((P : Packed) → PackageHolds (package_in self.old) P
+            → IsTrue (is_sound self.old) → (bytes : List ℕ)
+            × HasPublished D.Device (device_below self.new) bytes
+            × IsFound (letters_in self.old) bytes P) }
     {
-        if self.has_failed() {
-            return Err(Error::Failed);
-        }
-        match self.contents.image() {
-            Ok(image) => match publish(&mut self.medium, &image) {
-                Ok(()) => Ok(()),
-                Err(error) => Err(error),
-            },
-            Err(error) => Err(error),
-        }
-    }
-
-    /// Whether a fault has left the session in a state in which every command is refused.
-    pub fn has_failed(&self) -> bool
-        ensures { result ≡ has_failed self.now }
-    {
-        self.medium.has_failed()
+        self.package.commit()
     }
 
     /// The device, with what was committed.
     pub fn into_device(self) -> D
         ensures device { result ≡ device_below self }
-        ensures settled { IsTrue (D.honest result) → has_failed self ≡ false
+        ensures settled { IsTrue (D.honest result) → is_failed self ≡ false
             → IsSettled D.Device result }
     {
-        self.medium.into_device()
-    }
-}
-
-// Whether it is a commit.
-fn is_commit(command: &Command) -> bool
-    ensures { result ≡ is_commit (said command.now) }
-{
-    matches!(command, Command::Commit)
-}
-
-// The home file of a recovered device.
-fn recovered_medium<D: Device>(alloc: Global, device: D) -> Result<Staged<D>, (D, Error)>
-    ensures bytes { IsTrue (D.honest device)
-        → IfOk result (λ medium. recovered (D.content device) ≡ Some (staged_bytes medium)) }
-    ensures home { IsTrue (D.honest device)
-        → IfOk result (λ medium. (D.content (device_of medium)).home ≡ staged_bytes medium) }
-    ensures settled { IsTrue (D.honest device)
-        → IfOk result (λ medium. IsSettled D.Device (device_of medium)) }
-    ensures sound { IfOk result (λ medium. is_failed medium ≡ false) }
-    ensures honest { IfOk result (λ medium. D.honest (device_of medium) ≡ D.honest device) }
-    ensures failures { IfOk result (λ medium. D.failures device ≤ D.failures (device_of medium)) }
-    ensures stops { IsTrue (D.honest device)
-        → MatchResult result (λ medium. LeavesOnly D.moment D.left_since device (device_of medium)
-        (GivesAlike (D.may_leave device))) (λ refusal. LeavesOnly D.moment D.left_since device
-        refusal.0 (GivesAlike (D.may_leave device))) }
-    ensures err { IfErr result (λ refusal. IsMalformedOrFault D.failures device refusal.0
-        refusal.1) }
-    ensures malformed { IsTrue (D.honest device)
-        → IfErr result (λ refusal. refusal.1 ≡ error.InvalidData
-        → logged (D.content device) ≡ MalformedLog) }
-    ensures left { IfErr result (λ refusal. refusal.1 ≡ error.InvalidData
-        → Extends D.rests device refusal.0) }
-    ensures err_honest { IfErr result (λ refusal. D.honest refusal.0 ≡ D.honest device) }
-    ensures err_failures { IfErr result (λ refusal. D.failures device ≤ D.failures refusal.0) }
-{
-    let mut device = device;
-    match recover(&mut device) {
-        Ok(_) => match Staged::new(alloc, device) {
-            Ok(medium) => Ok(medium),
-            Err((device, error)) => Err((device, error)),
-        },
-        Err(error) => Err((device, error)),
-    }
-}
-
-// Writes an image over the whole medium, and commits it.
-fn publish<D: Device>(medium: &mut Staged<D>, image: &[u8]) -> Result<(), Error>
-    requires sound { is_failed medium.old ≡ false }
-    requires short { length image.now < 2 ^ 17 }
-    requires covers { IsTrue (D.honest (device_of medium.old))
-        → length (staged_bytes medium.old) ≤ length image.now }
-    ensures published { IsTrue (D.honest (device_of medium.old))
-        → OnOk result (HasPublished D.Device (device_of medium.new) image.now) }
-    ensures stops { IsTrue (D.honest (device_of medium.old))
-        → LeavesOnly (λ m. staged_moment m) (λ m moment. staged_left_since m moment) medium.old
-        medium.new (λ given. staged_may_leave medium.old given ⊎ (given ≡ Some image.now)) }
-    ensures covers { IsTrue (D.honest (device_of medium.old)) → is_failed medium.new ≡ false
-        → length (staged_bytes medium.new) ≤ length image.now }
-    ensures settled { IsTrue (D.honest (device_of medium.old)) → is_failed medium.new ≡ false
-        → IsSettled D.Device (device_of medium.old) → IsSettled D.Device (device_of medium.new) }
-    ensures sound { OnOk result (is_failed medium.new ≡ false) }
-    ensures left { OnErr result (is_failed medium.new ≡ false
-        → Extends D.rests (device_of medium.old) (device_of medium.new)) }
-    ensures honest { D.honest (device_of medium.new) ≡ D.honest (device_of medium.old) }
-    ensures failures { D.failures (device_of medium.old) ≤ D.failures (device_of medium.new) }
-    ensures fault { IfErr result (IsMemoryOrFault D.failures (device_of medium.old)
-        (device_of medium.new)) }
-{
-    match medium.write_at(0, image) {
-        Ok(()) => match medium.commit() {
-            Ok(()) => Ok(()),
-            Err(error) => Err(error),
-        },
-        Err(error) => Err(error),
-    }
-}
-
-// All bytes of a medium.
-fn read_whole<D: Device>(alloc: Global, medium: &mut Staged<D>) -> Result<Vec<u8>, Error>
-    requires sound { is_failed medium.old ≡ false }
-    ensures whole { IsTrue (D.honest (device_of medium.old))
-        → IfOk result (λ read. read.items ≡ staged_bytes medium.old) }
-    ensures bytes { IsTrue (D.honest (device_of medium.old))
-        → staged_bytes medium.new ≡ staged_bytes medium.old }
-    ensures continues { Extends (λ a b. Continues a b) medium.old medium.new }
-    ensures honest { D.honest (device_of medium.new) ≡ D.honest (device_of medium.old) }
-    ensures err { IfErr result (IsMemoryOrFault D.failures (device_of medium.old)
-        (device_of medium.new)) }
-{
-    let len = match medium.len() {
-        Ok(len) => len,
-        Err(error) => return Err(error),
-    };
-    let mut bytes = Vec::new(alloc);
-    bytes.resize(len as usize, 0)?;
-    match medium.read_at(0, &mut bytes) {
-        Ok(_) => Ok(bytes),
-        Err(error) => Err(error),
-    }
-}
-
-// The package of a whole medium.
-fn read_contents<D: Device>(alloc: Global, medium: &mut Staged<D>) -> Result<Contents, Error>
-    requires sound { is_failed medium.old ≡ false }
-    ensures image { IsTrue (D.honest (device_of medium.old))
-        → IfOk result (λ contents. image_in contents ≡ staged_bytes medium.old) }
-    ensures meant { IsTrue (D.honest (device_of medium.old))
-        → IfOk result (λ contents. MeansPackage ascii_letters (staged_bytes medium.old)
-        (package_in contents)) }
-    ensures bytes { IsTrue (D.honest (device_of medium.old))
-        → staged_bytes medium.new ≡ staged_bytes medium.old }
-    ensures continues { Extends (λ a b. Continues a b) medium.old medium.new }
-    ensures honest { D.honest (device_of medium.new) ≡ D.honest (device_of medium.old) }
-    ensures err { IfErr result (IsReadRefusal D.failures (device_of medium.old)
-        (device_of medium.new)) }
-{
-    let bytes = match read_whole(alloc, medium) {
-        Ok(bytes) => bytes,
-        Err(error) => return Err(error),
-    };
-    match Contents::read(alloc, &bytes) {
-        Ok(contents) => Ok(contents),
-        Err(error) => Err(error),
+        self.package.into_medium().into_device()
     }
 }

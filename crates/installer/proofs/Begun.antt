@@ -1,0 +1,76 @@
+-- Sessions that begin, and why none does.
+use Rattle.std.proofs.Common.{◌≡◌, ◌⊎◌, ◌<◌, ◌≤◌, ◌-◌, ◌^◌, ◌∙◌, ℕ, [], List, Some, ap, false, inl, inr, refl, subst, sym, ⊎_elim}
+use Rattle.std.specs.Prelude.{IsTrue}
+use Rattle.cfb.specs.Publishing.{medium_in}
+use Rattle.cfb.specs.Views.{mini_of}
+use Rattle.cfb_fat.specs.Tables.{has_failed_here}
+use Rattle.cfb_medium.specs.Calls.{IsFaultUnless, Keeps}
+use Rattle.cfb_medium.specs.Stops.{LeavesOnly}
+use Rattle.cfb_medium.specs.declared.error.Error.{Error}
+use Rattle.cfb_medium.specs.declared.error.Error.TheVariants.{Device, InvalidData}
+use Rattle.cfb_medium.specs.declared.medium.ReadMedium.{Ghosts}
+use Rattle.cfb_mini.specs.Views.{allocator_of}
+use Rattle.cfb_tree.specs.Names.{Letters}
+use Rattle.msi.specs.Changing.{failed_in, IsChangeError}
+use Rattle.msi.proofs.OpenAgain.{never_refused}
+use Rattle.msi.specs.Committing.{HoldsSound}
+use Rattle.msi.specs.Opened.{file_in, IsRefused, PackageHolds}
+use Rattle.msi.specs.declared.package.Package.{Package}
+use Rattle.msi_meaning.specs.Package.{Packed}
+use Rattle.staged.specs.Device.{DeviceRests}
+use Rattle.staged.specs.Files.{Files}
+use Rattle.staged.specs.Log.{logged, recovered, MalformedLog}
+use Rattle.staged.specs.Recovery.{IsMalformedOrFault}
+use Rattle.staged.specs.Steps.{GivesAlike}
+use Rattle.staged.specs.declared.device.Device as device
+use Rattle.installer.proofs.Going.{package_live}
+use Rattle.installer.proofs.Recovering.{faults, never_recovered}
+use Rattle.installer.proofs.Stopping.{begun_survives}
+use Rattle.installer.specs.Refusals.{IsCounted, IsMalformed}
+use Rattle.installer.specs.Sessions.{beginning, package_in, phase_of, IsAt}
+use Rattle.installer.specs.Survival.{Survives}
+use Rattle.installer.specs.declared.session.SessionOver.{SessionOver}
+
+-- a session with a package that is held, and has not failed, is at its beginning
+pub begins_at : {F : Type 0} {g : Ghosts F} (s : SessionOver F g) (P : Packed) → failed_in (package_in s) ≡ false → PackageHolds (package_in s) P → IsAt (package_in s) (beginning s P)
+begins_at s P live held = record { phase = ap phase_of (sym live); held = λ _. held; failures = refl; sound = refl }
+
+module _ {D : Type 0} (g : device.Ghosts D) (old : D) where
+  -- a recovery was refused
+  pub malformed_or_fault : (new : D) (e : Error) → IsMalformedOrFault g.failures old new e → (IsTrue (g.honest old) → e ≡ InvalidData → logged (g.content old) ≡ MalformedLog)
+      → IsMalformed g old new e ⊎ (e ≡ Device)
+  malformed_or_fault new e is told = ⊎_elim (λ malformed. inl (malformed, λ honest. told honest malformed)) (λ fault. inr fault) is.kind
+
+  -- a failure that was counted after the recovery was counted since
+  pub counted_later : (mid new : D) (e : Error) → g.failures old ≤ g.failures mid → (e ≡ Device → g.failures mid < 2 ^ 64 - 1 → g.failures mid < g.failures new) → g.failures mid ≤ g.failures new
+      → IsCounted g old new e
+  counted_later mid new e first count second = λ is less. faults (g.failures old) (g.failures mid) (g.failures new) less first second (count is)
+
+pub device_is_change : (e : Error) → e ≡ Device → IsChangeError e
+device_is_change e is = subst IsChangeError (sym is) (inl tt)
+
+-- a medium that was recovered, and what goes on over it without publishing
+module _ {D : Type 0} (g : device.Ghosts D) (counts_now : (d : D) (t : ℕ) (left : Files) → t ≤ g.moment d → g.may_leave d left → g.left_since d t left)
+    (rests_keeps : (a b : D) → g.rests a b → DeviceRests g.honest g.content g.writes g.failures a b) (rests_leaves : (a b : D) → g.rests a b → LeavesOnly g.moment g.left_since a b (g.may_leave a))
+    (a b c : D) (honest : g.honest b ≡ g.honest a) (counted : g.failures a ≤ g.failures b) (recovers : IsTrue (g.honest a) → LeavesOnly g.moment g.left_since a b (GivesAlike (g.may_leave a)))
+    (rests : g.rests b c) where
+  pub began_survives : (letters : Letters) → Survives letters g a c []
+  began_survives letters = let keeps = rests_keeps b c rests in begun_survives g counts_now letters a b c honest counted recovers (sym keeps.as_honest) keeps.counted (rests_leaves b c rests)
+
+  pub began_counted : (e : Error) → (e ≡ Device → g.failures b < 2 ^ 64 - 1 → g.failures b < g.failures c) → IsCounted g a c e
+  began_counted e count = counted_later g a b c e counted count (rests_keeps b c rests).counted
+
+-- bytes that hold a sound package are refused by no rule
+module _ {D : Type 0} (g : device.Ghosts D) (letters : Letters) (old new : D) (bytes : List ℕ) (P : Packed) (given : recovered (g.content old) ≡ Some bytes) (holds : HoldsSound letters bytes P) where
+  pub same_bytes : (other : List ℕ) → recovered (g.content old) ≡ Some other → other ≡ bytes
+  same_bytes other is = let same : Some other ≡ Some bytes = sym is ∙ given in cc
+
+  pub reopen_fault : (e : Error) → IsTrue (g.honest old) → IsMalformed g old new e ⊎ (IsFaultUnless ⊥ e ⊎ ((other : List ℕ) × (recovered (g.content old) ≡ Some other) × IsRefused letters other e))
+      → IsFaultUnless ⊥ e
+  reopen_fault e honest kind = ⊎_elim (λ malformed. absurd (never_recovered (g.content old) bytes (malformed.1 honest) given))
+      (λ more. ⊎_elim (λ fault. fault) (λ refused. absurd (never_refused letters bytes P holds e (subst (λ b. IsRefused letters b e) (same_bytes refused.0 refused.1) refused.2))) more) kind
+
+-- a package that lies over a medium from which it goes on has not failed where the medium hadn't
+module _ {F : Type 0} {g : Ghosts F} (continues_keeps : (a b : F) → g.continues a b → Keeps g.honest g.failed g.failures a b) where
+  pub goes_on_live : (medium : F) (it : Package F g) → g.failed medium ≡ false → g.continues medium (medium_in (file_in it)) → has_failed_here (allocator_of (mini_of (file_in it))) ≡ false → failed_in it ≡ false
+  goes_on_live medium it live on here = package_live it here (sym (continues_keeps medium (medium_in (file_in it)) on).as_failed ∙ live)

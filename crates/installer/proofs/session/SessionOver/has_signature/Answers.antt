@@ -1,0 +1,12 @@
+use Rattle.std.proofs.Common.{ap, refl}
+use Rattle.installer.proofs.Answering.{answers_told, rests_itself}
+use Rattle.command_file.specs.Request as asked
+use Rattle.installer.specs.Reply as told
+use Rattle.installer.specs.Sessions.{package_in}
+use Rattle.installer.proofs.session.SessionOver.has_signature.Goals as goal
+
+pub returns : goal.returns
+returns g c =
+    let G = g.met.F.ReadMedium in
+    answers_told G.continues_refl G.continues_keeps c.args.self.now _ c.requires (rests_itself (package_in c.args.self.now)) asked.has_signature _ refl
+    (λ P h. (refl, ap (λ yes. told.answers yes) (c.has_digital_signature.ensures P h)))

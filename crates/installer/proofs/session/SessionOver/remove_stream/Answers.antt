@@ -1,0 +1,13 @@
+use Rattle.std.proofs.Common.{inl, refl}
+use Rattle.installer.proofs.Answering.{answers_changes}
+use Rattle.msi_meaning.specs.Streams.{stream_removed}
+use Rattle.msi_streams.specs.Writing.{Makes}
+use Rattle.installer.proofs.Streams.{becomes}
+use Rattle.installer.specs.Sessions.{letters_in}
+use Rattle.installer.proofs.session.SessionOver.remove_stream.Goals as goal
+
+pub returns : goal.returns
+returns g c =
+    let G = g.met.F.ReadMedium in
+    answers_changes G.continues_refl G.continues_keeps c.args.self.now _ c.requires (Makes (λ P. stream_removed (letters_in c.args.self.now) P c.args.name.now)) _ _ c.remove_stream.result refl (λ P Q answer made. inl (becomes (stream_removed (letters_in c.args.self.now) P c.args.name.now) P Q answer made))
+    c.remove_stream.ensures.changes c.remove_stream.ensures.goes_on c.remove_stream.ensures.cause c.answer_of.ensures

@@ -1,0 +1,32 @@
+-- What one command does.
+use Rattle.std.specs.Prelude.{◌≡◌}
+use Rattle.cfb.specs.Views.{mini_of}
+use Rattle.cfb_medium.specs.declared.medium.ReadMedium.{Ghosts}
+use Rattle.cfb_mini.specs.Views.{allocator_of}
+use Rattle.cfb_owned.specs.Chains.{GoesOn}
+use Rattle.command_file.specs.Request.{Request}
+use Rattle.msi.specs.Opened.{file_in}
+use Rattle.staged.specs.declared.device.Device as device
+use Rattle.staged.specs.declared.staged.Staged.{Staged}
+use Rattle.installer.specs.Course.{Course, Goes, marks_of}
+use Rattle.installer.specs.Reply.{Reply}
+use Rattle.installer.specs.Sessions.{device_below, is_sound, letters_in, package_in, IsAt}
+use Rattle.installer.specs.Survival.{Survives}
+use Rattle.installer.specs.declared.session.SessionOver.{SessionOver}
+
+module _ {F : Type 0} {g : Ghosts F} where
+  -- from where it is in its course it goes on by the request's rule
+  pub record GoesByRule (request : Request) (reply : Reply) (old new : SessionOver F g) : Type 0 where
+    pub goes : (start : Course) → IsAt (package_in old) start → (end : Course) × Goes (letters_in old) start request reply end × IsAt (package_in new) end
+    pub letters : letters_in new ≡ letters_in old
+    pub sound : is_sound new ≡ is_sound old
+
+  -- so it does, and publishes nothing
+  pub record AnswersQuietly (request : Request) (reply : Reply) (old new : SessionOver F g) : Type 0 where
+    pub by_rule : GoesByRule request reply old new
+    pub quiet : GoesOn (allocator_of (mini_of (file_in (package_in old)))) (allocator_of (mini_of (file_in (package_in new))))
+
+-- One command of a session over a device: it goes by its rule, and what a stop leaves is told with the commit that it begins.
+pub record Follows {D : Type 0} {g : device.Ghosts D} {h : Ghosts (Staged D g)} (request : Request) (reply : Reply) (old new : SessionOver (Staged D g) h) : Type 0 where
+  pub by_rule : GoesByRule request reply old new
+  pub survives : (start : Course) → IsAt (package_in old) start → Survives (letters_in old) g (device_below old) (device_below new) (marks_of start request reply)

@@ -1,9 +1,0 @@
-pub mod Answers
-pub mod Contents
-pub mod Held
-pub mod Limits
-pub mod Naming
-pub mod Rules
-pub mod Sheets
-pub mod Streams
-pub mod Listing
