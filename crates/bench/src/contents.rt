@@ -1,9 +1,9 @@
 //! Streams of a compound file in memory, written, and read from the file that is opened again.
+use crate::file_calls::{entries, into_inner, make, new_file, open, read_streams, write};
 use crate::print_time;
 use anyhow::Result;
-use cfb::{CompoundFile, Stream};
+use cfb::CompoundFile;
 use cfb_medium::{Error, MemoryMedium};
-use cfb_tree::CaseMapper;
 use std::alloc::Global;
 use std::time::Instant;
 
@@ -13,94 +13,89 @@ const PIECE: usize = 65536;
 /// Makes so many streams of 100 bytes and as many of 10,000, and reads them.
 pub fn write_and_read(rt: &HostRuntime, count: usize) -> Result<()> {
     let mut file = new_file(rt.alloc())?;
-    write_streams(rt, &mut file, count, 100)?;
-    write_streams(rt, &mut file, count, 10_000)?;
-    open_and_read(rt, file.into_inner())
+    write_both(rt, &mut file, count)?;
+    open_and_read(rt, into_inner(file))
 }
 
-// Makes so many streams of this length.
-fn write_streams(
+fn write_both(rt: &HostRuntime, file: &mut CompoundFile<MemoryMedium>, count: usize) -> Result<()> {
+    write_and_tell(rt, file, count, 100)?;
+    write_and_tell(rt, file, count, 10_000)
+}
+
+// Makes so many streams of this length, and prints what it took.
+fn write_and_tell(
     rt: &HostRuntime,
     file: &mut CompoundFile<MemoryMedium>,
     count: usize,
     len: usize,
 ) -> Result<()> {
     let begin = Instant::now(rt)?;
-    for n in 0..count {
-        let path = format!(in rt.alloc(); "/{len} bytes {n}")?;
-        write(rt.alloc(), file, path.as_str(), len)?;
-    }
+    write_streams(rt.alloc(), file, count, len)?;
     println!(rt; "of {len} bytes:")?;
-    print_time(rt, "streams written", count, begin.elapsed(rt)?)
+    print_time(rt, "streams written", count, begin)
+}
+
+fn write_streams(
+    alloc: Global,
+    file: &mut CompoundFile<MemoryMedium>,
+    count: usize,
+    len: usize,
+) -> Result<(), Error> {
+    for n in 0..count {
+        let path = format!(in alloc; "/{len} bytes {n}")?;
+        write_new(alloc, file, path.as_str(), len)?;
+    }
+    Ok(())
 }
 
 /// Writes a stream of so many megabytes, and reads it.
 pub fn write_large(rt: &HostRuntime, megabytes: usize) -> Result<()> {
     let mut file = new_file(rt.alloc())?;
-    let begin = Instant::now(rt)?;
-    let len = megabytes.saturating_mul(1_000_000);
-    write(rt.alloc(), &mut file, "/large", len)?;
-    print_time(rt, "megabytes written", megabytes, begin.elapsed(rt)?)?;
-    open_and_read(rt, file.into_inner())
+    write_megabytes(rt, &mut file, megabytes)?;
+    open_and_read(rt, into_inner(file))
 }
 
-fn new_file(alloc: Global) -> Result<CompoundFile<MemoryMedium>> {
-    let letters = CaseMapper::ascii(alloc)?;
-    let created = CompoundFile::create(alloc, MemoryMedium::new(alloc), letters);
-    Ok(created.map_err(|refused| refused.1)?)
+fn write_megabytes(
+    rt: &HostRuntime,
+    file: &mut CompoundFile<MemoryMedium>,
+    megabytes: usize,
+) -> Result<()> {
+    let begin = Instant::now(rt)?;
+    let len = megabytes.saturating_mul(1_000_000);
+    write_new(rt.alloc(), file, "/large", len)?;
+    print_time(rt, "megabytes written", megabytes, begin)
 }
 
 // Makes a stream of so many bytes at a path.
-fn write(
+fn write_new(
     alloc: Global,
     file: &mut CompoundFile<MemoryMedium>,
     path: &str,
     len: usize,
 ) -> Result<(), Error> {
-    let mut piece = Vec::new(alloc);
-    piece.resize(PIECE.min(len), 7)?;
-    file.create_new_stream(path)?;
-    let mut stream = file.open_stream(path)?;
-    let done = write_pieces(&mut stream, &piece, len);
-    let closed = stream.close();
-    done?;
-    closed
-}
-
-fn write_pieces(
-    stream: &mut Stream<'_, MemoryMedium>,
-    piece: &[u8],
-    len: usize,
-) -> Result<(), Error> {
-    let mut left = len;
-    for _ in 0..len {
-        if left == 0 {
-            break;
-        }
-        let count = left.min(piece.len());
-        stream.write(&piece[..count])?;
-        left -= count;
-    }
-    Ok(())
+    let piece = vec![in alloc; 7u8; PIECE.min(len)]?;
+    make(file, path)?;
+    write(file, path, &piece, len)
 }
 
 // Opens the file again, and reads each stream whole, by its path.
 fn open_and_read(rt: &HostRuntime, medium: MemoryMedium) -> Result<()> {
     let begin = Instant::now(rt)?;
-    let letters = CaseMapper::ascii(rt.alloc())?;
-    let opened = CompoundFile::open(rt.alloc(), medium, letters);
-    let mut file = opened.map_err(|refused| refused.1)?;
-    print_time(rt, "files opened", 1, begin.elapsed(rt)?)?;
+    let mut file = open(rt.alloc(), medium)?;
+    print_time(rt, "files opened", 1, begin)?;
+    read_and_tell(rt, &mut file)
+}
+
+fn read_and_tell(rt: &HostRuntime, file: &mut CompoundFile<MemoryMedium>) -> Result<()> {
     let begin = Instant::now(rt)?;
-    let entries = file.walk()?;
+    let count = read_all(rt.alloc(), file)?;
+    print_time(rt, "objects read", count, begin)
+}
+
+// Reads each stream whole: how many objects there are.
+fn read_all(alloc: Global, file: &mut CompoundFile<MemoryMedium>) -> Result<usize, Error> {
+    let entries = entries(file)?;
     let count = entries.len();
-    let mut bytes = Vec::new(rt.alloc());
-    for entry in entries {
-        if entry.is_stream() {
-            bytes.clear();
-            file.open_read_stream(entry.path())?
-                .read_to_end(&mut bytes)?;
-        }
-    }
-    print_time(rt, "objects read", count, begin.elapsed(rt)?)
+    read_streams(alloc, file, entries)?;
+    Ok(count)
 }

@@ -3,15 +3,17 @@
 
 mod chains;
 mod contents;
+mod file_calls;
 mod files;
 mod inserts;
 mod joins;
 mod pools;
 mod streams;
+mod tables;
 
 use anyhow::{Result, bail};
 use std::env;
-use std::time::Duration;
+use std::time::Instant;
 
 // A line for each benchmark: its word, what its size counts, and what it does.
 const LIST: &str = "\
@@ -33,12 +35,21 @@ fn main(rt: HostRuntime) -> Result<()> {
     for word in env::args(&rt)?.skip(1) {
         words.push(word)?;
     }
-    match words.as_slice() {
-        [] => print!(rt; "{LIST}")?,
-        [name, path] if name.as_str() == "read" => files::read(&rt, path.as_str())?,
-        [name, size] => run(&rt, name.as_str(), size.as_str().parse::<usize>()?)?,
+    run_words(&rt, &words)
+}
+
+// Runs the benchmark that the words name.
+fn run_words(rt: &HostRuntime, words: &[String]) -> Result<()> {
+    match words {
+        [] => print_list(rt),
+        [name, path] if name.as_str() == "read" => files::read(rt, path),
+        [name, size] => run(rt, name, size.as_str().parse::<usize>()?),
         _ => bail!("a benchmark and its size are wanted"),
     }
+}
+
+fn print_list(rt: &HostRuntime) -> Result<()> {
+    print!(rt; "{LIST}")?;
     Ok(())
 }
 
@@ -59,8 +70,9 @@ fn run(rt: &HostRuntime, name: &str, size: usize) -> Result<()> {
     }
 }
 
-// Prints what a part of a benchmark took.
-fn print_time(rt: &HostRuntime, part: &str, size: usize, time: Duration) -> Result<()> {
-    println!(rt; "{part} {size}: {} microseconds", time.as_micros())?;
+// Prints what a part of a benchmark took that began then.
+fn print_time(rt: &HostRuntime, part: &str, size: usize, begin: Instant) -> Result<()> {
+    let time = begin.elapsed(rt)?.as_micros();
+    println!(rt; "{part} {size}: {time} microseconds")?;
     Ok(())
 }

@@ -1,9 +1,9 @@
 //! Streams made in one storage of a compound file in memory, and removed.
+use crate::file_calls::{make, new_file, remove};
 use crate::print_time;
 use anyhow::Result;
 use cfb::CompoundFile;
 use cfb_medium::MemoryMedium;
-use cfb_tree::CaseMapper;
 use std::alloc::Global;
 use std::time::Instant;
 
@@ -21,20 +21,57 @@ fn path_of(alloc: Global, n: usize, is_rising: bool) -> Result<String> {
     Ok(format!(in alloc; "/{number:08x}")?)
 }
 
+fn make_all(
+    alloc: Global,
+    file: &mut CompoundFile<MemoryMedium>,
+    count: usize,
+    is_rising: bool,
+) -> Result<()> {
+    for n in 0..count {
+        let path = path_of(alloc, n, is_rising)?;
+        make(file, &path)?;
+    }
+    Ok(())
+}
+
+fn remove_all(
+    alloc: Global,
+    file: &mut CompoundFile<MemoryMedium>,
+    count: usize,
+    is_rising: bool,
+) -> Result<()> {
+    for n in 0..count {
+        let path = path_of(alloc, n, is_rising)?;
+        remove(file, &path)?;
+    }
+    Ok(())
+}
+
 /// Makes so many streams without bytes, a call for each, and removes them.
 pub fn make_and_remove(rt: &HostRuntime, count: usize, is_rising: bool) -> Result<()> {
-    let alloc = rt.alloc();
-    let letters = CaseMapper::ascii(alloc)?;
-    let created = CompoundFile::create(alloc, MemoryMedium::new(alloc), letters);
-    let mut file = created.map_err(|refused| refused.1)?;
+    let mut file = new_file(rt.alloc())?;
+    make_and_tell(rt, &mut file, count, is_rising)?;
+    remove_and_tell(rt, &mut file, count, is_rising)
+}
+
+fn make_and_tell(
+    rt: &HostRuntime,
+    file: &mut CompoundFile<MemoryMedium>,
+    count: usize,
+    is_rising: bool,
+) -> Result<()> {
     let begin = Instant::now(rt)?;
-    for n in 0..count {
-        file.create_new_stream(path_of(alloc, n, is_rising)?.as_str())?;
-    }
-    print_time(rt, "streams made", count, begin.elapsed(rt)?)?;
+    make_all(rt.alloc(), file, count, is_rising)?;
+    print_time(rt, "streams made", count, begin)
+}
+
+fn remove_and_tell(
+    rt: &HostRuntime,
+    file: &mut CompoundFile<MemoryMedium>,
+    count: usize,
+    is_rising: bool,
+) -> Result<()> {
     let begin = Instant::now(rt)?;
-    for n in 0..count {
-        file.remove_stream(path_of(alloc, n, is_rising)?.as_str())?;
-    }
-    print_time(rt, "streams removed", count, begin.elapsed(rt)?)
+    remove_all(rt.alloc(), file, count, is_rising)?;
+    print_time(rt, "streams removed", count, begin)
 }

@@ -1,4 +1,5 @@
 //! Command files: what they are read as, and why they are refused; which columns an expression names.
+use crate::told::{commands_of, named, shown, with_parts};
 use cfb_medium::Error;
 use command_file::{Command, SummaryEdit, read_commands, refusal_in};
 use msi_expr::Expr;
@@ -13,8 +14,8 @@ pub struct Commands;
 impl Subject for Commands {
     fn answer(&mut self, alloc: Global, row: &Row) -> Result<String, Error> {
         match row.call() {
-            "" => command_text(alloc, &read_commands(alloc, row.json(alloc)?.as_str())?),
-            "read" => command_text(alloc, &read_commands(alloc, row.text(1))?),
+            "" => command_text(alloc, &commands_of(alloc, row)?),
+            "read" => commands_read(alloc, row.text(1)),
             "refusal" => refusal_text(alloc, row.text(1)),
             "column names" => column_names(alloc),
             _ => Err(Error::NotFound),
@@ -22,20 +23,29 @@ impl Subject for Commands {
     }
 }
 
+fn commands_read(alloc: Global, text: &str) -> Result<String, Error> {
+    let commands = read_commands(alloc, text)?;
+    command_text(alloc, &commands)
+}
+
 fn refusal_text(alloc: Global, text: &str) -> Result<String, Error> {
     match refusal_in(alloc, text)? {
-        Some(refusal) => Ok(format!(in alloc; "{refusal}")?),
+        Some(refusal) => shown(alloc, &refusal),
         None => copy_of(alloc, "none"),
     }
 }
 
 // The columns that an expression names: the tenth part of Foo is at most Bar, or Baz is at least Foo.
 fn column_names(alloc: Global) -> Result<String, Error> {
-    let tenth = Expr::col(alloc, "Foo")?.div(alloc, Expr::integer(10))?;
-    let first = tenth.le(alloc, Expr::col(alloc, "Bar")?)?;
+    let first = tenth_is_at_most(alloc)?;
     let second = Expr::col(alloc, "Baz")?.ge(alloc, Expr::col(alloc, "Foo")?)?;
     let either = first.or(alloc, second)?;
-    Ok(format!(in alloc; "{:?}", either.column_names(alloc)?)?)
+    with_parts(alloc, &either.column_names(alloc)?)
+}
+
+fn tenth_is_at_most(alloc: Global) -> Result<Expr, Error> {
+    let tenth = Expr::col(alloc, "Foo")?.div(alloc, Expr::integer(10))?;
+    tenth.le(alloc, Expr::col(alloc, "Bar")?)
 }
 
 // The last command of a file.
@@ -49,60 +59,77 @@ fn command_text(alloc: Global, commands: &[Command]) -> Result<String, Error> {
 
 // A command on tables.
 fn table_text(alloc: Global, command: &Command) -> Result<String, Error> {
-    Ok(match command {
-        Command::CreateTable(name, columns) => return columns_text(alloc, name, columns),
-        Command::DropTable(name) => format!(in alloc; "drop {name}")?,
-        Command::Insert(insert) => format!(in alloc; "{insert}")?,
-        Command::Update(update) => format!(in alloc; "{update}")?,
-        Command::Delete(delete) => format!(in alloc; "{delete}")?,
-        Command::Select(select) => format!(in alloc; "{select}")?,
-        Command::Columns(name) => format!(in alloc; "columns {name}")?,
-        Command::Tables => copy_of(alloc, "tables")?,
-        _ => return other_text(alloc, command),
-    })
+    match command {
+        Command::CreateTable(name, columns) => columns_text(alloc, name, columns),
+        Command::DropTable(name) => named(alloc, "drop", name),
+        Command::Insert(insert) => shown(alloc, insert),
+        Command::Update(update) => shown(alloc, update),
+        Command::Delete(delete) => shown(alloc, delete),
+        Command::Select(select) => shown(alloc, select),
+        Command::Columns(name) => named(alloc, "columns", name),
+        Command::Tables => copy_of(alloc, "tables"),
+        _ => stream_text(alloc, command),
+    }
 }
 
 // A new table with its columns: whether each is of the key, and whether it may be null.
 fn columns_text(alloc: Global, name: &str, columns: &[Column]) -> Result<String, Error> {
-    let mut line = format!(in alloc; "create {name}")?;
+    let mut line = named(alloc, "create", &name)?;
     for column in columns {
-        let (key, null) = (column.is_primary_key(), column.is_nullable());
-        let (name, kind) = (column.name(), column.coltype());
-        line.push_str(format!(in alloc; " [{name} {kind} {key} {null}]")?.as_str())?;
+        line.push_str(column_text(alloc, column)?.as_str())?;
     }
     Ok(line)
 }
 
-// Any other command.
-fn other_text(alloc: Global, command: &Command) -> Result<String, Error> {
-    Ok(match command {
-        Command::ReadStream(name) => format!(in alloc; "read {name}")?,
-        Command::WriteStream(name, bytes) => format!(in alloc; "write {name} {bytes:?}")?,
-        Command::RemoveStream(name) => format!(in alloc; "remove {name}")?,
-        Command::SetCodepage(page) => format!(in alloc; "codepage {}", page.id())?,
-        Command::Streams => copy_of(alloc, "streams")?,
-        Command::HasSignature => copy_of(alloc, "has signature")?,
-        Command::RemoveSignature => copy_of(alloc, "remove signature")?,
-        Command::Summary => copy_of(alloc, "summary")?,
-        Command::Codepage => copy_of(alloc, "codepage")?,
-        Command::Flush => copy_of(alloc, "flush")?,
-        Command::Commit => copy_of(alloc, "commit")?,
-        _ => copy_of(alloc, "other")?,
-    })
+fn column_text(alloc: Global, column: &Column) -> Result<String, Error> {
+    let (key, null) = (column.is_primary_key(), column.is_nullable());
+    let (name, kind) = (column.name(), column.coltype());
+    Ok(format!(in alloc; " [{name} {kind} {key} {null}]")?)
+}
+
+// A command on streams.
+fn stream_text(alloc: Global, command: &Command) -> Result<String, Error> {
+    match command {
+        Command::ReadStream(name) => named(alloc, "read", name),
+        Command::WriteStream(name, bytes) => written_text(alloc, name, bytes),
+        Command::RemoveStream(name) => named(alloc, "remove", name),
+        Command::SetCodepage(page) => named(alloc, "codepage", &page.id()),
+        _ => copy_of(alloc, word_of(command)),
+    }
+}
+
+fn written_text(alloc: Global, name: &str, bytes: &[u8]) -> Result<String, Error> {
+    Ok(format!(in alloc; "write {name} {bytes:?}")?)
+}
+
+// The word of any other command.
+fn word_of(command: &Command) -> &'static str {
+    match command {
+        Command::Streams => "streams",
+        Command::HasSignature => "has signature",
+        Command::RemoveSignature => "remove signature",
+        Command::Summary => "summary",
+        Command::Codepage => "codepage",
+        Command::Flush => "flush",
+        Command::Commit => "commit",
+        _ => "other",
+    }
 }
 
 fn edit_text(alloc: Global, edit: &SummaryEdit) -> Result<String, Error> {
-    Ok(match edit {
-        SummaryEdit::Title(Some(title)) => format!(in alloc; "title {title}")?,
-        SummaryEdit::Title(None) => copy_of(alloc, "no title")?,
-        SummaryEdit::Keywords(Some(words)) => format!(in alloc; "{} keywords", words.len())?,
-        SummaryEdit::Languages(Some(ids)) => format!(in alloc; "{} languages", ids.len())?,
-        SummaryEdit::Uuid(Some(id)) => format!(in alloc; "uuid {id}")?,
-        SummaryEdit::WordCount(Some(count)) => format!(in alloc; "words {count}")?,
-        SummaryEdit::CreationTime(Some(moment)) => {
-            format!(in alloc; "made {}", moment.to_unix().0)?
-        }
-        SummaryEdit::Codepage(page) => format!(in alloc; "page {}", page.id())?,
-        _ => copy_of(alloc, "other")?,
-    })
+    match edit {
+        SummaryEdit::Title(Some(title)) => named(alloc, "title", title),
+        SummaryEdit::Title(None) => copy_of(alloc, "no title"),
+        SummaryEdit::Keywords(Some(words)) => counted(alloc, words.len(), "keywords"),
+        SummaryEdit::Languages(Some(ids)) => counted(alloc, ids.len(), "languages"),
+        SummaryEdit::Uuid(Some(id)) => named(alloc, "uuid", id),
+        SummaryEdit::WordCount(Some(count)) => named(alloc, "words", count),
+        SummaryEdit::CreationTime(Some(moment)) => named(alloc, "made", &moment.to_unix().0),
+        SummaryEdit::Codepage(page) => named(alloc, "page", &page.id()),
+        _ => copy_of(alloc, "other"),
+    }
+}
+
+fn counted(alloc: Global, count: usize, word: &str) -> Result<String, Error> {
+    Ok(format!(in alloc; "{count} {word}")?)
 }

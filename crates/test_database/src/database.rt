@@ -1,15 +1,16 @@
 //! Tables in memory, and commands on them.
-use crate::columns::columns_copied;
+use crate::columns::new_table;
 use crate::pool::{of_pool, rows_text};
+use crate::told::{commands_of, named};
 use cfb_medium::Error;
-use command_file::{Command, read_commands};
+use command_file::Command;
 use msi_pool::{StringPool, ValueRef};
 use msi_query::Select;
 use msi_tables::{Column, Table};
 use msi_texts::CodePage;
 use std::alloc::Global;
 use std::rc::Rc;
-use test_support::{Row, Shelf, Subject, copy_of};
+use test_support::{Row, Shelf, Subject};
 
 // A table with its rows.
 #[derive(Drop)]
@@ -36,24 +37,42 @@ impl Database {
 
     // Makes a table, in place of one of its name.
     fn create(&mut self, alloc: Global, name: &str, columns: &[Column]) -> Result<String, Error> {
-        let table = Table::new(alloc, name, columns_copied(alloc, columns)?, false)?;
+        let table = new_table(alloc, name, columns)?;
         self.tables.retain(|held| held.table.name() != name);
-        self.tables.push(Held {
-            table,
-            rows: Vec::new(alloc),
-        })?;
+        let rows = Vec::new(alloc);
+        self.tables.push(Held { table, rows })?;
         Ok(String::new(alloc))
     }
 
     fn select(&self, alloc: Global, select: &Select) -> Result<String, Error> {
-        let mut shelf = Shelf::new(alloc);
-        for held in self.tables.iter() {
-            let rows = rows_copied(alloc, &held.rows)?;
-            shelf.add(Table::clone(&held.table, alloc)?, rows)?;
-        }
-        let (table, rows) = select.apply(alloc, &mut shelf, &self.pool)?;
+        let mut shelf = shelf_of(alloc, &self.tables)?;
+        let (table, rows) = selected(alloc, select, &mut shelf, &self.pool)?;
         print_table(alloc, &self.pool, &table, &rows)
     }
+}
+
+// A shelf with copies of tables.
+fn shelf_of(alloc: Global, tables: &[Held]) -> Result<Shelf, Error> {
+    let mut shelf = Shelf::new(alloc);
+    for held in tables {
+        put_copy(alloc, &mut shelf, held)?;
+    }
+    Ok(shelf)
+}
+
+fn put_copy(alloc: Global, shelf: &mut Shelf, held: &Held) -> Result<(), Error> {
+    let rows = rows_copied(alloc, &held.rows)?;
+    let table = Table::clone(&held.table, alloc)?;
+    shelf.add(table, rows)
+}
+
+fn selected(
+    alloc: Global,
+    select: &Select,
+    shelf: &mut Shelf,
+    pool: &StringPool,
+) -> Result<(Table, Vec<Vec<ValueRef>>), Error> {
+    select.apply(alloc, shelf, pool)
 }
 
 impl Subject for Database {
@@ -61,7 +80,7 @@ impl Subject for Database {
         if !row.call().is_empty() {
             return of_pool(alloc, &mut self.pool, row);
         }
-        let commands = read_commands(alloc, row.json(alloc)?.as_str())?;
+        let commands = commands_of(alloc, row)?;
         match commands.as_slice() {
             [Command::CreateTable(name, columns)] => self.create(alloc, name, columns),
             [Command::Select(select)] => self.select(alloc, select),
@@ -74,23 +93,39 @@ impl Subject for Database {
 impl Database {
     // Changes the rows of a table.
     fn change(&mut self, alloc: Global, command: &Command) -> Result<String, Error> {
-        let name = match command {
-            Command::Insert(insert) => insert.table_name(),
-            Command::Update(update) => update.table_name(),
-            Command::Delete(delete) => delete.table_name(),
-            _ => return Err(Error::InvalidInput),
+        let Some(name) = changed_name(command) else {
+            return Err(Error::InvalidInput);
         };
-        let Some(held) = self
+        let found = self
             .tables
             .iter_mut()
-            .find(|held| held.table.name() == name)
-        else {
-            return Err(Error::NotFound);
-        };
-        let rows = rows_copied(alloc, &held.rows)?;
-        held.rows = rows_after(alloc, command, &held.table, rows, &mut self.pool)?;
-        rows_text(alloc, &held.rows)
+            .find(|held| held.table.name() == name);
+        match found {
+            Some(held) => change_held(alloc, command, held, &mut self.pool),
+            None => Err(Error::NotFound),
+        }
     }
+}
+
+// The name of the table that a command changes.
+fn changed_name(command: &Command) -> Option<&str> {
+    match command {
+        Command::Insert(insert) => Some(insert.table_name()),
+        Command::Update(update) => Some(update.table_name()),
+        Command::Delete(delete) => Some(delete.table_name()),
+        _ => None,
+    }
+}
+
+fn change_held(
+    alloc: Global,
+    command: &Command,
+    held: &mut Held,
+    pool: &mut StringPool,
+) -> Result<String, Error> {
+    let rows = rows_copied(alloc, &held.rows)?;
+    held.rows = rows_after(alloc, command, &held.table, rows, pool)?;
+    rows_text(alloc, &held.rows)
 }
 
 // The rows after a change.
@@ -124,25 +159,39 @@ fn print_table(
     table: &Table,
     rows: &[Vec<ValueRef>],
 ) -> Result<String, Error> {
-    let mut text = String::new(alloc);
-    for column in table.columns() {
-        text.push_str(column.name())?;
-        text.push_str(if column.is_nullable() { "? " } else { " " })?;
-    }
-    text.push(':')?;
+    let mut text = columns_text(alloc, table.columns())?;
     for row in rows {
-        text.push_str(values_text(alloc, pool, row)?.as_str())?;
+        push_values(alloc, &mut text, pool, row)?;
     }
     Ok(text)
 }
 
+fn columns_text(alloc: Global, columns: &[Column]) -> Result<String, Error> {
+    let mut text = String::new(alloc);
+    for column in columns {
+        text.push_str(column.name())?;
+        text.push_str(if column.is_nullable() { "? " } else { " " })?;
+    }
+    text.push(':')?;
+    Ok(text)
+}
+
 // A row of values.
-fn values_text(alloc: Global, pool: &StringPool, row: &[ValueRef]) -> Result<String, Error> {
-    let mut text = copy_of(alloc, " (")?;
+fn push_values(
+    alloc: Global,
+    text: &mut String,
+    pool: &StringPool,
+    row: &[ValueRef],
+) -> Result<(), Error> {
+    text.push_str(" (")?;
     for cell in row {
-        let value = cell.to_value(alloc, pool)?;
-        text.push_str(format!(in alloc; " {value}")?.as_str())?;
+        text.push_str(value_text(alloc, pool, *cell)?.as_str())?;
     }
     text.push_str(" )")?;
-    Ok(text)
+    Ok(())
+}
+
+fn value_text(alloc: Global, pool: &StringPool, cell: ValueRef) -> Result<String, Error> {
+    let value = cell.to_value(alloc, pool)?;
+    named(alloc, "", &value)
 }

@@ -7,6 +7,7 @@ mod database;
 mod pool;
 mod summary;
 mod texts;
+mod told;
 
 use anyhow::{Result, bail};
 use columns::Columns;

@@ -1,6 +1,6 @@
 //! Values, references and the string pool.
+use crate::told::{shown, value_at};
 use cfb_medium::Error;
-use json_parts::value_of;
 use msi_pool::{StringPool, StringPoolBuilder, StringRef, ValueRef};
 use msi_texts::{CodePage, LanguageId};
 use msi_values::Value;
@@ -21,6 +21,16 @@ impl Pools {
             pool: StringPool::new(alloc, CodePage::Utf8),
         }
     }
+
+    fn empty(&mut self, alloc: Global) -> Result<String, Error> {
+        self.pool = StringPool::new(alloc, CodePage::Utf8);
+        Ok(String::new(alloc))
+    }
+
+    fn read(&mut self, alloc: Global, row: &Row) -> Result<String, Error> {
+        self.pool = pool_read(alloc, row)?;
+        sum_of_pool(alloc, &self.pool)
+    }
 }
 
 impl Subject for Pools {
@@ -31,14 +41,8 @@ impl Subject for Pools {
             "identifier" => in_braces(alloc, row.text(1)),
             "reference" => reference(alloc, row),
             "reference bytes" => reference_bytes(alloc, row),
-            "new pool" => {
-                self.pool = StringPool::new(alloc, CodePage::Utf8);
-                Ok(String::new(alloc))
-            }
-            "read pool" => {
-                self.pool = pool_read(alloc, row)?;
-                of_pool(alloc, &mut self.pool, row)
-            }
+            "new pool" => self.empty(alloc),
+            "read pool" => self.read(alloc, row),
             _ => of_pool(alloc, &mut self.pool, row),
         }
     }
@@ -47,34 +51,67 @@ impl Subject for Pools {
 // A value under a layout.
 fn laid_out(alloc: Global, row: &Row) -> Result<String, Error> {
     let value = value_at(alloc, row, 2)?;
-    Ok(match row.text(1) {
-        ">6" => format!(in alloc; "{value:>6}")?,
-        ">7" => format!(in alloc; "{value:>7}")?,
-        "~>8" => format!(in alloc; "{value:~>8}")?,
-        "^9" => format!(in alloc; "{value:^9}|")?,
-        ".2" => format!(in alloc; "{value:.2}")?,
-        ".3" => format!(in alloc; "{value:.3}|")?,
-        "-<6.4" => format!(in alloc; "{value:-<6.4}|")?,
-        _ => format!(in alloc; "{value}")?,
-    })
+    match row.text(1) {
+        ">6" => in_six(alloc, &value),
+        ">7" => in_seven(alloc, &value),
+        "~>8" => behind_marks(alloc, &value),
+        "^9" => in_middle(alloc, &value),
+        _ => cut_value(alloc, row.text(1), &value),
+    }
 }
 
-// The value of a cell.
-fn value_at(alloc: Global, row: &Row, place: usize) -> Result<Value, Error> {
-    match row.cell(place) {
-        Some(cell) => value_of(alloc, cell),
-        None => Ok(Value::Null),
+fn in_six(alloc: Global, value: &Value) -> Result<String, Error> {
+    Ok(format!(in alloc; "{value:>6}")?)
+}
+
+fn in_seven(alloc: Global, value: &Value) -> Result<String, Error> {
+    Ok(format!(in alloc; "{value:>7}")?)
+}
+
+fn behind_marks(alloc: Global, value: &Value) -> Result<String, Error> {
+    Ok(format!(in alloc; "{value:~>8}")?)
+}
+
+fn in_middle(alloc: Global, value: &Value) -> Result<String, Error> {
+    Ok(format!(in alloc; "{value:^9}|")?)
+}
+
+// A value under a layout that may cut it.
+fn cut_value(alloc: Global, layout: &str, value: &Value) -> Result<String, Error> {
+    match layout {
+        ".2" => first_two(alloc, value),
+        ".3" => first_three(alloc, value),
+        "-<6.4" => first_four(alloc, value),
+        _ => shown(alloc, value),
     }
+}
+
+fn first_two(alloc: Global, value: &Value) -> Result<String, Error> {
+    Ok(format!(in alloc; "{value:.2}")?)
+}
+
+fn first_three(alloc: Global, value: &Value) -> Result<String, Error> {
+    Ok(format!(in alloc; "{value:.3}|")?)
+}
+
+fn first_four(alloc: Global, value: &Value) -> Result<String, Error> {
+    Ok(format!(in alloc; "{value:-<6.4}|")?)
 }
 
 fn joined_texts(alloc: Global, row: &Row) -> Result<String, Error> {
+    let languages = languages_at(alloc, row, 1)?;
+    let both = Value::languages(alloc, &languages)?;
+    copy_of(alloc, both.as_str().unwrap_or(""))
+}
+
+/// The languages of a list of numbers.
+pub fn languages_at(alloc: Global, row: &Row, place: usize) -> Result<Vec<LanguageId>, Error> {
     let mut languages = Vec::new(alloc);
-    for cell in row.list(1) {
+    for cell in row.list(place) {
         let id = cell.as_u64().unwrap_or(0);
         languages.push(LanguageId::from_id(u16::try_from(id).unwrap_or(0)))?;
     }
-    let both = Value::languages(alloc, &languages)?;
-    copy_of(alloc, both.as_str().unwrap_or(""))
+    Ok(languages)
 }
 
 fn in_braces(alloc: Global, text: &str) -> Result<String, Error> {
@@ -95,10 +132,15 @@ fn place_of(number: i64) -> Option<StringRef> {
 
 fn reference(alloc: Global, row: &Row) -> Result<String, Error> {
     let bytes = bytes_at(alloc, row, 1)?;
-    match StringRef::read(&mut bytes.as_slice(), row.flag(2))? {
-        Some(place) => Ok(format!(in alloc; "{}", place.number())?),
+    match place_read(&bytes, row.flag(2))? {
+        Some(place) => shown(alloc, &place.number()),
         None => copy_of(alloc, "none"),
     }
+}
+
+fn place_read(bytes: &[u8], is_long: bool) -> Result<Option<StringRef>, Error> {
+    let mut bytes = bytes;
+    StringRef::read(&mut bytes, is_long)
 }
 
 fn reference_bytes(alloc: Global, row: &Row) -> Result<String, Error> {
@@ -110,109 +152,154 @@ fn reference_bytes(alloc: Global, row: &Row) -> Result<String, Error> {
 fn pool_read(alloc: Global, row: &Row) -> Result<StringPool, Error> {
     let heads = bytes_at(alloc, row, 1)?;
     let texts = bytes_at(alloc, row, 2)?;
-    let builder = StringPoolBuilder::read_from_pool(alloc, &mut heads.as_slice())?;
-    builder.build_from_data(alloc, &mut texts.as_slice())
+    pool_of(alloc, &heads, &texts)
+}
+
+fn pool_of(alloc: Global, heads: &[u8], texts: &[u8]) -> Result<StringPool, Error> {
+    let (mut heads, mut texts) = (heads, texts);
+    let builder = StringPoolBuilder::read_from_pool(alloc, &mut heads)?;
+    builder.build_from_data(alloc, &mut texts)
 }
 
 /// Answers a call on a pool.
 pub fn of_pool(alloc: Global, pool: &mut StringPool, row: &Row) -> Result<String, Error> {
     match row.call() {
         "string" => string(alloc, pool, row),
-        "count" | "uncount" => count_uses(alloc, pool, row),
-        "cell" | "cell's value" | "remove cell" => of_cell(alloc, pool, row),
+        "count" => count_use(alloc, pool, copy_of(alloc, row.text(1))?),
+        "uncount" => uncount(alloc, pool, place_of(row.number(1))),
+        "cell" => cell_made(alloc, pool, row),
+        "cell's value" => value_of_cell(alloc, pool, place_of(row.number(1))),
+        "remove cell" => remove_cell(alloc, pool, place_of(row.number(1))),
         "pool stream" | "data stream" => stream(alloc, pool, row),
-        "unmodified" => {
-            pool.mark_unmodified();
-            yes_or_no(alloc, pool.is_modified())
-        }
+        "unmodified" => mark_unmodified(alloc, pool),
         "modified" => yes_or_no(alloc, pool.is_modified()),
         "sum" | "read pool" => sum_of_pool(alloc, pool),
         _ => Err(Error::NotFound),
     }
 }
 
+fn mark_unmodified(alloc: Global, pool: &mut StringPool) -> Result<String, Error> {
+    pool.mark_unmodified();
+    yes_or_no(alloc, pool.is_modified())
+}
+
 // How many texts, under which page, and how wide references are.
 fn sum_of_pool(alloc: Global, pool: &StringPool) -> Result<String, Error> {
-    let page = pool.codepage().id();
+    let (texts, page) = (pool.num_strings(), pool.codepage().id());
     let width = if pool.long_string_refs() { 3 } else { 2 };
-    Ok(format!(in alloc;
-        "{} texts, page {page}, references of {width} bytes",
-        pool.num_strings()
-    )?)
+    Ok(format!(in alloc; "{texts} texts, page {page}, references of {width} bytes")?)
 }
 
 // A text, or of a long one its length; and how often it is used.
 fn string(alloc: Global, pool: &StringPool, row: &Row) -> Result<String, Error> {
-    let Some(place) = place_of(row.number(1)) else {
-        return Err(Error::InvalidInput);
-    };
-    let (text, uses) = (pool.get(place), pool.refcount(place));
+    match place_of(row.number(1)) {
+        Some(place) => uses_text(alloc, pool.get(place), pool.refcount(place)),
+        None => Err(Error::InvalidInput),
+    }
+}
+
+fn uses_text(alloc: Global, text: &str, uses: u16) -> Result<String, Error> {
     if text.len() > 100 {
         return Ok(format!(in alloc; "{} bytes, {uses} uses", text.len())?);
     }
     Ok(format!(in alloc; "{text:?}, {uses} uses")?)
 }
 
-fn count_uses(alloc: Global, pool: &mut StringPool, row: &Row) -> Result<String, Error> {
-    if row.call() == "count" {
-        let place = pool.incref(copy_of(alloc, row.text(1))?)?;
-        return Ok(format!(in alloc; "{}", place.number())?);
-    }
-    let Some(place) = place_of(row.number(1)) else {
+fn count_use(alloc: Global, pool: &mut StringPool, text: String) -> Result<String, Error> {
+    let place = pool.incref(text)?;
+    shown(alloc, &place.number())
+}
+
+fn uncount(
+    alloc: Global,
+    pool: &mut StringPool,
+    place: Option<StringRef>,
+) -> Result<String, Error> {
+    let Some(place) = place else {
         return Err(Error::InvalidInput);
     };
     pool.decref(place)?;
     copy_of(alloc, "done")
 }
 
-// A cell is written as a value that stands in it, or as a place in the pool.
-fn of_cell(alloc: Global, pool: &mut StringPool, row: &Row) -> Result<String, Error> {
-    if row.call() == "cell" {
-        let cell = ValueRef::create(value_at(alloc, row, 1)?, pool)?;
-        return cell_text(alloc, cell);
-    }
-    let Some(place) = place_of(row.number(1)) else {
+// A cell that is written as a value that stands in it.
+fn cell_made(alloc: Global, pool: &mut StringPool, row: &Row) -> Result<String, Error> {
+    let value = value_at(alloc, row, 1)?;
+    cell_text(alloc, ValueRef::create(value, pool)?)
+}
+
+// A cell that is written as a place in the pool.
+fn value_of_cell(
+    alloc: Global,
+    pool: &StringPool,
+    place: Option<StringRef>,
+) -> Result<String, Error> {
+    let Some(place) = place else {
         return Err(Error::InvalidInput);
     };
-    let cell = ValueRef::Str(place);
-    if row.call() == "remove cell" {
-        cell.remove(pool)?;
-        return copy_of(alloc, "done");
-    }
-    let value = cell.to_value(alloc, pool)?;
-    Ok(format!(in alloc; "{value}")?)
+    let value = ValueRef::Str(place).to_value(alloc, pool)?;
+    shown(alloc, &value)
+}
+
+fn remove_cell(
+    alloc: Global,
+    pool: &mut StringPool,
+    place: Option<StringRef>,
+) -> Result<String, Error> {
+    let Some(place) = place else {
+        return Err(Error::InvalidInput);
+    };
+    ValueRef::Str(place).remove(pool)?;
+    copy_of(alloc, "done")
 }
 
 // A cell as a text: a text by its place in the pool.
 fn cell_text(alloc: Global, cell: ValueRef) -> Result<String, Error> {
-    Ok(match cell {
-        ValueRef::Null => format!(in alloc; "NULL")?,
-        ValueRef::Int(number) => format!(in alloc; "{number}")?,
-        ValueRef::Str(place) => format!(in alloc; "#{}", place.number())?,
-        ValueRef::Binary => format!(in alloc; "stream")?,
-    })
+    match cell {
+        ValueRef::Null => copy_of(alloc, "NULL"),
+        ValueRef::Int(number) => shown(alloc, &number),
+        ValueRef::Str(place) => place_text(alloc, place),
+        ValueRef::Binary => copy_of(alloc, "stream"),
+    }
+}
+
+fn place_text(alloc: Global, place: StringRef) -> Result<String, Error> {
+    let number = place.number();
+    Ok(format!(in alloc; "#{number}")?)
 }
 
 fn stream(alloc: Global, pool: &StringPool, row: &Row) -> Result<String, Error> {
     let mut bytes = Vec::new(alloc);
-    if row.call() == "pool stream" {
-        pool.write_pool(&mut bytes)?;
-    } else {
-        pool.write_data(&mut bytes)?;
+    match row.call() {
+        "pool stream" => write_pool(pool, &mut bytes)?,
+        _ => write_data(pool, &mut bytes)?,
     }
     hex_of(alloc, &bytes)
+}
+
+fn write_pool(pool: &StringPool, bytes: &mut Vec<u8>) -> Result<(), Error> {
+    pool.write_pool(bytes)
+}
+
+fn write_data(pool: &StringPool, bytes: &mut Vec<u8>) -> Result<(), Error> {
+    pool.write_data(bytes)
 }
 
 /// Rows of cells as a text.
 pub fn rows_text(alloc: Global, rows: &[Vec<ValueRef>]) -> Result<String, Error> {
     let mut text = copy_of(alloc, "rows:")?;
     for row in rows {
-        text.push_str(" (")?;
-        for cell in row.iter() {
-            text.push(' ')?;
-            text.push_str(cell_text(alloc, *cell)?.as_str())?;
-        }
-        text.push_str(" )")?;
+        push_row(alloc, &mut text, row)?;
     }
     Ok(text)
+}
+
+fn push_row(alloc: Global, text: &mut String, row: &[ValueRef]) -> Result<(), Error> {
+    text.push_str(" (")?;
+    for cell in row {
+        text.push(' ')?;
+        text.push_str(cell_text(alloc, *cell)?.as_str())?;
+    }
+    text.push_str(" )")?;
+    Ok(())
 }

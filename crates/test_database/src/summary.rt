@@ -1,4 +1,6 @@
 //! Property sets and summaries.
+use crate::pool::languages_at;
+use crate::told::{shown, with_parts};
 use cfb_medium::{Error, Timestamp};
 use msi_props::{OperatingSystem, PropertySet, PropertyValue};
 use msi_summary::SummaryInfo;
@@ -22,29 +24,39 @@ impl Properties {
             summary: SummaryInfo::new(alloc)?,
         })
     }
+
+    fn renew_set(&mut self, alloc: Global) -> Result<String, Error> {
+        self.set = new_set(alloc);
+        copy_of(alloc, "done")
+    }
+
+    fn read_set(&mut self, alloc: Global, row: &Row) -> Result<String, Error> {
+        let bytes = bytes_at(alloc, row, 1)?;
+        self.set = PropertySet::read(alloc, &bytes)?;
+        set_told(alloc, &self.set)
+    }
+
+    fn renew_summary(&mut self, alloc: Global) -> Result<String, Error> {
+        self.summary = SummaryInfo::new(alloc)?;
+        copy_of(alloc, "done")
+    }
+
+    fn read_summary(&mut self, alloc: Global, row: &Row) -> Result<String, Error> {
+        let bytes = bytes_at(alloc, row, 1)?;
+        self.summary = SummaryInfo::read(alloc, &bytes)?;
+        copy_of(alloc, "done")
+    }
 }
 
 impl Subject for Properties {
     fn answer(&mut self, alloc: Global, row: &Row) -> Result<String, Error> {
         match row.call() {
-            "new set" => {
-                self.set = new_set(alloc);
-                copy_of(alloc, "done")
-            }
-            "read set" => {
-                self.set = PropertySet::read(alloc, &bytes_at(alloc, row, 1)?)?;
-                set_told(alloc, &self.set)
-            }
+            "new set" => self.renew_set(alloc),
+            "read set" => self.read_set(alloc, row),
             "put" | "set page" | "remove" => changed_set(alloc, &mut self.set, row),
             "get" | "write set" | "page" => of_set(alloc, &self.set, row),
-            "new summary" => {
-                self.summary = SummaryInfo::new(alloc)?;
-                copy_of(alloc, "done")
-            }
-            "read summary" => {
-                self.summary = SummaryInfo::read(alloc, &bytes_at(alloc, row, 1)?)?;
-                copy_of(alloc, "done")
-            }
+            "new summary" => self.renew_summary(alloc),
+            "read summary" => self.read_summary(alloc, row),
             _ => of_summary(alloc, &mut self.summary, row),
         }
     }
@@ -74,13 +86,25 @@ fn value_of(alloc: Global, row: &Row) -> Result<PropertyValue, Error> {
 }
 
 fn changed_set(alloc: Global, set: &mut PropertySet, row: &Row) -> Result<String, Error> {
-    let number = u32::try_from(row.number(1)).unwrap_or(0);
     match row.call() {
-        "put" => set.set(number, value_of(alloc, row)?)?,
-        "set page" => set.set_codepage(page_of(row)?)?,
-        _ => set.remove(number),
+        "put" => put(set, number_of(row), value_of(alloc, row)?)?,
+        "set page" => set_page(set, page_of(row)?)?,
+        _ => set.remove(number_of(row)),
     }
     copy_of(alloc, "done")
+}
+
+// The number of a property.
+fn number_of(row: &Row) -> u32 {
+    u32::try_from(row.number(1)).unwrap_or(0)
+}
+
+fn put(set: &mut PropertySet, number: u32, value: PropertyValue) -> Result<(), Error> {
+    set.set(number, value)
+}
+
+fn set_page(set: &mut PropertySet, page: CodePage) -> Result<(), Error> {
+    set.set_codepage(page)
 }
 
 fn page_of(row: &Row) -> Result<CodePage, Error> {
@@ -90,55 +114,72 @@ fn page_of(row: &Row) -> Result<CodePage, Error> {
 
 fn of_set(alloc: Global, set: &PropertySet, row: &Row) -> Result<String, Error> {
     match row.call() {
-        "get" => {
-            let value = set.get(u32::try_from(row.number(1)).unwrap_or(0));
-            Ok(format!(in alloc; "{value:?}")?)
-        }
-        "page" => Ok(format!(in alloc; "{}", set.codepage().id())?),
-        _ => {
-            let mut bytes = Vec::new(alloc);
-            set.write(&mut bytes)?;
-            hex_of(alloc, &bytes)
-        }
+        "get" => with_parts(alloc, &set.get(number_of(row))),
+        "page" => shown(alloc, &set.codepage().id()),
+        _ => set_written(alloc, set),
     }
+}
+
+fn set_written(alloc: Global, set: &PropertySet) -> Result<String, Error> {
+    let mut bytes = Vec::new(alloc);
+    set.write(&mut bytes)?;
+    hex_of(alloc, &bytes)
+}
+
+fn summary_written(alloc: Global, summary: &SummaryInfo) -> Result<String, Error> {
+    let mut bytes = Vec::new(alloc);
+    summary.write(&mut bytes)?;
+    hex_of(alloc, &bytes)
 }
 
 fn of_summary(alloc: Global, summary: &mut SummaryInfo, row: &Row) -> Result<String, Error> {
     match row.call() {
-        "write summary" => {
-            let mut bytes = Vec::new(alloc);
-            summary.write(&mut bytes)?;
-            hex_of(alloc, &bytes)
-        }
-        "properties" => Ok(format!(in alloc; "{:?}", summary.properties())?),
+        "write summary" => summary_written(alloc, summary),
+        "properties" => properties_told(alloc, summary),
         "texts give back" => yes_or_no(alloc, summary.texts_give_back()),
         "tell" => field(alloc, summary, row.text(1)),
-        "set" => {
-            change(alloc, summary, row)?;
-            copy_of(alloc, "done")
-        }
-        "clear" => {
-            clear(summary, row.text(1))?;
-            copy_of(alloc, "done")
-        }
+        "set" => done(alloc, change(alloc, summary, row)),
+        "clear" => done(alloc, clear(summary, row.text(1))),
         _ => Err(Error::NotFound),
+    }
+}
+
+fn properties_told(alloc: Global, summary: &SummaryInfo) -> Result<String, Error> {
+    let properties = summary.properties();
+    Ok(format!(in alloc; "{properties:?}")?)
+}
+
+// What is told of a change.
+fn done(alloc: Global, change: Result<(), Error>) -> Result<String, Error> {
+    match change {
+        Ok(()) => copy_of(alloc, "done"),
+        Err(error) => Err(error),
     }
 }
 
 // What a field says.
 fn field(alloc: Global, summary: &SummaryInfo, name: &str) -> Result<String, Error> {
     match name {
-        "title" | "subject" | "author" | "comments" => text_field(alloc, summary, name),
-        "last saved by" | "creating application" | "arch" => text_field(alloc, summary, name),
-        "creation time" | "last printed" | "last saved time" => time_field(alloc, summary, name),
-        "codepage" => Ok(format!(in alloc; "{}", summary.codepage().id())?),
-        "languages" | "keywords" | "uuid" => list_field(alloc, summary, name),
-        _ => number_field(alloc, summary, name),
+        "creation time" | "last printed" | "last saved time" => {
+            moment_text(alloc, time_field(summary, name))
+        }
+        "codepage" => shown(alloc, &summary.codepage().id()),
+        "languages" => languages_told(alloc, summary),
+        "keywords" => keywords_told(alloc, summary),
+        "uuid" => uuid_told(alloc, summary),
+        "title"
+        | "subject"
+        | "author"
+        | "comments"
+        | "last saved by"
+        | "creating application"
+        | "arch" => with_parts(alloc, &text_field(summary, name)),
+        _ => with_parts(alloc, &number_field(summary, name)),
     }
 }
 
-fn text_field(alloc: Global, summary: &SummaryInfo, name: &str) -> Result<String, Error> {
-    let text = match name {
+fn text_field<'a>(summary: &'a SummaryInfo, name: &str) -> Option<&'a str> {
+    match name {
         "title" => summary.title(),
         "subject" => summary.subject(),
         "author" => summary.author(),
@@ -146,47 +187,51 @@ fn text_field(alloc: Global, summary: &SummaryInfo, name: &str) -> Result<String
         "last saved by" => summary.last_saved_by(),
         "creating application" => summary.creating_application(),
         _ => summary.arch(),
-    };
-    Ok(format!(in alloc; "{text:?}")?)
+    }
 }
 
-fn time_field(alloc: Global, summary: &SummaryInfo, name: &str) -> Result<String, Error> {
-    let moment = match name {
+fn time_field(summary: &SummaryInfo, name: &str) -> Option<Timestamp> {
+    match name {
         "creation time" => summary.creation_time(),
         "last printed" => summary.last_printed(),
         _ => summary.last_saved_time(),
-    };
+    }
+}
+
+fn moment_text(alloc: Global, moment: Option<Timestamp>) -> Result<String, Error> {
     match moment {
-        Some(moment) => Ok(format!(in alloc; "{:?}", moment.to_unix())?),
+        Some(moment) => with_parts(alloc, &moment.to_unix()),
         None => copy_of(alloc, "None"),
     }
 }
 
-fn number_field(alloc: Global, summary: &SummaryInfo, name: &str) -> Result<String, Error> {
-    let number = match name {
+fn number_field(summary: &SummaryInfo, name: &str) -> Option<i32> {
+    match name {
         "page count" => summary.page_count(),
         "word count" => summary.word_count(),
         "character count" => summary.character_count(),
         _ => summary.doc_security(),
-    };
-    Ok(format!(in alloc; "{number:?}")?)
+    }
 }
 
-fn list_field(alloc: Global, summary: &SummaryInfo, name: &str) -> Result<String, Error> {
-    match name {
-        "keywords" => Ok(format!(in alloc; "{:?}", summary.keywords()?)?),
-        "uuid" => match summary.uuid() {
-            Some(uuid) => Ok(format!(in alloc; "{uuid}")?),
-            None => copy_of(alloc, "None"),
-        },
-        _ => {
-            let mut text = String::new(alloc);
-            for language in summary.languages()? {
-                text.push_str(format!(in alloc; "{language} ")?.as_str())?;
-            }
-            Ok(text)
-        }
+fn keywords_told(alloc: Global, summary: &SummaryInfo) -> Result<String, Error> {
+    with_parts(alloc, &summary.keywords()?)
+}
+
+fn uuid_told(alloc: Global, summary: &SummaryInfo) -> Result<String, Error> {
+    match summary.uuid() {
+        Some(uuid) => shown(alloc, &uuid),
+        None => copy_of(alloc, "None"),
     }
+}
+
+fn languages_told(alloc: Global, summary: &SummaryInfo) -> Result<String, Error> {
+    let mut text = String::new(alloc);
+    for language in summary.languages()? {
+        text.push_str(shown(alloc, &language)?.as_str())?;
+        text.push(' ')?;
+    }
+    Ok(text)
 }
 
 fn change(alloc: Global, summary: &mut SummaryInfo, row: &Row) -> Result<(), Error> {
@@ -194,25 +239,28 @@ fn change(alloc: Global, summary: &mut SummaryInfo, row: &Row) -> Result<(), Err
         "title" => summary.set_title(row.text(2)),
         "author" => summary.set_author(row.text(2)),
         "arch" => summary.set_arch(row.text(2)),
-        "uuid" => match Uuid::parse_str(row.text(2)) {
-            Ok(uuid) => summary.set_uuid(uuid),
-            Err(_) => Err(Error::InvalidInput),
-        },
+        "uuid" => set_uuid(summary, row.text(2)),
         "word count" => summary.set_word_count(i32::try_from(row.number(2)).unwrap_or(0)),
         "creation time" => summary.set_creation_time(Timestamp::from_unix(row.number(2), 0)),
-        "languages" => summary.set_languages(&languages_at(alloc, row)?),
-        "keywords" => summary.set_keywords(&keywords_at(alloc, row)?),
+        "languages" => set_languages(summary, &languages_at(alloc, row, 2)?),
+        "keywords" => set_keywords(summary, &keywords_at(alloc, row)?),
         _ => Err(Error::NotFound),
     }
 }
 
-fn languages_at(alloc: Global, row: &Row) -> Result<Vec<LanguageId>, Error> {
-    let mut languages = Vec::new(alloc);
-    for cell in row.list(2) {
-        let id = cell.as_u64().unwrap_or(0);
-        languages.push(LanguageId::from_id(u16::try_from(id).unwrap_or(0)))?;
+fn set_uuid(summary: &mut SummaryInfo, text: &str) -> Result<(), Error> {
+    match Uuid::parse_str(text) {
+        Ok(uuid) => summary.set_uuid(uuid),
+        Err(_) => Err(Error::InvalidInput),
     }
-    Ok(languages)
+}
+
+fn set_languages(summary: &mut SummaryInfo, languages: &[LanguageId]) -> Result<(), Error> {
+    summary.set_languages(languages)
+}
+
+fn set_keywords(summary: &mut SummaryInfo, words: &[String]) -> Result<(), Error> {
+    summary.set_keywords(words)
 }
 
 fn keywords_at(alloc: Global, row: &Row) -> Result<Vec<String>, Error> {

@@ -1,4 +1,5 @@
 //! Names of streams, code pages, languages and categories.
+use crate::told::{named, shown};
 use cfb_medium::Error;
 use msi_texts::{Category, CodePage, LanguageId, decode, encode, is_valid};
 use std::alloc::Global;
@@ -27,12 +28,13 @@ fn of_name(alloc: Global, row: &Row) -> Result<String, Error> {
     match row.call() {
         "is a name" => yes_or_no(alloc, is_valid(name, is_table)),
         "name in a file" => encode(alloc, name, is_table),
-        _ => {
-            let (decoded, is_table) = decode(alloc, name)?;
-            let kind = if is_table { "table" } else { "stream" };
-            Ok(format!(in alloc; "{kind} {decoded}")?)
-        }
+        _ => decoded_name(alloc, name),
     }
+}
+
+fn decoded_name(alloc: Global, name: &str) -> Result<String, Error> {
+    let (decoded, is_table) = decode(alloc, name)?;
+    named(alloc, if is_table { "table" } else { "stream" }, &decoded)
 }
 
 // The page of a number.
@@ -45,17 +47,21 @@ fn page_of(number: i64) -> Option<CodePage> {
 
 fn of_page(alloc: Global, row: &Row) -> Result<String, Error> {
     if row.call() == "default page" {
-        return Ok(format!(in alloc; "{}", CodePage::default().id())?);
+        return shown(alloc, &CodePage::default().id());
     }
-    let Some(page) = page_of(row.number(1)) else {
-        return Err(Error::NotFound);
-    };
+    match page_of(row.number(1)) {
+        Some(page) => under_page(alloc, page, row),
+        None => Err(Error::NotFound),
+    }
+}
+
+fn under_page(alloc: Global, page: CodePage, row: &Row) -> Result<String, Error> {
     match row.call() {
         "read" => page.decode(alloc, &bytes_at(alloc, row, 2)?),
         "write" => hex_of(alloc, &page.encode(alloc, row.text(2))?),
         "fits" => yes_or_no(alloc, page.fits(row.text(2))),
         "page's name" => copy_of(alloc, page.name()),
-        _ => Ok(format!(in alloc; "{}", page.id())?),
+        _ => shown(alloc, &page.id()),
     }
 }
 
@@ -71,10 +77,18 @@ fn language_of(row: &Row) -> LanguageId {
 
 fn of_language(alloc: Global, row: &Row) -> Result<String, Error> {
     let language = language_of(row);
-    Ok(match row.call() {
-        "printed" => format!(in alloc; "{language} {language:x} {language:#X}")?,
-        _ => format!(in alloc; "{} {}", language.id(), language.tag())?,
-    })
+    match row.call() {
+        "printed" => printed(alloc, language),
+        _ => id_and_tag(alloc, language),
+    }
+}
+
+fn printed(alloc: Global, language: LanguageId) -> Result<String, Error> {
+    Ok(format!(in alloc; "{language} {language:x} {language:#X}")?)
+}
+
+fn id_and_tag(alloc: Global, language: LanguageId) -> Result<String, Error> {
+    Ok(format!(in alloc; "{} {}", language.id(), language.tag())?)
 }
 
 fn of_category(alloc: Global, row: &Row) -> Result<String, Error> {

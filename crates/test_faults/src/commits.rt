@@ -1,9 +1,13 @@
 //! What a commit leaves, and how often it writes.
-use crate::cases::{print_case, same};
-use crate::logs::{device, open_log};
-use anyhow::{Result, ensure};
-use cfb_medium::{Error, Medium, ReadMedium};
-use staged::{Recovered, Staged, Which, recover};
+use crate::cases::{made, print_case, same, wants};
+use crate::logs::open_log;
+use crate::store_calls::{
+    changed_pages, commit, device, flush, has_failed, home_of, into_device, len, log_of,
+    open_failing, open_recovered, read, recover, write,
+};
+use anyhow::Result;
+use cfb_medium::Error;
+use staged::{MemoryDevice, Recovered, Staged, Which};
 use std::alloc::Global;
 use test_support::{Failing, FailingDevice};
 
@@ -29,97 +33,163 @@ pub fn print(rt: &HostRuntime) -> Result<()> {
 // A staged medium over a device that counts its calls and fails none.
 fn counting_medium(alloc: Global, log: &[u8]) -> Result<Staged<FailingDevice>, Error> {
     let device = Failing::new(device(alloc, &[], log)?, u64::MAX);
-    match Staged::new(alloc, device) {
-        Ok(staged) => Ok(staged),
-        Err((_, error)) => Err(error),
+    made(open_failing(alloc, device))
+}
+
+// Such a medium, after writes of one byte each.
+fn written(alloc: Global, log: &[u8], bytes: &[(u64, u8)]) -> Result<Staged<FailingDevice>, Error> {
+    let mut staged = counting_medium(alloc, log)?;
+    match write_each(&mut staged, bytes) {
+        Ok(()) => Ok(staged),
+        Err(error) => Err(error),
     }
 }
 
+fn write_each(staged: &mut Staged<FailingDevice>, bytes: &[(u64, u8)]) -> Result<(), Error> {
+    for (at, byte) in bytes {
+        write(staged, *at, &[*byte])?;
+    }
+    Ok(())
+}
+
+// Commits: so many pages had changed before, and none have after it.
+fn commits(staged: &mut Staged<FailingDevice>, pages: u64) -> Result<()> {
+    same(&changed_pages(staged), &pages)?;
+    commit(staged)?;
+    same(&changed_pages(staged), &0)
+}
+
+// The device after such a commit.
+fn committed(mut staged: Staged<FailingDevice>, pages: u64) -> Result<FailingDevice> {
+    match commits(&mut staged, pages) {
+        Ok(()) => Ok(into_device(staged)),
+        Err(error) => Err(error),
+    }
+}
+
+// How long a file of a device is, and how often it was written.
+fn len_and_writes(device: &FailingDevice, which: Which) -> (usize, u64) {
+    let bytes = match which {
+        Which::Home => home_of(device.inner()),
+        Which::Log => log_of(device.inner()),
+    };
+    (bytes.len(), device.writes(which))
+}
+
 fn a_first_commit_writes_one_page_behind_a_log(alloc: Global) -> Result<()> {
-    let mut staged = counting_medium(alloc, &[])?;
-    staged.write_at(0, &[1])?;
-    staged.write_at(5, &[2])?;
-    same(&staged.changed_pages(), &1)?;
-    staged.commit()?;
-    same(&staged.changed_pages(), &0)?;
-    let device = staged.into_device();
-    ensure!(device.inner().bytes(Which::Home) == [1, 0, 0, 0, 0, 2].as_slice());
-    same(&device.inner().bytes(Which::Log).len(), &545)?;
-    ensure!(device.inner().bytes(Which::Log).starts_with(&[0]));
-    same(&device.writes(Which::Log), &5)?;
-    same(&device.writes(Which::Home), &1)?;
+    let device = committed(written(alloc, &[], &[(0, 1), (5, 2)])?, 1)?;
+    has_one_page(&device)
+}
+
+fn has_one_page(device: &FailingDevice) -> Result<()> {
+    let is_home = home_of(device.inner()) == [1, 0, 0, 0, 0, 2].as_slice();
+    wants(is_home, "the bytes that were written")?;
+    wants(log_of(device.inner()).starts_with(&[0]), "a closed gate")?;
+    same(&len_and_writes(device, Which::Log), &(545, 5))?;
+    same(&len_and_writes(device, Which::Home), &(6, 1))?;
     same(&device.failures(), &0)
 }
 
 // How many device calls it takes to write a byte and commit this often.
 fn calls_of_commits(alloc: Global, commits: u64) -> Result<u64, Error> {
-    let mut staged = counting_medium(alloc, &[])?;
-    staged.write_at(0, &[1])?;
-    for _ in 0..commits {
-        staged.commit()?;
+    let mut staged = written(alloc, &[], &[(0, 1)])?;
+    match commit_often(&mut staged, commits) {
+        Ok(()) => Ok(into_device(staged).calls()),
+        Err(error) => Err(error),
     }
-    Ok(staged.into_device().calls())
+}
+
+fn commit_often(staged: &mut Staged<FailingDevice>, commits: u64) -> Result<(), Error> {
+    for _ in 0..commits {
+        commit(staged)?;
+    }
+    Ok(())
 }
 
 fn a_second_commit_makes_no_device_call(alloc: Global) -> Result<()> {
     let once = calls_of_commits(alloc, 1)?;
-    ensure!(once > 0);
+    wants(once > 0, "a commit makes calls")?;
     same(&calls_of_commits(alloc, 2)?, &once)
 }
 
 fn a_flush_reaches_neither_file(alloc: Global) -> Result<()> {
-    let mut staged = counting_medium(alloc, &[])?;
-    staged.write_at(0, &[1])?;
-    staged.flush()?;
-    same(&staged.changed_pages(), &1)?;
-    let device = staged.into_device();
-    same(&device.inner().bytes(Which::Home).len(), &0)?;
-    same(&device.inner().bytes(Which::Log).len(), &0)
+    let mut staged = written(alloc, &[], &[(0, 1)])?;
+    flushes(&mut staged)?;
+    is_unwritten(&into_device(staged))
+}
+
+// Flushes, and a page is left to commit.
+fn flushes(staged: &mut Staged<FailingDevice>) -> Result<()> {
+    flush(staged)?;
+    same(&changed_pages(staged), &1)
+}
+
+fn is_unwritten(device: &FailingDevice) -> Result<()> {
+    same(&len_and_writes(device, Which::Home), &(0, 0))?;
+    same(&len_and_writes(device, Which::Log), &(0, 0))
 }
 
 fn a_log_of_one_byte_gets_a_closed_gate_first(alloc: Global) -> Result<()> {
-    let mut staged = counting_medium(alloc, &[1])?;
-    staged.write_at(0, &[1])?;
-    staged.write_at(600, &[2])?;
-    same(&staged.changed_pages(), &2)?;
-    staged.commit()?;
-    let device = staged.into_device();
+    let device = committed(written(alloc, &[1], &[(0, 1), (600, 2)])?, 2)?;
     same(&device.writes(Which::Log), &6)?;
-    same(&device.writes(Which::Home), &2)?;
-    same(&device.inner().bytes(Which::Home).len(), &601)
+    same(&len_and_writes(&device, Which::Home), &(601, 2))
 }
 
 fn a_longer_log_is_written_over(alloc: Global) -> Result<()> {
-    let mut staged = counting_medium(alloc, &[0; 600])?;
-    staged.write_at(0, &[1])?;
-    staged.commit()?;
-    let device = staged.into_device();
-    same(&device.writes(Which::Log), &4)?;
-    same(&device.inner().bytes(Which::Log).len(), &600)
+    let device = committed(written(alloc, &[0; 600], &[(0, 1)])?, 1)?;
+    same(&len_and_writes(&device, Which::Log), &(600, 4))
+}
+
+// A medium over the home file that an open log of two pages gives.
+fn recovered_medium(alloc: Global) -> Result<Staged<MemoryDevice>> {
+    let log = open_log(alloc, 520, &[(0, 3), (1, 4)])?;
+    let mut device = device(alloc, &[7], log.as_slice())?;
+    applies_two(&mut device)?;
+    Ok(made(open_recovered(alloc, device))?)
+}
+
+// Recovers two pages from an open log.
+fn applies_two(device: &mut MemoryDevice) -> Result<()> {
+    same(&recover(device)?, &Recovered::Applied(2))
+}
+
+// Writes over the seam of two pages, and commits.
+fn change_seam(staged: &mut Staged<MemoryDevice>) -> Result<()> {
+    same(&len(staged)?, &520)?;
+    write(staged, 511, &[5, 6])?;
+    has_seam(staged)?;
+    commit(staged)?;
+    wants(!has_failed(staged), "a medium that has not failed")
+}
+
+// These bytes stand there.
+fn has_seam(staged: &mut Staged<MemoryDevice>) -> Result<()> {
+    let mut buffer = [0u8; 4];
+    same(&read(staged, 510, &mut buffer)?, &4)?;
+    same(&buffer, &[3, 5, 6, 4])
 }
 
 fn a_recovered_device_is_read_and_changed(alloc: Global) -> Result<()> {
-    let log = open_log(alloc, 520, &[(0, 3), (1, 4)])?;
-    let mut device = device(alloc, &[7], log.as_slice())?;
-    same(&recover(&mut device)?, &Recovered::Applied(2))?;
-    let mut staged = Staged::new(alloc, device).map_err(|refused| refused.1)?;
-    same(&staged.len(), &Ok(520))?;
-    staged.write_at(511, &[5, 6])?;
-    let mut buffer = [0u8; 4];
-    same(&staged.read_at(510, &mut buffer), &Ok(4))?;
-    same(&buffer, &[3, 5, 6, 4])?;
-    staged.commit()?;
-    ensure!(!staged.has_failed());
-    let mut device = staged.into_device();
-    same(&recover(&mut device), &Ok(Recovered::Closed))?;
-    same(&device.bytes(Which::Home).len(), &520)
+    let mut staged = recovered_medium(alloc)?;
+    change_seam(&mut staged)?;
+    is_closed(&mut into_device(staged))
+}
+
+// Recovers nothing, and the home file is of two pages.
+fn is_closed(device: &mut MemoryDevice) -> Result<()> {
+    same(&recover(device)?, &Recovered::Closed)?;
+    same(&home_of(device).len(), &520)
 }
 
 fn an_end_past_the_last_place_is_refused(alloc: Global) -> Result<()> {
     let mut staged = counting_medium(alloc, &[])?;
-    let refused = Err(Error::InvalidInput);
-    same(&staged.write_at((1 << 63) - 1, &[1]), &refused)?;
-    same(&staged.write_at(u64::MAX, &[1]), &refused)?;
-    same(&staged.len(), &Ok(0))?;
-    same(&staged.changed_pages(), &0)
+    refuses_end(&mut staged, (1 << 63) - 1)?;
+    refuses_end(&mut staged, u64::MAX)
+}
+
+// A write at a place is refused, and nothing is written.
+fn refuses_end(staged: &mut Staged<FailingDevice>, at: u64) -> Result<()> {
+    same(&write(staged, at, &[1]), &Err(Error::InvalidInput))?;
+    same(&len(staged)?, &0)?;
+    same(&changed_pages(staged), &0)
 }

@@ -1,9 +1,13 @@
 //! Each device call fails once: the answer is that of the device, and `has_failed` tells the truth.
-use crate::cases::{print_case, same};
-use crate::logs::{device, open_log};
-use anyhow::{Result, ensure};
-use cfb_medium::{Error, Medium, ReadMedium};
-use staged::{Recovered, Staged, Which, recover};
+use crate::cases::{made, print_case, same, wants};
+use crate::logs::open_log;
+use crate::store_calls::{
+    changed_pages, commit, device, flush, has_failed, home_of, into_device, len, log_of,
+    open_failing, read, recover, write,
+};
+use anyhow::Result;
+use cfb_medium::Error;
+use staged::{Recovered, Staged};
 use std::alloc::Global;
 use test_support::{Failing, FailingDevice};
 
@@ -13,14 +17,23 @@ const MANY: u64 = 50;
 /// Prints what comes of the cases.
 pub fn print(rt: &HostRuntime) -> Result<()> {
     let alloc = rt.alloc();
-    let case = a_commit_of_one_page_with_each_call_failing(alloc);
+    let case = with_each_call_failing(alloc, &Run::CommitOnePage);
     print_case(rt, "a_commit_of_one_page_with_each_call_failing", case)?;
-    let case = a_commit_of_two_pages_with_each_call_failing(alloc);
+    let case = with_each_call_failing(alloc, &Run::CommitTwoPages);
     print_case(rt, "a_commit_of_two_pages_with_each_call_failing", case)?;
-    let case = a_recovery_with_each_call_failing(alloc);
+    let case = with_each_call_failing(alloc, &Run::ApplyLog);
     print_case(rt, "a_recovery_with_each_call_failing", case)?;
-    let case = a_refused_recovery_with_each_call_failing(alloc);
+    let case = with_each_call_failing(alloc, &Run::RefuseLog);
     print_case(rt, "a_refused_recovery_with_each_call_failing", case)
+}
+
+// What is run over a device whose calls fail in turn.
+#[derive(Drop)]
+enum Run {
+    CommitOnePage,
+    CommitTwoPages,
+    ApplyLog,
+    RefuseLog,
 }
 
 // A device in memory of these files, whose call after so many fails.
@@ -28,13 +41,18 @@ fn failing_device(alloc: Global, home: &[u8], log: &[u8], failing: u64) -> Resul
     Ok(Failing::new(device(alloc, home, log)?, failing))
 }
 
+// It is the device's first fault.
+fn is_first_fault(device: &FailingDevice, error: Error) -> Result<()> {
+    same(&error, &Error::Device)?;
+    same(&device.failures(), &1)
+}
+
 // Recovers; a first fault is the device's, and the next recovery succeeds.
 fn recovers(device: &mut FailingDevice) -> Result<Recovered> {
     match recover(device) {
         Ok(found) => Ok(found),
         Err(error) => {
-            same(&error, &Error::Device)?;
-            same(&device.failures(), &1)?;
+            is_first_fault(device, error)?;
             Ok(recover(device)?)
         }
     }
@@ -42,97 +60,156 @@ fn recovers(device: &mut FailingDevice) -> Result<Recovered> {
 
 // Opens; a first fault is the device's, and hands it back.
 fn opens(alloc: Global, device: FailingDevice) -> Result<Staged<FailingDevice>> {
-    let device = match Staged::new(alloc, device) {
-        Ok(staged) => return Ok(staged),
-        Err((device, error)) => {
-            same(&error, &Error::Device)?;
-            same(&device.failures(), &1)?;
-            device
-        }
-    };
-    match Staged::new(alloc, device) {
+    match open_failing(alloc, device) {
         Ok(staged) => Ok(staged),
-        Err((_, error)) => Err(error.into()),
+        Err((device, error)) => opens_again(alloc, device, error),
     }
+}
+
+// Opens after a first fault, which is the device's.
+fn opens_again(
+    alloc: Global,
+    device: FailingDevice,
+    error: Error,
+) -> Result<Staged<FailingDevice>> {
+    is_first_fault(&device, error)?;
+    Ok(made(open_failing(alloc, device))?)
+}
+
+// How many pages have changed, and how long all is.
+fn extent(staged: &mut Staged<FailingDevice>) -> Result<(u64, u64), Error> {
+    Ok((changed_pages(staged), len(staged)?))
+}
+
+// It is the device's fault, and the medium has not failed.
+fn is_passing(staged: &Staged<FailingDevice>, error: Error) -> Result<()> {
+    same(&error, &Error::Device)?;
+    wants(!has_failed(staged), "a medium that has not failed")
 }
 
 // Writes; a first fault is the device's, leaves all as before, and the next write succeeds.
 fn writes(staged: &mut Staged<FailingDevice>, at: u64, bytes: &[u8]) -> Result<()> {
-    let pages = staged.changed_pages();
-    let len = staged.len()?;
-    if let Err(error) = staged.write_at(at, bytes) {
-        same(&error, &Error::Device)?;
-        ensure!(!staged.has_failed());
-        same(&staged.changed_pages(), &pages)?;
-        same(&staged.len(), &Ok(len))?;
-        staged.write_at(at, bytes)?;
+    let before = extent(staged)?;
+    if let Err(error) = write(staged, at, bytes) {
+        is_passing(staged, error)?;
+        same(&extent(staged)?, &before)?;
+        write(staged, at, bytes)?;
     }
     Ok(())
 }
 
-// Reads a byte; a first fault is the device's, and the next read succeeds.
-fn reads(staged: &mut Staged<FailingDevice>, at: u64) -> Result<u8> {
+// Reads this byte; a first fault is the device's, and the next read succeeds.
+fn reads(staged: &mut Staged<FailingDevice>, at: u64, wanted: u8) -> Result<()> {
     let mut byte = [0u8; 1];
-    if let Err(error) = staged.read_at(at, &mut byte) {
-        same(&error, &Error::Device)?;
-        ensure!(!staged.has_failed());
-        staged.read_at(at, &mut byte)?;
+    if let Err(error) = read(staged, at, &mut byte) {
+        is_passing(staged, error)?;
+        read(staged, at, &mut byte)?;
     }
-    Ok(byte[0])
+    same(&byte, &[wanted])
 }
 
-// A medium that has failed refuses every call.
-fn is_failed(staged: &mut Staged<FailingDevice>) -> Result<()> {
-    let mut buffer = [0u8; 1];
-    ensure!(staged.has_failed());
-    same(&staged.len(), &Err(Error::Failed))?;
-    same(&staged.read_at(0, &mut buffer), &Err(Error::Failed))?;
-    same(&staged.write_at(0, &[1]), &Err(Error::Failed))?;
-    same(&staged.flush(), &Err(Error::Failed))?;
-    same(&staged.commit(), &Err(Error::Failed))
+// A call is refused, for the medium has failed.
+fn refuses<T: Drop>(answer: Result<T, Error>) -> Result<()> {
+    match answer {
+        Ok(_) => wants(false, "a call is refused"),
+        Err(error) => same(&error, &Error::Failed),
+    }
+}
+
+// It is the device's fault. A medium that has failed by it refuses every call.
+fn is_failed(staged: &mut Staged<FailingDevice>, error: Error) -> Result<()> {
+    same(&error, &Error::Device)?;
+    wants(has_failed(staged), "a medium that has failed")?;
+    refuses(len(staged))?;
+    refuses(read(staged, 0, &mut [0u8; 1]))?;
+    refuses(write(staged, 0, &[1]))?;
+    refuses(flush(staged))?;
+    refuses(commit(staged))
 }
 
 // Commits; a fault is the device's, and the medium has failed. A recovery finds the bytes from before the commit or after it.
 fn commits(mut staged: Staged<FailingDevice>, before: &[u8], after: &[u8]) -> Result<u64> {
-    match staged.commit() {
-        Ok(()) => {
-            ensure!(!staged.has_failed());
-            same(&staged.changed_pages(), &0)?;
-            let device = staged.into_device();
-            ensure!(device.inner().bytes(Which::Home) == after);
-            Ok(device.failures())
-        }
+    match commit(&mut staged) {
+        Ok(()) => is_committed(staged, after),
         Err(error) => {
-            same(&error, &Error::Device)?;
-            is_failed(&mut staged)?;
-            let mut device = staged.into_device();
-            recover(&mut device)?;
-            let found = device.inner().bytes(Which::Home);
-            ensure!(found == before || found == after);
-            Ok(device.failures())
+            is_failed(&mut staged, error)?;
+            is_old_or_new(&mut into_device(staged), before, after)
         }
     }
 }
 
+// Nothing is left to commit, and these are the bytes.
+fn is_committed(staged: Staged<FailingDevice>, after: &[u8]) -> Result<u64> {
+    is_unchanged(&staged)?;
+    is_new(&into_device(staged), after)
+}
+
+fn is_unchanged(staged: &Staged<FailingDevice>) -> Result<()> {
+    wants(!has_failed(staged), "a medium that has not failed")?;
+    same(&changed_pages(staged), &0)
+}
+
+fn is_new(device: &FailingDevice, after: &[u8]) -> Result<u64> {
+    wants(
+        home_of(device.inner()) == after,
+        "the bytes from after the commit",
+    )?;
+    Ok(device.failures())
+}
+
+// A recovery finds the bytes from before or after.
+fn is_old_or_new(device: &mut FailingDevice, before: &[u8], after: &[u8]) -> Result<u64> {
+    recover(device)?;
+    let found = home_of(device.inner());
+    wants(
+        found == before || found == after,
+        "the bytes from before the commit or after it",
+    )?;
+    Ok(device.failures())
+}
+
+// A medium over a device of these files, whose log is closed and whose call after so many fails.
+fn opens_closed(
+    alloc: Global,
+    home: &[u8],
+    log: &[u8],
+    failing: u64,
+) -> Result<Staged<FailingDevice>> {
+    let mut device = failing_device(alloc, home, log, failing)?;
+    is_closed(&mut device)?;
+    opens(alloc, device)
+}
+
+// A recovery finds a closed log.
+fn is_closed(device: &mut FailingDevice) -> Result<()> {
+    same(&recovers(device)?, &Recovered::Closed)
+}
+
 // A commit of one page onto an empty device.
 fn commit_one_page(alloc: Global, failing: u64) -> Result<u64> {
-    let mut device = failing_device(alloc, &[], &[], failing)?;
-    same(&recovers(&mut device)?, &Recovered::Closed)?;
-    let mut staged = opens(alloc, device)?;
-    writes(&mut staged, 0, &[1])?;
-    writes(&mut staged, 5, &[2])?;
+    let mut staged = opens_closed(alloc, &[], &[], failing)?;
+    write_one_page(&mut staged)?;
     commits(staged, &[], &[1, 0, 0, 0, 0, 2])
+}
+
+// Writes the ends of six bytes.
+fn write_one_page(staged: &mut Staged<FailingDevice>) -> Result<()> {
+    writes(staged, 0, &[1])?;
+    writes(staged, 5, &[2])
+}
+
+// Writes over the end of one page into the next, after a read.
+fn write_two_pages(staged: &mut Staged<FailingDevice>) -> Result<()> {
+    reads(staged, 511, 7)?;
+    writes(staged, 511, &[8, 8])?;
+    same(&changed_pages(staged), &2)?;
+    reads(staged, 512, 8)
 }
 
 // A commit of two pages over a home file and a log of one byte, after reads.
 fn commit_two_pages(alloc: Global, failing: u64) -> Result<u64> {
-    let mut device = failing_device(alloc, &[7; 512], &[1], failing)?;
-    same(&recovers(&mut device)?, &Recovered::Closed)?;
-    let mut staged = opens(alloc, device)?;
-    same(&reads(&mut staged, 511)?, &7)?;
-    writes(&mut staged, 511, &[8, 8])?;
-    same(&staged.changed_pages(), &2)?;
-    same(&reads(&mut staged, 512)?, &8)?;
+    let mut staged = opens_closed(alloc, &[7; 512], &[1], failing)?;
+    write_two_pages(&mut staged)?;
     let mut after = [7u8; 513];
     after[511] = 8;
     after[512] = 8;
@@ -143,55 +220,66 @@ fn commit_two_pages(alloc: Global, failing: u64) -> Result<u64> {
 fn apply_a_log(alloc: Global, failing: u64) -> Result<u64> {
     let log = open_log(alloc, 520, &[(0, 1), (1, 2)])?;
     let mut device = failing_device(alloc, &[7; 20], log.as_slice(), failing)?;
-    recovers(&mut device)?;
-    let mut home = Vec::from_slice(alloc, &[1; 512])?;
-    home.extend_from_slice(&[2; 8])?;
-    ensure!(device.inner().bytes(Which::Home) == home.as_slice());
-    ensure!(device.inner().bytes(Which::Log).starts_with(b"\0MSISTG01"));
+    applies(&mut device)?;
     Ok(device.failures())
+}
+
+// Recovers both pages, and closes the log.
+fn applies(device: &mut FailingDevice) -> Result<()> {
+    recovers(device)?;
+    wants(has_both_pages(home_of(device.inner())), "both pages")?;
+    wants(
+        log_of(device.inner()).starts_with(b"\0MSISTG01"),
+        "a closed log",
+    )
+}
+
+// Whether it is a page of 1 and eight bytes of 2.
+fn has_both_pages(home: &[u8]) -> bool {
+    home.len() == 520 && home.starts_with(&[1; 512]) && home.ends_with(&[2; 8])
+}
+
+// Refuses to recover a malformed log; a first fault is the device's.
+fn refuses_log(device: &mut FailingDevice) -> Result<()> {
+    if recover(device) == Err(Error::InvalidData) {
+        return Ok(());
+    }
+    same(&device.failures(), &1)?;
+    same(&recover(device), &Err(Error::InvalidData))
 }
 
 // A recovery of a malformed log.
 fn refuse_a_log(alloc: Global, failing: u64) -> Result<u64> {
     let log = open_log(alloc, 1024, &[(0, 1)])?;
     let mut device = failing_device(alloc, &[7], log.as_slice(), failing)?;
-    if recover(&mut device) != Err(Error::InvalidData) {
-        same(&device.failures(), &1)?;
-        same(&recover(&mut device), &Err(Error::InvalidData))?;
-    }
-    ensure!(device.inner().bytes(Which::Home) == [7].as_slice());
-    ensure!(device.inner().bytes(Which::Log) == log.as_slice());
+    refuses_log(&mut device)?;
+    is_as_it_was(&device, &log)?;
     Ok(device.failures())
 }
 
-fn a_commit_of_one_page_with_each_call_failing(alloc: Global) -> Result<()> {
-    for failing in 0..MANY {
-        commit_one_page(alloc, failing)?;
-    }
-    same(&commit_one_page(alloc, 0)?, &1)?;
-    same(&commit_one_page(alloc, MANY)?, &0)
+// Both files are as they were.
+fn is_as_it_was(device: &FailingDevice, log: &[u8]) -> Result<()> {
+    wants(
+        home_of(device.inner()) == [7].as_slice(),
+        "the home file as it was",
+    )?;
+    wants(log_of(device.inner()) == log, "the log as it was")
 }
 
-fn a_commit_of_two_pages_with_each_call_failing(alloc: Global) -> Result<()> {
-    for failing in 0..MANY {
-        commit_two_pages(alloc, failing)?;
+// How many calls of the device have failed in a run whose call after so many fails.
+fn failures_in(alloc: Global, run: &Run, failing: u64) -> Result<u64> {
+    match run {
+        Run::CommitOnePage => commit_one_page(alloc, failing),
+        Run::CommitTwoPages => commit_two_pages(alloc, failing),
+        Run::ApplyLog => apply_a_log(alloc, failing),
+        Run::RefuseLog => refuse_a_log(alloc, failing),
     }
-    same(&commit_two_pages(alloc, 0)?, &1)?;
-    same(&commit_two_pages(alloc, MANY)?, &0)
 }
 
-fn a_recovery_with_each_call_failing(alloc: Global) -> Result<()> {
+fn with_each_call_failing(alloc: Global, run: &Run) -> Result<()> {
     for failing in 0..MANY {
-        apply_a_log(alloc, failing)?;
+        failures_in(alloc, run, failing)?;
     }
-    same(&apply_a_log(alloc, 0)?, &1)?;
-    same(&apply_a_log(alloc, MANY)?, &0)
-}
-
-fn a_refused_recovery_with_each_call_failing(alloc: Global) -> Result<()> {
-    for failing in 0..MANY {
-        refuse_a_log(alloc, failing)?;
-    }
-    same(&refuse_a_log(alloc, 0)?, &1)?;
-    same(&refuse_a_log(alloc, MANY)?, &0)
+    same(&failures_in(alloc, run, 0)?, &1)?;
+    same(&failures_in(alloc, run, MANY)?, &0)
 }

@@ -2,12 +2,15 @@
 #![tactic(auto)]
 
 mod cases;
+mod commands;
 mod commits;
 mod faults;
 mod logs;
+mod session_calls;
 mod session_stops;
 mod sessions;
 mod stops;
+mod store_calls;
 mod tears;
 
 use anyhow::Result;

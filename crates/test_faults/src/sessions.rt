@@ -1,14 +1,12 @@
 //! What a fault of the device makes of a session.
-use crate::cases::{print_case, same};
-use crate::logs::device;
-use anyhow::{Result, bail, ensure};
+use crate::cases::{endless, made, print_case, same, wants};
+use crate::commands::{create_table, does, has_rows, insert, refusal, rows_or_refusal, select};
+use crate::session_calls::{commit, create, has_failed, into_device, open};
+use crate::store_calls::{device, home_of};
+use anyhow::Result;
 use cfb_medium::Error;
-use installer::{Answer, Command, Session};
-use msi_changes::Insert;
-use msi_columns::Column;
-use msi_query::Select;
-use msi_values::Value;
-use staged::{Device, MemoryDevice, Which};
+use installer::{Command, Session};
+use staged::{Device, MemoryDevice};
 use std::alloc::Global;
 use test_support::{Failing, FailingDevice};
 
@@ -21,74 +19,9 @@ pub fn print(rt: &HostRuntime) -> Result<()> {
     print_case(rt, "a_session_with_each_call_of_the_device_failing", case)
 }
 
-fn create_table(alloc: Global, name: &str) -> Result<Command, Error> {
-    let key = Column::build(alloc, "Id")?.primary_key().int16();
-    Ok(Command::CreateTable(String::from_str(alloc, name)?, vec![in alloc; key]?))
-}
-
-/// Adds a row of one number.
-pub fn insert(alloc: Global, name: &str, key: i32) -> Result<Command, Error> {
-    let row = vec![in alloc; Value::Int(key)]?;
-    Ok(Command::Insert(Insert::into(alloc, name)?.row(row)?))
-}
-
-fn select(alloc: Global, name: &str) -> Result<Command, Error> {
-    Ok(Command::Select(Select::table(alloc, name)?))
-}
-
 // A new package on an empty device.
 fn new_package(alloc: Global) -> Result<Session<MemoryDevice>, Error> {
-    match Session::create(alloc, device(alloc, &[], &[])?) {
-        Ok(session) => Ok(session),
-        Err((_, error)) => Err(error),
-    }
-}
-
-// The answer of one command. A want of memory ends the case.
-fn ask<D: Device>(
-    alloc: Global,
-    session: &mut Session<D>,
-    command: Command,
-) -> Result<Answer, Error> {
-    let mut answers = session.run(&vec![in alloc; command]?)?;
-    match answers.pop() {
-        Some(Answer::Refused(Error::Memory)) | None => Err(Error::Memory),
-        Some(answer) => Ok(answer),
-    }
-}
-
-// Whether it was done.
-fn is_done(answer: &Answer) -> bool {
-    matches!(answer, Answer::Done)
-}
-
-// Why one command is refused, if it is.
-fn refusal<D: Device>(
-    alloc: Global,
-    session: &mut Session<D>,
-    command: Command,
-) -> Result<Option<Error>, Error> {
-    match ask(alloc, session, command)? {
-        Answer::Refused(error) => Ok(Some(error)),
-        _ => Ok(None),
-    }
-}
-
-// Whether these are rows of one number, of a column Id.
-fn are_rows(answer: &Answer, keys: &[i32]) -> bool {
-    let Answer::Rows(names, rows) = answer else {
-        return false;
-    };
-    let are_names = names.len() == 1 && names.iter().all(|name| name.as_str() == "Id");
-    are_names
-        && rows.len() == keys.len()
-        && rows.iter().zip(keys).all(|(row, key)| row.as_slice() == [Value::Int(*key)].as_slice())
-}
-
-// Does a command, which is not refused.
-fn does<D: Device>(alloc: Global, session: &mut Session<D>, command: Command) -> Result<()> {
-    ensure!(is_done(&ask(alloc, session, command)?));
-    Ok(())
+    made(create(alloc, device(alloc, &[], &[])?))
 }
 
 // Makes the table T, and adds the rows 2 and 1.
@@ -98,112 +31,162 @@ fn fill<D: Device>(alloc: Global, session: &mut Session<D>) -> Result<()> {
     does(alloc, session, insert(alloc, "T", 1)?)
 }
 
+// Makes the table T, and commits it.
+fn fill_and_commit(alloc: Global, session: &mut Session<MemoryDevice>) -> Result<()> {
+    fill(alloc, session)?;
+    commit(session)?;
+    wants(!has_failed(session), "a session that has not failed")
+}
+
 /// The device after a commit of the table T.
 pub fn device_after_commit(alloc: Global) -> Result<MemoryDevice> {
     let mut session = new_package(alloc)?;
-    fill(alloc, &mut session)?;
-    session.commit()?;
-    ensure!(!session.has_failed());
-    Ok(session.into_device())
-}
-
-/// The table T has these rows.
-pub fn has_rows<D: Device>(alloc: Global, session: &mut Session<D>, keys: &[i32]) -> Result<()> {
-    let answer = ask(alloc, session, select(alloc, "T")?)?;
-    ensure!(are_rows(&answer, keys));
-    Ok(())
+    fill_and_commit(alloc, &mut session)?;
+    Ok(into_device(session))
 }
 
 // The table T has the rows 1 and 2.
-fn has_both<D: Device>(alloc: Global, session: &mut Session<D>) -> Result<()> {
+fn has_both(alloc: Global, session: &mut Session<FailingDevice>) -> Result<()> {
     has_rows(alloc, session, &[1, 2])
+}
+
+// It is the device's first fault.
+fn is_first_fault(device: &FailingDevice, error: Error) -> Result<()> {
+    same(&error, &Error::Device)?;
+    same(&device.failures(), &1)
 }
 
 // Creates, and counts the refusals; one is the device's, and the next call succeeds.
 fn creates(alloc: Global, device: FailingDevice) -> Result<(Session<FailingDevice>, u64)> {
-    let device = match Session::create(alloc, device) {
-        Ok(session) => return Ok((session, 0)),
+    match create(alloc, device) {
+        Ok(session) => Ok((session, 0)),
         Err((device, error)) => {
-            same(&error, &Error::Device)?;
-            same(&device.failures(), &1)?;
-            device
+            is_first_fault(&device, error)?;
+            Ok((made(create(alloc, device))?, 1))
         }
-    };
-    match Session::create(alloc, device) {
-        Ok(session) => Ok((session, 1)),
-        Err((_, error)) => Err(error.into()),
     }
 }
 
 // Opens, and counts the refusals; one is the device's, and the next call succeeds.
 fn opens(alloc: Global, device: FailingDevice) -> Result<(Session<FailingDevice>, u64)> {
-    let device = match Session::open(alloc, device) {
-        Ok(session) => return Ok((session, 0)),
-        Err((_, Error::Memory)) => return Err(Error::Memory.into()),
+    match open(alloc, device) {
+        Ok(session) => Ok((session, 0)),
         Err((device, error)) => {
-            same(&error, &Error::Device)?;
-            same(&device.failures(), &1)?;
-            device
+            is_first_fault(&device, error)?;
+            Ok((made(open(alloc, device))?, 1))
         }
-    };
-    match Session::open(alloc, device) {
-        Ok(session) => Ok((session, 1)),
-        Err((_, error)) => Err(error.into()),
     }
+}
+
+// A command is refused, for the session has failed.
+fn refuses(alloc: Global, session: &mut Session<FailingDevice>, command: Command) -> Result<()> {
+    same(&refusal(alloc, session, command)?, &Some(Error::Failed))
 }
 
 // A session that has failed refuses every command.
 fn refuses_all(alloc: Global, session: &mut Session<FailingDevice>) -> Result<()> {
-    let failed = Some(Error::Failed);
-    same(
-        &refusal(alloc, session, create_table(alloc, "U")?)?,
-        &failed,
-    )?;
-    same(&refusal(alloc, session, insert(alloc, "T", 3)?)?, &failed)?;
-    same(&refusal(alloc, session, select(alloc, "T")?)?, &failed)?;
-    same(&refusal(alloc, session, Command::Commit)?, &failed)?;
-    ensure!(session.has_failed());
-    Ok(())
+    refuses(alloc, session, create_table(alloc, "U")?)?;
+    refuses(alloc, session, insert(alloc, "T", 3)?)?;
+    refuses(alloc, session, select(alloc, "T")?)?;
+    refuses(alloc, session, Command::Commit)?;
+    wants(has_failed(session), "a session that has failed")
 }
 
-// A session that has failed refuses every command. A later one finds the table, or an empty home file.
-fn is_failed(alloc: Global, mut session: Session<FailingDevice>) -> Result<u64> {
-    refuses_all(alloc, &mut session)?;
-    let device = session.into_device();
+// A later session finds the table, or an empty home file: how many device calls have failed.
+fn finds_both_or_nothing(alloc: Global, device: FailingDevice) -> Result<u64> {
     let failures = device.failures();
-    match Session::open(alloc, device) {
-        Ok(session) => {
-            let mut session = session;
-            has_both(alloc, &mut session)?;
-        }
-        Err((_, Error::Memory)) => return Err(Error::Memory.into()),
+    match open(alloc, device) {
+        Ok(session) => failures_after_both(alloc, session),
         Err((device, error)) => {
-            same(&error, &Error::InvalidData)?;
-            same(&device.inner().bytes(Which::Home).len(), &0)?;
+            is_nothing(&device, error)?;
+            Ok(failures)
         }
     }
+}
+
+// The home file is empty, so that it is no package.
+fn is_nothing(device: &FailingDevice, error: Error) -> Result<()> {
+    same(&error, &Error::InvalidData)?;
+    same(&home_of(device.inner()).len(), &0)
+}
+
+// Commits, and counts the refusals; one is the device's, and the session has failed, or the next commit succeeds.
+fn commits(alloc: Global, session: &mut Session<FailingDevice>) -> Result<u64> {
+    match refusal(alloc, session, Command::Commit)? {
+        Some(error) => {
+            same(&error, &Error::Device)?;
+            commits_again(alloc, session)?;
+            Ok(1)
+        }
+        None => {
+            wants(!has_failed(session), "a session that has not failed")?;
+            Ok(0)
+        }
+    }
+}
+
+// Commits, where the session has not failed.
+fn commits_again(alloc: Global, session: &mut Session<FailingDevice>) -> Result<()> {
+    if has_failed(session) {
+        return Ok(());
+    }
+    does(alloc, session, Command::Commit)?;
+    wants(!has_failed(session), "a session that has not failed")
+}
+
+// Opens and reads the table: how many device calls have failed. Each was answered with a refusal, so many before.
+fn reopens(alloc: Global, device: FailingDevice, refusals: u64) -> Result<u64> {
+    let (mut session, more) = opens(alloc, device)?;
+    let last = reads(alloc, &mut session);
+    let failures = into_device(session).failures();
+    same(
+        &failures,
+        &refusals.saturating_add(more).saturating_add(last?),
+    )?;
     Ok(failures)
+}
+
+// Reads the table, and counts the refusals; one is the device's, and the next select succeeds.
+fn reads(alloc: Global, session: &mut Session<FailingDevice>) -> Result<u64> {
+    match rows_or_refusal(alloc, session, &[1, 2])? {
+        Some(error) => {
+            same(&error, &Error::Device)?;
+            has_both(alloc, session)?;
+            Ok(1)
+        }
+        None => Ok(0),
+    }
+}
+
+// The session finds the table: how many device calls have failed.
+fn failures_after_both(alloc: Global, mut session: Session<FailingDevice>) -> Result<u64> {
+    match has_both(alloc, &mut session) {
+        Ok(()) => Ok(into_device(session).failures()),
+        Err(error) => Err(error),
+    }
+}
+
+// What comes after a commit: how many device calls have failed.
+fn ends(alloc: Global, mut session: Session<FailingDevice>, refusals: u64) -> Result<u64> {
+    if !has_failed(&session) {
+        return reopens(alloc, into_device(session), refusals);
+    }
+    refuses_all(alloc, &mut session)?;
+    finds_both_or_nothing(alloc, into_device(session))
 }
 
 // Creates, commits a table, opens and reads it: how many device calls have failed. Each was answered with a refusal.
 fn run_again(alloc: Global, failing: u64) -> Result<u64> {
     let device = Failing::new(device(alloc, &[], &[])?, failing);
-    let (mut session, mut refusals) = creates(alloc, device)?;
-    fill(alloc, &mut session)?;
-    if let Some(error) = refusal(alloc, &mut session, Command::Commit)? {
-        same(&error, &Error::Device)?;
-        if session.has_failed() {
-            return is_failed(alloc, session);
-        }
-        does(alloc, &mut session, Command::Commit)?;
-        refusals = refusals.saturating_add(1);
-    }
-    ensure!(!session.has_failed());
-    let (mut session, more) = opens(alloc, session.into_device())?;
-    has_both(alloc, &mut session)?;
-    let failures = session.into_device().failures();
-    same(&failures, &refusals.saturating_add(more))?;
-    Ok(failures)
+    let (mut session, refusals) = creates(alloc, device)?;
+    let more = fills_and_commits(alloc, &mut session)?;
+    ends(alloc, session, refusals.saturating_add(more))
+}
+
+// Makes and commits the table, and counts the refusals.
+fn fills_and_commits(alloc: Global, session: &mut Session<FailingDevice>) -> Result<u64> {
+    fill(alloc, session)?;
+    commits(alloc, session)
 }
 
 fn a_session_with_each_call_of_the_device_failing(alloc: Global) -> Result<()> {
@@ -213,5 +196,5 @@ fn a_session_with_each_call_of_the_device_failing(alloc: Global) -> Result<()> {
             return Ok(());
         }
     }
-    bail!("more than {MANY} calls")
+    endless()
 }

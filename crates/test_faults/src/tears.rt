@@ -1,11 +1,12 @@
 //! Files that a stop might leave, to be tried by `cut`.
+use crate::store_calls::{device, home_of, log_of, may_be_left};
 use cfb_medium::Error;
-use staged::{MemoryDevice, Which};
+use staged::MemoryDevice;
 use std::alloc::Global;
 
 /// What is tried of a file, by what it held before and what it shows.
-#[derive(Clone, Copy)]
-pub enum Tear {
+#[derive(Drop)]
+enum Tear {
     /// As it was before.
     Before,
     /// As it shows.
@@ -21,7 +22,7 @@ pub enum Tear {
 }
 
 // What is tried of a home file.
-const HOMES: [Tear; 5] = [
+static HOMES: [Tear; 5] = [
     Tear::Before,
     Tear::Shown,
     Tear::Half,
@@ -30,7 +31,7 @@ const HOMES: [Tear; 5] = [
 ];
 
 // What is tried of a log.
-const LOGS: [Tear; 7] = [
+static LOGS: [Tear; 7] = [
     Tear::Before,
     Tear::Shown,
     Tear::Half,
@@ -41,18 +42,14 @@ const LOGS: [Tear; 7] = [
 ];
 
 impl Tear {
-    fn of(self, alloc: Global, before: &[u8], shown: &[u8]) -> Result<Vec<u8>, Error> {
+    fn of(&self, alloc: Global, before: &[u8], shown: &[u8]) -> Result<Vec<u8>, Error> {
         match self {
             Tear::Before => Ok(Vec::from_slice(alloc, before)?),
             Tear::Shown => Ok(Vec::from_slice(alloc, shown)?),
             Tear::Half => half(alloc, before, shown),
             Tear::Filled => filled_up(alloc, before, shown),
-            Tear::Short => {
-                let least = before.len().min(shown.len());
-                let middle = least + (shown.len() - least) / 2;
-                Ok(Vec::from_slice(alloc, &shown[..middle])?)
-            }
-            Tear::First(byte) => with_first(alloc, shown, byte),
+            Tear::Short => cut_short(alloc, before, shown),
+            Tear::First(byte) => with_first(alloc, shown, *byte),
         }
     }
 }
@@ -73,6 +70,12 @@ fn filled_up(alloc: Global, before: &[u8], shown: &[u8]) -> Result<Vec<u8>, Erro
         bytes.push(if is_old { *byte } else { 0xFF })?;
     }
     Ok(bytes)
+}
+
+fn cut_short(alloc: Global, before: &[u8], shown: &[u8]) -> Result<Vec<u8>, Error> {
+    let least = before.len().min(shown.len());
+    let middle = least + (shown.len() - least) / 2;
+    Ok(Vec::from_slice(alloc, &shown[..middle])?)
 }
 
 fn with_first(alloc: Global, shown: &[u8], byte: u8) -> Result<Vec<u8>, Error> {
@@ -99,9 +102,7 @@ impl Pair {
 
     /// A device of these files.
     pub fn device(&self, alloc: Global) -> Result<MemoryDevice, Error> {
-        let home = Vec::from_slice(alloc, &self.home)?;
-        let log = Vec::from_slice(alloc, &self.log)?;
-        Ok(MemoryDevice::new(home, log))
+        device(alloc, &self.home, &self.log)
     }
 }
 
@@ -141,7 +142,7 @@ fn push_left(
     all: &mut Vec<Pair>,
 ) -> Result<(), Error> {
     for log in logs {
-        if device.cut(home, log)?.is_some() {
+        if may_be_left(device, home, log)? {
             all.push(Pair::new(alloc, home, log)?)?;
         }
     }
@@ -150,11 +151,21 @@ fn push_left(
 
 /// Pairs that a stop may leave of a device that had these files before, each once.
 pub fn pairs_left(alloc: Global, device: &MemoryDevice, before: &Pair) -> Result<Vec<Pair>, Error> {
-    let homes = files(alloc, &HOMES, &before.home, device.bytes(Which::Home))?;
-    let logs = files(alloc, &LOGS, &before.log, device.bytes(Which::Log))?;
+    let homes = files(alloc, &HOMES, &before.home, home_of(device))?;
+    let logs = files(alloc, &LOGS, &before.log, log_of(device))?;
+    left_of(alloc, device, &homes, &logs)
+}
+
+// The pairs of these home files and logs that a stop may leave.
+fn left_of(
+    alloc: Global,
+    device: &MemoryDevice,
+    homes: &[Vec<u8>],
+    logs: &[Vec<u8>],
+) -> Result<Vec<Pair>, Error> {
     let mut all = Vec::new(alloc);
-    for home in &homes {
-        push_left(alloc, device, home, &logs, &mut all)?;
+    for home in homes {
+        push_left(alloc, device, home, logs, &mut all)?;
     }
     Ok(all)
 }
@@ -171,8 +182,8 @@ pub fn torn_pairs(
         1 => Tear::Filled,
         _ => Tear::First(1),
     };
-    let home = Tear::Half.of(alloc, &before.home, device.bytes(Which::Home))?;
-    let log = tear.of(alloc, &before.log, device.bytes(Which::Log))?;
+    let home = Tear::Half.of(alloc, &before.home, home_of(device))?;
+    let log = tear.of(alloc, &before.log, log_of(device))?;
     let mut all = Vec::new(alloc);
     push_left(alloc, device, &home, &vec![in alloc; log]?, &mut all)?;
     Ok(all)

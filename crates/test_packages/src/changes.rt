@@ -31,66 +31,82 @@ impl<'a> Changes<'a> {
 
     // The bytes of its home file, in which is what was committed.
     fn committed_bytes(&mut self, alloc: Global) -> Result<Vec<u8>, Error> {
-        let package = self.package.take().ok_or(Error::NotFound)?;
-        let device = package.into_medium().into_device();
-        Ok(Vec::from_slice(alloc, device.bytes(Which::Home))?)
+        match self.package.take() {
+            Some(package) => home_of(alloc, &device_of(store_of(package))),
+            None => Err(Error::NotFound),
+        }
     }
 
-    // Copies the package, which then is the copy.
+    // The bytes of a copy.
     fn copied_bytes(&mut self, alloc: Global) -> Result<Vec<u8>, Error> {
-        let mut target = MemoryMedium::new(alloc);
         match &mut self.package {
-            Some(package) => package.copy_to(&mut target)?,
-            None => return Err(Error::NotFound),
+            Some(package) => copy_of_package(alloc, package),
+            None => Err(Error::NotFound),
         }
-        Ok(target.into_bytes())
+    }
+
+    // Opens a file beside the rows.
+    fn open_file(&mut self, alloc: Global, path: &str) -> Result<String, Error> {
+        match fs::read(self.rt, path) {
+            Ok(bytes) => self.open(alloc, bytes),
+            Err(_) => Err(Error::NotFound),
+        }
+    }
+
+    // Goes on with what was committed, opened again.
+    fn open_again(&mut self, alloc: Global) -> Result<String, Error> {
+        let bytes = self.committed_bytes(alloc)?;
+        self.open(alloc, bytes)
+    }
+
+    // Goes on with a copy.
+    fn copy(&mut self, alloc: Global) -> Result<String, Error> {
+        let bytes = self.copied_bytes(alloc)?;
+        self.open(alloc, bytes)
     }
 
     // Opens these bytes, and tells whether the package is sound.
     fn open(&mut self, alloc: Global, bytes: Vec<u8>) -> Result<String, Error> {
-        let package = package_in_store(alloc, bytes)?;
-        self.take(alloc, package)
+        self.take(alloc, package_in_store(alloc, bytes))
     }
 
     // Goes on with a package, and tells whether it is sound.
-    fn take(&mut self, alloc: Global, package: Stored) -> Result<String, Error> {
-        let is_sound = package.is_sound();
-        self.package = Some(package);
-        yes_or_no(alloc, is_sound)
+    fn take(&mut self, alloc: Global, made: Result<Stored, Error>) -> Result<String, Error> {
+        match made {
+            Ok(package) => {
+                let is_sound = is_sound(&package);
+                self.package = Some(package);
+                yes_or_no(alloc, is_sound)
+            }
+            Err(error) => Err(error),
+        }
     }
 
     // What becomes of a command on the package that was committed last, while each call of the medium fails in turn.
     fn fault(&mut self, alloc: Global, row: &Row) -> Result<String, Error> {
         let bytes = self.committed_bytes(alloc)?;
-        let commands = commands_of(alloc, row)?;
-        let mut told = copy_of(alloc, "")?;
-        for command in &commands {
-            told.push_str(change_fails(alloc, &bytes, command)?)?;
-        }
+        let told = faults_told(alloc, &bytes, row)?;
         self.open(alloc, bytes)?;
         Ok(told)
     }
 }
 
+fn faults_told(alloc: Global, bytes: &[u8], row: &Row) -> Result<String, Error> {
+    let commands = commands_of(alloc, row)?;
+    let mut told = String::new(alloc);
+    for command in &commands {
+        told.push_str(change_fails(alloc, bytes, command)?)?;
+    }
+    Ok(told)
+}
+
 impl Subject for Changes<'_> {
     fn answer(&mut self, alloc: Global, row: &Row) -> Result<String, Error> {
         match row.call() {
-            "open" => {
-                let bytes = fs::read(self.rt, row.text(1)).map_err(|_| Error::NotFound)?;
-                self.open(alloc, bytes)
-            }
-            "new" => {
-                let package = new_in_store(alloc)?;
-                self.take(alloc, package)
-            }
-            "again" => {
-                let bytes = self.committed_bytes(alloc)?;
-                self.open(alloc, bytes)
-            }
-            "copy" => {
-                let bytes = self.copied_bytes(alloc)?;
-                self.open(alloc, bytes)
-            }
+            "open" => self.open_file(alloc, row.text(1)),
+            "new" => self.take(alloc, new_in_store(alloc)),
+            "again" => self.open_again(alloc),
+            "copy" => self.copy(alloc),
             "fails" => self.fault(alloc, row),
             _ => match &mut self.package {
                 Some(package) => answers_of(alloc, package, row),
@@ -100,12 +116,43 @@ impl Subject for Changes<'_> {
     }
 }
 
+// A function for each call: what is told of a call costs time wherever it is seen.
+fn store_of(package: Stored) -> Staged<MemoryDevice> {
+    package.into_medium()
+}
+
+fn device_of(store: Staged<MemoryDevice>) -> MemoryDevice {
+    store.into_device()
+}
+
+fn home_of(alloc: Global, device: &MemoryDevice) -> Result<Vec<u8>, Error> {
+    Ok(Vec::from_slice(alloc, device.bytes(Which::Home))?)
+}
+
+fn is_sound(package: &Stored) -> bool {
+    package.is_sound()
+}
+
+fn copy_of_package(alloc: Global, package: &mut Stored) -> Result<Vec<u8>, Error> {
+    let mut target = MemoryMedium::new(alloc);
+    match package.copy_to(&mut target) {
+        Ok(()) => Ok(target.into_bytes()),
+        Err(error) => Err(error),
+    }
+}
+
+// A store of this home file.
+fn store_over(alloc: Global, bytes: Vec<u8>) -> Result<Staged<MemoryDevice>, Error> {
+    match Staged::new(alloc, MemoryDevice::new(bytes, Vec::new(alloc))) {
+        Ok(store) => Ok(store),
+        Err((_, error)) => Err(error),
+    }
+}
+
 // The package of these bytes, as the home file of a store.
 fn package_in_store(alloc: Global, bytes: Vec<u8>) -> Result<Stored, Error> {
-    let device = MemoryDevice::new(bytes, Vec::new(alloc));
-    let store = Staged::new(alloc, device).map_err(|refused| refused.1)?;
     let letters = CaseMapper::ascii(alloc)?;
-    match Package::open(alloc, store, letters) {
+    match Package::open(alloc, store_over(alloc, bytes)?, letters) {
         Ok(package) => Ok(package),
         Err((_, error)) => Err(error),
     }
@@ -113,9 +160,8 @@ fn package_in_store(alloc: Global, bytes: Vec<u8>) -> Result<Stored, Error> {
 
 // A new package, in an empty store.
 fn new_in_store(alloc: Global) -> Result<Stored, Error> {
-    let device = MemoryDevice::new(Vec::new(alloc), Vec::new(alloc));
-    let store = Staged::new(alloc, device).map_err(|refused| refused.1)?;
     let letters = CaseMapper::ascii(alloc)?;
+    let store = store_over(alloc, Vec::new(alloc))?;
     match Package::create(alloc, PackageType::Installer, store, letters) {
         Ok(package) => Ok(package),
         Err((_, error)) => Err(error),
@@ -134,14 +180,45 @@ fn commands_of(alloc: Global, row: &Row) -> Result<Vec<Command>, Error> {
 
 // What a row's command answers: one that changes the package, or one that asks.
 fn answers_of(alloc: Global, package: &mut Stored, row: &Row) -> Result<String, Error> {
-    let mut told = copy_of(alloc, "")?;
-    for command in &commands_of(alloc, row)? {
-        let answer = match row.call() {
-            "ask" => reply(alloc, package, command),
-            _ => change(alloc, package, command).map(|()| Answer::Done),
-        };
-        let answer = answer.unwrap_or_else(Answer::Refused);
-        told.push_str(&answer_text(alloc, &answer)?)?;
+    let commands = commands_of(alloc, row)?;
+    match row.call() {
+        "ask" => replies_of(alloc, package, &commands),
+        _ => changes_of(alloc, package, &commands),
+    }
+}
+
+fn replies_of(alloc: Global, package: &mut Stored, commands: &[Command]) -> Result<String, Error> {
+    let mut told = String::new(alloc);
+    for command in commands {
+        push_answer(alloc, &mut told, reply(alloc, package, command))?;
     }
     Ok(told)
+}
+
+fn changes_of(alloc: Global, package: &mut Stored, commands: &[Command]) -> Result<String, Error> {
+    let mut told = String::new(alloc);
+    for command in commands {
+        push_answer(alloc, &mut told, done(change(alloc, package, command)))?;
+    }
+    Ok(told)
+}
+
+fn done(change: Result<(), Error>) -> Result<Answer, Error> {
+    match change {
+        Ok(()) => Ok(Answer::Done),
+        Err(error) => Err(error),
+    }
+}
+
+fn push_answer(
+    alloc: Global,
+    told: &mut String,
+    answer: Result<Answer, Error>,
+) -> Result<(), Error> {
+    let answer = match answer {
+        Ok(answer) => answer,
+        Err(error) => Answer::Refused(error),
+    };
+    told.push_str(answer_text(alloc, &answer)?.as_str())?;
+    Ok(())
 }

@@ -11,18 +11,37 @@ use test_support::FailingMedium;
 /// Opens the package while each call fails in turn, until none is left: the fault is told, and nothing is changed.
 pub fn open_fails(alloc: Global, bytes: &[u8]) -> Result<&'static str, Error> {
     for failing in 0..MANY {
-        match open_failing(alloc, bytes, failing) {
-            Ok(package) => return Ok(end_after(package.into_medium().failures())),
-            Err((medium, error)) if is_told(&medium, error, bytes) => {}
-            Err(_refused) => return Ok("another answer to a fault"),
+        if let Some(told) = end_of_opening(open_failing(alloc, bytes, failing), bytes) {
+            return Ok(told);
         }
     }
     Ok("endless")
 }
 
-// Whether one call has failed, is told, and has changed nothing.
-fn is_told(medium: &FailingMedium, error: Error, bytes: &[u8]) -> bool {
-    error == Error::Device && medium.failures() == 1 && medium.inner().bytes() == bytes
+// What is told of an opening: nothing where a fault was told.
+fn end_of_opening(
+    opened: Result<Package<FailingMedium>, (FailingMedium, Error)>,
+    bytes: &[u8],
+) -> Option<&'static str> {
+    match opened {
+        Ok(package) => Some(end_after(failures_of(package))),
+        Err((medium, error)) => end_of_refusal(&medium, error, bytes),
+    }
+}
+
+// What is told of a refusal: nothing where one call has failed, is told, and has changed nothing.
+fn end_of_refusal(medium: &FailingMedium, error: Error, bytes: &[u8]) -> Option<&'static str> {
+    let is_told = error == Error::Device && medium.failures() == 1;
+    end_of_fault(is_told && bytes_of(medium) == bytes)
+}
+
+fn bytes_of(medium: &FailingMedium) -> &[u8] {
+    medium.inner().bytes()
+}
+
+// How many calls of its medium have failed.
+fn failures_of(package: Package<FailingMedium>) -> u64 {
+    package.into_medium().failures()
 }
 
 // It was done: no call has failed meanwhile.
@@ -35,13 +54,19 @@ fn end_after(failures: u64) -> &'static str {
 
 /// Reads all rows while each call behind the opening fails in turn: the fault is told, and a second reading finds all rows.
 pub fn read_fails(alloc: Global, bytes: &[u8]) -> Result<&'static str, Error> {
-    let rows = count_rows(alloc, &mut opened_package(alloc, bytes)?)?;
+    let rows = rows_in(alloc, bytes)?;
     for failing in calls_of_opening(alloc, bytes)?..MANY {
         if let Some(told) = end_of_reading(alloc, opened_failing(alloc, bytes, failing)?, rows) {
             return Ok(told);
         }
     }
     Ok("endless")
+}
+
+// How many rows the package of these bytes has.
+fn rows_in(alloc: Global, bytes: &[u8]) -> Result<usize, Error> {
+    let mut package = opened_package(alloc, bytes)?;
+    count_rows(alloc, &mut package)
 }
 
 // What is told of a reading: nothing where a fault was told and a second one finds so many rows.
@@ -51,10 +76,27 @@ fn end_of_reading(
     rows: usize,
 ) -> Option<&'static str> {
     match count_rows(alloc, &mut package) {
-        Ok(_) => Some(end_after(package.into_medium().failures())),
-        Err(Error::Device) if count_rows(alloc, &mut package) == Ok(rows) => None,
-        Err(_) => Some("another answer to a fault"),
+        Ok(_) => Some(end_after(failures_of(package))),
+        Err(error) => end_of_fault(is_read_again(alloc, &mut package, error, rows)),
     }
+}
+
+// Whether a fault was told, and a second reading finds so many rows.
+fn is_read_again<F: Medium>(
+    alloc: Global,
+    package: &mut Package<F>,
+    error: Error,
+    rows: usize,
+) -> bool {
+    error == Error::Device && count_rows(alloc, package) == Ok(rows)
+}
+
+// What is told of a fault that was answered well, or in another way.
+fn end_of_fault(is_well: bool) -> Option<&'static str> {
+    if is_well {
+        return None;
+    }
+    Some("another answer to a fault")
 }
 
 /// Runs a command on the package of these bytes while each call behind the opening fails in turn: the fault is told, and the package
@@ -75,9 +117,8 @@ fn end_of_change(
     command: &Command,
 ) -> Option<&'static str> {
     match change(alloc, &mut package, command) {
-        Ok(()) => Some(end_after(package.into_medium().failures())),
-        Err(error) if is_well_after(alloc, &mut package, command, error) => None,
-        Err(_) => Some("another answer to a fault"),
+        Ok(()) => Some(end_after(failures_of(package))),
+        Err(error) => end_of_fault(is_well_after(alloc, &mut package, command, error)),
     }
 }
 
@@ -89,10 +130,22 @@ fn is_well_after<F: Medium>(
     error: Error,
 ) -> bool {
     match error {
-        Error::Failed => package.has_failed(),
-        Error::Device | Error::Memory => package.has_failed()
-            || change(alloc, package, command).is_ok(),
+        Error::Failed => has_failed(package),
+        Error::Device | Error::Memory => {
+            has_failed(package) || is_done(change(alloc, package, command))
+        }
         _ => false,
+    }
+}
+
+fn has_failed<F: Medium>(package: &Package<F>) -> bool {
+    package.has_failed()
+}
+
+fn is_done(change: Result<(), Error>) -> bool {
+    match change {
+        Ok(()) => true,
+        Err(_) => false,
     }
 }
 
@@ -100,12 +153,17 @@ fn is_well_after<F: Medium>(
 /// the command can be done, or failed.
 pub fn course_is_well(alloc: Global, bytes: &[u8], commands: &[Command]) -> Result<bool, Error> {
     let mut package = opened_package(alloc, bytes)?;
+    Ok(are_well(alloc, &mut package, commands))
+}
+
+// Whether each command is done, or a fault in it was told and left the package so that it can be done, or failed.
+fn are_well<F: Medium>(alloc: Global, package: &mut Package<F>, commands: &[Command]) -> bool {
     for command in commands {
-        if !is_well(alloc, &mut package, command) {
-            return Ok(false);
+        if !is_well(alloc, package, command) {
+            return false;
         }
     }
-    Ok(true)
+    true
 }
 
 // Whether a command is done, or a fault in it was told and left the package so that it can be done, or failed.

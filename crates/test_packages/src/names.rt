@@ -2,8 +2,9 @@
 use crate::opening::opened_package;
 use anyhow::Result;
 use cfb::CaseMapper;
-use cfb_medium::MemoryMedium;
+use cfb_medium::{Error, MemoryMedium};
 use msi::Package;
+use std::alloc::Global;
 
 // Names that no stream can have, and one that none has.
 const NAMES: [&str; 7] = [
@@ -22,24 +23,49 @@ const LETTERS: [(char, char); 3] = [('\u{3800}', 'A'), ('a', '\u{4840}'), ('a', 
 /// Prints what reading a stream of each name answers, and what opening does under letter tables that touch encoded names.
 pub fn print(rt: &HostRuntime, bytes: &[u8]) -> Result<()> {
     let mut package = opened_package(rt.alloc(), bytes)?;
+    print_names(rt, &mut package)?;
+    print_letters(rt, bytes)
+}
+
+fn print_names(rt: &HostRuntime, package: &mut Package<MemoryMedium>) -> Result<()> {
     for name in NAMES {
         let there = package.has_stream(name);
-        match package.read_stream(name) {
-            Ok(stream) => println!(rt; "{name:?}, there: {there}: {} bytes", stream.len())?,
-            Err(error) => println!(rt; "{name:?}, there: {there}: {error:?}")?,
-        }
+        print_len(rt, name, there, stream_len(package, name))?;
     }
-    print_letters(rt, bytes)
+    Ok(())
+}
+
+fn stream_len(package: &mut Package<MemoryMedium>, name: &str) -> Result<u64, Error> {
+    match package.read_stream(name) {
+        Ok(stream) => Ok(stream.len()),
+        Err(error) => Err(error),
+    }
+}
+
+fn print_len(rt: &HostRuntime, name: &str, there: bool, len: Result<u64, Error>) -> Result<()> {
+    match len {
+        Ok(len) => println!(rt; "{name:?}, there: {there}: {len} bytes")?,
+        Err(error) => println!(rt; "{name:?}, there: {there}: {error:?}")?,
+    }
+    Ok(())
 }
 
 fn print_letters(rt: &HostRuntime, bytes: &[u8]) -> Result<()> {
     for pair in LETTERS {
-        let medium = MemoryMedium::from_bytes(rt.alloc(), Vec::from_slice(rt.alloc(), bytes)?);
-        let letters = CaseMapper::new(rt.alloc(), &[pair])?;
-        match Package::open(rt.alloc(), medium, letters) {
-            Ok(_) => println!(rt; "letters {pair:?}: opened")?,
-            Err((_, error)) => println!(rt; "letters {pair:?}: {error:?}")?,
+        match open_under(rt.alloc(), bytes, pair) {
+            Ok(()) => println!(rt; "letters {pair:?}: opened")?,
+            Err(error) => println!(rt; "letters {pair:?}: {error:?}")?,
         }
     }
     Ok(())
+}
+
+// Opens the package of these bytes under a letter table of one pair.
+fn open_under(alloc: Global, bytes: &[u8], pair: (char, char)) -> Result<(), Error> {
+    let letters = CaseMapper::new(alloc, &[pair])?;
+    let bytes = Vec::from_slice(alloc, bytes)?;
+    match Package::open(alloc, MemoryMedium::from_bytes(alloc, bytes), letters) {
+        Ok(_) => Ok(()),
+        Err((_, error)) => Err(error),
+    }
 }

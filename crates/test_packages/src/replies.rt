@@ -2,12 +2,12 @@
 use cfb_medium::{Error, ReadMedium};
 use command_file::Command;
 use installer::Answer;
-use msi::Package;
+use msi::{Package, StreamReader};
 use msi_columns::Column;
 use msi_props::PropertyValue;
 use msi_query::Select;
 use msi_summary::SummaryInfo;
-use msi_tables::Row;
+use msi_tables::{Row, Rows};
 use msi_values::Value;
 use std::alloc::Global;
 
@@ -33,13 +33,21 @@ fn rows_of<F: ReadMedium>(
     package: &mut Package<F>,
     query: &Select,
 ) -> Result<Answer, Error> {
-    let found = package.select_rows(query)?;
+    let found = selected(package, query)?;
     let names = names_of(alloc, found.columns())?;
+    Ok(Answer::Rows(names, all_values(alloc, found)?))
+}
+
+fn selected<F: ReadMedium>(package: &mut Package<F>, query: &Select) -> Result<Rows, Error> {
+    package.select_rows(query)
+}
+
+fn all_values(alloc: Global, found: Rows) -> Result<Vec<Vec<Value>>, Error> {
     let mut rows = Vec::new(alloc);
     for row in found {
         rows.push(values_of(alloc, &row)?)?;
     }
-    Ok(Answer::Rows(names, rows))
+    Ok(rows)
 }
 
 fn names_of(alloc: Global, columns: &[Column]) -> Result<Vec<String>, Error> {
@@ -54,10 +62,14 @@ fn values_of(alloc: Global, row: &Row) -> Result<Vec<Value>, Error> {
     let mut values = Vec::new(alloc);
     for place in 0..row.len() {
         if let Some(value) = row.value(place) {
-            values.push(value.clone(alloc)?)?;
+            values.push(copy_of_value(alloc, value)?)?;
         }
     }
     Ok(values)
+}
+
+fn copy_of_value(alloc: Global, value: &Value) -> Result<Value, Error> {
+    value.clone(alloc)
 }
 
 fn bytes_of<F: ReadMedium>(
@@ -65,10 +77,18 @@ fn bytes_of<F: ReadMedium>(
     package: &mut Package<F>,
     name: &str,
 ) -> Result<Answer, Error> {
-    let mut stream = package.read_stream(name)?;
+    let mut stream = stream_of(package, name)?;
+    Ok(Answer::Bytes(all_bytes(alloc, &mut stream)?))
+}
+
+fn stream_of<F: ReadMedium>(package: &mut Package<F>, name: &str) -> Result<StreamReader, Error> {
+    package.read_stream(name)
+}
+
+fn all_bytes(alloc: Global, stream: &mut StreamReader) -> Result<Vec<u8>, Error> {
     let mut bytes = vec![in alloc; 0u8; stream.len() as usize]?;
     stream.read(&mut bytes)?;
-    Ok(Answer::Bytes(bytes))
+    Ok(bytes)
 }
 
 fn stream_names<F: ReadMedium>(alloc: Global, package: &Package<F>) -> Result<Answer, Error> {
@@ -114,6 +134,6 @@ fn count_in<F: ReadMedium>(
     name: &str,
 ) -> Result<usize, Error> {
     let select = Select::table(alloc, name)?;
-    let rows = package.select_rows(&select)?;
+    let rows = selected(package, &select)?;
     Ok(rows.len())
 }

@@ -16,44 +16,76 @@ pub struct Answers;
 impl Subject for Answers {
     fn answer(&mut self, alloc: Global, row: &Row) -> Result<String, Error> {
         let answer = answer_of(alloc, row)?;
-        Ok(answer_text(alloc, &answer)?)
+        told(alloc, &answer)
     }
 }
 
+fn told(alloc: Global, answer: &Answer) -> Result<String, Error> {
+    Ok(answer_text(alloc, answer)?)
+}
+
 fn answer_of(alloc: Global, row: &Row) -> Result<Answer, Error> {
-    Ok(match row.call() {
-        "done" => Answer::Done,
-        "refused" => Answer::Refused(kind_of(row.text(1))?),
-        "names" => Answer::Names(texts_at(alloc, row, 1)?),
-        "rows" => {
-            let Some(rows) = row.cell(2) else {
-                return Err(Error::NotFound);
-            };
-            Answer::Rows(texts_at(alloc, row, 1)?, rows_of(alloc, rows)?)
-        }
-        "columns" => Answer::Columns(columns_at(alloc, row.text(1))?),
-        "bytes" => Answer::Bytes(bytes_at(alloc, row, 1)?),
-        "yes" => Answer::Yes(row.flag(1)),
-        "summary" => Answer::Summary(properties_at(alloc, row)?),
-        "codepage" => Answer::Codepage(page_of(row)?),
-        _ => return Err(Error::NotFound),
-    })
+    match row.call() {
+        "done" => Ok(Answer::Done),
+        "refused" => refused(row.text(1)),
+        "names" => names(alloc, row),
+        "rows" => rows(alloc, row),
+        "yes" => Ok(Answer::Yes(row.flag(1))),
+        "codepage" => codepage(row),
+        _ => list_of(alloc, row),
+    }
+}
+
+fn list_of(alloc: Global, row: &Row) -> Result<Answer, Error> {
+    match row.call() {
+        "columns" => Ok(Answer::Columns(columns_at(alloc, row.text(1))?)),
+        "bytes" => Ok(Answer::Bytes(bytes_at(alloc, row, 1)?)),
+        "summary" => Ok(Answer::Summary(properties_at(alloc, row)?)),
+        _ => Err(Error::NotFound),
+    }
+}
+
+fn refused(name: &str) -> Result<Answer, Error> {
+    match kind_of(name) {
+        Some(error) => Ok(Answer::Refused(error)),
+        None => Err(Error::NotFound),
+    }
+}
+
+fn names(alloc: Global, row: &Row) -> Result<Answer, Error> {
+    Ok(Answer::Names(texts_at(alloc, row, 1)?))
+}
+
+fn rows(alloc: Global, row: &Row) -> Result<Answer, Error> {
+    let Some(cell) = row.cell(2) else {
+        return Err(Error::NotFound);
+    };
+    let names = texts_at(alloc, row, 1)?;
+    Ok(Answer::Rows(names, rows_of(alloc, cell)?))
+}
+
+fn codepage(row: &Row) -> Result<Answer, Error> {
+    let id = i32::try_from(row.number(1)).unwrap_or(0);
+    match CodePage::from_id(id) {
+        Some(page) => Ok(Answer::Codepage(page)),
+        None => Err(Error::InvalidInput),
+    }
 }
 
 // An error by the name of its kind.
-fn kind_of(name: &str) -> Result<Error, Error> {
-    Ok(match name {
-        "InvalidData" => Error::InvalidData,
-        "InvalidInput" => Error::InvalidInput,
-        "NotFound" => Error::NotFound,
-        "AlreadyExists" => Error::AlreadyExists,
-        "UnexpectedEof" => Error::UnexpectedEof,
-        "Full" => Error::Full,
-        "Memory" => Error::Memory,
-        "Device" => Error::Device,
-        "Failed" => Error::Failed,
-        _ => return Err(Error::NotFound),
-    })
+fn kind_of(name: &str) -> Option<Error> {
+    match name {
+        "InvalidData" => Some(Error::InvalidData),
+        "InvalidInput" => Some(Error::InvalidInput),
+        "NotFound" => Some(Error::NotFound),
+        "AlreadyExists" => Some(Error::AlreadyExists),
+        "UnexpectedEof" => Some(Error::UnexpectedEof),
+        "Full" => Some(Error::Full),
+        "Memory" => Some(Error::Memory),
+        "Device" => Some(Error::Device),
+        "Failed" => Some(Error::Failed),
+        _ => None,
+    }
 }
 
 fn texts_at(alloc: Global, row: &Row, place: usize) -> Result<Vec<String>, Error> {
@@ -66,13 +98,28 @@ fn texts_at(alloc: Global, row: &Row, place: usize) -> Result<Vec<String>, Error
 
 // The columns of the table that a command file makes.
 fn columns_at(alloc: Global, text: &str) -> Result<Vec<Column>, Error> {
+    let commands = commands_in(alloc, text)?;
+    match commands.as_slice() {
+        [Command::CreateTable(_, columns)] => columns_copied(alloc, columns),
+        _ => Ok(Vec::new(alloc)),
+    }
+}
+
+/// The commands of a text that is a command file.
+pub fn commands_in(alloc: Global, text: &str) -> Result<Vec<Command>, Error> {
+    read_commands(alloc, text)
+}
+
+fn columns_copied(alloc: Global, columns: &[Column]) -> Result<Vec<Column>, Error> {
     let mut copies = Vec::new(alloc);
-    if let [Command::CreateTable(_, columns)] = read_commands(alloc, text)?.as_slice() {
-        for column in columns {
-            copies.push(column.clone(alloc)?)?;
-        }
+    for column in columns {
+        copies.push(copy_of_column(alloc, column)?)?;
     }
     Ok(copies)
+}
+
+fn copy_of_column(alloc: Global, column: &Column) -> Result<Column, Error> {
+    column.clone(alloc)
 }
 
 // Properties, each a list of its number, its type and its value.
@@ -87,19 +134,19 @@ fn properties_at(alloc: Global, row: &Row) -> Result<Vec<(u32, PropertyValue)>, 
 }
 
 fn property_of(alloc: Global, part: &Row) -> Result<PropertyValue, Error> {
-    let number = part.number(2);
-    Ok(match part.text(1) {
-        "empty" => PropertyValue::Empty,
-        "null" => PropertyValue::Null,
+    match part.text(1) {
+        "empty" => Ok(PropertyValue::Empty),
+        "null" => Ok(PropertyValue::Null),
+        "I1" | "I2" | "I4" | "time" => Ok(number_property(part.text(1), part.number(2))),
+        _ => Ok(PropertyValue::LpStr(copy_of(alloc, part.text(2))?)),
+    }
+}
+
+fn number_property(kind: &str, number: i64) -> PropertyValue {
+    match kind {
         "I1" => PropertyValue::I1(i8::try_from(number).unwrap_or(0)),
         "I2" => PropertyValue::I2(i16::try_from(number).unwrap_or(0)),
         "I4" => PropertyValue::I4(i32::try_from(number).unwrap_or(0)),
-        "time" => PropertyValue::FileTime(Timestamp::from_unix(number, 0)),
-        _ => PropertyValue::LpStr(copy_of(alloc, part.text(2))?),
-    })
-}
-
-fn page_of(row: &Row) -> Result<CodePage, Error> {
-    let id = i32::try_from(row.number(1)).unwrap_or(0);
-    CodePage::from_id(id).ok_or(Error::InvalidInput)
+        _ => PropertyValue::FileTime(Timestamp::from_unix(number, 0)),
+    }
 }

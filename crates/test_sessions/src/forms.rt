@@ -1,8 +1,10 @@
 //! The forms of command files: what they are read as.
+use crate::answers::commands_in;
 use cfb_medium::{Error, Timestamp};
-use command_file::{Command, SummaryEdit, read_commands};
+use command_file::{Command, SummaryEdit};
 use msi_columns::Column;
 use std::alloc::Global;
+use std::fmt::{Debug, Display};
 use test_support::{Row, Subject, copy_of};
 
 /// Reads a row that is a command file, a text, or so many brackets in one another.
@@ -34,20 +36,41 @@ fn nested_brackets(alloc: Global, depth: i64) -> Result<String, Error> {
 
 // The last command of a file.
 fn last_told(alloc: Global, text: &str) -> Result<String, Error> {
-    match read_commands(alloc, text)?.as_slice() {
-        [.., Command::CreateTable(name, columns)] => columns_told(alloc, name, columns),
-        [.., Command::Insert(insert)] => Ok(format!(in alloc; "{insert}")?),
-        [.., Command::Delete(delete)] => Ok(format!(in alloc; "{delete}")?),
-        [.., Command::SetSummary(edit)] => edit_told(alloc, edit),
-        [.., Command::SetCodepage(page)] => Ok(format!(in alloc; "codepage {}", page.id())?),
-        [.., Command::DropTable(name)] => Ok(format!(in alloc; "drop {name}")?),
+    let commands = commands_in(alloc, text)?;
+    match commands.as_slice() {
+        [.., command] => command_told(alloc, command),
+        [] => copy_of(alloc, "another"),
+    }
+}
+
+fn command_told(alloc: Global, command: &Command) -> Result<String, Error> {
+    match command {
+        Command::CreateTable(name, columns) => columns_told(alloc, name, columns),
+        Command::Insert(insert) => shown(alloc, insert),
+        Command::Delete(delete) => shown(alloc, delete),
+        Command::SetSummary(edit) => edit_told(alloc, edit),
+        Command::SetCodepage(page) => named(alloc, "codepage", &page.id()),
+        Command::DropTable(name) => named(alloc, "drop", name),
         _ => copy_of(alloc, "another"),
     }
 }
 
+fn shown<T: Display>(alloc: Global, value: &T) -> Result<String, Error> {
+    Ok(format!(in alloc; "{value}")?)
+}
+
+fn named<T: Display>(alloc: Global, word: &str, value: &T) -> Result<String, Error> {
+    Ok(format!(in alloc; "{word} {value}")?)
+}
+
+// A value with its parts, behind a word.
+fn parts_told<T: Debug>(alloc: Global, word: &str, value: &T) -> Result<String, Error> {
+    Ok(format!(in alloc; "{word} {value:?}")?)
+}
+
 // A new table, with all that its columns say.
 fn columns_told(alloc: Global, name: &str, columns: &[Column]) -> Result<String, Error> {
-    let mut line = format!(in alloc; "create {name}")?;
+    let mut line = named(alloc, "create", &name)?;
     for column in columns {
         line.push_str(column_told(alloc, column)?.as_str())?;
     }
@@ -55,66 +78,65 @@ fn columns_told(alloc: Global, name: &str, columns: &[Column]) -> Result<String,
 }
 
 fn column_told(alloc: Global, column: &Column) -> Result<String, Error> {
+    let kind = kind_told(alloc, column)?;
+    let bounds = bounds_told(alloc, column)?;
+    Ok(format!(in alloc; " [{kind} {bounds}]")?)
+}
+
+fn kind_told(alloc: Global, column: &Column) -> Result<String, Error> {
     let (name, kind) = (column.name(), column.coltype());
-    let (key, null, local) = (
-        column.is_primary_key(),
-        column.is_nullable(),
-        column.is_localizable(),
-    );
+    let (key, null) = (column.is_primary_key(), column.is_nullable());
+    let local = column.is_localizable();
+    Ok(format!(in alloc; "{name} {kind} {key} {null} {local}")?)
+}
+
+fn bounds_told(alloc: Global, column: &Column) -> Result<String, Error> {
     let (range, category) = (column.value_range(), column.category());
     let (choices, foreign) = (column.enum_values(), column.foreign_key());
-    Ok(format!(in alloc;
-        " [{name} {kind} {key} {null} {local} {range:?} {category:?} {choices:?} {foreign:?}]"
-    )?)
+    Ok(format!(in alloc; "{range:?} {category:?} {choices:?} {foreign:?}")?)
 }
 
 // A change of the summary.
 fn edit_told(alloc: Global, edit: &SummaryEdit) -> Result<String, Error> {
     match edit {
-        SummaryEdit::Title(text) => text_told(alloc, "title", text),
-        SummaryEdit::Subject(text) => text_told(alloc, "subject", text),
-        SummaryEdit::Author(text) => text_told(alloc, "author", text),
-        SummaryEdit::Comments(text) => text_told(alloc, "comments", text),
-        SummaryEdit::Arch(text) => text_told(alloc, "arch", text),
-        SummaryEdit::LastSavedBy(text) => text_told(alloc, "last saved by", text),
-        SummaryEdit::CreatingApplication(text) => text_told(alloc, "creating application", text),
+        SummaryEdit::Title(text) => parts_told(alloc, "title", text),
+        SummaryEdit::Subject(text) => parts_told(alloc, "subject", text),
+        SummaryEdit::Author(text) => parts_told(alloc, "author", text),
+        SummaryEdit::Comments(text) => parts_told(alloc, "comments", text),
+        SummaryEdit::Arch(text) => parts_told(alloc, "arch", text),
+        SummaryEdit::LastSavedBy(text) => parts_told(alloc, "last saved by", text),
+        SummaryEdit::CreatingApplication(text) => parts_told(alloc, "creating application", text),
         SummaryEdit::LastPrinted(moment) => moment_told(alloc, "last printed", *moment),
         SummaryEdit::CreationTime(moment) => moment_told(alloc, "created", *moment),
         SummaryEdit::LastSavedTime(moment) => moment_told(alloc, "last saved", *moment),
-        SummaryEdit::PageCount(count) => number_told(alloc, "pages", *count),
-        SummaryEdit::WordCount(count) => number_told(alloc, "words", *count),
-        SummaryEdit::CharacterCount(count) => number_told(alloc, "characters", *count),
-        SummaryEdit::DocSecurity(count) => number_told(alloc, "security", *count),
+        SummaryEdit::PageCount(count) => parts_told(alloc, "pages", count),
+        SummaryEdit::WordCount(count) => parts_told(alloc, "words", count),
+        SummaryEdit::CharacterCount(count) => parts_told(alloc, "characters", count),
+        SummaryEdit::DocSecurity(count) => parts_told(alloc, "security", count),
         _ => list_told(alloc, edit),
     }
 }
 
 // A change to keywords, languages, a code or a page.
 fn list_told(alloc: Global, edit: &SummaryEdit) -> Result<String, Error> {
-    Ok(match edit {
-        SummaryEdit::Keywords(words) => format!(in alloc; "keywords {words:?}")?,
-        SummaryEdit::Languages(ids) => format!(in alloc; "languages {ids:?}")?,
-        SummaryEdit::Uuid(Some(id)) => format!(in alloc; "uuid {id}")?,
-        SummaryEdit::Codepage(page) => format!(in alloc; "page {}", page.id())?,
-        _ => copy_of(alloc, "uuid None")?,
-    })
-}
-
-fn text_told(alloc: Global, field: &str, text: &Option<String>) -> Result<String, Error> {
-    Ok(format!(in alloc; "{field} {text:?}")?)
-}
-
-fn number_told(alloc: Global, field: &str, number: Option<i32>) -> Result<String, Error> {
-    Ok(format!(in alloc; "{field} {number:?}")?)
+    match edit {
+        SummaryEdit::Keywords(words) => parts_told(alloc, "keywords", words),
+        SummaryEdit::Languages(ids) => parts_told(alloc, "languages", ids),
+        SummaryEdit::Uuid(Some(id)) => named(alloc, "uuid", id),
+        SummaryEdit::Codepage(page) => named(alloc, "page", &page.id()),
+        _ => copy_of(alloc, "uuid None"),
+    }
 }
 
 // A moment as seconds since 1970 and nanoseconds.
 fn moment_told(alloc: Global, field: &str, moment: Option<Timestamp>) -> Result<String, Error> {
     match moment {
-        Some(moment) => {
-            let (seconds, nanos) = moment.to_unix();
-            Ok(format!(in alloc; "{field} {seconds} s {nanos} ns")?)
-        }
-        None => Ok(format!(in alloc; "{field} None")?),
+        Some(moment) => seconds_told(alloc, field, moment.to_unix()),
+        None => named(alloc, field, &"None"),
     }
+}
+
+fn seconds_told(alloc: Global, field: &str, moment: (i64, u32)) -> Result<String, Error> {
+    let (seconds, nanos) = moment;
+    Ok(format!(in alloc; "{field} {seconds} s {nanos} ns")?)
 }

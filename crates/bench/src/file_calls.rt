@@ -1,0 +1,104 @@
+//! Calls of a compound file, each in a function of its own: what is told of a call costs time wherever it is seen.
+use cfb::{CompoundFile, Entries, Stream};
+use cfb_medium::{Error, MemoryMedium, ReadMedium};
+use cfb_tree::CaseMapper;
+use std::alloc::Global;
+
+/// A new compound file in memory.
+pub fn new_file(alloc: Global) -> Result<CompoundFile<MemoryMedium>, Error> {
+    let letters = CaseMapper::ascii(alloc)?;
+    match CompoundFile::create(alloc, MemoryMedium::new(alloc), letters) {
+        Ok(file) => Ok(file),
+        Err((_, error)) => Err(error),
+    }
+}
+
+/// The compound file that a medium holds.
+pub fn open(alloc: Global, medium: MemoryMedium) -> Result<CompoundFile<MemoryMedium>, Error> {
+    let letters = CaseMapper::ascii(alloc)?;
+    match CompoundFile::open(alloc, medium, letters) {
+        Ok(file) => Ok(file),
+        Err((_, error)) => Err(error),
+    }
+}
+
+pub fn into_inner(file: CompoundFile<MemoryMedium>) -> MemoryMedium {
+    file.into_inner()
+}
+
+/// Makes a stream without bytes.
+pub fn make(file: &mut CompoundFile<MemoryMedium>, path: &str) -> Result<(), Error> {
+    file.create_new_stream(path)
+}
+
+pub fn remove(file: &mut CompoundFile<MemoryMedium>, path: &str) -> Result<(), Error> {
+    file.remove_stream(path)
+}
+
+/// Writes so many bytes to a stream, as many as the piece has at once.
+pub fn write(
+    file: &mut CompoundFile<MemoryMedium>,
+    path: &str,
+    piece: &[u8],
+    len: usize,
+) -> Result<(), Error> {
+    let mut stream = file.open_stream(path)?;
+    let done = write_pieces(&mut stream, piece, len);
+    let closed = stream.close();
+    done?;
+    closed
+}
+
+fn write_pieces(
+    stream: &mut Stream<'_, MemoryMedium>,
+    piece: &[u8],
+    len: usize,
+) -> Result<(), Error> {
+    let mut left = len;
+    for _ in 0..len {
+        if left == 0 {
+            break;
+        }
+        let count = left.min(piece.len());
+        write_piece(stream, &piece[..count])?;
+        left -= count;
+    }
+    Ok(())
+}
+
+fn write_piece(stream: &mut Stream<'_, MemoryMedium>, piece: &[u8]) -> Result<(), Error> {
+    stream.write(piece)?;
+    Ok(())
+}
+
+/// All objects of a file.
+pub fn entries<F: ReadMedium>(file: &CompoundFile<F>) -> Result<Entries, Error> {
+    file.walk()
+}
+
+/// Reads each of these that is a stream, by its path: how many bytes they have.
+pub fn read_streams<F: ReadMedium>(
+    alloc: Global,
+    file: &mut CompoundFile<F>,
+    entries: Entries,
+) -> Result<u64, Error> {
+    let mut bytes = Vec::new(alloc);
+    let mut all = 0u64;
+    for entry in entries {
+        if entry.is_stream() {
+            bytes.clear();
+            let count = read(file, entry.path(), &mut bytes)?;
+            all = all.saturating_add(count as u64);
+        }
+    }
+    Ok(all)
+}
+
+// Reads a stream whole.
+fn read<F: ReadMedium>(
+    file: &mut CompoundFile<F>,
+    path: &str,
+    bytes: &mut Vec<u8>,
+) -> Result<usize, Error> {
+    file.open_read_stream(path)?.read_to_end(bytes)
+}
