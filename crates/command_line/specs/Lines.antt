@@ -5,14 +5,16 @@ use Rattle.clap.specs.Words.{Row, Text, first_of, subcommand_of}
 use Rattle.command_line.specs.Words.{msidb}
 use Rattle.command_line.specs.declared.line.Line.{Line}
 use Rattle.command_line.specs.declared.line.Line.TheVariants.{Create, List as ListNames, Export, Recover, Run, Show}
+use Rattle.command_line.specs.declared.line.Log.{Log}
+use Rattle.command_line.specs.declared.line.Log.TheVariants.{At, Beside, Twice}
 use Rattle.command_line.specs.declared.show.Parts.{Parts}
 
 -- what a line says: the word, and each path with the name under which it is given
 abbrev pub said : Line → Text × List (Text × Text)
-said (Create home log) = (codes "create", (codes "HOME", home.now) ∷ (codes "LOG", log.now) ∷ [])
-said (Recover home log) = (codes "recover", (codes "HOME", home.now) ∷ (codes "LOG", log.now) ∷ [])
-said (Run home log commands) = (codes "run", (codes "HOME", home.now) ∷ (codes "LOG", log.now) ∷ (codes "COMMANDS", commands.now) ∷ [])
-said (ListNames home log) = (codes "list", (codes "HOME", home.now) ∷ (codes "LOG", log.now) ∷ [])
+said (Create home log) = (codes "create", (codes "PACKAGE", home.now) ∷ [])
+said (Recover home log) = (codes "recover", (codes "PACKAGE", home.now) ∷ [])
+said (Run home log commands) = (codes "run", (codes "PACKAGE", home.now) ∷ [])
+said (ListNames home log) = (codes "list", (codes "PACKAGE", home.now) ∷ [])
 said (Show file parts) = (codes "show", (codes "FILE", file.now) ∷ [])
 said (Export file folder) = (codes "export", (codes "FILE", file.now) ∷ (codes "FOLDER", folder.now) ∷ [])
 
@@ -31,10 +33,46 @@ abbrev pub AreAsked : Parts → List Row → Type 0
 AreAsked parts rows = (option_map (λ s. s.now) parts.table ≡ first_of (codes "TABLE") rows)
     × (parts.summary ≡ is_set (first_of (codes "summary") rows)) × (parts.streams ≡ is_set (first_of (codes "streams") rows))
 
--- what is asked for besides paths
+-- which log is named: none, one, or two
+pub data Named : Type 0 where
+  unnamed : Named
+  once : Text → Named
+  twice : Text → Text → Named
+
+abbrev pub named_by : Log → Named
+named_by Beside = unnamed
+named_by (At path) = once path.now
+named_by (Twice among behind) = twice among.now behind.now
+
+-- the log that is named by a path among the others, by the one behind `--log`, or by both
+abbrev pub named : Option Text → Option Text → Named
+named None None = unnamed
+named None (Some behind) = once behind
+named (Some among) None = once among
+named (Some among) (Some behind) = twice among behind
+
+-- of one path or two behind the package the last is that of the commands
+abbrev pub commands_among : Option Text → Option Text → Option Text
+commands_among first None = first
+commands_among first (Some last) = Some last
+
+-- and what stands in front of it that of the log
+abbrev pub log_among : Option Text → Option Text → Option Text
+log_among first None = None
+log_among first (Some last) = first
+
+abbrev pub IsNamedIn : Log → Option Text → List Row → Type 0
+IsNamedIn log among rows = named_by log ≡ named among (first_of (codes "log") rows)
+
+-- what is asked for besides the paths that must be there
 abbrev pub AsksFor : Line → List Row → Type 0
+AsksFor (Create home log) rows = IsNamedIn log (first_of (codes "LOG") rows) rows
+AsksFor (Recover home log) rows = IsNamedIn log (first_of (codes "LOG") rows) rows
+AsksFor (ListNames home log) rows = IsNamedIn log (first_of (codes "LOG") rows) rows
+AsksFor (Run home log commands) rows = let first = first_of (codes "COMMANDS") rows in let last = first_of (codes "LAST") rows in
+    (Some commands.now ≡ commands_among first last) × IsNamedIn log (log_among first last) rows
 AsksFor (Show file parts) rows = AreAsked parts rows
-AsksFor line rows = Unit {0}
+AsksFor (Export file folder) rows = Unit {0}
 
 -- the word that was found, with its paths, is what the line says
 abbrev pub SaidIn : Line → Option (Text × List Row) → Type 0

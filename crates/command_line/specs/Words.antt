@@ -7,13 +7,20 @@ use Rattle.clap.specs.declared.builder.action.ArgAction.TheVariants.{SetTrue}
 abbrev pub path : Text → Rule
 path id = record (new_rule id) { required = true }
 
--- a word with the paths of a home file and a log
-abbrev pub two_paths : Text → App
-two_paths name = with_rule (with_rule (new_app name) (path (codes "HOME"))) (path (codes "LOG"))
+-- the log behind `--log`, of which no more than one is named
+abbrev pub log_option : Rule
+log_option = record (new_rule (codes "log")) { long = Some (codes "log"); value_names = 1 }
 
--- a word with the path of a command file beside these
-abbrev pub three_paths : Text → App
-three_paths name = with_rule (two_paths name) (path (codes "COMMANDS"))
+-- a word with the path of a package and with that of its log, which may be missing, or stand behind `--log`
+abbrev pub on_package : Text → App
+on_package name = with_rule (with_rule (with_rule (new_app name) (path (codes "PACKAGE"))) (new_rule (codes "LOG"))) log_option
+
+-- the word that runs commands: the package, and one path or two behind it, of which the last is that of the commands
+abbrev pub two_paths : App
+two_paths = with_rule (with_rule (new_app (codes "run")) (path (codes "PACKAGE"))) (path (codes "COMMANDS"))
+
+abbrev pub run : App
+run = with_rule (with_rule two_paths (new_rule (codes "LAST"))) log_option
 
 -- a word behind two hyphens, which nothing follows
 abbrev pub flag : Text → Rule
@@ -33,17 +40,22 @@ shown = with_rule summary_shown (flag (codes "streams"))
 abbrev pub exported : App
 exported = with_rule (with_rule (new_app (codes "export")) (path (codes "FILE"))) (path (codes "FOLDER"))
 
--- no word yet: one must be there, and the program's own name isn't among the words
+-- no word yet: one must be there, or a wish for help or version, and the program's own name isn't among the words
 abbrev pub bare : App
-bare = let app = new_app (codes "msidb") in record app { top = record app.top { no_binary_name = true; subcommand_required = true } }
+bare = let app = new_app (codes "msidb") in record app {
+  top = record app.top {
+    no_binary_name = true;
+    subcommand_required = true;
+    has_version = true;
+  };
+}
 
--- the words of which each has two paths
+-- the words on a package and its log
 abbrev pub without_run : App
-without_run = with_subcommand (with_subcommand bare (two_paths (codes "create")).top) (two_paths (codes "recover")).top
+without_run = with_subcommand (with_subcommand bare (on_package (codes "create")).top) (on_package (codes "recover")).top
 
--- and with the word that runs commands
 abbrev pub with_log : App
-with_log = with_subcommand (with_subcommand without_run (three_paths (codes "run")).top) (two_paths (codes "list")).top
+with_log = with_subcommand (with_subcommand without_run run.top) (on_package (codes "list")).top
 
 abbrev pub msidb : App
 msidb = with_subcommand (with_subcommand with_log shown.top) exported.top

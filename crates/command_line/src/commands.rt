@@ -1,77 +1,107 @@
-//! A command file, and the run of its commands.
-use crate::files;
+//! The run of commands on a package, and what is answered.
+use crate::failures::{Failure, Paths, Trouble, failure_of};
+use crate::files::{self, Found};
+use crate::packages::is_sound_at;
 use crate::progress::Progress;
+use crate::refusals::{trouble_of, why_refused};
+use crate::sessions::{open_session, run_commands};
 use cfb_medium::Error;
+use file_device::FileDevice;
 use installer::{Answer, Command, Session, answer_text};
-use staged::Device;
 use std::alloc::Global;
-use std::fs::{self, File};
-use std::io::{self, Write};
+use std::fs::File;
+use std::io::Write;
 use std::rt::Files;
 use std::time::Clock;
 
 // How many commands are run before their answers are printed.
 const SLICE: usize = 64;
 
-// How a run ended that met no fault.
-#[derive(Clone, Copy, Debug, PartialEq, Eq)]
-pub enum Ending {
-    // All was done.
+/// How a run ended that met no fault.
+#[derive(Clone, Copy, Debug)]
+pub(crate) enum Ending {
+    /// All was done.
     Done,
-    // A command was refused by a rule.
+    /// A command was refused by a rule.
     Refused,
 }
 
-// The text of a command file. `InvalidData` where it is no regular file or can't be read, `Memory` where there is no room.
-pub fn text_in<R: Files<File = File> + AllocGlobal>(rt: &R, path: &str) -> Result<String, Error> {
-    if !is_regular(rt, path) {
-        return Err(Error::InvalidData);
-    }
-    match fs::read_to_string(rt, path) {
-        Ok(text) => Ok(text),
-        Err(error) if error.kind() == io::ErrorKind::OutOfMemory => Err(Error::Memory),
-        Err(_) => Err(Error::InvalidData),
-    }
-}
-
-// Whether it is a regular file. A pipe isn't opened, since that may wait, nor a device node, which may have no end.
-fn is_regular<R: Files<File = File>>(rt: &R, path: &str) -> bool {
-    match fs::metadata(rt, path) {
-        Ok(metadata) => metadata.is_file(),
-        Err(_) => false,
-    }
-}
-
-// Runs commands on the package of two files, prints their answers, and shows how far it has come.
-pub fn run<R: Files<File = File> + AllocGlobal + Clock, O: Write, E: Write>(
+/// Runs commands on the package of two files, prints their answers, and shows how far it has come.
+pub(crate) fn run<R: Files<File = File> + AllocGlobal + Clock, O: Write, E: Write>(
     rt: &R,
-    home: &str,
-    log: &str,
+    paths: &Paths<'_>,
     commands: &[Command],
     out: &mut O,
     progress: &mut Progress<'_, R, E>,
-) -> Result<Ending, Error> {
-    let device = files::open(rt, home, log)?;
-    let mut session = match Session::open(rt.alloc(), device) {
-        Ok(session) => session,
-        Err((_, error)) => return Err(error),
-    };
+) -> Result<Ending, Failure> {
+    let mut session = session_on(rt, paths)?;
     let mut answers = Answers::new(rt.alloc(), out);
     if let Err(fault) = run_all(&mut session, commands, &mut answers, progress) {
-        answers.meet(fault);
+        answers.meet(failure_of(fault));
     }
     answers.ending()
 }
 
+// A session on the package of two files. Where there is no log yet, none is made before the package was found to be one.
+fn session_on<R: Files<File = File> + AllocGlobal>(
+    rt: &R,
+    paths: &Paths<'_>,
+) -> Result<Session<FileDevice>, Failure> {
+    check_before_log(rt, paths)?;
+    let device = files::open(rt, paths)?;
+    match open_session(rt.alloc(), device) {
+        Ok(session) => Ok(session),
+        Err(error) => Err(why_no_session(rt, paths, error)),
+    }
+}
+
+// Refuses files on which no session can be opened, where there is no log yet.
+fn check_before_log<R: Files<File = File> + AllocGlobal>(
+    rt: &R,
+    paths: &Paths<'_>,
+) -> Result<(), Failure> {
+    match files::look_at(rt, paths)? {
+        Found::Missing => {
+            check_package(rt, paths.package)?;
+            files::check_log_folder(rt, paths)
+        }
+        _ => Ok(()),
+    }
+}
+
+// Refuses a file that is no package.
+fn check_package<R: Files<File = File> + AllocGlobal>(rt: &R, path: &str) -> Result<(), Failure> {
+    match is_sound_at(rt, path) {
+        Ok(_) => Ok(()),
+        Err(Error::Memory) => Err(Failure::Memory),
+        Err(error) => Err(Failure::Package(trouble_of(rt, path, error))),
+    }
+}
+
+// Why no session was opened on two files: a refusal by rule is one of the log, whose commit then stays open, or of the package.
+fn why_no_session<R: Files<File = File> + AllocGlobal>(
+    rt: &R,
+    paths: &Paths<'_>,
+    error: Error,
+) -> Failure {
+    match error {
+        Error::Memory | Error::Device | Error::Failed | Error::Full => failure_of(error),
+        _ => match files::look_at(rt, paths) {
+            Ok(Found::Open) => Failure::Log(Trouble::UnfitCommit),
+            _ => Failure::Package(why_refused(rt, paths.package)),
+        },
+    }
+}
+
 // Runs commands in slices, whose answers are printed as they come.
-fn run_all<D: Device, O: Write, R: Clock, E: Write>(
-    session: &mut Session<D>,
+fn run_all<O: Write, R: Clock, E: Write>(
+    session: &mut Session<FileDevice>,
     commands: &[Command],
     answers: &mut Answers<'_, O>,
     progress: &mut Progress<'_, R, E>,
 ) -> Result<(), Error> {
     for slice in commands.chunks(SLICE) {
-        answers.take(&session.run(slice)?);
+        answers.take(&run_commands(session, slice)?);
         progress.step(slice.len());
     }
     Ok(())
@@ -84,8 +114,8 @@ struct Answers<'a, O> {
     out: &'a mut O,
     // A command was refused by a rule.
     has_refusal: bool,
-    // The first fault.
-    fault: Option<Error>,
+    // The first failure.
+    failure: Option<Failure>,
     // An answer couldn't be printed, so none is printed any more.
     is_cut: bool,
 }
@@ -96,7 +126,7 @@ impl<'a, O: Write> Answers<'a, O> {
             alloc,
             out,
             has_refusal: false,
-            fault: None,
+            failure: None,
             is_cut: false,
         }
     }
@@ -112,16 +142,16 @@ impl<'a, O: Write> Answers<'a, O> {
     // Notes whether an answer is a refusal or a fault.
     fn note(&mut self, answer: &Answer) {
         match answer {
-            Answer::Refused(error) if is_fault(*error) => self.meet(*error),
+            Answer::Refused(error) if is_fault(*error) => self.meet(failure_of(*error)),
             Answer::Refused(_) => self.has_refusal = true,
             _ => {}
         }
     }
 
-    // Notes a fault, if it is the first.
-    fn meet(&mut self, fault: Error) {
-        if self.fault.is_none() {
-            self.fault = Some(fault);
+    // Notes a failure, if it is the first.
+    fn meet(&mut self, failure: Failure) {
+        if self.failure.is_none() {
+            self.failure = Some(failure);
         }
     }
 
@@ -130,16 +160,16 @@ impl<'a, O: Write> Answers<'a, O> {
         if self.is_cut {
             return;
         }
-        if let Err(fault) = print_line(self.alloc, self.out, answer) {
+        if let Err(failure) = print_line(self.alloc, self.out, answer) {
             self.is_cut = true;
-            self.meet(fault);
+            self.meet(failure);
         }
     }
 
-    // A fault comes before a refusal.
-    fn ending(&self) -> Result<Ending, Error> {
-        match self.fault {
-            Some(fault) => Err(fault),
+    // A failure comes before a refusal.
+    fn ending(&self) -> Result<Ending, Failure> {
+        match self.failure {
+            Some(failure) => Err(failure),
             None if self.has_refusal => Ok(Ending::Refused),
             None => Ok(Ending::Done),
         }
@@ -154,11 +184,23 @@ fn is_fault(error: Error) -> bool {
     )
 }
 
-// Prints an answer on a line of its own.
-fn print_line<O: Write>(alloc: Global, out: &mut O, answer: &Answer) -> Result<(), Error> {
-    let text = answer_text(alloc, answer)?;
+/// Prints an answer on a line of its own.
+pub(crate) fn print_line<O: Write>(
+    alloc: Global,
+    out: &mut O,
+    answer: &Answer,
+) -> Result<(), Failure> {
+    let text = text_of(alloc, answer)?;
     match writeln!(out, "{text}") {
         Ok(()) => Ok(()),
-        Err(_) => Err(Error::Device),
+        Err(_) => Err(Failure::Output),
+    }
+}
+
+// A function of its own, since what is told of the call costs time wherever it is seen.
+fn text_of(alloc: Global, answer: &Answer) -> Result<String, Failure> {
+    match answer_text(alloc, answer) {
+        Ok(text) => Ok(text),
+        Err(_) => Err(Failure::Memory),
     }
 }

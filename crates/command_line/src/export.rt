@@ -1,13 +1,15 @@
 //! A package of any maker as files of a folder.
 ghost use Rattle.std.specs.Prelude.{◌≤◌};
 
+use crate::failures::{Trouble, tell_error, tell_part, tell_trouble};
+use crate::packages::{
+    bytes_of, package_at, rows_of, streams_of, table_named, tables_of, text_of_row,
+};
 use crate::refusals::tell_why_refused;
-use crate::show::package_at;
 use cfb::FileMedium;
 use cfb_medium::Error;
 use msi::Package;
-use msi_export::{heading_lines, row_text, safe_name, stream_bytes};
-use msi_query::Select;
+use msi_export::{heading_lines, safe_name};
 use std::alloc::Global;
 use std::fs::{self, File};
 use std::io::{self, Write};
@@ -39,6 +41,19 @@ pub(crate) fn export<'a, R: Files<File = File> + AllocGlobal, E: Write>(
             return 3;
         }
     };
+    export_package(rt, &mut package, path, folder, err)
+}
+
+// The status of an export, and what went wrong is told.
+fn export_package<'a, R: Files<File = File> + AllocGlobal, E: Write>(
+    rt: &'a R,
+    package: &mut Package<FileMedium>,
+    path: &'a str,
+    folder: &'a str,
+    err: &'a mut E,
+) -> u8
+    ensures { result ≤ 3 }
+{
     let mut target = Target {
         rt,
         alloc: rt.alloc(),
@@ -46,12 +61,12 @@ pub(crate) fn export<'a, R: Files<File = File> + AllocGlobal, E: Write>(
         folder,
         err,
     };
-    match target.write_all(&mut package) {
+    match target.write_all(package) {
         Ok(Written::Whole) => 0,
         // What can't be made or written was told.
         Ok(Written::Partly) | Err(Error::AlreadyExists | Error::Device) => 3,
         Err(error) => {
-            let _ = writeln!(target.err, "msidb: {path}: {error}");
+            tell_error(path, error, target.err);
             3
         }
     }
@@ -83,14 +98,14 @@ impl<'a, R: Files<File = File>, E: Write> Target<'a, R, E> {
     // Each table but the two that list the others.
     fn write_tables(&mut self, package: &mut Package<FileMedium>) -> Result<Written, Error> {
         let mut written = Written::Whole;
-        for name in package.tables()? {
+        for name in tables_of(package)? {
             if lists_others(&name) {
                 continue;
             }
             match table_text(self.alloc, package, &name) {
                 Ok(text) => self.write_table(&name, &text)?,
                 Err(error) => {
-                    let _ = writeln!(self.err, "msidb: {}: table {name}: {error}", self.path);
+                    tell_part(self.path, "table", &name, error, self.err);
                     written = Written::Partly;
                 }
             }
@@ -106,11 +121,11 @@ impl<'a, R: Files<File = File>, E: Write> Target<'a, R, E> {
 
     fn write_streams(&mut self, package: &mut Package<FileMedium>) -> Result<Written, Error> {
         let mut written = Written::Whole;
-        for name in package.streams()? {
-            match stream_bytes(self.alloc, package, &name) {
+        for name in streams_of(package)? {
+            match bytes_of(self.alloc, package, &name) {
                 Ok(bytes) => self.write_stream(&name, &bytes)?,
                 Err(error) => {
-                    let _ = writeln!(self.err, "msidb: {}: stream {name}: {error}", self.path);
+                    tell_part(self.path, "stream", &name, error, self.err);
                     written = Written::Partly;
                 }
             }
@@ -130,11 +145,11 @@ impl<'a, R: Files<File = File>, E: Write> Target<'a, R, E> {
         match fs::create_dir(self.rt, path.as_str()) {
             Ok(()) => Ok(()),
             Err(error) if error.kind() == io::ErrorKind::AlreadyExists => {
-                let _ = writeln!(self.err, "msidb: {path}: it is there already");
+                tell_trouble(&path, Trouble::Present, self.err);
                 Err(Error::AlreadyExists)
             }
             Err(_) => {
-                let _ = writeln!(self.err, "msidb: {path}: it can't be made");
+                tell_trouble(&path, Trouble::Unmakable, self.err);
                 Err(Error::Device)
             }
         }
@@ -144,7 +159,7 @@ impl<'a, R: Files<File = File>, E: Write> Target<'a, R, E> {
         match fs::write(self.rt, path, bytes) {
             Ok(()) => Ok(()),
             Err(_) => {
-                let _ = writeln!(self.err, "msidb: {path}: it can't be written");
+                tell_trouble(path, Trouble::Unwritable, self.err);
                 Err(Error::Device)
             }
         }
@@ -163,14 +178,13 @@ fn table_text(
     name: &str,
 ) -> Result<String, Error> {
     let mut text = String::new(alloc);
-    if let Some(table) = package.get_table(name) {
+    if let Some(table) = table_named(package, name) {
         for line in &heading_lines(alloc, table)? {
             push_line(&mut text, line)?;
         }
     }
-    let select = Select::table(alloc, name)?;
-    for row in package.select_rows(&select)? {
-        push_line(&mut text, &row_text(alloc, package, name, &row)?)?;
+    for row in rows_of(alloc, package, name)? {
+        push_line(&mut text, &text_of_row(alloc, package, name, &row)?)?;
     }
     Ok(text)
 }

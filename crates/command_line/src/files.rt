@@ -1,89 +1,161 @@
 //! The two files of a package, and which file is taken for a log.
+use crate::failures::{Failure, Paths, Trouble};
+use crate::looks::{has_folder, is_empty, trouble_at};
 use cfb_medium::{Error, ReadMedium};
 use file_device::{FileDevice, FileMedium};
-use staged::{Which, is_log};
-use std::fs::{self, File};
-use std::io::{self, Write};
+use staged::{Recovered, is_log, recover};
+use std::fs::File;
 use std::rt::Files;
 
-// What was found where a log is named.
+/// What was found where a log is named.
 #[derive(Clone, Copy, Debug, PartialEq, Eq)]
-enum Found {
-    // No file, or a closed log.
-    Free,
-    // A log with a commit to finish.
+pub(crate) enum Found {
+    /// No file.
+    Missing,
+    /// A log that holds nothing to be done.
+    Closed,
+    /// A log with a commit to finish.
     Open,
-    // A file that is no log.
-    Other,
 }
 
-// The files of a package that is there. `InvalidData` where the log is none.
-pub fn open<R: Files<File = File>>(rt: &R, home: &str, log: &str) -> Result<FileDevice, Error> {
-    if look_at(rt, log)? == Found::Other {
-        return Err(Error::InvalidData);
+/// What is found as the log of a package that is there. Nothing is written.
+pub(crate) fn look_at<R: Files<File = File>>(rt: &R, paths: &Paths<'_>) -> Result<Found, Failure> {
+    match trouble_at(rt, paths.package) {
+        Some(trouble) => Err(Failure::Package(trouble)),
+        None => look_at_log(rt, paths),
     }
-    FileDevice::open(rt, home, log)
 }
 
-// The files of a new package. `InvalidData` where the log is none, and where it has a commit to finish and there is no home file: then
-// the commit is that of another package.
-pub fn create<R: Files<File = File>>(rt: &R, home: &str, log: &str) -> Result<FileDevice, Error> {
-    match look_at(rt, log)? {
-        Found::Free => {}
-        Found::Open if !is_missing(rt, home) => {}
-        _ => return Err(Error::InvalidData),
-    }
-    FileDevice::create(rt, home, log)
-}
-
-// Says why files were refused: another program has one, or the log is none, or that of another package.
-pub fn tell_cause<R: Files<File = File>, E: Write>(
+/// The files of a package that is there; a log that is missing is made.
+pub(crate) fn open<R: Files<File = File>>(
     rt: &R,
-    home: &str,
-    log: &str,
-    error: Error,
-    err: &mut E,
-) {
-    let _ = match error {
-        Error::Device => match FileDevice::in_use(rt, home, log) {
-            Some(Which::Home) => writeln!(err, "msidb: another program has {home}"),
-            Some(Which::Log) => writeln!(err, "msidb: another program has {log}"),
-            None => Ok(()),
-        },
-        Error::InvalidData => match look_at(rt, log) {
-            Ok(Found::Other) => writeln!(err, "msidb: {log} is no log of a package"),
-            Ok(Found::Open) if is_missing(rt, home) => {
-                writeln!(err, "msidb: {log} holds a commit of another package")
-            }
-            _ => Ok(()),
-        },
-        _ => Ok(()),
-    };
+    paths: &Paths<'_>,
+) -> Result<FileDevice, Failure> {
+    match FileDevice::open(rt, paths.package, paths.log) {
+        Ok(device) => Ok(device),
+        Err(_) => Err(why_not_opened(rt, paths)),
+    }
 }
 
-// Looks at the file that is named as a log; nothing is written. `Device` where it can't be read.
-fn look_at<R: Files<File = File>>(rt: &R, log: &str) -> Result<Found, Error> {
-    let mut file = match FileMedium::open(rt, log) {
-        Ok(file) => file,
-        Err(Error::NotFound) => return Ok(Found::Free),
-        Err(error) => return Err(error),
-    };
-    if !is_log(&mut file)? {
-        return Ok(Found::Other);
+/// The files of a new package. What can't become one is refused before anything is made.
+pub(crate) fn create<R: Files<File = File>>(
+    rt: &R,
+    paths: &Paths<'_>,
+) -> Result<FileDevice, Failure> {
+    check_new(rt, paths)?;
+    match FileDevice::create(rt, paths.package, paths.log) {
+        Ok(device) => Ok(device),
+        Err(_) => Err(why_not_opened(rt, paths)),
     }
+}
+
+/// Finishes the commit of a log, where it holds one.
+pub(crate) fn finish<R: Files<File = File>>(
+    rt: &R,
+    paths: &Paths<'_>,
+) -> Result<Recovered, Failure> {
+    let mut device = open(rt, paths)?;
+    match recover_device(&mut device) {
+        Ok(recovered) => Ok(recovered),
+        Err(Error::InvalidData) => Err(Failure::Log(Trouble::UnfitCommit)),
+        Err(_) => Err(Failure::Package(Trouble::Fault)),
+    }
+}
+
+/// Refuses a log that isn't there and can't be made.
+pub(crate) fn check_log_folder<R: Files<File = File>>(
+    rt: &R,
+    paths: &Paths<'_>,
+) -> Result<(), Failure> {
+    if has_folder(rt, paths.log) {
+        Ok(())
+    } else {
+        Err(Failure::Log(Trouble::NoFolder))
+    }
+}
+
+// A function of its own, as is `may_be_log`, since what is told of the call costs time wherever it is seen.
+fn recover_device(device: &mut FileDevice) -> Result<Recovered, Error> {
+    recover(device)
+}
+
+// Refuses what can't become a new package and its log: a package that is there, a file that is no log, the log of another package.
+fn check_new<R: Files<File = File>>(rt: &R, paths: &Paths<'_>) -> Result<(), Failure> {
+    let is_missing = is_place_free(rt, paths.package)?;
+    match look_at_log(rt, paths)? {
+        Found::Missing => check_log_folder(rt, paths)?,
+        Found::Open if is_missing => return Err(Failure::Log(Trouble::OtherCommit)),
+        _ => {}
+    }
+    if !is_missing && !is_empty(rt, paths.package) {
+        return Err(Failure::Package(Trouble::Present));
+    }
+    Ok(())
+}
+
+// Whether there is no file where a package is to be made. Refused where none can be made.
+fn is_place_free<R: Files<File = File>>(rt: &R, path: &str) -> Result<bool, Failure> {
+    match trouble_at(rt, path) {
+        None => Ok(false),
+        Some(Trouble::Missing) if has_folder(rt, path) => Ok(true),
+        Some(Trouble::Missing) => Err(Failure::Package(Trouble::NoFolder)),
+        Some(trouble) => Err(Failure::Package(trouble)),
+    }
+}
+
+// What is found as the log. A file that is none is refused.
+fn look_at_log<R: Files<File = File>>(rt: &R, paths: &Paths<'_>) -> Result<Found, Failure> {
+    if paths.package == paths.log {
+        return Err(Failure::Log(Trouble::Itself));
+    }
+    match trouble_at(rt, paths.log) {
+        None => {}
+        Some(Trouble::Missing) => return Ok(Found::Missing),
+        Some(trouble) => return Err(Failure::Log(trouble)),
+    }
+    match look_into(rt, paths.log) {
+        Ok(Some(found)) => Ok(found),
+        Ok(None) => Err(Failure::Log(Trouble::NoLog)),
+        Err(_) => Err(Failure::Log(Trouble::Unreadable)),
+    }
+}
+
+// Looks into the file that is named as a log. None where it is no log.
+fn look_into<R: Files<File = File>>(rt: &R, log: &str) -> Result<Option<Found>, Error> {
+    let mut file = FileMedium::open(rt, log)?;
+    if !may_be_log(&mut file)? {
+        return Ok(None);
+    }
+    Ok(Some(if has_open_gate(&mut file)? {
+        Found::Open
+    } else {
+        Found::Closed
+    }))
+}
+
+fn may_be_log(file: &mut FileMedium) -> Result<bool, Error> {
+    is_log(file)
+}
+
+// Whether a log holds a commit: it has two bytes or more, and the first is 01.
+fn has_open_gate(file: &mut FileMedium) -> Result<bool, Error> {
     let mut start = [0u8; 2];
     let count = file.read_at(0, &mut start)?;
-    if count == 2 && start[0] == 1 {
-        Ok(Found::Open)
-    } else {
-        Ok(Found::Free)
-    }
+    Ok(count == 2 && start[0] == 1)
 }
 
-// Whether there is no such file.
-fn is_missing<R: Files<File = File>>(rt: &R, path: &str) -> bool {
-    match fs::metadata(rt, path) {
-        Ok(_) => false,
-        Err(error) => error.kind() == io::ErrorKind::NotFound,
+// Why two files weren't opened.
+fn why_not_opened<R: Files<File = File>>(rt: &R, paths: &Paths<'_>) -> Failure {
+    if let Some(trouble) = trouble_at(rt, paths.package) {
+        return Failure::Package(trouble);
+    }
+    match trouble_at(rt, paths.log) {
+        None | Some(Trouble::Missing) => {}
+        Some(trouble) => return Failure::Log(trouble),
+    }
+    if FileMedium::open_rw(rt, paths.package).is_err() {
+        Failure::Package(Trouble::Unwritable)
+    } else {
+        Failure::Log(Trouble::Unwritable)
     }
 }

@@ -3,14 +3,20 @@
 
 mod commands;
 mod export;
+mod failures;
 mod files;
 mod line;
+mod lists;
+mod looks;
+mod packages;
 mod progress;
 mod refusals;
 mod run;
+mod sessions;
 mod show;
+mod texts;
 mod words;
 
-pub use line::{Line, read_words};
+pub use line::{Line, Log, read_words};
 pub use run::msidb;
 pub use show::Parts;

@@ -1,8 +1,8 @@
 //! A line of words.
-ghost use Rattle.std.specs.Prelude.{◌≡◌, IfOk, IfErr, IfSome, option_map, map, string_bytes, true};
+ghost use Rattle.std.specs.Prelude.{◌≡◌, IfOk, IfErr, IfSome, codes, option_map, map, string_bytes, true};
 ghost use Rattle.clap.specs.Words.{first_of, found_of, kind_of, rows_of, subcommand_rows_of, takes};
 ghost use Rattle.command_line.specs.Words.{msidb};
-ghost use Rattle.command_line.specs.Lines.{said, is_set, AreIn, AreAsked, AsksFor, SaidIn, HasSaid};
+ghost use Rattle.command_line.specs.Lines.{said, is_set, named, named_by, AreIn, AreAsked, AsksFor, IsNamedIn, SaidIn, HasSaid};
 
 use crate::show::Parts;
 use crate::words::matches;
@@ -10,26 +10,37 @@ use clap::error::ErrorKind;
 use clap::{ArgMatches, Error};
 use std::alloc::{AllocError, Global};
 
-/// What the program is asked for: the paths of a home file and of its log, and of a command file; or the path of a file, and what is
-/// shown of it.
+/// Which file is the log of a package.
+#[derive(Clone, Copy, Debug, PartialEq, Eq)]
+pub enum Log<'a> {
+    /// The one beside it, whose path is that of the package with `.log` behind it.
+    Beside,
+    /// The one of this path.
+    At(&'a str),
+    /// Two are named, one among the paths and one behind `--log`, so nothing can be done.
+    Twice(&'a str, &'a str),
+}
+
+/// What the program is asked for: the path of a package with its log, and of a command file; or the path of a file, and what is shown
+/// of it.
 #[derive(Clone, Copy, Debug, PartialEq, Eq)]
 pub enum Line<'a> {
     /// Make a new package.
-    Create(&'a str, &'a str),
+    Create(&'a str, Log<'a>),
     /// Finish a commit.
-    Recover(&'a str, &'a str),
+    Recover(&'a str, Log<'a>),
     /// Run the commands of a file.
-    Run(&'a str, &'a str, &'a str),
+    Run(&'a str, Log<'a>, &'a str),
     /// List the tables and the streams.
-    List(&'a str, &'a str),
+    List(&'a str, Log<'a>),
     /// Show parts of a package of any maker.
     Show(&'a str, Parts<'a>),
     /// Write a package of any maker to a new folder.
     Export(&'a str, &'a str),
 }
 
-/// Reads the words after the program's name. Words that ask for nothing are refused, with a text that says why; so is a wish for help,
-/// whose text is the help.
+/// Reads the words after the program's name. Words that ask for nothing are refused, with a text that says why; so is a wish for help
+/// or for the version, whose text is that. A log that is named twice is no refusal here: the line says so.
 pub fn read_words<'a>(alloc: Global, words: &'a [String]) -> Result<Line<'a>, Error>
     ensures ok { IfOk result (λ line. HasSaid line (map string_bytes words.entry.now)) }
     ensures err { IfErr result (λ e. takes msidb (map string_bytes words.entry.now) ≡ true
@@ -65,27 +76,63 @@ fn line_of<'a>(name: &str, paths: &ArgMatches<'a>) -> Option<Line<'a>>
             let folder = path(paths, "FOLDER")?;
             Some(Line::Export(file, folder))
         }
-        _ => line_on_log(name, paths),
+        "run" => line_of_run(paths),
+        _ => line_on_package(name, paths),
     }
 }
 
-// The line of a word that has a home file and a log.
-fn line_on_log<'a>(name: &str, paths: &ArgMatches<'a>) -> Option<Line<'a>>
+// The line of a word that has a package and its log.
+fn line_on_package<'a>(name: &str, paths: &ArgMatches<'a>) -> Option<Line<'a>>
     ensures { IfSome result (λ line. ((said line).0 ≡ name.now)
         × AreIn (said line).1 (rows_of (found_of paths.now))
         × AsksFor line (rows_of (found_of paths.now))) }
 {
-    let home = path(paths, "HOME")?;
-    let log = path(paths, "LOG")?;
+    let package = path(paths, "PACKAGE")?;
+    let log = log_in(path(paths, "LOG"), paths);
     match name {
-        "create" => Some(Line::Create(home, log)),
-        "recover" => Some(Line::Recover(home, log)),
-        "run" => {
-            let commands = path(paths, "COMMANDS")?;
-            Some(Line::Run(home, log, commands))
-        }
-        "list" => Some(Line::List(home, log)),
+        "create" => Some(Line::Create(package, log)),
+        "recover" => Some(Line::Recover(package, log)),
+        "list" => Some(Line::List(package, log)),
         _ => None,
+    }
+}
+
+// The line of the word that runs commands.
+fn line_of_run<'a>(paths: &ArgMatches<'a>) -> Option<Line<'a>>
+    ensures { IfSome result (λ line. ((said line).0 ≡ codes "run")
+        × AreIn (said line).1 (rows_of (found_of paths.now))
+        × AsksFor line (rows_of (found_of paths.now))) }
+{
+    let package = path(paths, "PACKAGE")?;
+    let first = path(paths, "COMMANDS")?;
+    match path(paths, "LAST") {
+        Some(last) => {
+            let log = log_in(Some(first), paths);
+            Some(Line::Run(package, log, last))
+        }
+        None => {
+            let log = log_in(None, paths);
+            Some(Line::Run(package, log, first))
+        }
+    }
+}
+
+// The log that is named among the paths, or behind `--log`.
+fn log_in<'a>(among: Option<&'a str>, paths: &ArgMatches<'a>) -> Log<'a>
+    ensures { IsNamedIn result (option_map (λ s. s.now) among.entry) (rows_of (found_of paths.now)) }
+{
+    log_of(among, path(paths, "log"))
+}
+
+fn log_of<'a>(among: Option<&'a str>, behind: Option<&'a str>) -> Log<'a>
+    ensures { named_by result
+        ≡ named (option_map (λ s. s.now) among.entry) (option_map (λ s. s.now) behind.entry) }
+{
+    match (among, behind) {
+        (None, None) => Log::Beside,
+        (Some(among), None) => Log::At(among),
+        (None, Some(behind)) => Log::At(behind),
+        (Some(among), Some(behind)) => Log::Twice(among, behind),
     }
 }
 

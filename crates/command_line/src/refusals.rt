@@ -1,10 +1,13 @@
-//! Why a file isn't shown.
+//! Why a file isn't taken as a package.
+use crate::failures::{Trouble, tell, tell_trouble};
+use crate::looks::trouble_at;
+use crate::packages::is_sound_at;
 use cfb::{CompoundFile, FileMedium, MAGIC_NUMBER, ReadMedium, open};
 use cfb_medium::Error;
 use msi_parts::kind_of;
 use msi_texts::SUMMARY_INFO_STREAM_NAME;
-use std::fs::{self, File};
-use std::io::{self, Write};
+use std::fs::File;
+use std::io::Write;
 use std::rt::Files;
 
 /// Says what is wrong with a file that was refused as a package.
@@ -14,40 +17,45 @@ pub(crate) fn tell_why_refused<R: Files<File = File> + AllocGlobal, E: Write>(
     error: Error,
     err: &mut E,
 ) {
-    let why = match what_is_wrong(rt, path) {
-        Some(why) => why,
-        None => why_no_package(rt, path, error),
-    };
-    let _ = writeln!(err, "msidb: {path}: {why}");
-}
-
-// What is wrong with what stands at a path, where it is no regular file.
-fn what_is_wrong<R: Files<File = File>>(rt: &R, path: &str) -> Option<&'static str> {
-    match fs::metadata(rt, path) {
-        Ok(metadata) if metadata.is_dir() => Some("a folder"),
-        Ok(metadata) if !metadata.is_file() => Some("no regular file"),
-        Ok(_) => None,
-        Err(error) if error.kind() == io::ErrorKind::NotFound => Some("no such file"),
-        Err(_) => Some("it can't be looked at"),
+    if error == Error::Memory {
+        tell("out of memory", err);
+    } else {
+        tell_trouble(path, trouble_of(rt, path, error), err);
     }
 }
 
-// What is wrong with a file.
+/// What is wrong with a file that was refused as a package.
+pub(crate) fn trouble_of<R: Files<File = File> + AllocGlobal>(
+    rt: &R,
+    path: &str,
+    error: Error,
+) -> Trouble {
+    match trouble_at(rt, path) {
+        Some(trouble) => trouble,
+        None if error == Error::Device => Trouble::Unreadable,
+        None => why_no_package(rt, path, error),
+    }
+}
+
+/// What is wrong with a file that a session refused.
+pub(crate) fn why_refused<R: Files<File = File> + AllocGlobal>(rt: &R, path: &str) -> Trouble {
+    match is_sound_at(rt, path) {
+        Ok(_) => Trouble::Fault,
+        Err(error) => trouble_of(rt, path, error),
+    }
+}
+
+// What is wrong with a file that can be read.
 fn why_no_package<R: Files<File = File> + AllocGlobal>(
     rt: &R,
     path: &str,
     error: Error,
-) -> &'static str {
-    match error {
-        Error::Memory => return "out of memory",
-        Error::Device => return "it can't be read, or another program changes it",
-        _ => {}
-    }
+) -> Trouble {
     match container_at(rt, path) {
         Ok(file) => why_no_package_in(&file, error),
-        Err(Error::InvalidData) if begins_as_container(rt, path) => "a damaged compound file",
-        Err(Error::InvalidData) => "no compound file",
-        Err(_) => "it can't be read",
+        Err(Error::InvalidData) if begins_as_container(rt, path) => Trouble::DamagedContainer,
+        Err(Error::InvalidData) => Trouble::NoContainer,
+        Err(_) => Trouble::Unreadable,
     }
 }
 
@@ -60,6 +68,22 @@ fn begins_as_container<R: Files<File = File>>(rt: &R, path: &str) -> bool {
     }
 }
 
+// What a compound file lacks that isn't opened as a package.
+fn why_no_package_in(file: &CompoundFile<FileMedium>, error: Error) -> Trouble {
+    if !has_kind(file) {
+        return Trouble::OtherRoot;
+    }
+    if !has_summary(file) {
+        return Trouble::NoSummary;
+    }
+    match error {
+        Error::NotFound => Trouble::NoPool,
+        Error::UnexpectedEof => Trouble::CutParts,
+        _ => Trouble::WrongParts,
+    }
+}
+
+// Functions of their own, since what is told of these calls costs time wherever it is seen.
 fn container_at<R: Files<File = File> + AllocGlobal>(
     rt: &R,
     path: &str,
@@ -67,19 +91,8 @@ fn container_at<R: Files<File = File> + AllocGlobal>(
     open(rt, rt.alloc(), path)
 }
 
-// What a compound file lacks that isn't opened as a package.
-fn why_no_package_in(file: &CompoundFile<FileMedium>, error: Error) -> &'static str {
-    if !has_kind(file) {
-        return "a compound file, and no package: its root has another identifier";
-    }
-    if !file.is_stream(SUMMARY_INFO_STREAM_NAME) {
-        return "a compound file, and no package: it has no summary";
-    }
-    match error {
-        Error::NotFound => "a compound file, and no package: it has no string pool",
-        Error::UnexpectedEof => "a damaged package: its summary or string pool ends too early",
-        _ => "a damaged package: its summary, string pool or list of tables is wrong",
-    }
+fn has_summary(file: &CompoundFile<FileMedium>) -> bool {
+    file.is_stream(SUMMARY_INFO_STREAM_NAME)
 }
 
 fn has_kind(file: &CompoundFile<FileMedium>) -> bool {

@@ -1,28 +1,32 @@
 //! What the program does with its words.
 ghost use Rattle.std.specs.Prelude.{◌≤◌};
 
-use crate::commands::{Ending, run, text_in};
+use crate::commands::{Ending, run};
 use crate::export::export;
+use crate::failures::{Failure, Paths, Trouble, failure_of, tell, tell_failure};
+use crate::files::{self, Found};
+use crate::lists::list;
 use crate::progress::Progress;
+use crate::sessions::{commit, create_session};
 use crate::show::show;
-use crate::{Line, files, read_words};
+use crate::texts::commands_in;
+use crate::{Line, Log, read_words};
 use cfb_medium::Error;
 use clap::error::ErrorKind;
-use command_file::{Command, read_commands, refusal_in};
-use installer::Session;
-use staged::{Recovered, recover};
-use std::alloc::Global;
+use staged::Recovered;
+use std::alloc::{AllocError, Global};
 use std::fs::File;
 use std::io::Write;
 use std::rt::Files;
 use std::time::Clock;
 
-/// Does what the words after the program's name ask for. Answers go to `out`, what went wrong goes to `err`. The status is 0 where all
-/// was done, or help was asked for; 1 where a command was refused by a rule, or a table that is to be shown isn't there; 2 where the
-/// words or the command file can't be read, and then no package was opened; 3 for a fault, where home file or log were refused, or a
-/// file that is to be shown, and where nothing more can be written. A fault comes before a refusal. A file that is named as the log
-/// and is none is refused before anything is written. Commands are run to the end of their list, also where their answers can't be
-/// written. What is shown is only read.
+/// Does what the words after the program's name ask for. Answers go to `out`, what went wrong goes to `err`, a line that names the
+/// file. The status is 0 where all was done, or help or the version was asked for; 1 where a command was refused by a rule, or a table
+/// that is to be shown isn't there; 2 where the words or the command file can't be read, or two logs are named, and then no package
+/// was opened; 3 for a fault, where home file or log were refused, or a file that is to be shown, and where nothing more can be
+/// written. A fault comes before a refusal. A file that is named as the log and is none is refused before anything is written.
+/// Commands are run to the end of their list, also where their answers can't be written. What is shown or listed is only read, but
+/// that a list finishes a commit that a stop cut short; and nothing is made by what is refused.
 pub fn msidb<R: Files<File = File> + AllocGlobal + Clock, O: Write, E: Write>(
     rt: &R,
     words: &[String],
@@ -32,10 +36,15 @@ pub fn msidb<R: Files<File = File> + AllocGlobal + Clock, O: Write, E: Write>(
 ) -> u8
     ensures { result ≤ 3 }
 {
-    match read_words(rt.alloc(), words) {
+    match line_of(rt.alloc(), words) {
         Ok(line) => carry_out(rt, line, out, err, shows_progress),
         Err(refusal) => tell_refusal(&refusal, out, err),
     }
+}
+
+// A function of its own, since what is told of the call costs time wherever it is seen.
+fn line_of<'a>(alloc: Global, words: &'a [String]) -> Result<Line<'a>, clap::Error> {
+    read_words(alloc, words)
 }
 
 // Tells why the words were refused, or the help.
@@ -66,91 +75,161 @@ fn carry_out<R: Files<File = File> + AllocGlobal + Clock, O: Write, E: Write>(
 ) -> u8
     ensures { result ≤ 3 }
 {
-    let (ended, home, log) = match line {
-        Line::Create(home, log) => (create(rt, home, log, out), home, log),
-        Line::Recover(home, log) => (finish(rt, home, log, out), home, log),
-        Line::List(home, log) => {
-            let mut progress = Progress::new(rt, err, false, 2);
-            let commands = [Command::Tables, Command::Streams];
-            (run(rt, home, log, &commands, out, &mut progress), home, log)
+    match line {
+        Line::Create(package, log) => on_files(rt, Word::Create, package, log, out, err),
+        Line::Recover(package, log) => on_files(rt, Word::Recover, package, log, out, err),
+        Line::List(package, log) => on_files(rt, Word::List, package, log, out, err),
+        Line::Run(package, log, commands) => {
+            let word = Word::Run(commands, shows_progress);
+            on_files(rt, word, package, log, out, err)
         }
-        Line::Export(path, folder) => return export(rt, path, folder, err),
-        Line::Show(path, parts) => return show(rt, path, parts, out, err),
-        Line::Run(home, log, path) => {
-            let commands = match commands_in(rt, path, err) {
-                Ok(commands) => commands,
-                Err(error) => return if error == Error::Memory { 3 } else { 2 },
-            };
-            let mut progress = Progress::new(rt, err, shows_progress, commands.len());
-            (run(rt, home, log, &commands, out, &mut progress), home, log)
+        Line::Show(path, parts) => show(rt, path, parts, out, err),
+        Line::Export(path, folder) => export(rt, path, folder, err),
+    }
+}
+
+// What is done with a package and its log.
+#[derive(Clone, Copy, Debug)]
+enum Word<'a> {
+    Create,
+    Recover,
+    List,
+    // With the path of the command file, and whether progress is shown.
+    Run(&'a str, bool),
+}
+
+// Does what a word asks for, with the log that is named or the one beside the package.
+fn on_files<R: Files<File = File> + AllocGlobal + Clock, O: Write, E: Write>(
+    rt: &R,
+    word: Word<'_>,
+    package: &str,
+    log: Log<'_>,
+    out: &mut O,
+    err: &mut E,
+) -> u8
+    ensures { result ≤ 3 }
+{
+    if let Log::Twice(first, second) = log {
+        let _ = writeln!(err, "msidb: two logs are named, {first} and {second}");
+        return 2;
+    }
+    let Ok(path) = path_of_log(rt.alloc(), package, log) else {
+        tell("out of memory", err);
+        return 3;
+    };
+    let paths = Paths {
+        package,
+        log: &path,
+        is_log_named: log != Log::Beside,
+    };
+    do_word(rt, word, &paths, out, err)
+}
+
+// The path of the log that is named, or of the one beside the package.
+fn path_of_log(alloc: Global, package: &str, log: Log<'_>) -> Result<String, AllocError> {
+    match log {
+        Log::At(path) | Log::Twice(path, _) => String::from_str(alloc, path),
+        Log::Beside => format!(in alloc; "{package}.log"),
+    }
+}
+
+// Does what a word asks for.
+fn do_word<R: Files<File = File> + AllocGlobal + Clock, O: Write, E: Write>(
+    rt: &R,
+    word: Word<'_>,
+    paths: &Paths<'_>,
+    out: &mut O,
+    err: &mut E,
+) -> u8
+    ensures { result ≤ 3 }
+{
+    let ended = match word {
+        Word::Create => create(rt, paths, out),
+        Word::Recover => finish(rt, paths, out),
+        Word::List => list(rt, paths, out),
+        Word::Run(commands, shows_progress) => {
+            return run_file(rt, paths, commands, out, err, shows_progress);
         }
     };
+    status_of(ended, paths, err)
+}
+
+// Runs the commands of a file, which is read before a package is opened.
+fn run_file<R: Files<File = File> + AllocGlobal + Clock, O: Write, E: Write>(
+    rt: &R,
+    paths: &Paths<'_>,
+    path: &str,
+    out: &mut O,
+    err: &mut E,
+    shows_progress: bool,
+) -> u8
+    ensures { result ≤ 3 }
+{
+    let commands = match commands_in(rt, path, err) {
+        Ok(commands) => commands,
+        Err(error) => return if error == Error::Memory { 3 } else { 2 },
+    };
+    let mut progress = Progress::new(rt, err, shows_progress, commands.len());
+    let ended = run(rt, paths, &commands, out, &mut progress);
+    status_of(ended, paths, err)
+}
+
+// The status of a word, and what went wrong is told.
+fn status_of<E: Write>(ended: Result<Ending, Failure>, paths: &Paths<'_>, err: &mut E) -> u8
+    ensures { result ≤ 3 }
+{
     match ended {
         Ok(Ending::Done) => 0,
         Ok(Ending::Refused) => 1,
-        Err(error) => {
-            let _ = writeln!(err, "msidb: {error}");
-            files::tell_cause(rt, home, log, error, err);
+        Err(failure) => {
+            tell_failure(paths, failure, err);
             3
         }
     }
 }
 
-// The commands of a file, or why it was refused, which is told. `InvalidData` where the file can't be read, or is no JSON text;
-// `InvalidInput` where it holds other than commands; `Memory` where there is no room.
-fn commands_in<R: Files<File = File> + AllocGlobal, E: Write>(
-    rt: &R,
-    path: &str,
-    err: &mut E,
-) -> Result<Vec<Command>, Error> {
-    let read = match text_in(rt, path) {
-        Ok(text) => match read_commands(rt.alloc(), &text) {
-            Ok(commands) => return Ok(commands),
-            Err(error) => (error, refusal_in(rt.alloc(), &text)),
-        },
-        Err(error) => (error, Ok(None)),
-    };
-    let (error, refusal) = read;
-    let _ = writeln!(err, "msidb: {error}");
-    if let Ok(Some(refusal)) = refusal {
-        let _ = writeln!(err, "msidb: {refusal}");
-    }
-    Err(error)
-}
-
 // Makes a package and commits it.
 fn create<R: Files<File = File> + AllocGlobal, O: Write>(
     rt: &R,
-    home: &str,
-    log: &str,
+    paths: &Paths<'_>,
     out: &mut O,
-) -> Result<Ending, Error> {
-    let device = files::create(rt, home, log)?;
-    let mut session = match Session::create(rt.alloc(), device) {
-        Ok(session) => session,
-        Err((_, error)) => return Err(error),
+) -> Result<Ending, Failure> {
+    let device = files::create(rt, paths)?;
+    let made = match create_session(rt.alloc(), device) {
+        Ok(mut session) => commit(&mut session),
+        Err(error) => Err(error),
     };
-    session.commit()?;
-    match writeln!(out, "created") {
-        Ok(()) => Ok(Ending::Done),
-        Err(_) => Err(Error::Device),
+    match made {
+        Ok(()) => answer("created", out),
+        Err(Error::InvalidData) => Err(Failure::Log(Trouble::UnfitCommit)),
+        Err(error) => Err(failure_of(error)),
     }
 }
 
-// Finishes a commit that was cut short.
+// Finishes a commit that was cut short. A log that is named must be there.
 fn finish<R: Files<File = File>, O: Write>(
     rt: &R,
-    home: &str,
-    log: &str,
+    paths: &Paths<'_>,
     out: &mut O,
-) -> Result<Ending, Error> {
-    let mut device = files::open(rt, home, log)?;
-    let written = match recover(&mut device)? {
-        Recovered::Closed => writeln!(out, "closed"),
-        Recovered::Applied(pages) => writeln!(out, "applied {pages}"),
+) -> Result<Ending, Failure> {
+    let recovered = match files::look_at(rt, paths)? {
+        Found::Missing if paths.is_log_named => return Err(Failure::Log(Trouble::Missing)),
+        Found::Missing => Recovered::Closed,
+        _ => files::finish(rt, paths)?,
     };
-    match written {
+    match recovered {
+        Recovered::Closed => answer("closed", out),
+        Recovered::Applied(pages) => match writeln!(out, "applied {pages}") {
+            Ok(()) => Ok(Ending::Done),
+            Err(_) => Err(Failure::Output),
+        },
+    }
+}
+
+// Prints what was done.
+fn answer<O: Write>(what: &str, out: &mut O) -> Result<Ending, Failure> {
+    match writeln!(out, "{what}") {
         Ok(()) => Ok(Ending::Done),
-        Err(_) => Err(Error::Device),
+        Err(_) => Err(Failure::Output),
     }
 }

@@ -1,15 +1,21 @@
 //! What a package of any maker holds, a line of JSON each.
 ghost use Rattle.std.specs.Prelude.{◌≤◌};
 
+use crate::failures::{tell_error, tell_part};
+use crate::packages::{
+    facts_of, is_signed, is_sound, kind_of, package_at, page_of, properties_of, rows_of,
+    streams_of, table_named, tables_of,
+};
 use crate::refusals::tell_why_refused;
-use cfb::{CaseMapper, FileMedium};
+use cfb::FileMedium;
 use cfb_medium::Error;
 use installer::{cell_value, columns_value, property_value};
-use msi::{Package, open};
-use msi_export::{StreamFacts, facts_of_stream, property_name};
+use msi::Package;
+use msi_columns::Column;
+use msi_export::{StreamFacts, property_name};
 use msi_props::PropertyValue;
-use msi_query::Select;
 use msi_tables::Row;
+use msi_values::Value;
 use serde_json::{Value as Json, json};
 use std::alloc::{AllocError, Global};
 use std::fs::File;
@@ -70,19 +76,10 @@ pub(crate) fn show<'a, R: Files<File = File> + AllocGlobal, O: Write, E: Write>(
         Ok(Shown::NoTable) => 1,
         Ok(Shown::Partly) => 3,
         Err(error) => {
-            let _ = writeln!(page.err, "msidb: {path}: {error}");
+            tell_error(path, error, page.err);
             3
         }
     }
-}
-
-/// The package at a path, to be read.
-pub(crate) fn package_at<R: Files<File = File> + AllocGlobal>(
-    rt: &R,
-    path: &str,
-) -> Result<Package<FileMedium>, Error> {
-    let letters = CaseMapper::ascii(rt.alloc())?;
-    open(rt, rt.alloc(), path, letters)
 }
 
 // Shows the parts that are asked for, or all.
@@ -128,7 +125,7 @@ impl<'a, O: Write, E: Write> Page<'a, O, E> {
 
     // Each property of the summary.
     fn show_summary(&mut self, package: &Package<FileMedium>) -> Result<(), Error> {
-        for (number, value) in package.summary_info().properties() {
+        for (number, value) in properties_of(package) {
             let line = numbered_value(self.alloc, *number, value)?;
             self.line(&line)?;
         }
@@ -138,7 +135,7 @@ impl<'a, O: Write, E: Write> Page<'a, O, E> {
     // Each table, by the bytes of the names.
     fn show_tables(&mut self, package: &mut Package<FileMedium>) -> Result<Shown, Error> {
         let mut shown = Shown::Whole;
-        for name in package.tables()? {
+        for name in tables_of(package)? {
             if self.show_table(package, &name)? == Shown::Partly {
                 shown = Shown::Partly;
             }
@@ -151,7 +148,7 @@ impl<'a, O: Write, E: Write> Page<'a, O, E> {
         package: &mut Package<FileMedium>,
         name: &str,
     ) -> Result<Shown, Error> {
-        if package.has_table(name) {
+        if table_named(package, name).is_some() {
             return self.show_table(package, name);
         }
         let _ = writeln!(self.err, "msidb: {}: no table {name}", self.path);
@@ -169,7 +166,7 @@ impl<'a, O: Write, E: Write> Page<'a, O, E> {
         match self.show_rows(package, name)? {
             None => Ok(Shown::Whole),
             Some(error) => {
-                let _ = writeln!(self.err, "msidb: {}: table {name}: {error}", self.path);
+                tell_part(self.path, "table", name, error, self.err);
                 Ok(Shown::Partly)
             }
         }
@@ -181,8 +178,7 @@ impl<'a, O: Write, E: Write> Page<'a, O, E> {
         package: &mut Package<FileMedium>,
         name: &str,
     ) -> Result<Option<Error>, Error> {
-        let select = Select::table(self.alloc, name)?;
-        let rows = match package.select_rows(&select) {
+        let rows = match rows_of(self.alloc, package, name) {
             Ok(rows) => rows,
             Err(error) => return Ok(Some(error)),
         };
@@ -196,11 +192,11 @@ impl<'a, O: Write, E: Write> Page<'a, O, E> {
     // Each stream that belongs to no table, in the container's order.
     fn show_streams(&mut self, package: &mut Package<FileMedium>) -> Result<Shown, Error> {
         let mut shown = Shown::Whole;
-        for name in package.streams()? {
-            match facts_of_stream(self.alloc, package, &name) {
+        for name in streams_of(package)? {
+            match facts_of(self.alloc, package, &name) {
                 Ok(facts) => self.line(&stream_value(self.alloc, &name, &facts)?)?,
                 Err(error) => {
-                    let _ = writeln!(self.err, "msidb: {}: stream {name}: {error}", self.path);
+                    tell_part(self.path, "stream", &name, error, self.err);
                     shown = Shown::Partly;
                 }
             }
@@ -210,7 +206,7 @@ impl<'a, O: Write, E: Write> Page<'a, O, E> {
 
     // Writes a line. `Device` where it can't be written.
     fn line(&mut self, value: &Json) -> Result<(), Error> {
-        let text = value.to_string(self.alloc)?;
+        let text = text_of_json(self.alloc, value)?;
         match writeln!(self.out, "{text}") {
             Ok(()) => Ok(()),
             Err(_) => Err(Error::Device),
@@ -220,9 +216,9 @@ impl<'a, O: Write, E: Write> Page<'a, O, E> {
 
 // What is said of the whole package.
 fn facts_value(alloc: Global, package: &Package<FileMedium>) -> Result<Json, AllocError> {
-    let kind = Json::String(format!(in alloc; "{:?}", package.package_type())?);
-    let page = Json::from(package.database_codepage().id());
-    let (signed, sound) = (package.has_digital_signature(), package.is_sound());
+    let kind = Json::String(format!(in alloc; "{:?}", kind_of(package))?);
+    let page = Json::from(page_of(package));
+    let (signed, sound) = (is_signed(package), is_sound(package));
     json!(in alloc; {"codepage": page, "kind": kind, "signed": signed, "sound": sound})
 }
 
@@ -230,7 +226,7 @@ fn facts_value(alloc: Global, package: &Package<FileMedium>) -> Result<Json, All
 fn numbered_value(alloc: Global, number: u32, value: &PropertyValue) -> Result<Json, AllocError> {
     let value = match value {
         PropertyValue::I2(page) if number == CODEPAGE => Json::from(page.cast_unsigned()),
-        _ => property_value(alloc, value)?,
+        _ => value_of_property(alloc, value)?,
     };
     let name = match property_name(number) {
         Some(name) => text_value(alloc, name)?,
@@ -246,8 +242,8 @@ fn heading_value(
     package: &Package<FileMedium>,
     name: &str,
 ) -> Result<Json, AllocError> {
-    let columns = match package.get_table(name) {
-        Some(table) => columns_value(alloc, table.columns())?,
+    let columns = match table_named(package, name) {
+        Some(table) => value_of_columns(alloc, table.columns())?,
         None => Json::Null,
     };
     let name = text_value(alloc, name)?;
@@ -259,7 +255,7 @@ fn row_value(alloc: Global, row: &Row) -> Result<Json, AllocError> {
     let mut cells = Vec::new(alloc);
     for place in 0..row.len() {
         if let Some(cell) = row.value(place) {
-            cells.push(cell_value(alloc, cell)?)?;
+            cells.push(value_of_cell(alloc, cell)?)?;
         }
     }
     Ok(Json::Array(cells))
@@ -271,6 +267,23 @@ fn stream_value(alloc: Global, name: &str, facts: &StreamFacts) -> Result<Json, 
     let name = text_value(alloc, name)?;
     let digest = text_value(alloc, &facts.digest)?;
     json!(in alloc; {"length": length, "name": name, "sha256": digest})
+}
+
+// Functions of their own, since what is told of these calls costs time wherever it is seen.
+fn value_of_cell(alloc: Global, cell: &Value) -> Result<Json, AllocError> {
+    cell_value(alloc, cell)
+}
+
+fn value_of_columns(alloc: Global, columns: &[Column]) -> Result<Json, AllocError> {
+    columns_value(alloc, columns)
+}
+
+fn value_of_property(alloc: Global, value: &PropertyValue) -> Result<Json, AllocError> {
+    property_value(alloc, value)
+}
+
+fn text_of_json(alloc: Global, value: &Json) -> Result<String, AllocError> {
+    value.to_string(alloc)
 }
 
 fn text_value(alloc: Global, text: &str) -> Result<Json, AllocError> {

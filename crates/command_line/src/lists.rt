@@ -1,0 +1,71 @@
+//! The names of a package's tables and streams.
+use crate::commands::{Ending, print_line};
+use crate::failures::{Failure, Paths, failure_of};
+use crate::files::{self, Found};
+use crate::packages::{package_at, streams_of, tables_of};
+use crate::refusals::trouble_of;
+use cfb::FileMedium;
+use cfb_medium::Error;
+use installer::Answer;
+use msi::Package;
+use std::alloc::Global;
+use std::fs::File;
+use std::io::Write;
+use std::rt::Files;
+
+/// Prints the names of the tables, and those of the streams that hold no tables. A commit that a stop cut short is finished first;
+/// else the package is only read.
+pub(crate) fn list<R: Files<File = File> + AllocGlobal, O: Write>(
+    rt: &R,
+    paths: &Paths<'_>,
+    out: &mut O,
+) -> Result<Ending, Failure> {
+    if files::look_at(rt, paths)? == Found::Open {
+        files::finish(rt, paths)?;
+    }
+    match package_at(rt, paths.package) {
+        Ok(package) => print_names(rt.alloc(), &package, out),
+        Err(Error::Memory) => Err(Failure::Memory),
+        Err(error) => Err(Failure::Package(trouble_of(rt, paths.package, error))),
+    }
+}
+
+// Prints both lists, a line each.
+fn print_names<O: Write>(
+    alloc: Global,
+    package: &Package<FileMedium>,
+    out: &mut O,
+) -> Result<Ending, Failure> {
+    let tables = names_of_tables(alloc, package);
+    print_list(alloc, tables, out)?;
+    let streams = names_of_streams(alloc, package);
+    print_list(alloc, streams, out)?;
+    Ok(Ending::Done)
+}
+
+fn print_list<O: Write>(
+    alloc: Global,
+    names: Result<Vec<String>, Error>,
+    out: &mut O,
+) -> Result<(), Failure> {
+    match names {
+        Ok(names) => print_line(alloc, out, &Answer::Names(names)),
+        Err(error) => Err(failure_of(error)),
+    }
+}
+
+fn names_of_tables(alloc: Global, package: &Package<FileMedium>) -> Result<Vec<String>, Error> {
+    let mut names = Vec::new(alloc);
+    for name in tables_of(package)? {
+        names.push(name)?;
+    }
+    Ok(names)
+}
+
+fn names_of_streams(alloc: Global, package: &Package<FileMedium>) -> Result<Vec<String>, Error> {
+    let mut names = Vec::new(alloc);
+    for name in streams_of(package)? {
+        names.push(name)?;
+    }
+    Ok(names)
+}
