@@ -11,6 +11,7 @@ use Rattle.cfb_medium.specs.declared.error.Error.TheVariants.{Full}
 use Rattle.cfb_medium.specs.declared.medium.ReadMedium.{Ghosts}
 use Rattle.cfb_medium.specs.declared.version.Version.{Version}
 use Rattle.cfb_mini.specs.Views.{allocator_of}
+use Rattle.cfb_owners.specs.Owners.{Owners}
 use Rattle.cfb_sectors.specs.Sectors.{free, greatest_regular}
 use Rattle.cfb_tree.specs.Paths.{Path}
 use Rattle.cfb_tree.specs.Tree.{Tree}
@@ -46,8 +47,8 @@ module _ {F : Type 0} {g : Ghosts F} where
       let rests = r.mini.directory.allocator in
       subst (λ v. lacks_by v (fat_of (allocator_of (mini_of old))) size len) rests.sectors.version (subst (λ f. lacks_by (version_of (allocator_of (mini_of mid))) f size len) rests.fat lacks)
 
-  pub full_at : (old mid : CompoundFile F g) → FileRests old mid → (path : Option Path) (tree : Tree) (id was len : ℕ) → FindsWritten old mid path tree id was → LacksRoomAt id len mid → HasNoRoomAt old path tree len
-  full_at old mid r path tree id was len found lacks = record {
+  pub full_at : (old mid : CompoundFile F g) → FileRests old mid → (path : Option Path) (tree : Tree) (id was len : ℕ) (who : Owners) → FindsWritten old mid path tree id was who → LacksRoomAt id len mid → HasNoRoomAt old path tree len
+  full_at old mid r path tree id was len who found lacks = record {
     names = found.names;
     at_path = found.at_path;
     content = found.content;

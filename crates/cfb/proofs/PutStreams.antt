@@ -8,11 +8,14 @@ use Rattle.cfb_fat.specs.Tables.{has_failed_here, AllFails}
 use Rattle.cfb_fat.specs.declared.allocator.Allocator.{Allocator}
 use Rattle.cfb_live.specs.Doing.{IsFault}
 use Rattle.cfb_live.specs.Making.{IsRefusedMade}
+use Rattle.cfb_live.specs.Strays.{HasNoMoreStrays}
+use Rattle.cfb_live.proofs.Strays.{strays_then}
 use Rattle.cfb_meaning.specs.TreeRules.{create_new_stream, done, is_stream, is_stream_found, refused, tree_step, yes, Answer, Outcome}
 use Rattle.cfb_medium.specs.declared.error.Error.{Error}
 use Rattle.cfb_medium.specs.declared.medium.ReadMedium.{Ghosts}
 use Rattle.cfb_mini.specs.Views.{allocator_of}
 use Rattle.cfb_owned.specs.Chains.{GoesOn}
+use Rattle.cfb_owners.specs.Owners.{Owners}
 use Rattle.cfb_owned.proofs.GoingOn.{goes_cause}
 use Rattle.cfb_tree.specs.Changes.{changed, with_bytes}
 use Rattle.cfb_tree.specs.Names.{Letters}
@@ -52,6 +55,10 @@ module _ {F : Type 0} {g : Ghosts F} where
   pub means_shown : (it : CompoundFile F g) (tree : Tree) → FileMeans it tree → FileShows it tree
   means_shown it tree m = holds_shown it tree (holds_meant it tree m)
 
+  -- the second file means the tree, and there are no more strays
+  abbrev Comes : CompoundFile F g → CompoundFile F g → Owners → Tree → Type 0
+  Comes old new who tree = (means : FileMeans new tree) × HasNoMoreStrays (mini_of old) (mini_of new) who means.live.who
+
   module _ (path : Option Path) (bytes : List ℕ) (old : CompoundFile F g) where
     -- LAW: where a stream is at the path it is rewritten
     pub puts_there : (new : CompoundFile F g) (r : Result (Unit {0}) Error) → ((tree : Tree) → FileShows old tree → yes true ≡ said_at (letters_in old) tree is_stream path) → FilePuts (rewriting bytes) path r old new → FilePuts (putting bytes) path r old new
@@ -62,7 +69,8 @@ module _ {F : Type 0} {g : Ghosts F} where
           let d = p.done tree m in
           let there = said_so (letters_in old) tree d.names true (subst (λ q. yes true ≡ said_at (letters_in old) tree is_stream q) d.at_path (said tree (means_shown old tree m))) in
           let same = put_there (letters_in old) tree d.names bytes there in
-          record { names = d.names; at_path = d.at_path; accepted = ap (λ (o : Outcome). o.1) same ∙ d.accepted; means = subst (FileMeans new) (ap (λ (o : Outcome). o.0) (sym same)) d.means };
+          let comes = subst (Comes old new m.live.who) (ap (λ (o : Outcome). o.0) (sym same)) (d.means, d.strays) in
+          record { names = d.names; at_path = d.at_path; accepted = ap (λ (o : Outcome). o.1) same ∙ d.accepted; means = comes.0; strays = comes.1 };
       refused = tt;
       rests = tt;
       seen = p.seen;
@@ -126,13 +134,17 @@ module _ {F : Type 0} {g : Ghosts F} where
             let both = put_new (letters_in old) tree d.names bytes d.accepted later refl in
             let q = p.done later d.means in
             let names : q.names ≡ d.names = Some_same (sym q.at_path ∙ d.at_path) in
-            let there : FileMeans new (rewriting bytes (letters_in old) later d.names).0 =
-            subst (λ l. FileMeans new (rewriting bytes l later d.names).0) did.seen.0 (subst (λ n. FileMeans new (rewriting bytes (letters_in mid) later n).0) names q.means) in
+            let who = m.live.who in
+            let start : Comes old new who (rewriting bytes (letters_in mid) later q.names).0 = (q.means, strays_then (mini_of old) (mini_of mid) (mini_of new) who d.means.live.who q.means.live.who d.strays q.strays) in
+            let there : Comes old new who (rewriting bytes (letters_in old) later d.names).0 =
+            subst (λ l. Comes old new who (rewriting bytes l later d.names).0) did.seen.0 (subst (λ n. Comes old new who (rewriting bytes (letters_in mid) later n).0) names start) in
+            let comes = subst (Comes old new who) (ap (λ (o : Outcome). o.0) (both.0 ∙ sym both.1)) there in
             record {
               names = d.names;
               at_path = d.at_path;
               accepted = ap (λ (o : Outcome). o.1) both.1;
-              means = subst (FileMeans new) (ap (λ (o : Outcome). o.0) (both.0 ∙ sym both.1)) there;
+              means = comes.0;
+              strays = comes.1;
             };
         refused = tt;
         rests = tt;

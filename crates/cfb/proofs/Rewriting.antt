@@ -11,7 +11,9 @@ use Rattle.cfb_fat.specs.Tables.{has_failed_here, version_of, AllRests, HasCause
 use Rattle.cfb_fat.specs.declared.allocator.Allocator.{Allocator}
 use Rattle.cfb_live.specs.Doing.{IsFault}
 use Rattle.cfb_live.specs.Live as live
+use Rattle.cfb_live.specs.Strays.{HasNoMoreStrays}
 use Rattle.cfb_live.proofs.Resting.{keeps_rests, means_stays}
+use Rattle.cfb_live.proofs.Strays.{strays_kept, strays_then}
 use Rattle.cfb_meaning.specs.TreeRules.{close_stream, done, has_bytes, on_stream, open_stream, refused, tree_step}
 use Rattle.cfb_medium.specs.Bytes.{overwritten}
 use Rattle.cfb_medium.specs.Calls.{IsFaultUnless}
@@ -21,6 +23,7 @@ use Rattle.cfb_medium.specs.declared.error.Error.TheVariants.{Device, Failed, In
 use Rattle.cfb_medium.specs.declared.medium.ReadMedium.{Ghosts}
 use Rattle.cfb_mini.specs.Views.{allocator_of}
 use Rattle.cfb_owned.specs.Chains.{IsInvalidPlaceOrFull}
+use Rattle.cfb_owners.specs.Owners.{Owners}
 use Rattle.cfb_tree.specs.Changes.{changed, with_bytes}
 use Rattle.cfb_tree.specs.Names.{Letters}
 use Rattle.cfb_tree.specs.Objects.{a_storage, a_stream, object_at, Object}
@@ -36,7 +39,7 @@ use Rattle.cfb.specs.Writing.{FindsWritten, IsLostAt, StreamIsWritten, KeepsAt, 
 use Rattle.cfb.specs.declared.compound_file.CompoundFile.{CompoundFile}
 use Rattle.cfb.proofs.Standing.{err_as}
 use Rattle.cfb.proofs.Wants.{want_cause, want_fault as why_fault}
-use Rattle.cfb.proofs.Written.{means_written}
+use Rattle.cfb.proofs.Written.{means_written, owners_written}
 
 none_of : (l : List ℕ) → length l ≡ 0 → l ≡ []
 none_of [] none = refl
@@ -88,6 +91,12 @@ module _ {F : Type 0} {g : Ghosts F} where
   pub want_fault : (it : CompoundFile F g) (e : Error) → IsWant it e → IsFault e
   want_fault it e = ⊎_elim (λ memory. subst IsFault (sym memory) (inl tt)) (λ failed. subst IsFault (sym failed.0) (inl tt))
 
+  -- a file of which a stream was written means its tree, with its owners
+  comes_written : (new : CompoundFile F g) (path : Path) (tree : Tree) (id : ℕ) (content : List ℕ) (w : StreamIsWritten new path tree id content) (old : CompoundFile F g) (who : Owners)
+      → HasNoMoreStrays (mini_of old) (mini_of new) who w.at.means.who → (means : FileMeans new tree) × HasNoMoreStrays (mini_of old) (mini_of new) who means.live.who
+  comes_written new path tree id content w old who strays =
+      let it = owners_written new path tree id content w in (it.0, subst (HasNoMoreStrays (mini_of old) (mini_of new) who) (sym it.1) strays)
+
   module _ (path : Option Path) (bytes : List ℕ) (old mid new : CompoundFile F g) (r : FileRests old mid) where
     -- LAW: no stream was found
     pub not_found : {S : Type 0} (e : Error) → (has_failed_here (allocator_of (mini_of old)) ≡ true → IsErrOf {T = S} (Err e) Failed)
@@ -106,7 +115,7 @@ module _ {F : Type 0} {g : Ghosts F} where
         }
 
     module _ (id len : ℕ) (live : has_failed_here (allocator_of (mini_of old)) ≡ true → ⊥) (sound : has_failed_here (allocator_of (mini_of old)) ≡ false → sound_of old ≡ false → ⊥)
-        (found : (tree : Tree) → FileMeans old tree → FindsWritten old mid path tree id len) (seen : (letters_in new ≡ letters_in mid) × (sound_of new ≡ sound_of mid) × (validation_of new ≡ validation_of mid)) where
+        (found : (tree : Tree) → (m : FileMeans old tree) → FindsWritten old mid path tree id len m.live.who) (seen : (letters_in new ≡ letters_in mid) × (sound_of new ≡ sound_of mid) × (validation_of new ≡ validation_of mid)) where
       -- LAW: its bytes were not written
       pub not_written : (e : Error) → (e ≡ InvalidInput → (names : Path) (tree : Tree) (content : List ℕ) → StreamIsWritten mid names tree id content → length content ≡ len → ⊥)
           → (e ≡ InvalidData → IsLostAt id mid) → (has_failed_here (allocator_of (mini_of new)) ≡ true) ⊎ KeepsAt id mid new
@@ -116,7 +125,7 @@ module _ {F : Type 0} {g : Ghosts F} where
         unsound = λ alive unsound. absurd (sound alive unsound);
         done = tt;
         refused = λ tree m. inl (why tree m fault);
-        rests = ⊎_elim (λ failed. inl failed) (λ k. inr (record { means = λ tree m. let f = found tree m in means_written new f.names tree id f.content (k f.names tree f.content f.written) })) kept;
+        rests = ⊎_elim (λ failed. inl failed) (λ k. inr (record { means = λ tree m. let f = found tree m in means_written new f.names tree id f.content (k f.names tree f.content f.written).0 })) kept;
         seen = (seen.0 ∙ r.letters, seen.1 ∙ r.sound, seen.2 ∙ r.validation);
       }
         where
@@ -143,12 +152,18 @@ module _ {F : Type 0} {g : Ghosts F} where
             let whole : change f.content ≡ bytes = is f.content (sym f.len_is) in
             let at = subst (λ l. object_at l tree f.names ≡ Some (a_stream f.written.at.name f.written.at.bits f.content)) r.letters f.written.at.at_path in
             let step = rewritten_there (letters_in old) tree bytes f.names f.written.at.name f.written.at.bits f.content at in
+            let keeps = keeps_rests (mini_of old) (mini_of mid) r.mini in
+            let started = subst (λ w. HasNoMoreStrays (mini_of mid) (mini_of new) w there.0.at.means.who) f.owners there.1 in
+            let comes = subst (λ t. (means : FileMeans new t) × HasNoMoreStrays (mini_of old) (mini_of new) m.live.who means.live.who)
+            (ap (λ b. changed (letters_in mid) (with_bytes b) f.names tree) whole ∙ ap (λ l. changed l (with_bytes bytes) f.names tree) r.letters ∙ sym (ap (λ o. o.0) step))
+            (comes_written new f.names (changed (letters_in mid) (with_bytes (change f.content)) f.names tree) id (change f.content) there.0 old m.live.who
+            (strays_then (mini_of old) (mini_of mid) (mini_of new) m.live.who m.live.who there.0.at.means.who (strays_kept (mini_of old) (mini_of mid) m.live.who keeps) started)) in
             record {
               names = f.names;
               at_path = f.at_path;
               accepted = ap (λ o. o.1) step;
-              means = subst (FileMeans new) (ap (λ b. changed (letters_in mid) (with_bytes b) f.names tree) whole ∙ ap (λ l. changed l (with_bytes bytes) f.names tree) r.letters ∙ sym (ap (λ o. o.0) step))
-                  (means_written new f.names (changed (letters_in mid) (with_bytes (change f.content)) f.names tree) id (change f.content) there);
+              means = comes.0;
+              strays = comes.1;
             };
         refused = tt;
         rests = tt;

@@ -6,7 +6,8 @@ use Rattle.cfb_medium.specs.declared.error.Error.{Error}
 use Rattle.cfb_medium.specs.declared.error.Error.TheVariants.{Failed, InvalidData, Memory}
 use Rattle.cfb_medium.specs.declared.medium.ReadMedium.{Ghosts}
 use Rattle.cfb_fat.specs.Tables.{bytes_of, has_failed_here, medium_of, HasCauseBelow}
-use Rattle.cfb_tree.specs.Directory.{Entry}
+use Rattle.cfb_tree.specs.Directory.{kind_stream, Entry}
+use Rattle.cfb_tree.specs.Paths.{Path}
 use Rattle.cfb_tree.specs.Tree.{Tree}
 use Rattle.cfb_directory.specs.Views.{entries_held}
 use Rattle.cfb_mini.specs.Views as mini
@@ -14,14 +15,14 @@ use Rattle.cfb_mini.specs.Views.{allocator_of, directory_of}
 use Rattle.cfb_mini.specs.declared.mini_allocator.MiniAllocator.{MiniAllocator}
 use Rattle.cfb_meaning.specs.Means.{HasBytes}
 use Rattle.cfb_meaning.specs.TreeRules.{has_bytes, open_read_stream, refused, Answer}
-use Rattle.cfb_entries.specs.Rules.{answer_at, names_in}
+use Rattle.cfb_entries.specs.Rules.{answer_at, names_in, HoldsSizes, IsFoundAt}
 use Rattle.cfb_entries.proofs.StreamsHeld.{stream_held, StreamHeld}
 use Rattle.cfb_streams.specs.Content as lower
 use Rattle.cfb_streams.specs.Streams.{sectors_in, IsOfLevel, StreamLiesIn}
 use Rattle.cfb_streams.specs.declared.ahead.ReadAhead.{ReadAhead}
 use Rattle.cfb_streams.specs.declared.opening.StreamLinks.{StreamLinks}
 use Rattle.cfb.specs.Streams.{FileHolds, IsBroken, IsStreamAt, IsWant}
-use Rattle.cfb.specs.Views.{letters_in, mini_of}
+use Rattle.cfb.specs.Views.{letters_in, mini_of, FileShows}
 use Rattle.cfb.specs.declared.compound_file.CompoundFile.{CompoundFile}
 use Rattle.cfb.proofs.Holding.{entries_hold}
 use Rattle.cfb.proofs.StreamBytes.{bytes_held, lies_where}
@@ -34,9 +35,12 @@ module _ {F : Type 0} {g : Ghosts F} (it : CompoundFile F g) (text : List ℕ) (
   abbrev answer : Answer
   answer = answer_at (letters_in it) tree (λ p. open_read_stream p) (names_in text)
 
-  -- where its entry's start and size are told as numbers
-  pub lies_at : (a b c d : ℕ) (sectors : List ℕ) → a ≡ c → b ≡ d → StreamLiesIn (mini_of it) a b sectors → StreamLiesIn (mini_of it) c d sectors
-  lies_at a b c d sectors first second lies = subst (λ x. StreamLiesIn (mini_of it) c x sectors) second (subst (λ x. StreamLiesIn (mini_of it) x b sectors) first lies)
+  -- the entry that was found among those in memory is the stream's
+  pub found_so : (entries : List Entry) (e : Entry) → entries ≡ entries_held (directory_of (mini_of it)) → (names : Path) → IsFoundAt (letters_in it) entries text names e → e.kind ≡ kind_stream → IsStreamAt it text e
+  found_so entries e same names found kind = record { names = names; found = subst (λ d. IsFoundAt (letters_in it) d text names e) same found; of_kind = kind }
+
+  pub shown_in : (entries : List Entry) → entries ≡ entries_held (directory_of (mini_of it)) → FileShows it tree → HoldsSizes (letters_in it) entries tree
+  shown_in entries same h = subst (λ d. HoldsSizes (letters_in it) d tree) (sym same) h
 
   held_at : (e : Entry) (at : IsStreamAt it text e) (h : FileHolds it tree) → StreamHeld (letters_in it) (HasBytes (bytes_of (allocator_of (mini_of it))) h.layout) tree at.names e
   held_at e at h =

@@ -1,5 +1,5 @@
 -- A stream whose bytes are all read in one call.
-use Rattle.std.proofs.Common.{◌≡◌, ◌∙◌, ◌⊎◌, inl, inr, ℕ, List, length, take, ap, arith, subst, sym, ⊎_elim}
+use Rattle.std.proofs.Common.{◌≡◌, ◌∙◌, ◌⊎◌, inl, inr, ℕ, List, length, take, ap, arith, refl, subst, sym, ⊎_elim}
 use Rattle.std.proofs.lemmas.List.{take_all}
 use Rattle.cfb_chains.specs.ChainCalls.{IsInvalidPlace}
 use Rattle.cfb_meaning.specs.TreeRules.{refused, Answer}
@@ -7,11 +7,15 @@ use Rattle.cfb_medium.specs.Calls.{IsFaultUnless}
 use Rattle.cfb_medium.specs.declared.error.Error.{Error}
 use Rattle.cfb_medium.specs.declared.error.Error.TheVariants.{InvalidData}
 use Rattle.cfb_medium.specs.declared.medium.ReadMedium.{Ghosts}
+use Rattle.cfb_mini.specs.Views.{MiniRests}
+use Rattle.cfb_mini.specs.declared.mini_allocator.MiniAllocator.{MiniAllocator}
 use Rattle.cfb_mini.proofs.Longer.{mini_rests_then}
+use Rattle.cfb_streams.specs.Content as lower
+use Rattle.cfb_streams.specs.declared.ahead.ReadAhead.{ReadAhead}
 use Rattle.cfb_streams.specs.Streams.{sectors_in, IsOfLevel, StreamLiesIn}
 use Rattle.cfb.specs.Putting.{IsRefusedOpening}
 use Rattle.cfb.specs.Streams.{bytes_found, FindsStream, HasStream, IsBroken, IsTrueToBytes, IsUnread, IsWant, KeepsStream}
-use Rattle.cfb.specs.Views.{links_held, mini_of, FileRests}
+use Rattle.cfb.specs.Views.{ahead_held, links_held, mini_of, most_ahead_of, FileRests}
 use Rattle.cfb.specs.declared.compound_file.CompoundFile.{CompoundFile}
 use Rattle.cfb.proofs.StreamBytes.{content_len}
 use Rattle.cfb.proofs.Wants.{want_is}
@@ -48,6 +52,20 @@ rests_twice a b c first second = record {
   validation = second.validation ∙ first.validation;
   sound = second.sound ∙ first.sound;
   most = second.most ∙ first.most;
+}
+
+-- the file over what a read left of the layer below, and of what was read ahead
+abbrev pub read_by : {F : Type 0} {g : Ghosts F} → CompoundFile F g → MiniAllocator F g → ReadAhead → CompoundFile F g
+read_by {F} {g} it mini ahead = record it { mini = mini; ahead = ahead }
+
+-- it reads the stream that it read
+pub keeps_by : {F : Type 0} {g : Ghosts F} (it : CompoundFile F g) (mini : MiniAllocator F g) (ahead : ReadAhead) (len : ℕ) → MiniRests (mini_of it) mini → lower.most_of ahead ≡ most_ahead_of it
+    → ((content : List ℕ) → lower.HasContent (mini_of it) (links_held it) len content → lower.HasContent mini (links_held it) len content)
+    → ((content : List ℕ) → lower.HasContent (mini_of it) (links_held it) len content → lower.IsAheadOf content (ahead_held it) → lower.IsAheadOf content ahead) → KeepsStream len it (read_by it mini ahead)
+keeps_by {F} {g} it mini ahead len rests most kept told = record {
+  rests = record { mini = rests; letters = refl; validation = refl; sound = refl; most = most };
+  links = refl;
+  content = λ content has. record { lies = kept content has.lies; ahead = told content has.lies has.ahead };
 }
 
 module _ {F : Type 0} {g : Ghosts F} (old mid new : CompoundFile F g) (text : List ℕ) (len : ℕ) (k : KeepsStream len mid new) (now : List ℕ) (long : length now ≡ len) where

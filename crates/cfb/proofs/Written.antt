@@ -9,14 +9,16 @@ use Rattle.cfb_fat.specs.Tables.{bytes_of, has_failed_here}
 use Rattle.cfb_chains.specs.LinkViews.{links_version}
 use Rattle.cfb_directory.specs.Views.{entries_held}
 use Rattle.cfb_entries.proofs.StreamsHeld.{stream_held}
-use Rattle.cfb_live.proofs.Resting.{means_stays}
+use Rattle.cfb_live.proofs.Resting.{means_stays, stays_owned}
 use Rattle.cfb_live.specs.Live as live
+use Rattle.cfb_live.specs.Strays.{HasNoMoreStrays}
 use Rattle.cfb_meaning.specs.Means.{HasBytes}
 use Rattle.cfb_meaning.specs.TreeRules.{has_bytes, open_read_stream, open_stream, refused, tree_step}
 use Rattle.cfb_mini.specs.Changing.{HasOwners, KeepsOwners}
 use Rattle.cfb_mini.specs.Minis.{AreInside}
 use Rattle.cfb_mini.specs.Views.{allocator_of, directory_of, mini_stream_ids, mini_stream_len}
 use Rattle.cfb_mini.specs.declared.mini_allocator.MiniAllocator.{MiniAllocator}
+use Rattle.cfb_owners.specs.Held.{MeansHeld}
 use Rattle.cfb_sectors.specs.Sectors.{Chain}
 use Rattle.cfb_siblings.specs.Places.{LeadsTo}
 use Rattle.cfb_streams.specs.Content as lower
@@ -95,16 +97,10 @@ alike_refl (Long a) = (refl, refl)
 pub alike_same : (a b : StreamLinks) → b ≡ a → AreAlike a b
 alike_same a b same = subst (AreAlike a) (sym same) (alike_refl a)
 
--- the answer of the rules where a stream is there, a storage, or nothing
+-- the answer of the rules where a stream is there
 module _ (letters : Letters) (tree : Tree) (path : Path) where
   pub open_found : (name : List ℕ) (bits : ℕ) (bytes : List ℕ) → object_at letters tree path ≡ Some (a_stream name bits bytes) → (tree_step letters tree (open_stream path)).1 ≡ has_bytes bytes
   open_found name bits bytes at = rw at refl
-
-  pub open_storage : (name : List ℕ) (facts : Facts) (inside : Content) → object_at letters tree path ≡ Some (a_storage name facts inside) → (tree_step letters tree (open_stream path)).1 ≡ refused InvalidInput
-  open_storage name facts inside at = rw at refl
-
-  pub open_missing : object_at letters tree path ≡ None → (tree_step letters tree (open_stream path)).1 ≡ refused NotFound
-  open_missing at = rw at refl
 
 module _ {F : Type 0} {g : Ghosts F} (it : CompoundFile F g) (path : Path) (tree : Tree) (id : ℕ) (content : List ℕ) (means : FileMeans it tree) (at : IsStreamAt (letters_in it) (mini_of it) tree path id content)
     (e : Entry) (found : slice_get (entries_held (directory_of (mini_of it))) id ≡ Some e) where
@@ -144,10 +140,29 @@ module _ {F : Type 0} {g : Ghosts F} (it : CompoundFile F g) (path : Path) (tree
     ]
   ]
 
+module _ {F : Type 0} {g : Ghosts F} (it : MiniAllocator F g) (a b : Letters) (same : b ≡ a) (tree : Tree) where
+  -- what is meant under one letter table is under the same
+  means_as : live.MeansLive a it tree → live.MeansLive b it tree
+  means_as m = record { live = m.live; orderly = m.orderly; who = m.who; owners = m.owners; sizes = m.sizes; held = subst (λ l. MeansHeld (live.live_of it) m.who l tree) (sym same) m.held }
+
+  stream_as : (path : Path) (id : ℕ) (content : List ℕ) → IsStreamAt a it tree path id content → IsStreamAt b it tree path id content
+  stream_as path id content at = record {
+    means = means_as at.means;
+    leads = subst (λ l. LeadsTo l (entries_held (directory_of it)) 0 path id) (sym same) at.leads;
+    name = at.name;
+    bits = at.bits;
+    at_path = subst (λ l. object_at l tree path ≡ Some (a_stream at.name at.bits content)) (sym same) at.at_path;
+  }
+
 module _ {F : Type 0} {g : Ghosts F} (it : CompoundFile F g) (path : Path) (tree : Tree) (id : ℕ) (content : List ℕ) (w : StreamIsWritten it path tree id content) where
   -- the file means the tree
   pub means_written : FileMeans it tree
   means_written = record { sound = w.sound; live = w.at.means }
+
+  -- with the same owners
+  pub owners_written : (m : FileMeans it tree) × (m.live.who ≡ w.at.means.who)
+  unfolding means_written
+  owners_written = (means_written, refl)
 
   -- and reads the stream
   pub reads_written : HasStream it (length content) content
@@ -163,29 +178,37 @@ module _ {F : Type 0} {g : Ghosts F} (old new : CompoundFile F g) (path : Path) 
   -- LAW: a stream stays where each owner has what it had
   pub written_kept : KeepsOwners (mini_of old) (mini_of new) → letters_in new ≡ letters_in old → sound_of new ≡ sound_of old
       → (has_failed_here (allocator_of (mini_of new)) ≡ false → AreAlike (links_held old) (links_held new))
-      → lower.IsAheadOf content (ahead_held new) → StreamIsWritten new path tree id content
-  written_kept k letters sound links ahead = record {
-    sound = sound ∙ w.sound;
-    at = record {
-      means = subst (λ l. live.MeansLive l (mini_of new) tree) (sym letters) (means_stays (mini_of old) (mini_of new) k (letters_in old) tree w.at.means);
-      leads = subst (λ l. LeadsTo l (entries_held (directory_of (mini_of new))) 0 path id) (sym letters) (subst (λ es. LeadsTo (letters_in old) es 0 path id) (sym k.entries) w.at.leads);
-      name = w.at.name;
-      bits = w.at.bits;
-      at_path = subst (λ l. object_at l tree path ≡ Some (a_stream w.at.name w.at.bits content)) (sym letters) w.at.at_path;
-    };
-    links = links_alike (mini_of new) id (links_held old) (links_held new) (links (k.allocator.sectors.failed ∙ w.at.means.live))
-        (links_kept (mini_of old) (mini_of new) k w.at.means.who.sectors w.at.means.owners id (links_held old) w.links);
-    ahead = ahead;
-  }
+      → lower.IsAheadOf content (ahead_held new) → (then : StreamIsWritten new path tree id content) × (then.at.means.who ≡ w.at.means.who)
+  unfolding means_as
+  written_kept k letters sound links ahead = (
+    record {
+      sound = sound ∙ w.sound;
+      at = record {
+        means = means_as (mini_of new) (letters_in old) (letters_in new) letters tree (means_stays (mini_of old) (mini_of new) k (letters_in old) tree w.at.means);
+        leads = subst (λ l. LeadsTo l (entries_held (directory_of (mini_of new))) 0 path id) (sym letters) (subst (λ es. LeadsTo (letters_in old) es 0 path id) (sym k.entries) w.at.leads);
+        name = w.at.name;
+        bits = w.at.bits;
+        at_path = subst (λ l. object_at l tree path ≡ Some (a_stream w.at.name w.at.bits content)) (sym letters) w.at.at_path;
+      };
+      links = links_alike (mini_of new) id (links_held old) (links_held new) (links (k.allocator.sectors.failed ∙ w.at.means.live))
+          (links_kept (mini_of old) (mini_of new) k w.at.means.who.sectors w.at.means.owners id (links_held old) w.links);
+      ahead = ahead;
+    },
+    stays_owned (mini_of old) (mini_of new) k (letters_in old) tree w.at.means,
+  )
 
-  -- LAW: one that was rewritten has its new bytes
+  -- LAW: one that was rewritten has its new bytes, and there are no more strays
   pub written_so : (change : List ℕ → List ℕ) → RewritesIn id change (links_held old) (links_held new) (mini_of old) (mini_of new) → letters_in new ≡ letters_in old → sound_of new ≡ sound_of old
-      → lower.ahead_of (ahead_held new) ≡ [] → StreamIsWritten new path (changed (letters_in old) (with_bytes (change content)) path tree) id (change content)
+      → lower.ahead_of (ahead_held new) ≡ [] → (then : StreamIsWritten new path (changed (letters_in old) (with_bytes (change content)) path tree) id (change content)) × HasNoMoreStrays (mini_of old) (mini_of new) w.at.means.who then.at.means.who
+  unfolding stream_as means_as
   written_so change did letters sound none =
-      let (at, links) = did (letters_in old) tree path content w.at w.links in
-      record {
-        sound = sound ∙ w.sound;
-        at = subst (λ l. IsStreamAt l (mini_of new) (changed (letters_in old) (with_bytes (change content)) path tree) path id (change content)) (sym letters) at;
-        links = links;
-        ahead = none_ahead (ahead_held new) (change content) none;
-      }
+      let it = did (letters_in old) tree path content w.at w.links in
+      let later = changed (letters_in old) (with_bytes (change content)) path tree in (
+        record {
+          sound = sound ∙ w.sound;
+          at = stream_as (mini_of new) (letters_in old) (letters_in new) letters later path id (change content) it.0;
+          links = it.1;
+          ahead = none_ahead (ahead_held new) (change content) none;
+        },
+        it.2,
+      )

@@ -2,11 +2,13 @@
 use Rattle.std.specs.Prelude.{◌≡◌, ◌⊎◌, ℕ, false, true, length, List, Option, Some, None, Result, IfErr, IsErrOf, OnErr, OnOk}
 use Rattle.cfb_fat.specs.Tables.{has_failed_here}
 use Rattle.cfb_live.specs.Doing.{IsFault}
+use Rattle.cfb_live.specs.Strays.{HasNoMoreStrays}
 use Rattle.cfb_meaning.specs.TreeRules.{close_stream, done, has_bytes, made, open_stream, refused, tree_step, Answer, Outcome}
 use Rattle.cfb_medium.specs.declared.error.Error.{Error}
 use Rattle.cfb_medium.specs.declared.error.Error.TheVariants.{AlreadyExists, Failed, Full, InvalidData, InvalidInput, NotFound}
 use Rattle.cfb_medium.specs.declared.medium.ReadMedium.{Ghosts}
 use Rattle.cfb_mini.specs.Views.{allocator_of}
+use Rattle.cfb_owners.specs.Owners.{Owners}
 use Rattle.cfb_tree.specs.Changes.{changed, last_of, with_bytes}
 use Rattle.cfb_tree.specs.Names.{Letters}
 use Rattle.cfb_tree.specs.Objects.{a_storage, a_stream, object_at, Object}
@@ -66,19 +68,21 @@ module _ {F : Type 0} {g : Ghosts F} where
   pub record KeepsMeant (old new : CompoundFile F g) : Type 0 where
     pub means : (tree : Tree) → FileMeans old tree → FileMeans new tree
 
-  -- the rule accepts, and the file means the tree that it gives
-  pub record IsDoneBy (rule : Rule) (path : Option Path) (tree : Tree) (old new : CompoundFile F g) : Type 0 where
+  -- the rule accepts, and the file means the tree that it gives; no sector and no mini sector is in use without an owner that wasn't so
+  -- before
+  pub record IsDoneBy (rule : Rule) (path : Option Path) (tree : Tree) (old new : CompoundFile F g) (who : Owners) : Type 0 where
     pub names : Path
     pub at_path : path ≡ Some names
     pub accepted : (rule (letters_in old) tree names).1 ≡ done
     pub means : FileMeans new (rule (letters_in old) tree names).0
+    pub strays : HasNoMoreStrays (mini_of old) (mini_of new) who means.live.who
 
   -- As `Does`, by a rule on trees: `Failed` after a fault, `InvalidData` where the file isn't sound; else done, or refused just as the
   -- rule refuses, and then the file means what it meant; else a fault. After any error it has failed, or means what it meant.
   pub record FilePuts {T : Type 0} (rule : Rule) (path : Option Path) (result : Result T Error) (old new : CompoundFile F g) : Type 0 where
     pub failed : has_failed_here (allocator_of (mini_of old)) ≡ true → IsErrOf result Failed
     pub unsound : has_failed_here (allocator_of (mini_of old)) ≡ false → sound_of old ≡ false → IsErrOf result InvalidData
-    pub done : OnOk result ((tree : Tree) → FileMeans old tree → IsDoneBy rule path tree old new)
+    pub done : OnOk result ((tree : Tree) → (m : FileMeans old tree) → IsDoneBy rule path tree old new m.live.who)
     pub refused : IfErr result (λ e. (tree : Tree) → FileMeans old tree → IsFault e ⊎ ((answer_by rule (letters_in old) tree path ≡ refused e) × KeepsMeant old new))
     pub rests : OnErr result ((has_failed_here (allocator_of (mini_of new)) ≡ true) ⊎ KeepsMeant old new)
     pub seen : (letters_in new ≡ letters_in old) × (sound_of new ≡ sound_of old) × (validation_of new ≡ validation_of old)

@@ -5,12 +5,14 @@ use Rattle.cfb_chains.specs.ChainCalls.{IsInvalidPlace}
 use Rattle.cfb_fat.specs.Calls.{FatAnswers}
 use Rattle.cfb_fat.specs.Tables.{HasCauseBelow}
 use Rattle.cfb_fat.specs.declared.allocator.Allocator.{Allocator}
+use Rattle.cfb_live.specs.Strays.{HasNoMoreStrays}
 use Rattle.cfb_meaning.specs.TreeRules.{has_bytes, open_stream, tree_step}
 use Rattle.cfb_medium.specs.Calls.{IsFaultUnless}
 use Rattle.cfb_medium.specs.declared.error.Error.{Error}
 use Rattle.cfb_medium.specs.declared.medium.ReadMedium.{Ghosts}
 use Rattle.cfb_mini.specs.Views.{allocator_of}
 use Rattle.cfb_owned.specs.Chains.{GoesOn}
+use Rattle.cfb_owners.specs.Owners.{Owners}
 use Rattle.cfb_streams.specs.Content.{count_from, IsAheadOf}
 use Rattle.cfb_tree.specs.Changes.{changed, with_bytes}
 use Rattle.cfb_tree.specs.Paths.{Path}
@@ -29,14 +31,19 @@ module _ {F : Type 0} {g : Ghosts F} where
     pub links : written.AreLinksOf id (links_held it) (mini_of it)
     pub ahead : IsAheadOf content (ahead_held it)
 
-  -- the stream of entry `id` has then the bytes that come of its own by the change, and nothing else of the tree is changed
-  abbrev pub RewritesAt : ℕ → (List ℕ → List ℕ) → CompoundFile F g → CompoundFile F g → Type 0
-  RewritesAt id change old new = (path : Path) (tree : Tree) (content : List ℕ) → StreamIsWritten old path tree id content
-      → StreamIsWritten new path (changed (letters_in old) (with_bytes (change content)) path tree) id (change content)
+  -- who owns which sectors then
+  abbrev pub owners_at : {it : CompoundFile F g} {path : Path} {tree : Tree} {id : ℕ} {content : List ℕ} → StreamIsWritten it path tree id content → Owners
+  owners_at {it} {path} {tree} {id} {content} w = w.at.means.who
 
-  -- the stream of entry `id` is what it was
+  -- the stream of entry `id` has then the bytes that come of its own by the change, and nothing else of the tree is changed; no sector
+  -- and no mini sector is in use without an owner that wasn't so before
+  abbrev pub RewritesAt : ℕ → (List ℕ → List ℕ) → CompoundFile F g → CompoundFile F g → Type 0
+  RewritesAt id change old new = (path : Path) (tree : Tree) (content : List ℕ) → (w : StreamIsWritten old path tree id content)
+      → (then : StreamIsWritten new path (changed (letters_in old) (with_bytes (change content)) path tree) id (change content)) × HasNoMoreStrays (mini_of old) (mini_of new) w.at.means.who then.at.means.who
+
+  -- the stream of entry `id` is what it was, and so are the owners
   abbrev pub KeepsAt : ℕ → CompoundFile F g → CompoundFile F g → Type 0
-  KeepsAt id old new = (path : Path) (tree : Tree) (content : List ℕ) → StreamIsWritten old path tree id content → StreamIsWritten new path tree id content
+  KeepsAt id old new = (path : Path) (tree : Tree) (content : List ℕ) → (w : StreamIsWritten old path tree id content) → (then : StreamIsWritten new path tree id content) × (then.at.means.who ≡ w.at.means.who)
 
   -- it is lost, whatever tree is meant
   abbrev pub IsLostAt : ℕ → CompoundFile F g → Type 0
@@ -46,20 +53,15 @@ module _ {F : Type 0} {g : Ghosts F} where
   abbrev pub LacksRoomAt : ℕ → ℕ → CompoundFile F g → Type 0
   LacksRoomAt id len it = (path : Path) (tree : Tree) (content : List ℕ) → StreamIsWritten it path tree id content → written.LacksRoom (mini_of it) (length content) len
 
-  -- the path leads to the stream of entry `id`
-  pub record IsFound (it : CompoundFile F g) (path : Option Path) (tree : Tree) (id : ℕ) : Type 0 where
-    pub names : Path
-    pub at_path : path ≡ Some names
-    pub content : List ℕ
-    pub at : written.IsStreamAt (letters_in it) (mini_of it) tree names id content
-
-  -- so it does, and the rules answer with its bytes; the second file has its sectors
-  pub record FindsWritten (old new : CompoundFile F g) (path : Option Path) (tree : Tree) (id len : ℕ) : Type 0 where
+  -- the path leads to the stream of entry `id`, and the rules answer with its bytes; the second file has its sectors, and the owners
+  -- are these
+  pub record FindsWritten (old new : CompoundFile F g) (path : Option Path) (tree : Tree) (id len : ℕ) (who : Owners) : Type 0 where
     pub names : Path
     pub at_path : path ≡ Some names
     pub content : List ℕ
     pub answer : (tree_step (letters_in old) tree (open_stream names)).1 ≡ has_bytes content
     pub written : StreamIsWritten new names tree id content
+    pub owners : owners_at written ≡ who
     pub len_is : len ≡ length content
 
   -- the file, how many bytes the stream has, and the place from which on they are read and written
@@ -89,14 +91,19 @@ module _ {F : Type 0} {g : Ghosts F} where
     pub written : StreamIsWritten (file_under it) path tree (id_of it) content
     pub len : stream_len it ≡ length content
 
-  -- the stream has then the bytes that come of its own by the change, and nothing else of the tree is changed
-  abbrev pub Rewrites : (List ℕ → List ℕ) → Stream F g → Stream F g → Type 0
-  Rewrites change old new = (path : Path) (tree : Tree) (content : List ℕ) → Stands old path tree content
-      → Stands new path (changed (letters_in (file_under old)) (with_bytes (change content)) path tree) (change content)
+  -- who owns which sectors, with the stream as it stands
+  abbrev pub owners_under : {it : Stream F g} {path : Path} {tree : Tree} {content : List ℕ} → Stands it path tree content → Owners
+  owners_under {it} {path} {tree} {content} s = owners_at s.written
 
-  -- the stream is what it was
+  -- the stream has then the bytes that come of its own by the change, and nothing else of the tree is changed; no sector and no mini
+  -- sector is in use without an owner that wasn't so before
+  abbrev pub Rewrites : (List ℕ → List ℕ) → Stream F g → Stream F g → Type 0
+  Rewrites change old new = (path : Path) (tree : Tree) (content : List ℕ) → (s : Stands old path tree content)
+      → (then : Stands new path (changed (letters_in (file_under old)) (with_bytes (change content)) path tree) (change content)) × HasNoMoreStrays (mini_of (file_under old)) (mini_of (file_under new)) (owners_under s) (owners_under then)
+
+  -- the stream is what it was, and so are the owners
   abbrev pub StreamKeeps : Stream F g → Stream F g → Type 0
-  StreamKeeps old new = (path : Path) (tree : Tree) (content : List ℕ) → Stands old path tree content → Stands new path tree content
+  StreamKeeps old new = (path : Path) (tree : Tree) (content : List ℕ) → (s : Stands old path tree content) → (then : Stands new path tree content) × (owners_under then ≡ owners_under s)
 
   -- it was only read: it is the same stream of the same file, and what it was
   pub record StreamRests (old new : Stream F g) : Type 0 where
@@ -139,10 +146,11 @@ module _ {F : Type 0} {g : Ghosts F} where
     pub goes_on : GoesOn (allocator_under old) (allocator_under new)
     pub answers : FatAnswers refuses result (allocator_under old) (allocator_under new)
 
-  -- the rules answer with the bytes of the stream at the path, and it stands with these
-  pub record Opens (path : Option Path) (old : CompoundFile F g) (tree : Tree) (new : Stream F g) : Type 0 where
+  -- the rules answer with the bytes of the stream at the path, and it stands with these, under these owners
+  pub record Opens (path : Option Path) (old : CompoundFile F g) (tree : Tree) (who : Owners) (new : Stream F g) : Type 0 where
     pub names : Path
     pub at_path : path ≡ Some names
     pub content : List ℕ
     pub answer : (tree_step (letters_in old) tree (open_stream names)).1 ≡ has_bytes content
     pub stands : Stands new names tree content
+    pub owners : owners_under stands ≡ who

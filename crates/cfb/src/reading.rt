@@ -19,11 +19,7 @@ ghost use Rattle.std.specs.Prelude.{drop, false, length, min, take, true, IfErr,
 use crate::{CompoundFile, ReadStream};
 use cfb_entries::stream_at;
 use cfb_medium::{Error, ReadMedium};
-use cfb_sectors::END_OF_CHAIN;
-use cfb_streams::{open_stream, read_ahead, read_stream};
-
-// A read of fewer bytes reads ahead first.
-const SMALL: usize = 1024;
+use cfb_streams::{open_stream, read_ahead, read_bytes, read_whole};
 
 impl<F: ReadMedium> CompoundFile<F> {
     // Refuses every call after a fault.
@@ -34,30 +30,10 @@ impl<F: ReadMedium> CompoundFile<F> {
         ensures error { IfErr result (λ e. (e ≡ Failed)
             × (has_failed_here (allocator_of (mini_of self.now)) ≡ true)) }
     {
-        match self.mini.directory().allocator().open_chain(END_OF_CHAIN) {
-            Ok(_) => Ok(()),
-            Err(Error::Failed) => Err(Error::Failed),
-            Err(_) => Ok(()),
+        if self.is_failed() {
+            return Err(Error::Failed);
         }
-    }
-
-    // Where the stream at a path begins, and how many bytes it has.
-    fn stream_place(&self, path: &str) -> Result<(u32, u64), Error>
-        ensures found { (tree : Tree) → FileShows self.now tree → IfOk result (λ it. (e : Entry)
-            × IsStreamAt self.now path.now e × (it.0 ≡ e.start) × (it.1 ≡ e.size)) }
-        ensures answer { (tree : Tree) → FileShows self.now tree → IfOk result (λ it. (bytes : List ℕ)
-            × (answer_at (letters_in self.now) tree open_read_stream (names_in path.now)
-            ≡ has_bytes bytes) × (length bytes ≡ it.1)) }
-        ensures refused { (tree : Tree) → FileShows self.now tree → IfErr result (λ e. (e ≡ Memory)
-            ⊎ (answer_at (letters_in self.now) tree open_read_stream (names_in path.now)
-            ≡ refused e)) }
-        ensures error { IfErr result (λ e. (e ≡ Memory) ⊎ IsRefusedOpening e) }
-    {
-        let entry = match stream_at(self.alloc, &self.letters, self.entries(), path) {
-            Ok(entry) => entry,
-            Err(error) => return Err(error),
-        };
-        Ok((entry.start_sector, entry.stream_len))
+        Ok(())
     }
 
     // Finds the sectors of the stream at a path, and gives how many bytes it has. Nothing is read ahead of it yet.
@@ -80,10 +56,11 @@ impl<F: ReadMedium> CompoundFile<F> {
             Ok(()) => {}
             Err(error) => return Err(error),
         }
-        let (start, size) = match self.stream_place(path) {
-            Ok(place) => place,
+        let entry = match stream_at(self.alloc, &self.letters, self.entries(), path) {
+            Ok(entry) => entry,
             Err(error) => return Err(error),
         };
+        let (start, size) = (entry.start_sector, entry.stream_len);
         let links = match open_stream(&self.mini, start, size) {
             Ok(links) => links,
             Err(error) => return Err(error),
@@ -145,62 +122,9 @@ impl<F: ReadMedium> CompoundFile<F> {
             Ok(len) => len,
             Err(error) => return Err(error),
         };
-        match self.read_all(len) {
+        let alloc = self.alloc;
+        match read_whole(alloc, &mut self.mini, &self.links, &mut self.ahead, len) {
             Ok(bytes) => Ok(bytes),
-            Err(error) => Err(error),
-        }
-    }
-
-    // All bytes of the stream of so many bytes that is read.
-    fn read_all(&mut self, len: u64) -> Result<Vec<u8>, Error>
-        requires { len < 2 ^ 63 }
-        ensures read { IfOk result (λ bytes. (content : List ℕ) → HasStream self.old len content
-            → bytes.items ≡ take len content) }
-        ensures size { IfOk result (λ bytes. length bytes.items ≡ len) }
-        ensures lost { IfErr result (λ e. (content : List ℕ) → HasStream self.old len content
-            → IsFaultUnless ⊥ e) }
-        ensures keeps { KeepsStream len self.old self.new }
-        ensures cause { IfErr result (HasCauseBelow (allocator_of (mini_of self.old))
-            (allocator_of (mini_of self.new))) }
-        ensures fault { IfErr result (λ e. IsFaultUnless ⊥ e ⊎ IsInvalidPlace e) }
-    {
-        let mut bytes = Vec::new(self.alloc);
-        bytes.resize(len as usize, 0)?;
-        self.read_bytes(0, len, &mut bytes)?;
-        Ok(bytes)
-    }
-
-    // Fills the buffer with bytes of the stream of so many bytes that is read, from a place on: with what was read ahead, where
-    // that is enough.
-    fn read_part(&mut self, at: u64, len: u64, buffer: &mut [u8]) -> Result<(), Error>
-        requires { at + length buffer.old ≤ len }
-        ensures part { (content : List ℕ) → HasStream self.old len content
-            → ReadsPart content at buffer.old buffer.new result }
-        ensures keeps { KeepsStream len self.old self.new }
-        ensures cause { IfErr result (HasCauseBelow (allocator_of (mini_of self.old))
-            (allocator_of (mini_of self.new))) }
-        ensures fault { IfErr result (λ e. IsFaultUnless ⊥ e ⊎ IsInvalidPlace e) }
-    {
-        let held = self.ahead_from(at, len);
-        if held.len() >= buffer.len() {
-            buffer.copy_from_slice(&held[..buffer.len()]);
-            return Ok(());
-        }
-        read_stream(&mut self.mini, &self.links, at, buffer)
-    }
-
-    // So, after some bytes from the place on were read ahead.
-    fn read_small(&mut self, at: u64, len: u64, buffer: &mut [u8]) -> Result<(), Error>
-        requires { at + length buffer.old ≤ len }
-        ensures part { (content : List ℕ) → HasStream self.old len content
-            → ReadsPart content at buffer.old buffer.new result }
-        ensures keeps { KeepsStream len self.old self.new }
-        ensures cause { IfErr result (HasCauseBelow (allocator_of (mini_of self.old))
-            (allocator_of (mini_of self.new))) }
-        ensures fault { IfErr result (λ e. IsFaultUnless ⊥ e ⊎ IsInvalidPlace e) }
-    {
-        match self.read_more(at, len) {
-            Ok(()) => self.read_part(at, len, buffer),
             Err(error) => Err(error),
         }
     }
@@ -221,10 +145,14 @@ impl<F: ReadMedium> CompoundFile<F> {
         if self.is_failed() {
             return Err(Error::Failed);
         }
-        if buffer.len() < SMALL {
-            return self.read_small(at, len, buffer);
-        }
-        self.read_part(at, len, buffer)
+        read_bytes(
+            &mut self.mini,
+            &self.links,
+            &mut self.ahead,
+            at,
+            len,
+            buffer,
+        )
     }
 
     // Reads ahead from a place of the stream of so many bytes on, where nothing from there on was.
@@ -243,18 +171,5 @@ impl<F: ReadMedium> CompoundFile<F> {
             return Err(Error::Failed);
         }
         read_ahead(&mut self.mini, &self.links, &mut self.ahead, at, len)
-    }
-
-    // What was read ahead from a place on, of a stream of so many bytes.
-    pub(crate) fn ahead_from(&self, at: u64, len: u64) -> &[u8]
-        requires { at ≤ len }
-        ensures bytes { (content : List ℕ) → HasStream self.now len content → result.now
-            ≡ take (length result.now) (drop at content) }
-        ensures count { length result.now ≡ min (len - at) (count_from (ahead_held self.now) at) }
-        ensures most { length result.now ≤ most_ahead_of self.now }
-    {
-        let bytes = self.ahead.from(at);
-        let count = (len - at).min(bytes.len() as u64) as usize;
-        &bytes[..count]
     }
 }

@@ -131,7 +131,7 @@ impl<'a, F: ReadMedium> ReadStream<'a, F> {
         ensures count { length result.now ≡ buffered_of self.now }
         ensures most { length result.now ≤ most_ahead_of (file_of self.now) }
     {
-        self.file.ahead_from(self.position, self.len)
+        self.file.ahead.within(self.position, self.len)
     }
 
     /// Reads ahead as `fill` does, and gives the bytes from the position on.

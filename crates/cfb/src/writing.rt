@@ -3,7 +3,7 @@ ghost use Rattle.cfb.specs.Doing.{FileMeans};
 ghost use Rattle.cfb.specs.Putting.{IsRefusedOpening};
 ghost use Rattle.cfb.specs.Streams.{IsWant, KeepsStream};
 ghost use Rattle.cfb.specs.Views.{letters_in, mini_of, most_ahead_of, sound_of, validation_of, FileRests};
-ghost use Rattle.cfb.specs.Writing.{file_under, place_of, FindsWritten, IsFound, IsLostAt, StreamIsWritten, KeepsAt, LacksRoomAt, Opens, RewritesAt};
+ghost use Rattle.cfb.specs.Writing.{file_under, place_of, FindsWritten, IsLostAt, StreamIsWritten, KeepsAt, LacksRoomAt, Opens, RewritesAt};
 ghost use Rattle.cfb_directory.specs.Views.{entries_held};
 ghost use Rattle.cfb.specs.contracts.compound_file.CompoundFile.{the_row};
 ghost use Rattle.cfb_chains.specs.ChainCalls.{IsInvalidPlace};
@@ -25,46 +25,17 @@ ghost use Rattle.std.specs.Prelude.{false, length, true, IfErr, IfOk, IsErrOf, L
 
 use crate::{CompoundFile, Stream};
 use cfb_medium::{Error, Medium, ReadMedium};
-use cfb_siblings::find_entry;
 use cfb_streams::open_stream as find_sectors;
-use cfb_tree::name_chain_from_path;
-use cfb_writing::{is_stream, overwrite_stream, resize_stream};
+use cfb_writing::{find_stream, overwrite_stream, resize_stream};
 
 impl<F: ReadMedium> CompoundFile<F> {
-    // The number of the entry of the stream at a path.
-    fn stream_entry(&self, path: &str) -> Result<u32, Error>
-        ensures inside { IfOk result (λ id.
-            id < length (entries_held (directory_of (mini_of self.now)))) }
-        ensures found { (tree : Tree) → FileMeans self.now tree
-            → IfOk result (λ id. IsFound self.now (names_in path.now) tree id) }
-        ensures refused { (tree : Tree) → FileMeans self.now tree
-            → IfErr result (λ e. IsWant self.now e
-            ⊎ (answer_at (letters_in self.now) tree open_stream (names_in path.now) ≡ refused e)) }
-        ensures error { IfErr result (λ e. (e ≡ Memory) ⊎ IsRefusedOpening e) }
-    {
-        let names = match name_chain_from_path(self.alloc, path) {
-            Ok(names) => names,
-            Err(error) => return Err(error),
-        };
-        let Some(id) = find_entry(&self.letters, self.entries(), &names) else {
-            return Err(Error::NotFound);
-        };
-        let Some(entry) = self.entries().get(id as usize) else {
-            return Err(Error::InvalidData);
-        };
-        if !is_stream(entry) {
-            return Err(Error::InvalidInput);
-        }
-        Ok(id)
-    }
-
     // Finds the entry and the sectors of the stream at a path, and gives the entry's number and how many bytes the stream has.
     // Nothing is read ahead of it yet.
     pub(crate) fn find_written(&mut self, path: &str) -> Result<(u32, u64), Error>
         ensures rests { FileRests self.old self.new }
         ensures small { IfOk result (λ it. it.1 < 2 ^ 63) }
-        ensures found { (tree : Tree) → FileMeans self.old tree → IfOk result (λ it.
-            FindsWritten self.old self.new (names_in path.now) tree it.0 it.1) }
+        ensures found { (tree : Tree) → (m : FileMeans self.old tree) → IfOk result (λ it.
+            FindsWritten self.old self.new (names_in path.now) tree it.0 it.1 m.live.who) }
         ensures refused { (tree : Tree) → FileMeans self.old tree
             → IfErr result (λ e. IsWant self.old e
             ⊎ (answer_at (letters_in self.old) tree open_stream (names_in path.now) ≡ refused e)) }
@@ -81,7 +52,7 @@ impl<F: ReadMedium> CompoundFile<F> {
         if !self.is_sound {
             return Err(Error::InvalidData);
         }
-        let id = match self.stream_entry(path) {
+        let id = match find_stream(self.alloc, &self.mini, &self.letters, path) {
             Ok(id) => id,
             Err(error) => return Err(error),
         };
@@ -106,8 +77,8 @@ impl<F: ReadMedium> CompoundFile<F> {
             s.file.ghost_name ≡ self.entry.ghost_name) }
         ensures read { IfOk result (λ s. FileRests self.old (file_under s)) }
         ensures at_start { IfOk result (λ s. place_of s ≡ 0) }
-        ensures opened { (tree : Tree) → FileMeans self.old tree
-            → IfOk result (Opens (names_in path.now) self.old tree) }
+        ensures opened { (tree : Tree) → (m : FileMeans self.old tree)
+            → IfOk result (Opens (names_in path.now) self.old tree m.live.who) }
         ensures refused { (tree : Tree) → FileMeans self.old tree
             → IfErr result (λ e. IsWant self.old e
             ⊎ (answer_at (letters_in self.old) tree open_stream (names_in path.now) ≡ refused e)) }

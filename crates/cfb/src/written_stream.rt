@@ -183,7 +183,7 @@ impl<'a, F: ReadMedium> Stream<'a, F> {
         ensures count { length result.now ≡ buffered_of self.now }
         ensures most { length result.now ≤ most_ahead_of (file_under self.now) }
     {
-        self.file.ahead_from(self.position, self.len)
+        self.file.ahead.within(self.position, self.len)
     }
 
     /// Reads ahead as `fill` does, and gives the bytes from the position on.
@@ -242,7 +242,7 @@ impl<'a, F: ReadMedium> Stream<'a, F> {
 
 impl<'a, F: Medium> Stream<'a, F> {
     ghost use Rattle.cfb.specs.Doing.{FileMeans};
-    ghost use Rattle.cfb.specs.Writing.{allocator_under, file_under, place_of, stream_len, StreamChanges, IfStands, IsFullFor, IsLost, StreamKeeps, StreamRests, Rewrites, Stands};
+    ghost use Rattle.cfb.specs.Writing.{allocator_under, file_under, owners_under, place_of, stream_len, StreamChanges, IfStands, IsFullFor, IsLost, StreamKeeps, StreamRests, Rewrites, Stands};
 
     // Where so many bytes end that are written from the position on.
     fn end_behind(&self, count: usize) -> Result<u64, Error>
@@ -424,7 +424,8 @@ impl<'a, F: Medium> Stream<'a, F> {
     pub fn close(self) -> Result<(), Error>
         ensures left { self.exit.0.now ≡ file_under self.entry }
         ensures closed { OnOk result ((path : Path) (tree : Tree) (content : List ℕ)
-            → Stands self.entry path tree content → FileMeans self.exit.0.now tree) }
+            → (s : Stands self.entry path tree content)
+            → (m : FileMeans self.exit.0.now tree) × (m.live.who ≡ owners_under s)) }
         ensures live { OnOk result (has_failed_here (allocator_under self.entry) ≡ false) }
         ensures failed { IfErr result (λ e. (e ≡ Failed)
             × (has_failed_here (allocator_under self.entry) ≡ true)) }

@@ -1,7 +1,6 @@
 -- What a stream gave up is in use no more after its entry was taken out, but where the directory took it.
-use Rattle.std.proofs.Common.{◌≡◌, ◌⊎◌, inl, inr, ℕ, ◌<◌, zero, suc, List, [], ◌∷◌, ◌++◌, length, ap, sym, subst, ◌∙◌, ⊎_elim, arith}
+use Rattle.std.proofs.Common.{◌≡◌, inl, inr, ℕ, ◌<◌, List, ◌++◌, length, ap, sym, subst, ◌∙◌, ⊎_elim, arith}
 use Rattle.std.specs.Prelude.{slice_index, unwrap_or}
-use Rattle.std.proofs.lemmas.Bool.Decides.{eqb_tells}
 use Rattle.std.proofs.lemmas.Option.{slice_get_cases, unwrap_or-slice_get}
 use Rattle.cfb_medium.specs.declared.medium.ReadMedium.{Ghosts}
 use Rattle.cfb_sectors.specs.Sectors.{free}
@@ -12,6 +11,7 @@ use Rattle.cfb_fat.specs.Tables.{fat_of}
 use Rattle.cfb_mini.specs.Changing.{ChangesDirectory, HasOwners}
 use Rattle.cfb_mini.specs.Views.{allocator_of, directory_of, mini_fat_of}
 use Rattle.cfb_mini.specs.declared.mini_allocator.MiniAllocator.{MiniAllocator}
+use Rattle.cfb_mini.proofs.Strays.{none_or}
 use Rattle.cfb_live.specs.Freeing.{AreFree, GivesUp}
 
 -- a sector that is free has an entry
@@ -21,19 +21,6 @@ free_below table n is =
     (λ there. there.1)
     (λ past. let none : slice_index table n ≡ 0 = sym (unwrap_or-slice_get table n 0) ∙ ap (λ o. unwrap_or o 0) past.1 in absurd (omega (arith, none, is)))
     (slice_get_cases table n).1
-
--- a number stands in a list, or not
-pub none_or : (xs : List ℕ) (n : ℕ) → IsNoneOf xs n ⊎ (IsNoneOf xs n → ⊥)
-none_or [] n = inl (λ k below. absurd (omega (arith, below)))
-none_or (x ∷ xs) n =
-    ⊎_elim
-    (λ same. inr (λ none. none zero (omega arith) same.1))
-    (λ other. ⊎_elim (λ none. inl (never other.1 none)) (λ one. inr (λ none. one (λ k below. none (suc k) (omega (arith, below))))) (none_or xs n))
-    (eqb_tells x n)
-  where
-    never : (x ≡ n → ⊥) → IsNoneOf xs n → IsNoneOf (x ∷ xs) n
-    never other none zero below = other
-    never other none (suc k) below = none k (omega (arith, below))
 
 module _ {F : Type 0} {g : Ghosts F} (mid new : MiniAllocator F g) (sectors minis words : List ℕ) (own : ℕ → List ℕ) where
   -- LAW: what is free stays so while the directory alone changes, or the directory takes it

@@ -54,6 +54,11 @@ module _ {F : Type 0} {g : Ghosts F} (old new : MiniAllocator F g) (k : KeepsOwn
     held = subst (λ s. MeansHeld s m.who letters tree) (sym (same_file m.owners.honest)) m.held;
   }
 
+  -- with the same owners
+  pub stays_owned : (letters : Letters) (tree : Tree) (m : MeansLive letters old tree) → (means_stays letters tree m).who ≡ m.who
+  unfolding means_stays
+  stays_owned letters tree m = refl
+
 module _ {F : Type 0} {g : Ghosts F} where
   pub keeps_refl : (it : MiniAllocator F g) → KeepsOwners it it
   keeps_refl it = record { allocator = all_rest_refl (allocator_of it); entries = refl; mini_fat = refl; owners = λ own h. h }

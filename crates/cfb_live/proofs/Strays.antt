@@ -1,57 +1,29 @@
 -- No more sectors are in use without an owner after a change of one owner's chain.
-use Rattle.std.proofs.Common.{◌≡◌, ◌⊎◌, ℕ, ◌+◌, ◌≤◌, false, List, [], ◌∷◌, ◌++◌, append-nil, length, zero, suc, refl, ap, sym, subst, ◌∙◌, ⊎_elim, arith}
+use Rattle.std.proofs.Common.{◌≡◌, ◌⊎◌, ℕ, ◌+◌, ◌≤◌, false, List, [], ◌∷◌, ◌++◌, append-nil, zero, suc, refl, ap, sym, subst, ◌∙◌, ⊎_elim, arith}
 use Rattle.std.specs.Prelude.{slice_index}
-use Rattle.std.proofs.lemmas.Bool.Decides.{eqb_tells, leb_tells}
+use Rattle.std.proofs.lemmas.Bool.Decides.{eqb_tells}
 use Rattle.cfb_medium.specs.declared.medium.ReadMedium.{Ghosts}
 use Rattle.cfb_sectors.specs.Sectors.{free, sector}
 use Rattle.cfb_chains.specs.Changes.{HaveEntry, IsNoneOf}
-use Rattle.cfb_chains.specs.Owned.{AreBesideWords, Becomes, Seen}
-use Rattle.cfb_chains.proofs.Beside.{none_first}
+use Rattle.cfb_chains.specs.Owned.{AreBesideWords}
 use Rattle.cfb_directory.specs.Views.{directory_ids}
 use Rattle.cfb_fat.specs.Seeing.{seen_of}
 use Rattle.cfb_fat.specs.Tables.{has_failed_here, version_of}
 use Rattle.cfb_owned.specs.Chains.{GoesOn}
-use Rattle.cfb_mini.specs.Changing.{mini_seen, ChangesDirectory, Frees, FreesChain}
+use Rattle.cfb_mini.specs.Changing.{mini_seen, ChangesDirectory, Frees, FreesChain, KeepsOwners}
 use Rattle.cfb_mini.specs.Minis.{mini_sector}
+use Rattle.cfb_mini.specs.Strays.{IsStrayIn}
 use Rattle.cfb_mini.specs.Views.{allocator_of, directory_of, mini_fat_of}
 use Rattle.cfb_mini.specs.declared.mini_allocator.MiniAllocator.{MiniAllocator}
 use Rattle.cfb_mini.proofs.Keeping.{pick, pick_mine, pick_other}
+use Rattle.cfb_mini.proofs.Strays.{leaves_resting, none_left_out, strays_before}
 use Rattle.cfb_owners.specs.Owners.{stream_owner, Owners}
 use Rattle.cfb_live.specs.Freeing.{Stands}
-use Rattle.cfb_live.specs.Strays.{HasNoMoreStrays, IsStrayIn}
+use Rattle.cfb_live.specs.Strays.{HasNoMoreStrays}
 use Rattle.cfb_live.proofs.Directories.{owners_now}
-use Rattle.cfb_live.proofs.GivenUp.{none_or}
-
--- what is none of these is untouched, where what was touched and left out is free
-untouched : (table touched later : List ℕ) (n : ℕ) → ((m : ℕ) → IsNoneOf later m → (IsNoneOf touched m → ⊥) → slice_index table m ≡ free) → IsNoneOf later n → (slice_index table n ≡ free → ⊥) → IsNoneOf touched n
-untouched table touched later n spent none in_use = ⊎_elim (λ apart. apart) (λ one. absurd (in_use (spent n none one))) (none_or touched n)
-
-module _ (S : List ℕ → ℕ → List ℕ) (words ids more later : List ℕ) (key : ℕ) (a b : Seen) (own then : ℕ → List ℕ) (becomes : Becomes S words ids more later a b) (was : own key ≡ ids) (mine : then key ≡ later)
-    (others : (k : ℕ) → (k ≡ key → ⊥) → then k ≡ own k) (spent : (n : ℕ) → IsNoneOf later n → (IsNoneOf (ids ++ more) n → ⊥) → slice_index b.table n ≡ free) where
-  -- each number that is stray then was so before
-  pub strays_before : (n : ℕ) → IsStrayIn b.table b.tables then n → IsStrayIn a.table a.tables own n
-  strays_before n s =
-      let apart = untouched b.table (ids ++ more) later n spent (subst (λ l. IsNoneOf l n) mine (s.unowned key)) s.in_use in
-      ⊎_elim
-      (λ past. absurd ((becomes.leaves.behind n past.1 s.below apart).0 s.beside))
-      (λ before. record {
-        below = before.1;
-        in_use = λ is. s.in_use (becomes.leaves.entries n before.1 apart ∙ is);
-        beside = becomes.leaves.still n s.beside;
-        unowned = λ k.
-            ⊎_elim
-            (λ same. subst (λ l. IsNoneOf l n) (sym (ap own same.1 ∙ was)) (none_first ids more n apart))
-            (λ differ. subst (λ l. IsNoneOf l n) (others k differ.1) (s.unowned k))
-            (eqb_tells k key);
-      })
-      (leb_tells (length a.table) n)
-
--- a chain that keeps all that was touched leaves nothing out
-none_left_out : (table touched later : List ℕ) → touched ≡ later → (n : ℕ) → IsNoneOf later n → (IsNoneOf touched n → ⊥) → slice_index table n ≡ free
-none_left_out table touched later same n none one = absurd (one (subst (λ l. IsNoneOf l n) (sym same) none))
 
 -- a number of the list has the entry that all of it have
-has_entry : (table : List ℕ) (xs : List ℕ) (entry : ℕ) → HaveEntry entry table xs → (n : ℕ) → (IsNoneOf xs n → ⊥) → slice_index table n ≡ entry
+pub has_entry : (table : List ℕ) (xs : List ℕ) (entry : ℕ) → HaveEntry entry table xs → (n : ℕ) → (IsNoneOf xs n → ⊥) → slice_index table n ≡ entry
 has_entry table [] entry have n one = absurd (one (λ k below. absurd (omega (arith, below))))
 has_entry table (x ∷ xs) entry have n one =
     ⊎_elim
@@ -69,6 +41,13 @@ none_more xs n none = subst (λ l. IsNoneOf l n) (sym (append-nil xs)) none
 module _ {F : Type 0} {g : Ghosts F} where
   pub strays_same : (it : MiniAllocator F g) (who : Owners) → HasNoMoreStrays it it who who
   strays_same it who = record { sectors = λ n s. s; minis = λ n s. s }
+
+  -- nothing was changed
+  pub strays_kept : (old new : MiniAllocator F g) (who : Owners) → KeepsOwners old new → HasNoMoreStrays old new who who
+  strays_kept old new who k = record {
+    sectors = leaves_resting (allocator_of old) (allocator_of new) who.sectors k.allocator;
+    minis = λ n s. subst (λ t. IsStrayIn t [] who.minis n) k.mini_fat s;
+  }
 
   pub strays_then : (a b c : MiniAllocator F g) (was who now : Owners) → HasNoMoreStrays a b was who → HasNoMoreStrays b c who now → HasNoMoreStrays a c was now
   strays_then a b c was who now first second = record { sectors = λ n s. first.sectors n (second.sectors n s); minis = λ n s. first.minis n (second.minis n s) }

@@ -1,25 +1,17 @@
 -- Sectors and mini sectors that are in use, though nothing owns them ([MS-CFB] 2.3, 2.4).
-use Rattle.std.specs.Prelude.{◌≡◌, ℕ, ◌<◌, List, [], length, slice_index}
-use Rattle.cfb_chains.specs.Changes.{IsNoneOf}
+use Rattle.std.specs.Prelude.{ℕ, []}
 use Rattle.cfb_fat.specs.Tables.{fat_of, tables_of}
 use Rattle.cfb_medium.specs.declared.medium.ReadMedium.{Ghosts}
+use Rattle.cfb_mini.specs.Strays.{IsStrayIn}
 use Rattle.cfb_mini.specs.Views.{allocator_of, mini_fat_of}
 use Rattle.cfb_mini.specs.declared.mini_allocator.MiniAllocator.{MiniAllocator}
 use Rattle.cfb_owners.specs.Owners.{Owners}
-use Rattle.cfb_sectors.specs.Sectors.{free}
 use Rattle.cfb_tree.specs.Names.{Letters}
 use Rattle.cfb_tree.specs.Tree.{Tree}
 use Rattle.cfb_live.specs.Live.{MeansLive}
 
--- number n of a table is in use, though it holds no table and is no owner's
-pub record IsStrayIn (table tables : List ℕ) (own : ℕ → List ℕ) (n : ℕ) : Type 0 where
-  pub below : n < length table
-  pub in_use : slice_index table n ≡ free → ⊥
-  pub beside : IsNoneOf tables n
-  pub unowned : (k : ℕ) → IsNoneOf (own k) n
-
 module _ {F : Type 0} {g : Ghosts F} where
-  -- so is a sector, or a mini sector, of which these are the owners
+  -- a sector, or a mini sector, of which these are the owners is in use, though it holds no table and is no owner's
   abbrev pub IsStray : MiniAllocator F g → Owners → ℕ → Type 0
   IsStray it who n = IsStrayIn (fat_of (allocator_of it)) (tables_of (allocator_of it)) who.sectors n
 

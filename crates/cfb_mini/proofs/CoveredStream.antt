@@ -26,6 +26,7 @@ use Rattle.cfb_mini.proofs.Keeping.{bytes_still, others_stay}
 use Rattle.cfb_mini.proofs.KeptFile.{file_spared, front_kept, longer_by, sizes_set}
 use Rattle.cfb_mini.proofs.Longer.{len_same, lengthened_owners, own_now}
 use Rattle.cfb_mini.proofs.StreamGrowth.{first_there, placed}
+use Rattle.cfb_mini.proofs.Strays.{leaves_same}
 
 -- the first of a list that was set
 set_root : (xs : List Entry) (x y root : Entry) → slice_get xs 0 ≡ Some x → slice_get (set xs 0 y) 0 ≡ Some root → root ≡ y
@@ -63,6 +64,7 @@ module _ {F : Type 0} {g : Ghosts F} where
             sets.entries ∙ ap (λ y. set held 0 (placed y start len)) (sym same) ∙ ap (λ n. set held 0 (placed x n len)) start_is ∙ ap (λ n. set held 0 (placed x (slice_index_or (mini_stream_ids it) 0 end_of_chain) n)) len_is;
         file = file_spared it new [] goes.version (longer_by a b [] _ becomes.leaves) (front_kept a b _ becomes.leaves) (part_spared a b [] _ becomes.leaves 40 (omega arith) (inl (omega arith), tt)) sets.ids refl (sym (append-nil (mini_stream_ids it)))
             (λ fit. subst (SizesFit v) (sym sets.entries) (sizes_set v held 0 (placed e start len) fits fit));
+        strays = leaves_same a b own 0 mine;
       }
 
   -- the root's entry was set to so many bytes as the mini stream has

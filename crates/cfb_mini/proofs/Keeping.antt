@@ -41,6 +41,7 @@ use Rattle.cfb_mini.proofs.Entries.{content_len}
 use Rattle.cfb_mini.proofs.Counts.{counts_beside}
 use Rattle.cfb_mini.proofs.KeptFile.{file_beside, file_told}
 use Rattle.cfb_mini.proofs.MiniOwners.{becomes_fewer, becomes_more, becomes_none, becomes_same}
+use Rattle.cfb_mini.proofs.Strays.{leaves_none, leaves_same}
 
 -- where a chain starts
 starts_at : (table : List ℕ) (start : ℕ) (ids : List ℕ) → IsChain table start ids → start ≡ slice_index_or ids 0 end_of_chain
@@ -160,6 +161,7 @@ module _ {F : Type 0} {g : Ghosts F} where
         there = did.there;
         entries = refl;
         file = file_beside it (moved it b mini) _ goes becomes.leaves refl (ap ids_of lies.links) (ap ids_of lies.stream) refl;
+        strays = leaves_same a b own 2 becomes;
       }
 
   -- mini sectors were freed
@@ -328,6 +330,7 @@ module _ {F : Type 0} {g : Ghosts F} where
         bytes = same;
         entries = refl;
         file = file_beside it (moved it b mini) _ goes becomes.leaves refl (ap ids_of lies.links) (ap ids_of lies.stream) refl;
+        strays = leaves_same a b own 1 becomes;
       }
 
   -- the mini FAT took in a sector
@@ -370,6 +373,7 @@ module _ {F : Type 0} {g : Ghosts F} where
         told = did.told;
         entries = refl;
         file = file_told it (moved it b mini) _ goes becomes.leaves did.told refl (ap ids_of did.stream) refl;
+        strays = λ then mine others. leaves_none a b mini_fat_words own then 1 did.more ids becomes (did.sectors ∙ ap (λ l. l ++ did.more) (sym h.mini_fat)) mine others;
       }
 
   -- only reads happened, and the mini FAT is the same

@@ -18,3 +18,4 @@ pub mod Parts
 pub mod Resting
 pub mod Results
 pub mod StreamGrowth
+pub mod Strays

@@ -1,9 +1,9 @@
 -- Mini chains that become longer, step by step.
-use Rattle.std.proofs.Common.{◌≡◌, ◌⊎◌, ℕ, ◌+◌, ◌*◌, ◌<◌, ◌≤◌, inl, inr, List, [], ◌∷◌, ◌++◌, length, get_or, replicate, set, refl, ap, sym, subst, ◌∙◌, arith, ⊎_elim, append_assoc, append-nil, length-append, IsTrue}
+use Rattle.std.proofs.Common.{◌≡◌, ◌⊎◌, ℕ, ◌+◌, ◌-◌, ◌*◌, ◌<◌, ◌≤◌, inl, inr, List, [], ◌∷◌, ◌++◌, length, get_or, replicate, set, refl, ap, sym, subst, ◌∙◌, arith, ⊎_elim, append_assoc, append-nil, length-append, IsTrue}
 use Rattle.std.specs.List.{count_by, AllByRecursion}
-use Rattle.std.specs.Prelude.{nat_eq, Result, Ok, Err, slice_get, slice_index_or, Some}
+use Rattle.std.specs.Prelude.{nat_eq, Result, Ok, Err, slice_get, slice_index, slice_index_or, Some}
 use Rattle.std.proofs.lemmas.Bool.Decides.{eqb_tells, leb_tells}
-use Rattle.std.proofs.lemmas.List.{get_or_append_left, replicate-append-replicate}
+use Rattle.std.proofs.lemmas.List.{get_or-append-add, get_or-replicate, get_or_append_left, length-replicate, replicate-append-replicate}
 use Rattle.std.proofs.lemmas.Option.{get_or_from_slice_get, slice_get-get_or, slice_get_within}
 use Rattle.cfb_medium.specs.declared.error.Error.{Error}
 use Rattle.cfb_medium.specs.declared.medium.ReadMedium.{Ghosts}
@@ -25,11 +25,13 @@ use Rattle.cfb_tree.specs.Directory.{Entry}
 use Rattle.cfb_directory.specs.Views as directory
 use Rattle.cfb_mini.specs.Changing.{mini_seen, CoversStream, Extends, GrowsMiniFat, GrowsMiniStream, HasOwners, LacksMini, Lengthens, TellsStream}
 use Rattle.cfb_mini.specs.FatGrowth.{LacksMore}
+use Rattle.cfb_mini.specs.Strays.{LeavesNoStrays}
 use Rattle.cfb_mini.specs.Views.{allocator_of, directory_of, mini_fat_ids, mini_fat_of, mini_stream_ids, mini_stream_len, mini_stream_of, IsMini, MiniRests}
 use Rattle.cfb_mini.specs.declared.mini_allocator.MiniAllocator.{MiniAllocator}
 use Rattle.cfb_mini.proofs.Entries.{content_len}
 use Rattle.cfb_mini.proofs.Keeping.{pick, pick_mine, pick_other}
 use Rattle.cfb_mini.proofs.KeptFile.{file_rests, file_same, file_then}
+use Rattle.cfb_mini.proofs.Strays.{leaves_resting, stray_same}
 
 -- a table that became longer has the chains that it had
 entry_stays : (old new : List ℕ) (n x : ℕ) → length old ≤ length new → ((k : ℕ) → k < length old → get_or new k 0 ≡ get_or old k 0) → slice_get old n ≡ Some x → slice_get new n ≡ Some x
@@ -54,6 +56,19 @@ stay_appended entries a b c more is h =
       size = omega (arith, size, was);
       others = λ n below none. ap (λ l. get_or l n 0) is ∙ get_or_append_left b more 0 n (omega (arith, below, was)) ∙ h.others n below none;
     }
+
+-- a table keeps its numbers where others are put behind it
+kept_appended : (old new more : List ℕ) (n : ℕ) → new ≡ old ++ more → n < length old → slice_index new n ≡ slice_index old n
+kept_appended old new more n is below = ap (λ l. get_or l n 0) is ∙ get_or_append_left old more 0 n below
+
+-- what "free" numbers were put behind a table is free
+free_appended : (old new : List ℕ) (count n : ℕ) → new ≡ old ++ replicate count free → length old ≤ n → n < length new → slice_index new n ≡ free
+free_appended old new count n is past below =
+    let size = ap length is ∙ length-append old (replicate count free) in
+    let all = length-replicate {A = ℕ} count free in
+    let spot : length old + (n - length old) ≡ n = omega (arith, past) in
+    ap (λ l. get_or l n 0) is ∙ ap (λ i. get_or (old ++ replicate count free) i 0) (sym spot) ∙ get_or-append-add old (replicate count free) (n - length old) 0
+    ∙ get_or-replicate count (n - length old) free 0 (omega (arith, size, all, past, below))
 
 all_behind : (P : ℕ → Type 0) (xs : List ℕ) (x : ℕ) → AllByRecursion P xs → P x → AllByRecursion P (xs ++ x ∷ [])
 all_behind P [] x h p = (p, tt)
@@ -155,17 +170,23 @@ module _ {F : Type 0} {g : Ghosts F} where
     inside = tt;
     linked = linked;
     numbers = record { size = omega arith; others = λ n below none. refl };
+    unused = λ n past below none. absurd (omega (arith, past, below));
     zeros = 0;
     stream = sym (append-nil (mini_stream_of it));
     owners = λ then fat stream others. owners_same it own then (λ k. now_same it own then fat stream others k ∙ sym (now_same it own own h.mini_fat h.mini_stream (λ n one two. refl) k)) h;
     others = λ k past. stays_same (allocator_of it) (own k) (h.owned.linked k) (h.owned.beside k);
     entries = inl (refl, refl);
     file = file_same it;
+    strays = λ then fat stream others. stray_same (fat_of (allocator_of it)) (tables_of (allocator_of it)) own then (λ k. now_same it own then fat stream others k ∙ sym (now_same it own own h.mini_fat h.mini_stream (λ n one two. refl) k));
   }
 
   -- who owns what then
   pub lengthened_owners : (a b : MiniAllocator F g) (minis mid : List ℕ) (own : ℕ → List ℕ) → Lengthens a b minis mid own → HasOwners b (own_now b own)
   lengthened_owners a b minis mid own h = h.owners (own_now b own) (now_fat b own) (now_stream b own) (now_other b own)
+
+  -- and which sectors are stray
+  pub lengthened_strays : (a b : MiniAllocator F g) (minis mid : List ℕ) (own : ℕ → List ℕ) → Lengthens a b minis mid own → LeavesNoStrays (allocator_of a) (allocator_of b) own (own_now b own)
+  lengthened_strays a b minis mid own h = h.strays (own_now b own) (now_fat b own) (now_stream b own) (now_other b own)
 
   tells_kept : (a b c : MiniAllocator F g) → directory.entries_held (directory_of c) ≡ directory.entries_held (directory_of b) → mini_stream_ids c ≡ mini_stream_ids b → mini_stream_len c ≡ mini_stream_len b → TellsStream a b → TellsStream a c
   tells_kept a b c entries ids len h = ⊎_elim
@@ -199,12 +220,21 @@ module _ {F : Type 0} {g : Ghosts F} where
               let apart : IsNoneOf (mid ++ x ∷ []) n = subst (λ l. IsNoneOf l n) k.minis_are none in
               leaves.entries n (omega (arith, below, mid_size)) apart ∙ h.numbers.others n below (none_first mid (x ∷ []) n apart);
         };
+        unused = λ n past below none.
+            let apart : IsNoneOf (mid ++ x ∷ []) n = subst (λ l. IsNoneOf l n) k.minis_are none in
+            ⊎_elim
+            (λ behind. absurd ((leaves.behind n behind.1 below apart).0 (λ i inside. absurd (omega (arith, inside)))))
+            (λ before. leaves.entries n before.1 apart ∙ h.unused n past before.1 (none_first mid (x ∷ []) n apart))
+            (leb_tells (length (mini_fat_of b)) n);
         zeros = h.zeros;
         stream = k.bytes ∙ h.stream;
         owners = λ then is_fat is_stream others. owners_same c (own_now b own) then (now_same b own then (is_fat ∙ fat) (is_stream ∙ ids) others) new;
         others = λ k' past. stays_then (allocator_of a) (allocator_of b) (allocator_of c) (own k') (own_now b own k') version (now_other b own k' (λ same. omega (arith, same, past)) (λ same. omega (arith, same, past))) (h.others k' past) (k.changes.others k' past);
         entries = tells_kept a b c k.entries ids len h.entries;
         file = file_then a b c h.file k.file;
+        strays = λ then is_fat is_stream others n s.
+            lengthened_strays a b minis mid own h n
+            (k.strays n (stray_same (fat_of (allocator_of c)) (tables_of (allocator_of c)) (own_now b own) then (now_same b own then (is_fat ∙ fat) (is_stream ∙ ids) others) n s));
       }
 
   -- the mini FAT took in a sector
@@ -222,6 +252,10 @@ module _ {F : Type 0} {g : Ghosts F} where
         inside = subst (λ m. AllByRecursion (λ n. 64 * n + 64 ≤ m) h.taken) (sym len) h.inside;
         linked = linked_appended (mini_fat_of b) (mini_fat_of c) _ mid k.numbers h.linked;
         numbers = stay_appended mid (mini_fat_of a) (mini_fat_of b) (mini_fat_of c) _ k.numbers h.numbers;
+        unused = λ n past below none. ⊎_elim
+            (λ behind. free_appended (mini_fat_of b) (mini_fat_of c) _ n k.numbers behind.1 below)
+            (λ before. kept_appended (mini_fat_of b) (mini_fat_of c) _ n k.numbers before.1 ∙ h.unused n past before.1 none)
+            (leb_tells (length (mini_fat_of b)) n);
         zeros = h.zeros;
         stream = k.stream ∙ h.stream;
         owners = λ then is_fat is_stream others. k.owners then is_fat (λ n off. ⊎_elim
@@ -231,6 +265,12 @@ module _ {F : Type 0} {g : Ghosts F} where
         others = λ n past. stays_then (allocator_of a) (allocator_of b) (allocator_of c) (own n) (mine n) version (now_other b own n (λ same. omega (arith, same, past)) (λ same. omega (arith, same, past))) (h.others n past) (k.others n (λ same. omega (arith, same, past)));
         entries = tells_kept a b c k.entries ids len h.entries;
         file = file_then a b c h.file k.file;
+        strays = λ then is_fat is_stream others n s.
+            lengthened_strays a b minis mid own h n
+            (k.strays then is_fat (λ m off. ⊎_elim
+            (λ two. subst (λ i. then i ≡ mine i) (sym two.1) (is_stream ∙ ids ∙ sym (now_stream b own)))
+            (λ other. others m off other.1 ∙ sym (now_other b own m off other.1))
+            (eqb_tells m 2)) n s);
       }
 
   -- the root's entry tells of the mini stream, whether or not it did before
@@ -264,6 +304,7 @@ module _ {F : Type 0} {g : Ghosts F} where
         inside = all_less (mini_stream_len b) (mini_stream_len c) h.taken longer h.inside;
         linked = subst (λ l. IsLinked l mid) (sym k.mini_fat) h.linked;
         numbers = subst (StayBut mid (mini_fat_of a)) (sym k.mini_fat) h.numbers;
+        unused = subst (λ l. (n : ℕ) → length (mini_fat_of a) ≤ n → n < length l → IsNoneOf mid n → slice_index l n ≡ free) (sym k.mini_fat) h.unused;
         zeros = h.zeros + more;
         stream = k.stream ∙ ap (λ l. l ++ replicate more 0) h.stream ∙ append_assoc (mini_stream_of a) (replicate h.zeros 0) (replicate more 0) ∙ ap (λ l. mini_stream_of a ++ l) (replicate-append-replicate h.zeros more 0);
         owners = λ then is_fat is_stream others. k.owners then is_stream (λ n off. ⊎_elim
@@ -273,6 +314,12 @@ module _ {F : Type 0} {g : Ghosts F} where
         others = λ n past. stays_then (allocator_of a) (allocator_of b) (allocator_of c) (own n) (mine n) version (now_other b own n (λ same. omega (arith, same, past)) (λ same. omega (arith, same, past))) (h.others n past) (k.others n past);
         entries = told_anew a b c k.root h.entries;
         file = file_then a b c h.file k.file;
+        strays = λ then is_fat is_stream others n s.
+            lengthened_strays a b minis mid own h n
+            (k.strays then is_stream (λ m off. ⊎_elim
+            (λ one. subst (λ i. then i ≡ mine i) (sym one.1) (is_fat ∙ fat ∙ sym (now_fat b own)))
+            (λ other. others m other.1 off ∙ sym (now_other b own m other.1 off))
+            (eqb_tells m 1)) n s);
       }
 
   -- the root's entry was set
@@ -290,12 +337,15 @@ module _ {F : Type 0} {g : Ghosts F} where
         inside = subst (λ m. AllByRecursion (λ n. 64 * n + 64 ≤ m) h.taken) (sym len) h.inside;
         linked = subst (λ l. IsLinked l mid) (sym k.mini_fat) h.linked;
         numbers = subst (StayBut mid (mini_fat_of a)) (sym k.mini_fat) h.numbers;
+        unused = subst (λ l. (n : ℕ) → length (mini_fat_of a) ≤ n → n < length l → IsNoneOf mid n → slice_index l n ≡ free) (sym k.mini_fat) h.unused;
         zeros = h.zeros;
         stream = k.stream ∙ h.stream;
         owners = λ then is_fat is_stream others. owners_same c mine then (now_same b own then (is_fat ∙ fat) (is_stream ∙ ids) others) new;
         others = λ n past. stays_then (allocator_of a) (allocator_of b) (allocator_of c) (own n) (mine n) version (now_other b own n (λ same. omega (arith, same, past)) (λ same. omega (arith, same, past))) (h.others n past) (k.others n past);
         entries = told_anew a b c k.root h.entries;
         file = file_then a b c h.file k.file;
+        strays = λ then is_fat is_stream others n s.
+            lengthened_strays a b minis mid own h n (k.strays n (stray_same (fat_of (allocator_of c)) (tables_of (allocator_of c)) mine then (now_same b own then (is_fat ∙ fat) (is_stream ∙ ids) others) n s));
       }
 
   tables_rest : (b c : Allocator F g) → AllRests b c → tables_of c ≡ tables_of b
@@ -339,12 +389,16 @@ module _ {F : Type 0} {g : Ghosts F} where
         inside = subst (λ m. AllByRecursion (λ n. 64 * n + 64 ≤ m) h.taken) (sym len) h.inside;
         linked = subst (λ l. IsLinked l mid) (sym rests.mini_fat) h.linked;
         numbers = subst (StayBut mid (mini_fat_of a)) (sym rests.mini_fat) h.numbers;
+        unused = subst (λ l. (n : ℕ) → length (mini_fat_of a) ≤ n → n < length l → IsNoneOf mid n → slice_index l n ≡ free) (sym rests.mini_fat) h.unused;
         zeros = h.zeros;
         stream = same ∙ h.stream;
         owners = λ then is_fat is_stream others. owners_same c (own_now b own) then (now_same b own then (is_fat ∙ rests.mini_fat_ids) (is_stream ∙ rests.mini_stream_ids) others) new;
         others = λ n past. stays_rest (allocator_of a) (allocator_of b) (allocator_of c) (own n) version was.honest layer (h.others n past);
         entries = tells_kept a b c rests.directory.entries rests.mini_stream_ids len h.entries;
         file = file_then a b c h.file (file_rests b c was.honest rests);
+        strays = λ then is_fat is_stream others n s.
+            lengthened_strays a b minis mid own h n
+            (leaves_resting (allocator_of b) (allocator_of c) (own_now b own) layer n (stray_same (fat_of (allocator_of c)) (tables_of (allocator_of c)) (own_now b own) then (now_same b own then (is_fat ∙ rests.mini_fat_ids) (is_stream ∙ rests.mini_stream_ids) others) n s));
       }
 
   -- reads one after the other
@@ -432,12 +486,17 @@ module _ {F : Type 0} {g : Ghosts F} where
           size = omega (arith, mid_size, new_size);
           others = λ n below none. k.numbers.others n (omega (arith, below, mid_size)) none ∙ h.numbers.others n below (none_first mid k.taken n (subst (λ l. IsNoneOf l n) k.minis_are none));
         };
+        unused = λ n past below none. ⊎_elim
+            (λ behind. k.unused n behind.1 below none)
+            (λ before. k.numbers.others n before.1 none ∙ h.unused n past before.1 (none_first mid k.taken n (subst (λ l. IsNoneOf l n) k.minis_are none)))
+            (leb_tells (length (mini_fat_of b)) n);
         zeros = h.zeros + k.zeros;
         stream = k.stream ∙ ap (λ l. l ++ replicate k.zeros 0) h.stream ∙ append_assoc (mini_stream_of a) (replicate h.zeros 0) (replicate k.zeros 0) ∙ ap (λ l. mini_stream_of a ++ l) (replicate-append-replicate h.zeros k.zeros 0);
         owners = λ then fat stream others. k.owners then fat stream (λ n one two. others n one two ∙ sym (now_other b own n one two));
         others = λ n past. stays_then (allocator_of a) (allocator_of b) (allocator_of c) (own n) (own_now b own n) version (now_other b own n (λ same. omega (arith, same, past)) (λ same. omega (arith, same, past))) (h.others n past) (k.others n past);
         entries = tells_then a b c (len_same b c next was.memory new.memory) h.entries k.entries;
         file = file_then a b c h.file k.file;
+        strays = λ then fat stream others n s. lengthened_strays a b minis mid own h n (k.strays then fat stream (λ m one two. others m one two ∙ sym (now_other b own m one two)) n s);
       }
 
   -- the root's size was raised, or it was enough

@@ -42,6 +42,7 @@ use Rattle.cfb_mini.proofs.Headers.{front_then}
 use Rattle.cfb_mini.proofs.Keeping.{bytes_still, linked_still, others_stay, pick, pick_mine, pick_other, still_owned}
 use Rattle.cfb_mini.proofs.Counts.{part_spared}
 use Rattle.cfb_mini.proofs.KeptFile.{file_spared, front_kept, longer_by, sizes_set}
+use Rattle.cfb_mini.proofs.Strays.{leaves_none, leaves_same}
 
 -- the first of a list that was set
 set_first : {A : Type 0} (xs : List A) (x y z : A) → slice_get xs 0 ≡ Some x → slice_get (set xs 0 y) 0 ≡ Some z → z ≡ y
@@ -155,6 +156,10 @@ module _ {F : Type 0} {g : Ghosts F} where
             (front_then 68 (bytes_of a) (bytes_of m) (bytes_of b) (front_kept a m _ becomes.leaves) (front_kept m b _ touches.leaves))
             (part_spared m b [] _ touches.leaves 40 (omega arith) (inl (omega arith), tt) ∙ part_spared a m [] _ becomes.leaves 40 (omega arith) (inl (omega arith), tt)) sets.ids (ap ids_of links) sectors
             (λ fit. subst (SizesFit v) (sym sets.entries) (sizes_set v (directory.entries_held (directory_of it)) 0 (placed e start len) fits fit));
+        strays = λ then' mine others n s.
+            let first = others 0 (λ same. omega (arith, same)) ∙ h.directory in
+            leaves_none a m [] own then' 2 resized.more later becomes (sectors ∙ ap (λ l. l ++ resized.more) (sym h.mini_stream)) mine others n
+            (leaves_same m b then' 0 (subst (λ l. Becomes (sector (version_of m)) [] l [] l (seen_of m) (seen_of b)) (sym first) touches) n s);
       }
 
   -- the directory over the sectors that the mini stream took in

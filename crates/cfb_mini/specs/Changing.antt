@@ -1,12 +1,12 @@
 -- Who owns which sectors beside the mini FAT and the mini stream, and what a change of mini chains leaves.
 use Rattle.std.specs.List.{AllByRecursion}
-use Rattle.std.specs.Prelude.{◌≡◌, ℕ, ◌+◌, ◌*◌, ◌<◌, ◌≤◌, ◌⊎◌, List, [], ◌∷◌, ◌++◌, ◌/◌, drop, false, length, replicate, slice_get, slice_index_or, slice_set, take, IsTrue, Some}
+use Rattle.std.specs.Prelude.{◌≡◌, ℕ, ◌+◌, ◌*◌, ◌<◌, ◌≤◌, ◌⊎◌, List, [], ◌∷◌, ◌++◌, ◌/◌, drop, false, length, replicate, slice_get, slice_index, slice_index_or, slice_set, take, IsTrue, Some}
 use Rattle.cfb_medium.specs.Bytes.{overwritten}
 use Rattle.cfb_medium.specs.Versions.{sector_len, stream_len_mask}
 use Rattle.cfb_medium.specs.declared.medium.ReadMedium.{Ghosts}
 use Rattle.cfb_sectors.specs.Sectors.{end_of_chain, free, sector}
 use Rattle.cfb_chains.specs.Changes as changes
-use Rattle.cfb_chains.specs.Changes.{HaveEntry, StayBut}
+use Rattle.cfb_chains.specs.Changes.{HaveEntry, IsNoneOf, StayBut}
 use Rattle.cfb_chains.specs.Grown.{IsLinked}
 use Rattle.cfb_chains.specs.Owned.{Becomes, Owned, Seen, Stays}
 use Rattle.cfb_fat.specs.Seeing.{seen_of}
@@ -20,6 +20,7 @@ use Rattle.cfb_mini.specs.FatGrowth.{LacksMore, TellsMiniFat}
 use Rattle.cfb_mini.specs.LinkViews.{minis_of}
 use Rattle.cfb_mini.specs.Minis.{all_words, mini_place, mini_sector}
 use Rattle.cfb_mini.specs.NextSector.{HasNoneBelow, IsFreeIn}
+use Rattle.cfb_mini.specs.Strays.{LeavesNoStrays}
 use Rattle.cfb_mini.specs.Views.{allocator_of, directory_of, mini_content_of, mini_fat_ids, mini_fat_of, mini_stream_ids, mini_stream_len, mini_stream_of, IsMini}
 use Rattle.cfb_mini.specs.declared.links.MiniLinks.{MiniLinks}
 use Rattle.cfb_mini.specs.declared.mini_allocator.MiniAllocator.{MiniAllocator}
@@ -71,6 +72,7 @@ module _ {F : Type 0} {g : Ghosts F} where
         → place_of (version_of (allocator_of old)) (mini_stream_ids old) (mini_place (minis_of links) k) < length (bytes_of (allocator_of new))
     pub entries : directory.entries_held (directory_of new) ≡ directory.entries_held (directory_of old)
     pub file : LeavesFile old new
+    pub strays : LeavesNoStrays (allocator_of old) (allocator_of new) own own
 
   -- these mini sectors are free; no sector but the mini FAT's own is touched
   pub record Frees (minis : List ℕ) (old new : MiniAllocator F g) (own : ℕ → List ℕ) : Type 0 where
@@ -111,6 +113,7 @@ module _ {F : Type 0} {g : Ghosts F} where
     pub bytes : mini_stream_of new ≡ mini_stream_of old
     pub entries : directory.entries_held (directory_of new) ≡ directory.entries_held (directory_of old)
     pub file : LeavesFile old new
+    pub strays : LeavesNoStrays (allocator_of old) (allocator_of new) own own
 
   -- The mini FAT took in a sector that was in no use, of "free" numbers, and the header tells of it; all else that is owned stays.
   pub record GrowsMiniFat (old new : MiniAllocator F g) (own : ℕ → List ℕ) : Type 0 where
@@ -123,6 +126,7 @@ module _ {F : Type 0} {g : Ghosts F} where
     pub told : TellsMiniFat (bytes_of (allocator_of new)) (mini_fat_ids new)
     pub entries : directory.entries_held (directory_of new) ≡ directory.entries_held (directory_of old)
     pub file : LeavesFile old new
+    pub strays : (then : ℕ → List ℕ) → then 1 ≡ mini_fat_ids new → ((k : ℕ) → (k ≡ 1 → ⊥) → then k ≡ own k) → LeavesNoStrays (allocator_of old) (allocator_of new) own then
 
   -- The mini stream took in a sector that was in no use, of zeros, and the root's entry tells where it begins and how many bytes it
   -- has. All other entries stay, and all else that is owned.
@@ -136,6 +140,7 @@ module _ {F : Type 0} {g : Ghosts F} where
     pub root : (e : Entry) → slice_get (directory.entries_held (directory_of old)) 0 ≡ Some e
         → directory.entries_held (directory_of new) ≡ slice_set (directory.entries_held (directory_of old)) 0 (record e { start = slice_index_or (mini_stream_ids new) 0 end_of_chain; size = mini_stream_len new })
     pub file : LeavesFile old new
+    pub strays : (then : ℕ → List ℕ) → then 2 ≡ mini_stream_ids new → ((k : ℕ) → (k ≡ 2 → ⊥) → then k ≡ own k) → LeavesNoStrays (allocator_of old) (allocator_of new) own then
 
   -- the root's size covers each sector of the mini stream, and so each mini sector in use ([MS-CFB] 2.6.3)
   abbrev pub IsCovered : MiniAllocator F g → Type 0
@@ -150,6 +155,7 @@ module _ {F : Type 0} {g : Ghosts F} where
     pub root : (e : Entry) → slice_get (directory.entries_held (directory_of old)) 0 ≡ Some e
         → directory.entries_held (directory_of new) ≡ slice_set (directory.entries_held (directory_of old)) 0 (record e { start = slice_index_or (mini_stream_ids new) 0 end_of_chain; size = mini_stream_len new })
     pub file : LeavesFile old new
+    pub strays : LeavesNoStrays (allocator_of old) (allocator_of new) own own
 
   -- The directory took in sectors that were in no use, if any; but for these, its own, and these numbers of the header nothing was
   -- touched. All else that is owned stays, and the mini FAT.
@@ -185,12 +191,14 @@ module _ {F : Type 0} {g : Ghosts F} where
     pub inside : AllByRecursion (λ n. 64 * n + 64 ≤ mini_stream_len new) taken
     pub linked : IsLinked (mini_fat_of new) later
     pub numbers : StayBut later (mini_fat_of old) (mini_fat_of new)
+    pub unused : (n : ℕ) → length (mini_fat_of old) ≤ n → n < length (mini_fat_of new) → IsNoneOf later n → slice_index (mini_fat_of new) n ≡ free
     pub zeros : ℕ
     pub stream : mini_stream_of new ≡ mini_stream_of old ++ replicate zeros 0
     pub owners : (then : ℕ → List ℕ) → then 1 ≡ mini_fat_ids new → then 2 ≡ mini_stream_ids new → ((k : ℕ) → (k ≡ 1 → ⊥) → (k ≡ 2 → ⊥) → then k ≡ own k) → HasOwners new then
     pub others : (k : ℕ) → 2 < k → Stays (sector (version_of (allocator_of old))) (seen_of (allocator_of old)) (seen_of (allocator_of new)) (own k)
     pub entries : TellsStream old new
     pub file : LeavesFile old new
+    pub strays : (then : ℕ → List ℕ) → then 1 ≡ mini_fat_ids new → then 2 ≡ mini_stream_ids new → ((k : ℕ) → (k ≡ 1 → ⊥) → (k ≡ 2 → ⊥) → then k ≡ own k) → LeavesNoStrays (allocator_of old) (allocator_of new) own then
 
   -- nothing is left for a mini sector more: no number of a sector for the mini FAT or for the mini stream, or no room for its size
   abbrev pub LacksMini : MiniAllocator F g → Type 0

@@ -9,4 +9,5 @@ pub mod Minis
 pub mod NumberViews
 pub mod Overwriting
 pub mod NextSector
+pub mod Strays
 pub mod Views

@@ -1,6 +1,6 @@
 //! Bytes of a stream that are read ahead.
 ghost use Rattle.cfb_medium.specs.declared.error.Error.TheVariants.{Memory};
-ghost use Rattle.std.specs.Prelude.{[], drop, length, max, take, IfErr, List, OnErr, OnOk, ℕ, ◌≡◌, ◌≤◌};
+ghost use Rattle.std.specs.Prelude.{[], drop, length, max, min, take, IfErr, List, OnErr, OnOk, ℕ, ◌-◌, ◌≡◌, ◌≤◌};
 
 use cfb_medium::Error;
 use std::alloc::Global;
@@ -55,6 +55,19 @@ impl ReadAhead {
             return &self.bytes[..0];
         }
         &self.bytes[skipped as usize..]
+    }
+
+    /// Those from a place on of a stream of so many bytes.
+    pub fn within(&self, at: u64, len: u64) -> &[u8]
+        requires { at ≤ len }
+        ensures bytes { (content : List ℕ) → IsAheadOf content self.now → result.now
+            ≡ take (length result.now) (drop at content) }
+        ensures count { length result.now ≡ min (len - at) (count_from self.now at) }
+        ensures most { length result.now ≤ most_of self.now }
+    {
+        let bytes = self.from(at);
+        let count = (len - at).min(bytes.len() as u64) as usize;
+        &bytes[..count]
     }
 
     // So many are read at once, at most.

@@ -9,6 +9,7 @@ pub mod MiniMoves
 pub mod Moved
 pub mod Others
 pub mod Placed
+pub mod Refused
 pub mod Replaced
 pub mod Rewritten
 pub mod StreamsMade

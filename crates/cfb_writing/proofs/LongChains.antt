@@ -1,7 +1,11 @@
 -- The sectors of one stream were changed by the layer below, over which all else stays.
-use Rattle.std.proofs.Common.{◌≡◌, ℕ, ◌+◌, ◌*◌, ◌≤◌, inl, inr, false, List, [], length, refl, ap, sym, subst, ◌∙◌, ⊎_elim, arith, IsTrue}
+use Rattle.std.proofs.Common.{◌≡◌, ℕ, ◌+◌, ◌*◌, ◌≤◌, inl, inr, false, List, [], ◌++◌, drop, length, take, refl, ap, sym, subst, ◌∙◌, ⊎_elim, arith, IsTrue}
+use Rattle.std.specs.Prelude.{slice_index}
 use Rattle.std.specs.List.{AllByRecursion}
+use Rattle.std.proofs.lemmas.List.{take-append-drop}
+use Rattle.cfb_chains.specs.Changes.{HaveEntry, IsNoneOf}
 use Rattle.cfb_chains.specs.Owned.{Becomes, Moves as MovesOne, Owned, Stays}
+use Rattle.cfb_chains.proofs.Beside.{none_both, none_first, none_second}
 use Rattle.cfb_chains.proofs.Owners.{other_left, owned_changed}
 use Rattle.cfb_directory.specs.Entries.{SizesFit}
 use Rattle.cfb_directory.specs.Views.{entries_held}
@@ -10,7 +14,9 @@ use Rattle.cfb_fat.specs.Tables.{bytes_of, fat_of, has_failed_here, tables_of, v
 use Rattle.cfb_fat.specs.declared.allocator.Allocator.{Allocator}
 use Rattle.cfb_live.specs.Freeing.{CarriesBut, Stands}
 use Rattle.cfb_live.specs.Live.{live_of}
+use Rattle.cfb_live.specs.Strays.{HasNoMoreStrays}
 use Rattle.cfb_live.proofs.KeptNow.{kept_now}
+use Rattle.cfb_live.proofs.Strays.{has_entry}
 use Rattle.cfb_medium.specs.Versions.{sector_len}
 use Rattle.cfb_medium.specs.declared.medium.ReadMedium.{Ghosts}
 use Rattle.cfb_mini.specs.Changing.{with_allocator, HasOwners, IsKeptOver}
@@ -18,15 +24,24 @@ use Rattle.cfb_mini.specs.Views.{allocator_of, directory_of}
 use Rattle.cfb_mini.specs.declared.mini_allocator.MiniAllocator.{MiniAllocator}
 use Rattle.cfb_mini.proofs.Headers.{header_stays, u32_same, KeepsFront}
 use Rattle.cfb_mini.proofs.Keeping.{pick, pick_mine, pick_other}
+use Rattle.cfb_mini.proofs.Strays.{strays_before}
 use Rattle.cfb_owned.specs.Chains.{GoesOn}
 use Rattle.cfb_owners.specs.Owners.{first_of, mini_stream_owner, stream_owner, Owners}
 use Rattle.cfb_sectors.specs.Header.{IsHeader}
-use Rattle.cfb_sectors.specs.Sectors.{sector}
+use Rattle.cfb_sectors.specs.Sectors.{free, sector}
 use Rattle.cfb_writing.specs.Moving.{MovesLong}
 use Rattle.cfb_writing.proofs.Others.{carries_others}
 
+-- what a chain lost of its sectors is free
+pub lost_free : (table ids more later : List ℕ) (count : ℕ) → later ≡ take count ids ++ more → HaveEntry free table (drop count ids) → (n : ℕ) → IsNoneOf later n → (IsNoneOf (ids ++ more) n → ⊥) → slice_index table n ≡ free
+lost_free table ids more later count is freed n none one =
+    let apart : IsNoneOf (take count ids ++ more) n = subst (λ l. IsNoneOf l n) is none in
+    has_entry table (drop count ids) free freed n
+    (λ rest. one (none_both ids more n (subst (λ l. IsNoneOf l n) (take-append-drop count ids) (none_both (take count ids) (drop count ids) n (none_first (take count ids) more n apart) rest)) (none_second (take count ids) more n apart)))
+
 module _ {F : Type 0} {g : Ghosts F} (old : MiniAllocator F g) (b : Allocator F g) (who : Owners) (id : ℕ) (m : Stands old who) (goes : GoesOn (allocator_of old) b) (live : has_failed_here b ≡ false) (kept : IsKeptOver old)
-    (more later : List ℕ) (becomes : Becomes (sector (version_of (allocator_of old))) [] (who.sectors (stream_owner id)) more later (seen_of (allocator_of old)) (seen_of b)) where
+    (more later : List ℕ) (becomes : Becomes (sector (version_of (allocator_of old))) [] (who.sectors (stream_owner id)) more later (seen_of (allocator_of old)) (seen_of b))
+    (spent : (n : ℕ) → IsNoneOf later n → (IsNoneOf (who.sectors (stream_owner id) ++ more) n → ⊥) → slice_index (fat_of b) n ≡ free) where
   abbrev key : ℕ
   key = stream_owner id
 
@@ -107,6 +122,13 @@ module _ {F : Type 0} {g : Ghosts F} (old : MiniAllocator F g) (b : Allocator F 
     joined = λ k past other. (stays k other).bytes;
   }
 
+  strays : HasNoMoreStrays old (with_allocator old b) who now
+  unfolding seen_of
+  strays = record {
+    sectors = strays_before (sector (version_of (allocator_of old))) [] (who.sectors key) more later key (seen_of (allocator_of old)) (seen_of b) who.sectors now.sectors becomes refl (pick_mine who.sectors key later) (pick_other who.sectors key later) spent;
+    minis = λ n s. s;
+  }
+
   -- the stream has these sectors then, and all else stays
   pub moves_long : MovesLong id later old (with_allocator old b) who
   moves_long = record {
@@ -115,6 +137,7 @@ module _ {F : Type 0} {g : Ghosts F} (old : MiniAllocator F g) (b : Allocator F 
       stands = stands;
       carries = carries_others key (live_of old) (live_of (with_allocator old b)) who now (omega arith) carries;
       entries = inl refl;
+      strays = strays;
     };
     mine = pick_mine who.sectors key later;
     minis = refl;

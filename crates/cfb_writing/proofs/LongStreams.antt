@@ -8,6 +8,7 @@ use Rattle.cfb_chains.specs.declared.links.Links.{Links}
 use Rattle.cfb_chains.proofs.ChainWriting.{length-joined}
 use Rattle.cfb_fat.specs.Tables.{bytes_of, version_of}
 use Rattle.cfb_live.specs.Live.{live_of}
+use Rattle.cfb_live.proofs.Strays.{strays_then}
 use Rattle.cfb_medium.specs.Versions.{sector_len}
 use Rattle.cfb_medium.specs.declared.medium.ReadMedium.{Ghosts}
 use Rattle.cfb_medium.specs.declared.version.Version.{Version}
@@ -48,6 +49,7 @@ module _ {F : Type 0} {g : Ghosts F} where
       stands = two.moves.stands;
       carries = others_then (stream_owner id) (live_of a) (live_of b) (live_of c) who one.moves.now two.moves.now one.moves.carries two.moves.carries;
       entries = inl (two.entries ∙ one.entries);
+      strays = strays_then a b c who one.moves.now two.moves.now one.moves.strays two.moves.strays;
     };
     mine = two.mine;
     minis = two.minis ∙ one.minis;

@@ -1,8 +1,8 @@
 -- The mini sectors of one stream were changed by the layer below, over which all else stays.
-use Rattle.std.proofs.Common.{◌≡◌, ℕ, ◌+◌, ◌*◌, ◌<◌, ◌≤◌, inl, inr, false, List, [], ◌∷◌, length, refl, ap, sym, subst, ◌∙◌, ⊎_elim, arith, length-append, IsTrue}
-use Rattle.std.specs.Prelude.{get_or, slice_get, slice_index_or, Some}
+use Rattle.std.proofs.Common.{◌≡◌, ℕ, ◌+◌, ◌*◌, ◌<◌, ◌≤◌, inl, inr, false, List, [], ◌∷◌, ◌++◌, append-nil, length, refl, ap, sym, subst, ◌∙◌, ⊎_elim, arith, length-append, IsTrue}
+use Rattle.std.specs.Prelude.{get_or, slice_get, slice_index, slice_index_or, Some}
 use Rattle.std.specs.List.{flat_map, AllByRecursion}
-use Rattle.std.proofs.lemmas.Bool.Decides.{eqb_tells}
+use Rattle.std.proofs.lemmas.Bool.Decides.{eqb_tells, leb_tells}
 use Rattle.cfb_chains.specs.Changes.{AreNoneOf, IsFreeIn, IsNoneOf, StayBut}
 use Rattle.cfb_chains.specs.Grown.{IsLinked}
 use Rattle.cfb_chains.specs.Owned.{Becomes, Moves as MovesOne, Owned, Stays}
@@ -13,6 +13,7 @@ use Rattle.cfb_fat.specs.Seeing.{seen_of}
 use Rattle.cfb_fat.specs.Tables.{bytes_of, has_failed_here, version_of}
 use Rattle.cfb_live.specs.Freeing.{Stands}
 use Rattle.cfb_live.specs.Live.{live_of}
+use Rattle.cfb_live.specs.Strays.{HasNoMoreStrays}
 use Rattle.cfb_live.proofs.Freed.{own_minis}
 use Rattle.cfb_live.proofs.KeptNow.{kept_now}
 use Rattle.cfb_medium.specs.Versions.{sector_len}
@@ -23,16 +24,18 @@ use Rattle.cfb_mini.specs.Changing.{mini_seen, HasOwners, Lengthens, MiniOverwri
 use Rattle.cfb_mini.specs.Files.{HasHeader, LeavesFile}
 use Rattle.cfb_mini.specs.LinkViews.{minis_of}
 use Rattle.cfb_mini.specs.Minis.{all_words, mini_joined, mini_sector, AreInside}
+use Rattle.cfb_mini.specs.Strays.{IsStrayIn}
 use Rattle.cfb_mini.specs.Views.{allocator_of, directory_of, mini_fat_of, mini_stream_ids, mini_stream_len, mini_stream_of}
 use Rattle.cfb_mini.specs.declared.links.MiniLinks.{MiniLinks}
 use Rattle.cfb_mini.specs.declared.mini_allocator.MiniAllocator.{MiniAllocator}
 use Rattle.cfb_mini.proofs.Keeping.{pick, pick_mine, pick_other}
-use Rattle.cfb_mini.proofs.Longer.{all_less, lengthened_owners, now_other, own_now, stream_size}
+use Rattle.cfb_mini.proofs.Longer.{all_less, lengthened_owners, lengthened_strays, now_other, own_now, stream_size}
 use Rattle.cfb_mini.proofs.Parts.{parts_are}
+use Rattle.cfb_mini.proofs.Strays.{none_left_out, strays_before}
 use Rattle.cfb_owned.specs.Chains.{GoesOn}
 use Rattle.cfb_owners.specs.Held.{mini_joined as held_joined, mini_places_of}
 use Rattle.cfb_owners.specs.Owners.{first_of, mini_stream_owner, stream_owner, Owners}
-use Rattle.cfb_sectors.specs.Sectors.{end_of_chain, places, sector, Chain as IsChain}
+use Rattle.cfb_sectors.specs.Sectors.{end_of_chain, free, places, sector, Chain as IsChain}
 use Rattle.cfb_siblings.proofs.Frames.{set_found}
 use Rattle.cfb_tree.specs.Directory.{kind_root, Entry}
 use Rattle.cfb_tree.proofs.OneContent.{Some_same}
@@ -88,6 +91,24 @@ module _ (old new : List ℕ) (own : ℕ → List ℕ) (key : ℕ) (taken : List
     marked = λ n freed k inside same. absurd (omega (arith, inside));
   }
 
+-- and no more are in use without an owner than were
+more_strays : (old new : List ℕ) (own : ℕ → List ℕ) (key : ℕ) (later : List ℕ) → own key ≡ [] → StayBut later old new → ((n : ℕ) → length old ≤ n → n < length new → IsNoneOf later n → slice_index new n ≡ free)
+    → (n : ℕ) → IsStrayIn new [] (pick own key later) n → IsStrayIn old [] own n
+more_strays old new own key later nothing stays unused n s =
+    let apart : IsNoneOf later n = subst (λ l. IsNoneOf l n) (pick_mine own key later) (s.unowned key) in
+    ⊎_elim
+    (λ past. absurd (s.in_use (unused n past.1 s.below apart)))
+    (λ before. record {
+      below = before.1;
+      in_use = λ is. s.in_use (stays.others n before.1 apart ∙ is);
+      beside = s.beside;
+      unowned = λ k. ⊎_elim
+          (λ same. subst (λ l. IsNoneOf l n) (sym (ap own same.1 ∙ nothing)) (λ j inside. absurd (omega (arith, inside))))
+          (λ other. subst (λ l. IsNoneOf l n) (pick_other own key later k other.1) (s.unowned k))
+          (eqb_tells k key);
+    })
+    (leb_tells (length old) n)
+
 module _ {F : Type 0} {g : Ghosts F} where
   pub stream_len_by : (it : MiniAllocator F g) (own : ℕ → List ℕ) → HasOwners it own → mini_stream_len it ≡ length (own mini_stream_owner) * sector_len (version_of (allocator_of it))
   stream_len_by it own h =
@@ -132,7 +153,8 @@ module _ {F : Type 0} {g : Ghosts F} (old new : MiniAllocator F g) (who : Owners
     (own' : ℕ → List ℕ) (has : HasOwners new own') (same : (k : ℕ) → 2 < k → own' k ≡ who.sectors k)
     (stay : (k : ℕ) → 2 < k → Stays (sector (version_of (allocator_of old))) (seen_of (allocator_of old)) (seen_of (allocator_of new)) (who.sectors k))
     (minis' : ℕ → List ℕ) (owned' : Owned (mini_fat_of new) [] minis') (others' : (k : ℕ) → (k ≡ stream_owner id → ⊥) → minis' k ≡ who.minis k) (inside' : AllByRecursion (λ n. 64 * n + 64 ≤ mini_stream_len new) (minis' (stream_owner id)))
-    (bytes' : (k : ℕ) → (k ≡ stream_owner id → ⊥) → mini_joined (mini_stream_of new) (who.minis k) ≡ mini_joined (mini_stream_of old) (who.minis k)) (entries : MovesRoot (entries_held (directory_of old)) (entries_held (directory_of new))) where
+    (bytes' : (k : ℕ) → (k ≡ stream_owner id → ⊥) → mini_joined (mini_stream_of new) (who.minis k) ≡ mini_joined (mini_stream_of old) (who.minis k)) (entries : MovesRoot (entries_held (directory_of old)) (entries_held (directory_of new)))
+    (strays : HasNoMoreStrays old new who (record { sectors = own'; minis = minis' })) where
   abbrev key : ℕ
   key = stream_owner id
 
@@ -204,7 +226,7 @@ module _ {F : Type 0} {g : Ghosts F} (old new : MiniAllocator F g) (who : Owners
 
   -- all other streams have what they had
   pub mini_moves : (it : Moves id old new who) × (it.now ≡ record { sectors = own'; minis = minis' })
-  mini_moves = (record { now = now; stands = stands_now; carries = carries; entries = entries }, refl)
+  mini_moves = (record { now = now; stands = stands_now; carries = carries; entries = entries; strays = strays }, refl)
 
 -- where the root's entry tells of another mini stream
 root_moved : {F : Type 0} {g : Ghosts F} (old new : MiniAllocator F g) (root : Entry) → slice_get (entries_held (directory_of old)) 0 ≡ Some root → TellsStream old new → MovesRoot (entries_held (directory_of old)) (entries_held (directory_of new))
@@ -224,11 +246,16 @@ module _ {F : Type 0} {g : Ghosts F} (old new : MiniAllocator F g) (who : Owners
       (owned_changed mini_sector (mini_seen old) (mini_seen new) who.minis who.minis key all_words (who.minis key) [] owned moved) (λ k other. refl)
       (all_less (mini_stream_len old) (mini_stream_len new) (who.minis key) (longer_stream old new who m goes over.file who.sectors over.changes.owners) (minis_there old who m key))
       (λ k other. (left k other).bytes) (inl over.entries)
+      (record {
+        sectors = over.strays;
+        minis = strays_before mini_sector all_words (who.minis key) [] (who.minis key) key (mini_seen old) (mini_seen new) who.minis who.minis becomes refl refl (λ k other. refl)
+            (none_left_out (mini_fat_of new) (who.minis key ++ []) (who.minis key) (append-nil (who.minis key)));
+      })
 
   -- a stream without mini sectors took some in
-  pub moves_more : (later : List ℕ) → (l : Lengthens old new [] later who.sectors)
+  pub moves_more : (later : List ℕ) → who.minis (stream_owner id) ≡ [] → (l : Lengthens old new [] later who.sectors)
       → (it : Moves id old new who) × (it.now ≡ record { sectors = own_now new who.sectors; minis = pick who.minis (stream_owner id) later })
-  moves_more later l =
+  moves_more later nothing l =
       let key = stream_owner id in
       let is : l.taken ≡ later = sym l.minis_are in
       let owned = owned_more (mini_fat_of old) (mini_fat_of new) who.minis key later (minis_owned old who m) (subst (AllByRecursion (IsFreeIn (mini_fat_of old))) is l.were_free) l.numbers l.linked in
@@ -238,3 +265,4 @@ module _ {F : Type 0} {g : Ghosts F} (old new : MiniAllocator F g) (who : Owners
       (subst (AllByRecursion (λ n. 64 * n + 64 ≤ mini_stream_len new)) (is ∙ sym (pick_mine who.minis key later)) l.inside)
       (λ k other. ap (λ s. mini_joined s (who.minis k)) l.stream ∙ joined_padded (mini_stream_of old) l.zeros (who.minis k))
       (root_moved old new m.root (root_there old who m) l.entries)
+      (record { sectors = lengthened_strays old new [] later who.sectors l; minis = more_strays (mini_fat_of old) (mini_fat_of new) who.minis key later nothing l.numbers l.unused })

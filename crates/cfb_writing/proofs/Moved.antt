@@ -1,10 +1,12 @@
 -- A stream that moved, told from before it was read.
 use Rattle.std.proofs.Common.{◌≡◌, ℕ, ◌⊎◌, List, length, ap, subst, ◌∙◌}
 use Rattle.cfb_fat.specs.Resting.{all_rest_then}
+use Rattle.cfb_live.specs.Strays.{HasNoMoreStrays}
 use Rattle.cfb_medium.specs.declared.medium.ReadMedium.{Ghosts}
 use Rattle.cfb_mini.specs.Changing.{KeepsOwners}
 use Rattle.cfb_mini.specs.Views.{allocator_of}
 use Rattle.cfb_mini.specs.declared.mini_allocator.MiniAllocator.{MiniAllocator}
+use Rattle.cfb_owners.specs.Owners.{Owners}
 use Rattle.cfb_streams.specs.declared.opening.StreamLinks.{StreamLinks}
 use Rattle.cfb_tree.specs.Changes.{changed, with_bytes}
 use Rattle.cfb_tree.specs.Names.{Letters}
@@ -23,8 +25,8 @@ module _ {F : Type 0} {g : Ghosts F} where
   }
 
   -- it has the bytes that were read, with zeros behind them
-  pub rewrites_moved : (letters : Letters) (new : MiniAllocator F g) (tree : Tree) (path : Path) (id : ℕ) (content : List ℕ) (len count : ℕ) (home : StreamLinks) (bytes : List ℕ) → bytes ≡ resized count content → (count ≡ len) ⊎ (count ≡ length content)
-      → IsStreamAt letters new (changed letters (with_bytes (resized len bytes)) path tree) path id (resized len bytes) × AreLinksOf id home new
-      → IsStreamAt letters new (changed letters (with_bytes (resized len content)) path tree) path id (resized len content) × AreLinksOf id home new
-  rewrites_moved letters new tree path id content len count home bytes is which at =
-      subst (λ l. IsStreamAt letters new (changed letters (with_bytes l) path tree) path id l × AreLinksOf id home new) (ap (resized len) is ∙ resized_again content count len which) at
+  pub rewrites_moved : (letters : Letters) (old new : MiniAllocator F g) (who : Owners) (tree : Tree) (path : Path) (id : ℕ) (content : List ℕ) (len count : ℕ) (home : StreamLinks) (bytes : List ℕ) → bytes ≡ resized count content → (count ≡ len) ⊎ (count ≡ length content)
+      → (then : IsStreamAt letters new (changed letters (with_bytes (resized len bytes)) path tree) path id (resized len bytes)) × AreLinksOf id home new × HasNoMoreStrays old new who then.means.who
+      → (then : IsStreamAt letters new (changed letters (with_bytes (resized len content)) path tree) path id (resized len content)) × AreLinksOf id home new × HasNoMoreStrays old new who then.means.who
+  rewrites_moved letters old new who tree path id content len count home bytes is which at =
+      subst (λ l. (then : IsStreamAt letters new (changed letters (with_bytes l) path tree) path id l) × AreLinksOf id home new × HasNoMoreStrays old new who then.means.who) (ap (resized len) is ∙ resized_again content count len which) at

@@ -81,12 +81,8 @@ module _ {F : Type 0} {g : Ghosts F} (old mid : MiniAllocator F g) (who : Owners
     stands = frees.stands;
     carries = carries_others (stream_owner id) (live_of old) (live_of mid) who frees.now (omega arith) frees.carries;
     entries = inl frees.entries;
+    strays = frees.strays;
   }
-
-  -- and left no more strays
-  pub freed_strays : HasNoMoreStrays old mid who freed_moves.now
-  unfolding freed_moves
-  freed_strays = frees.strays
 
   -- and has no bytes then
   pub freed_has : (e : Entry) → e.start ≡ end_of_chain → e.size ≡ 0 → HasStream (live_of mid) freed_moves.now id e []
@@ -191,10 +187,10 @@ module _ {F : Type 0} {g : Ghosts F} (letters : Letters) (old mid new : MiniAllo
         at_path = it.at_path;
       }
 
-  -- with no more strays than its sectors' change left
-  pub placed_strays : HasNoMoreStrays old mid at.means.who moved.now → HasNoMoreStrays old new at.means.who stream_placed.means.who
+  -- with no more strays
+  pub placed_strays : HasNoMoreStrays old new at.means.who stream_placed.means.who
   unfolding stream_placed
-  placed_strays strays = strays_then old mid new at.means.who moved.now now strays (directory_strays [] none mid new moved.now moved.stands goes live changes)
+  placed_strays = strays_then old mid new at.means.who moved.now now moved.strays (directory_strays [] none mid new moved.now moved.stands goes live changes)
 
   new_at : slice_get (entries_held (directory_of new)) id ≡ Some f
   new_at = ap (λ l. slice_get l id) p.set ∙ set_found (entries_held (directory_of mid)) id p.entry f p.found
@@ -270,3 +266,8 @@ module _ {F : Type 0} {g : Ghosts F} (letters : Letters) (old new : MiniAllocato
         bits = it.bits;
         at_path = it.at_path;
       }
+
+  -- with no more strays
+  pub still_strays : HasNoMoreStrays old new at.means.who stream_still.means.who
+  unfolding stream_still
+  still_strays = moved.strays

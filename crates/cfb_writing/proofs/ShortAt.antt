@@ -4,8 +4,10 @@ use Rattle.std.proofs.lemmas.Bool.Decides.{leb_tells}
 use Rattle.cfb_chains.specs.Grown.{IsLinked}
 use Rattle.cfb_fat.specs.Tables.{bytes_of, fat_of, version_of}
 use Rattle.cfb_live.specs.Live.{live_of}
-use Rattle.cfb_live.proofs.Resting.{means_stays}
+use Rattle.cfb_live.specs.Strays.{HasNoMoreStrays}
+use Rattle.cfb_live.proofs.Resting.{means_stays, stays_owned}
 use Rattle.cfb_live.proofs.Standing.{stands_of}
+use Rattle.cfb_live.proofs.Strays.{strays_kept, strays_then}
 use Rattle.cfb_medium.specs.declared.medium.ReadMedium.{Ghosts}
 use Rattle.cfb_mini.specs.Changing.{KeepsOwners}
 use Rattle.cfb_mini.specs.LinkViews.{minis_of}
@@ -13,7 +15,7 @@ use Rattle.cfb_mini.specs.Minis.{mini_joined}
 use Rattle.cfb_mini.specs.Views.{allocator_of, mini_stream_of}
 use Rattle.cfb_mini.specs.declared.links.MiniLinks.{MiniLinks}
 use Rattle.cfb_mini.specs.declared.mini_allocator.MiniAllocator.{MiniAllocator}
-use Rattle.cfb_owners.specs.Owners.{stream_owner}
+use Rattle.cfb_owners.specs.Owners.{stream_owner, Owners}
 use Rattle.cfb_sectors.specs.Header.{mini_cutoff}
 use Rattle.cfb_sectors.specs.Sectors.{joined}
 use Rattle.cfb_siblings.specs.Places.{LeadsTo}
@@ -74,6 +76,13 @@ module _ {F : Type 0} {g : Ghosts F} where
     bits = at.bits;
     at_path = at.at_path;
   }
+
+  -- strays told from before reads
+  pub kept_strays : (letters : Letters) (old mid new : MiniAllocator F g) (tree : Tree) (path : Path) (id : ℕ) (content : List ℕ) (k : KeepsOwners old mid) (at : IsStreamAt letters old tree path id content) (now : Owners)
+      → HasNoMoreStrays mid new (stream_kept letters old mid tree path id content k at).means.who now → HasNoMoreStrays old new at.means.who now
+  unfolding stream_kept
+  kept_strays letters old mid new tree path id content k at now strays =
+      strays_then old mid new at.means.who at.means.who now (strays_kept old mid at.means.who k) (subst (λ w. HasNoMoreStrays mid new w now) (stays_owned old mid k letters tree at.means) strays)
 
   -- the first bytes of its sectors are its bytes
   pub content_there : (letters : Letters) (it : MiniAllocator F g) (tree : Tree) (path : Path) (id : ℕ) (content : List ℕ) (at : IsStreamAt letters it tree path id content) (links : StreamLinks) → AreLinksOf id links it

@@ -5,6 +5,7 @@ use Rattle.cfb_fat.specs.Tables.{bytes_of, has_failed_here, version_of}
 use Rattle.cfb_live.specs.Freeing.{Stands}
 use Rattle.cfb_live.specs.Live.{live_of}
 use Rattle.cfb_live.proofs.Freed.{own_minis}
+use Rattle.cfb_live.proofs.Strays.{strays_then}
 use Rattle.cfb_medium.specs.Bytes.{overwritten}
 use Rattle.cfb_medium.specs.Versions.{sector_len}
 use Rattle.cfb_medium.specs.declared.medium.ReadMedium.{Ghosts}
@@ -49,6 +50,7 @@ module _ {F : Type 0} {g : Ghosts F} where
     stands = two.stands;
     carries = others_then (stream_owner id) (live_of m0) (live_of m1) (live_of m2) who one.now two.now one.carries two.carries;
     entries = ⊎_elim (λ is. inl (same ∙ is)) (λ it. inr (it.0, it.1, it.2, it.3, same ∙ it.4)) one.entries;
+    strays = strays_then m0 m1 m2 who one.now two.now one.strays two.strays;
   }
 
   -- a stream that owned nothing took mini sectors in
@@ -58,7 +60,7 @@ module _ {F : Type 0} {g : Ghosts F} where
   begun m0 m1 who id m goes live links0 links none nothing grown =
       let key = stream_owner id in
       let later = minis_of links in
-      let one = moves_more m0 m1 who id m goes live later (subst (λ l. Lengthens m0 m1 l later who.sectors) none grown) in
+      let one = moves_more m0 m1 who id m goes live later nothing.1 (subst (λ l. Lengthens m0 m1 l later who.sectors) none grown) in
       let mine : one.0.now.minis key ≡ later = ap (λ (o : Owners). o.minis key) one.1 ∙ pick_mine who.minis key later in
       let empty : one.0.now.sectors key ≡ [] = ap (λ (o : Owners). o.sectors key) one.1 ∙ now_other m1 who.sectors key (λ same. omega (arith, same)) (λ same. omega (arith, same)) ∙ nothing.0 in
       (one.0, empty, mine, subst (IsMiniChain (mini_fat_of m1) (mini_stream_len m1)) mine (own_minis m1 one.0.now one.0.stands key))

@@ -11,6 +11,7 @@ use Rattle.cfb_chains.proofs.ChainWriting.{length-joined, split_below}
 use Rattle.cfb_chains.proofs.Overwriting.{get_behind, get_written}
 use Rattle.cfb_fat.specs.Tables.{bytes_of, version_of}
 use Rattle.cfb_live.specs.Live.{live_of}
+use Rattle.cfb_live.proofs.Strays.{strays_then}
 use Rattle.cfb_medium.specs.Bytes.{overwritten}
 use Rattle.cfb_medium.specs.Versions.{sector_len}
 use Rattle.cfb_medium.specs.declared.medium.ReadMedium.{Ghosts}
@@ -87,6 +88,7 @@ module _ {F : Type 0} {g : Ghosts F} (m0 m1 m2 : MiniAllocator F g) (who : Owner
         stands = long2.moves.stands;
         carries = others_then (stream_owner id) (live_of m0) (live_of m1) (live_of m2) who long1.moves.now long2.moves.now long1.moves.carries long2.moves.carries;
         entries = inl (long2.entries ∙ long1.entries);
+        strays = strays_then m0 m1 m2 who long1.moves.now long2.moves.now long1.moves.strays long2.moves.strays;
       };
       has = λ f start size_is.
           let new = size_is ∙ length-resized bytes len in

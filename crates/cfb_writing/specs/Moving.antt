@@ -5,6 +5,7 @@ use Rattle.cfb_chains.specs.declared.links.Links.{Links}
 use Rattle.cfb_directory.specs.Views.{entries_held}
 use Rattle.cfb_live.specs.Freeing.{Stands}
 use Rattle.cfb_live.specs.Live.{live_of}
+use Rattle.cfb_live.specs.Strays.{HasNoMoreStrays}
 use Rattle.cfb_fat.specs.Tables.{version_of}
 use Rattle.cfb_medium.specs.Versions.{stream_len_mask}
 use Rattle.cfb_medium.specs.declared.medium.ReadMedium.{Ghosts}
@@ -46,12 +47,13 @@ MovesRoot old new = (new ≡ old)
     ⊎ ((root : Entry) × (start : ℕ) × (size : ℕ) × (slice_get old 0 ≡ Some root) × (new ≡ slice_set old 0 (record root { start = start; size = size })))
 
 module _ {F : Type 0} {g : Ghosts F} where
-  -- the file stands, and all streams but that of entry `id` have what they had
+  -- the file stands, all streams but that of entry `id` have what they had, and there are no more strays
   pub record Moves (id : ℕ) (old new : MiniAllocator F g) (who : Owners) : Type 0 where
     pub now : Owners
     pub stands : Stands new now
     pub carries : CarriesOthers (stream_owner id) (live_of old) (live_of new) who now
     pub entries : MovesRoot (entries_held (directory_of old)) (entries_held (directory_of new))
+    pub strays : HasNoMoreStrays old new who now
 
   -- entry `id` tells that its stream begins there and has so many bytes, which fit into it; all other entries stay, and all that is
   -- owned ([MS-CFB] 2.6.1)

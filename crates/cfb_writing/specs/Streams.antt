@@ -1,5 +1,5 @@
 -- A stream of a live file, and what a call does to its bytes ([MS-CFB] 2.6.3).
-use Rattle.std.specs.Prelude.{◌≡◌, ◌⊎◌, ℕ, ◌+◌, ◌-◌, ◌<◌, ◌++◌, List, length, replicate, slice_get, take, Some}
+use Rattle.std.specs.Prelude.{◌≡◌, ◌⊎◌, ℕ, ◌+◌, ◌-◌, ◌<◌, ◌++◌, List, length, replicate, slice_get, take, Option, Some}
 use Rattle.cfb_chains.specs.LinkViews.{ids_of, links_version}
 use Rattle.cfb_chains.specs.Positions.{sectors_for}
 use Rattle.cfb_directory.specs.Views.{entries_held}
@@ -12,6 +12,7 @@ use Rattle.cfb_medium.specs.declared.version.Version.{Version}
 use Rattle.cfb_mini.specs.LinkViews.{minis_of}
 use Rattle.cfb_mini.specs.Views.{allocator_of, directory_of}
 use Rattle.cfb_mini.specs.declared.mini_allocator.MiniAllocator.{MiniAllocator}
+use Rattle.cfb_owners.specs.Owners.{Owners}
 use Rattle.cfb_sectors.specs.Sectors.{greatest_regular}
 use Rattle.cfb_siblings.specs.Places.{LeadsTo}
 use Rattle.cfb_streams.specs.Streams.{sectors_in, IsOfLevel, StreamLiesIn}
@@ -53,6 +54,14 @@ module _ {F : Type 0} {g : Ghosts F} where
     pub bits : ℕ
     pub at_path : object_at letters tree path ≡ Some (a_stream name bits content)
 
+  -- the path leads to the stream of entry `id`, in a file with these owners
+  pub record IsFound (letters : Letters) (it : MiniAllocator F g) (path : Option Path) (tree : Tree) (who : Owners) (id : ℕ) : Type 0 where
+    pub names : Path
+    pub at_path : path ≡ Some names
+    pub content : List ℕ
+    pub at : IsStreamAt letters it tree names id content
+    pub owners : at.means.who ≡ who
+
   -- a stream of entry `id` has then the bytes that come of its own by the change, and nothing else of the tree is changed; no sector
   -- and no mini sector is in use without an owner that wasn't so before
   abbrev pub Rewrites : ℕ → (List ℕ → List ℕ) → MiniAllocator F g → MiniAllocator F g → Type 0
@@ -69,13 +78,13 @@ module _ {F : Type 0} {g : Ghosts F} where
 
   -- so `Rewrites` does where these are its sectors, and then those are
   abbrev pub RewritesIn : ℕ → (List ℕ → List ℕ) → StreamLinks → StreamLinks → MiniAllocator F g → MiniAllocator F g → Type 0
-  RewritesIn id change before after old new = (letters : Letters) (tree : Tree) (path : Path) (content : List ℕ) → IsStreamAt letters old tree path id content → AreLinksOf id before old
-      → IsStreamAt letters new (changed letters (with_bytes (change content)) path tree) path id (change content) × AreLinksOf id after new
+  RewritesIn id change before after old new = (letters : Letters) (tree : Tree) (path : Path) (content : List ℕ) → (at : IsStreamAt letters old tree path id content) → AreLinksOf id before old
+      → (then : IsStreamAt letters new (changed letters (with_bytes (change content)) path tree) path id (change content)) × AreLinksOf id after new × HasNoMoreStrays old new at.means.who then.means.who
 
-  -- a stream of entry `id` has then these bytes, in these sectors, and nothing else of the tree is changed
+  -- a stream of entry `id` has then these bytes, in these sectors, and nothing else of the tree is changed; there are no more strays
   abbrev pub Replaces : ℕ → List ℕ → StreamLinks → MiniAllocator F g → MiniAllocator F g → Type 0
-  Replaces id bytes after old new = (letters : Letters) (tree : Tree) (path : Path) (content : List ℕ) → IsStreamAt letters old tree path id content
-      → IsStreamAt letters new (changed letters (with_bytes bytes) path tree) path id bytes × AreLinksOf id after new
+  Replaces id bytes after old new = (letters : Letters) (tree : Tree) (path : Path) (content : List ℕ) → (at : IsStreamAt letters old tree path id content)
+      → (then : IsStreamAt letters new (changed letters (with_bytes bytes) path tree) path id bytes) × AreLinksOf id after new × HasNoMoreStrays old new at.means.who then.means.who
 
   -- entry `id` is no stream with these sectors
   abbrev pub HasNoLinks : ℕ → StreamLinks → MiniAllocator F g → Type 0

@@ -48,7 +48,7 @@ module _ {F : Type 0} {g : Ghosts F} where
   does_puts call path names at old new (Ok x) d = record {
     failed = d.failed;
     unsound = λ live unsound. (d.unsound live unsound).0;
-    done = λ tree m. let is = d.done tree m in record { names = is.names; at_path = is.at_path; accepted = is.accepted; means = is.means };
+    done = λ tree m. let is = d.done tree m in record { names = is.names; at_path = is.at_path; accepted = is.accepted; means = is.means; strays = is.strays };
     refused = tt;
     rests = tt;
     seen = d.seen;

@@ -8,7 +8,7 @@ use Rattle.cfb_mini.specs.Views.{allocator_of, directory_of}
 use Rattle.cfb_owned.proofs.GoingOn.{goes_cause, goes_then}
 use Rattle.cfb_sectors.specs.Sectors.{end_of_chain}
 use Rattle.cfb_writing.proofs.Links.{entries_count}
-use Rattle.cfb_writing.proofs.Placed.{entry_of, found_at, freed_has, freed_moves, freed_strays, placed_strays, stream_placed}
+use Rattle.cfb_writing.proofs.Placed.{entry_of, found_at, freed_has, freed_moves, placed_strays, stream_placed}
 use Rattle.cfb_writing.proofs.emptying.empty_stream.Goals as goal
 
 pub returns-then-id-dir_entries-clause-refused : goal.returns-then-id-dir_entries-clause-refused
@@ -60,7 +60,7 @@ returns-clause-emptied g c = λ letters tree path content at.
     let moves = freed_moves it mid at.means.who id frees in
     let has = freed_has it mid at.means.who id frees (record did.placed.entry { start = end_of_chain; size = 0 }) refl refl in (
       stream_placed letters it mid c.set_place.new.mini tree path id content [] at moves end_of_chain 0 did.placed c.set_place.ensures.goes_on did.live has,
-      placed_strays letters it mid c.set_place.new.mini tree path id content [] at moves end_of_chain 0 did.placed c.set_place.ensures.goes_on did.live has (freed_strays it mid at.means.who id frees),
+      placed_strays letters it mid c.set_place.new.mini tree path id content [] at moves end_of_chain 0 did.placed c.set_place.ensures.goes_on did.live has,
     )
 
 pub returns-clause-goes_on : goal.returns-clause-goes_on

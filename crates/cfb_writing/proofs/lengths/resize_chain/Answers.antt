@@ -1,17 +1,19 @@
-use Rattle.std.proofs.Common.{[], subst, sym, IsTrue}
+use Rattle.std.proofs.Common.{◌≡◌, ℕ, [], ◌++◌, subst, sym, IsTrue}
+use Rattle.std.specs.Prelude.{slice_index}
+use Rattle.cfb_chains.specs.Changes.{IsNoneOf}
 use Rattle.cfb_chains.specs.LinkViews.{ids_of, links_version}
 use Rattle.cfb_chains.specs.Owned.{Becomes}
 use Rattle.cfb_chains.specs.Positions.{sectors_for}
 use Rattle.cfb_fat.specs.Seeing.{seen_of}
-use Rattle.cfb_fat.specs.Tables.{orderly_of, version_of}
+use Rattle.cfb_fat.specs.Tables.{fat_of, orderly_of, version_of}
 use Rattle.cfb_mini.specs.Views.{allocator_of}
 use Rattle.cfb_mini.proofs.Keeping.{own_chain}
 use Rattle.cfb_mini.proofs.Results.{both_ok}
 use Rattle.cfb_owned.specs.Chains.{GoesOn, HasChain, LacksSectors, Resizes}
 use Rattle.cfb_owners.specs.Owners.{stream_owner}
-use Rattle.cfb_sectors.specs.Sectors.{sector}
+use Rattle.cfb_sectors.specs.Sectors.{free, sector}
 use Rattle.cfb_sectors.specs.declared.initial.SectorInit.TheVariants.{Zero}
-use Rattle.cfb_writing.proofs.LongChains.{moves_long}
+use Rattle.cfb_writing.proofs.LongChains.{lost_free, moves_long}
 use Rattle.cfb_writing.proofs.lengths.resize_chain.Goals as goal
 
 pub returns-clause-resized : goal.returns-clause-resized
@@ -27,7 +29,9 @@ returns-clause-resized g c =
     let grown : Resizes Zero count (allocator_of it) b links after = subst (λ x. Resizes Zero count x b links after) same (did (subst (λ x. HasChain x links) (sym same) (own_chain it who.sectors (stream_owner id) links m.owners is version))) in
     let becomes : Becomes (sector (version_of (allocator_of it))) [] (who.sectors (stream_owner id)) grown.more (ids_of after) (seen_of (allocator_of it)) (seen_of b) =
     subst (λ l. Becomes (sector (version_of (allocator_of it))) [] l grown.more (ids_of after) (seen_of (allocator_of it)) (seen_of b)) (sym is) grown.becomes in
-    (moves_long it b who id m (subst (λ x. GoesOn x b) same c.set_chain_len.ensures.goes_on) live.1 c.allocator_mut.ensures.kept grown.more (ids_of after) becomes, grown))
+    let spent : (n : ℕ) → IsNoneOf (ids_of after) n → (IsNoneOf (who.sectors (stream_owner id) ++ grown.more) n → ⊥) → slice_index (fat_of b) n ≡ free =
+    subst (λ l. (n : ℕ) → IsNoneOf (ids_of after) n → (IsNoneOf (l ++ grown.more) n → ⊥) → slice_index (fat_of b) n ≡ free) (sym is) (lost_free (fat_of b) (ids_of links) grown.more (ids_of after) count grown.sectors grown.freed) in
+    (moves_long it b who id m (subst (λ x. GoesOn x b) same c.set_chain_len.ensures.goes_on) live.1 c.allocator_mut.ensures.kept grown.more (ids_of after) becomes spent, grown))
     c.set_chain_len.ensures.resized c.set_chain_len.ensures.answers.live
 
 pub returns-clause-refused : goal.returns-clause-refused

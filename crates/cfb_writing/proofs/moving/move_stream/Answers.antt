@@ -5,6 +5,7 @@ use Rattle.std.proofs.lemmas.Option.{slice_get_within}
 use Rattle.cfb_directory.specs.Entries.{entries_in}
 use Rattle.cfb_directory.specs.Views.{entries_held}
 use Rattle.cfb_fat.specs.Calls.{FatAnswers}
+use Rattle.cfb_live.specs.Strays.{HasNoMoreStrays}
 use Rattle.cfb_live.proofs.Resting.{keeps_rests}
 use Rattle.cfb_medium.specs.declared.error.Error.TheVariants.{InvalidData}
 use Rattle.cfb_mini.specs.Views.{allocator_of, directory_of}
@@ -21,7 +22,7 @@ use Rattle.cfb_writing.specs.Streams.{resized, AreLinksOf, IsStreamAt}
 use Rattle.cfb_writing.proofs.Links.{entries_count}
 use Rattle.cfb_writing.proofs.Moved.{kept_rests, rewrites_moved}
 use Rattle.cfb_writing.proofs.Placed.{entry_of, found_at}
-use Rattle.cfb_writing.proofs.ShortAt.{alike_refl, content_there, short_size_below, size_there, stream_kept}
+use Rattle.cfb_writing.proofs.ShortAt.{alike_refl, content_there, kept_strays, short_size_below, size_there, stream_kept}
 use Rattle.cfb_writing.proofs.moving.move_stream.Goals as goal
 
 pub returns-then-id-dir_entries-clause-refused : goal.returns-then-id-dir_entries-clause-refused
@@ -106,11 +107,14 @@ returns-clause-resized g c = λ letters tree path content at are.
     let whole = size_there letters it tree path id content at ∙ size in
     let has = subst (λ n. HasContent it c.args.links.now n content) size (content_there letters it tree path id content at c.args.links.now are) in
     let bytes = c.in-Ok.ensures.read content has whole in
-    let mid_at = stream_kept letters it mid tree path id content (keeps_rests it mid c.read_front.ensures.rests) at in
+    let keeps = keeps_rests it mid c.read_front.ensures.rests in
+    let mid_at = stream_kept letters it mid tree path id content keeps at in
+    let did = c.in-Ok-replace_stream.ensures.replaced letters tree path content mid_at in
     let which : (count ≡ len) ⊎ (count ≡ length content) =
     ⊎_elim (λ up. inr (c.moved_len-count.ensures.long up.1 ∙ sym whole)) (λ few. inl (c.moved_len-count.ensures.short few.1)) (leb_tells mini_cutoff len) in
-    rewrites_moved letters new tree path id content len count c.in-Ok-replace_stream.home c.in-Ok.bytes.items bytes which
-    (subst (λ l. IsStreamAt letters new (changed letters (with_bytes (resized len l)) path tree) path id (resized len l) × AreLinksOf id c.in-Ok-replace_stream.home new) c.deref.ensures.value (c.in-Ok-replace_stream.ensures.replaced letters tree path content mid_at))
+    rewrites_moved letters it new at.means.who tree path id content len count c.in-Ok-replace_stream.home c.in-Ok.bytes.items bytes which
+    (subst (λ l. (then : IsStreamAt letters new (changed letters (with_bytes (resized len l)) path tree) path id (resized len l)) × AreLinksOf id c.in-Ok-replace_stream.home new × HasNoMoreStrays it new at.means.who then.means.who) c.deref.ensures.value
+    (did.0, did.1, kept_strays letters it mid new tree path id content keeps at did.0.means.who did.2))
 
 pub returns-clause-goes_on : goal.returns-clause-goes_on
 returns-clause-goes_on g c =

@@ -1,11 +1,12 @@
-use Rattle.std.proofs.Common.{[], subst, sym}
+use Rattle.std.proofs.Common.{[], ◌++◌, append-nil, subst, sym, ◌∙◌}
 use Rattle.cfb_chains.specs.LinkViews.{ids_of}
 use Rattle.cfb_chains.specs.Owned.{Becomes}
 use Rattle.cfb_fat.specs.Seeing.{seen_of}
-use Rattle.cfb_fat.specs.Tables.{version_of}
+use Rattle.cfb_fat.specs.Tables.{fat_of, version_of}
 use Rattle.cfb_mini.specs.Views.{allocator_of}
 use Rattle.cfb_mini.proofs.Keeping.{own_chain}
 use Rattle.cfb_mini.proofs.Results.{both_ok}
+use Rattle.cfb_mini.proofs.Strays.{none_left_out}
 use Rattle.cfb_owned.specs.Chains.{GoesOn, HasChain, Overwrites}
 use Rattle.cfb_owners.specs.Owners.{stream_owner}
 use Rattle.cfb_sectors.specs.Sectors.{sector}
@@ -22,8 +23,11 @@ returns-clause-written g c =
     (λ did live who id m is version.
     let over : Overwrites c.args.at c.args.bytes.now (allocator_of it) b links = subst (λ x. Overwrites c.args.at c.args.bytes.now x b links) same (did (subst (λ x. HasChain x links) (sym same) (own_chain it who.sectors (stream_owner id) links m.owners is version))) in
     let becomes : Becomes (sector (version_of (allocator_of it))) [] (who.sectors (stream_owner id)) [] (ids_of links) (seen_of (allocator_of it)) (seen_of b) =
-    subst (λ l. Becomes (sector (version_of (allocator_of it))) [] l [] (ids_of links) (seen_of (allocator_of it)) (seen_of b)) (sym is) over.becomes in
-    (moves_long it b who id m (subst (λ x. GoesOn x b) same c.overwrite_chain.ensures.goes_on) live.1 c.allocator_mut.ensures.kept [] (ids_of links) becomes, over))
+    subst (λ l. Becomes (sector (version_of (allocator_of it))) [] l [] (ids_of links) (seen_of (allocator_of it)) (seen_of b)) (sym is) over.becomes in (
+      moves_long it b who id m (subst (λ x. GoesOn x b) same c.overwrite_chain.ensures.goes_on) live.1 c.allocator_mut.ensures.kept [] (ids_of links) becomes
+          (none_left_out (fat_of b) (who.sectors (stream_owner id) ++ []) (ids_of links) (append-nil (who.sectors (stream_owner id)) ∙ is)),
+      over,
+    ))
     c.overwrite_chain.ensures.written c.overwrite_chain.ensures.answers.live
 
 pub returns-clause-refused : goal.returns-clause-refused

@@ -19,7 +19,7 @@ use Rattle.cfb_live.proofs.Freed.{own_minis}
 use Rattle.cfb_owners.specs.Owners.{stream_owner, Owners}
 use Rattle.cfb_writing.proofs.Links.{entries_count}
 use Rattle.cfb_writing.proofs.MiniMoves.{moves_over}
-use Rattle.cfb_writing.proofs.Placed.{entry_of, entry_still, found_at, stream_still}
+use Rattle.cfb_writing.proofs.Placed.{entry_of, entry_still, found_at, still_strays, stream_still}
 use Rattle.cfb_writing.proofs.ShortAt.{short_below, short_owned, short_room, short_size}
 use Rattle.cfb_writing.proofs.ShortLinks.{short_links}
 use Rattle.cfb_writing.proofs.ShortStreams.{short_over}
@@ -97,4 +97,5 @@ returns-clause-written g c = λ letters tree path content at are.
           let one : was.entry ≡ e = Some_same (sym (entry_still letters it new tree path id content later at moved.0 has) ∙ found) in
           subst (λ (x : Entry). StreamLiesIn new x.start x.size (minis_of links) × IsOfLevel new x.size (Short links)) one
           (short_links new moved.0.now moved.0.stands id was.entry later links has below (ap (λ (o : Owners). o.minis (stream_owner id)) moved.1 ∙ owned)),
+      still_strays letters it new tree path id content later at moved.0 has,
     )

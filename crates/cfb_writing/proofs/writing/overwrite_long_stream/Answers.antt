@@ -15,7 +15,7 @@ use Rattle.cfb_chains.specs.LinkViews.{ids_of}
 use Rattle.cfb_writing.proofs.Links.{entries_count}
 use Rattle.cfb_writing.proofs.LongAt.{long_owned, long_room, long_size, long_up, long_version}
 use Rattle.cfb_writing.proofs.LongLinks.{long_links, long_over}
-use Rattle.cfb_writing.proofs.Placed.{entry_of, entry_still, found_at, stream_still}
+use Rattle.cfb_writing.proofs.Placed.{entry_of, entry_still, found_at, still_strays, stream_still}
 use Rattle.cfb_writing.proofs.writing.overwrite_long_stream.Goals as goal
 
 pub returns-then-id-dir_entries-clause-refused : goal.returns-then-id-dir_entries-clause-refused
@@ -83,4 +83,5 @@ returns-clause-written g c = λ letters tree path content at are.
           let one : was.entry ≡ e = Some_same (sym (entry_still letters it new tree path id content later at moved has) ∙ found) in
           subst (λ (x : Entry). StreamLiesIn new x.start x.size (ids_of links) × IsOfLevel new x.size (Long links)) one
           (long_links new moved.now moved.stands id was.entry later links has up did.0.mine (version ∙ sym c.overwrite_long.ensures.goes_on.version)),
+      still_strays letters it new tree path id content later at moved has,
     )

@@ -15,7 +15,7 @@ use Rattle.cfb_writing.specs.Streams.{resized}
 use Rattle.cfb_writing.proofs.Links.{entries_count}
 use Rattle.cfb_writing.proofs.LongAt.{long_owned, long_room, long_size, long_up, long_version}
 use Rattle.cfb_writing.proofs.LongBytes.{length-resized}
-use Rattle.cfb_writing.proofs.Placed.{entry_moved, entry_of, found_at, placed_links, stream_placed}
+use Rattle.cfb_writing.proofs.Placed.{entry_moved, entry_of, found_at, placed_links, placed_strays, stream_placed}
 use Rattle.cfb_writing.proofs.Stretching.{lacks_room}
 use Rattle.cfb_writing.proofs.writing.resize_long_stream.Goals as goal
 
@@ -86,6 +86,7 @@ returns-clause-resized g c = λ letters tree path content at are.
       stream_placed letters it mid new tree path id content (resized len content) at houses.0.moves start len did.placed goes did.live has,
       placed_links letters it mid new tree path id content (resized len content) at houses.0.moves start len did.placed goes did.live has links3 houses.1
           (c.stretch_long.ensures.version ∙ version ∙ sym c.stretch_long.ensures.goes_on.version) c.requires,
+      placed_strays letters it mid new tree path id content (resized len content) at houses.0.moves start len did.placed goes did.live has,
     )
 
 pub returns-clause-goes_on : goal.returns-clause-goes_on

@@ -2,6 +2,8 @@ use Rattle.std.proofs.Common.{[], inl, inr, ap, subst, ◌∙◌, ⊎_elim, arit
 use Rattle.cfb_fat.specs.Keeping.{fails_cause}
 use Rattle.cfb_fat.specs.Resting.{all_rest_refl}
 use Rattle.cfb_medium.specs.Bytes.{overwritten}
+use Rattle.cfb_live.specs.Strays.{HasNoMoreStrays}
+use Rattle.cfb_live.proofs.Strays.{strays_then}
 use Rattle.cfb_mini.specs.Views.{allocator_of}
 use Rattle.cfb_owned.proofs.GoingOn.{fails_go_on, goes_cause, goes_then}
 use Rattle.cfb_tree.specs.Changes.{changed, with_bytes}
@@ -14,13 +16,13 @@ use Rattle.cfb.proofs.compound_file.CompoundFile.extend_bytes.Goals as goal
 
 pub returns-in-Err-overwrite_bytes-clause-large : goal.returns-in-Err-overwrite_bytes-clause-large
 returns-in-Err-overwrite_bytes-clause-large g c = λ wrong path tree content w.
-    let past = c.in-Err-overwrite_bytes.ensures.past wrong path _ _ (c.in_default.ensures.resized path tree content w) in
+    let past = c.in-Err-overwrite_bytes.ensures.past wrong path _ _ (c.in_default.ensures.resized path tree content w).0 in
     let size = length-resized content c.args.end in
     let is = c.requires in absurd (omega (arith, past, size, is))
 
 pub returns-in-Err-overwrite_bytes-clause-refused : goal.returns-in-Err-overwrite_bytes-clause-refused
 returns-in-Err-overwrite_bytes-clause-refused g c = λ wrong path tree content w.
-    c.in-Err-overwrite_bytes.ensures.refused wrong path _ _ (c.in_default.ensures.resized path tree content w)
+    c.in-Err-overwrite_bytes.ensures.refused wrong path _ _ (c.in_default.ensures.resized path tree content w).0
 
 pub returns-in-Err-overwrite_bytes-clause-goes_on : goal.returns-in-Err-overwrite_bytes-clause-goes_on
 returns-in-Err-overwrite_bytes-clause-goes_on g c =
@@ -47,10 +49,13 @@ returns-clause-written g c = λ path tree content w.
     let letters = letters_in c.args.self.now in
     let longer = resized c.args.end content in
     let later = overwritten longer c.args.at c.args.bytes.now in
-    let there = c.in_default-overwrite_bytes.ensures.written path _ longer (c.in_default.ensures.resized path tree content w) in
-    subst (λ t. StreamIsWritten c.overwrite_bytes.new.self path t c.args.id later)
+    let first = c.in_default.ensures.resized path tree content w in
+    let second = c.in_default-overwrite_bytes.ensures.written path _ longer first.0 in
+    let old = mini_of c.args.self.now in
+    let new = mini_of c.overwrite_bytes.new.self in
+    subst (λ t. (then : StreamIsWritten c.overwrite_bytes.new.self path t c.args.id later) × HasNoMoreStrays old new w.at.means.who then.at.means.who)
     (ap (λ l. changed l (with_bytes later) path (changed letters (with_bytes longer) path tree)) c.resize_bytes.ensures.seen.0 ∙ changed_again letters longer later path tree)
-    there
+    (second.0, strays_then old (mini_of c.resize_bytes.new.self) new w.at.means.who first.0.at.means.who second.0.at.means.who first.1 second.1)
 
 pub returns-clause-goes_on : goal.returns-clause-goes_on
 returns-clause-goes_on g c = goes_then _ _ _ c.resize_bytes.ensures.goes_on c.overwrite_bytes.ensures.goes_on

@@ -1,5 +1,5 @@
 use mathlib.Core.Option.{some}
-use Rattle.std.proofs.Common.{◌∙◌, ap, refl, subst, sym}
+use Rattle.std.proofs.Common.{◌≡◌, ◌∙◌, ap, refl, subst, sym}
 use Rattle.cfb.specs.Views.{FileRests}
 use Rattle.cfb.specs.Writing.{StreamIsWritten}
 use Rattle.cfb.proofs.compound_file.CompoundFile.open_stream.Goals as goal
@@ -19,15 +19,16 @@ returns-in-Ok g c =
             (
               λ tree m.
                   let f = told.found tree m in
+                  let w =
+                  subst (λ x. (then : StreamIsWritten x f.names tree c.new.result.id f.content) × (then.at.means.who ≡ m.live.who)) (sym file)
+                  (subst (λ n. (then : StreamIsWritten c.find_written.new.self f.names tree n f.content) × (then.at.means.who ≡ m.live.who)) (sym id) (f.written, f.owners)) in
                   record {
                     names = f.names;
                     at_path = f.at_path;
                     content = f.content;
                     answer = f.answer;
-                    stands = record {
-                      written = subst (λ x. StreamIsWritten x f.names tree c.new.result.id f.content) (sym file) (subst (λ n. StreamIsWritten c.find_written.new.self f.names tree n f.content) (sym id) f.written);
-                      len = len ∙ f.len_is;
-                    };
+                    stands = record { written = w.0; len = len ∙ f.len_is };
+                    owners = w.1;
                   },
               (
                 λ tree m. tt,

@@ -6,7 +6,7 @@ use Rattle.cfb.specs.Streams.{bytes_found}
 use Rattle.cfb.specs.Views.{letters_in, mini_of}
 use Rattle.cfb.proofs.StreamsFound.{cause_since}
 use Rattle.cfb.proofs.Wants.{want_cause, want_fault}
-use Rattle.cfb.proofs.WholeStreams.{all_read, bytes_yet, found_yet, place_is, rests_twice, unfound, unfound_held, unread}
+use Rattle.cfb.proofs.WholeStreams.{all_read, bytes_yet, found_yet, keeps_by, place_is, read_by, rests_twice, unfound, unfound_held, unread}
 use Rattle.cfb.proofs.compound_file.CompoundFile.read_stream.Goals as goal
 
 pub returns-in-Err-clause-told : goal.returns-in-Err-clause-told
@@ -20,47 +20,47 @@ returns-in-Err-clause-cause g c =
     let it = c.args.self.now in
     (want_cause it c.in-Err.error (allocator_of (mini_of c.find_stream.new.self)) c.in-Err.ensures.cause, want_fault it c.in-Err.error c.in-Err.ensures.cause)
 
-pub returns-in-Err-read_all-clause-rests : goal.returns-in-Err-read_all-clause-rests
-returns-in-Err-read_all-clause-rests g c = rests_twice c.args.self.now c.find_stream.new.self c.read_all.new.self c.find_stream.ensures.rests c.read_all.ensures.keeps.rests
+pub returns-in-Err-read_whole-clause-rests : goal.returns-in-Err-read_whole-clause-rests
+returns-in-Err-read_whole-clause-rests g c = rests_twice c.args.self.now c.find_stream.new.self (read_by c.find_stream.new.self c.read_whole.new.mini c.read_whole.new.ahead) c.find_stream.ensures.rests (keeps_by c.find_stream.new.self c.read_whole.new.mini c.read_whole.new.ahead c.in-Ok.len c.read_whole.ensures.rests c.read_whole.ensures.most c.read_whole.ensures.kept c.read_whole.ensures.ahead).rests
 
-pub returns-in-Err-read_all-clause-told : goal.returns-in-Err-read_all-clause-told
-returns-in-Err-read_all-clause-told g c = λ tree h.
-    let read = c.in-Err-read_all.ensures in
-    (tt, unread c.args.self.now c.args.path.now _ c.in-Err-read_all.error read.fault (λ true. read.lost _ (c.in-Ok.ensures.found true)))
+pub returns-in-Err-read_whole-clause-told : goal.returns-in-Err-read_whole-clause-told
+returns-in-Err-read_whole-clause-told g c = λ tree h.
+    let read = c.in-Err-read_whole.ensures in
+    (tt, unread c.args.self.now c.args.path.now _ c.in-Err-read_whole.error read.fault (λ true. let has = c.in-Ok.ensures.found true in read.lost _ has.lies has.ahead))
 
-pub returns-in-Err-read_all-clause-refused : goal.returns-in-Err-read_all-clause-refused
-returns-in-Err-read_all-clause-refused g c = λ tree h.
+pub returns-in-Err-read_whole-clause-refused : goal.returns-in-Err-read_whole-clause-refused
+returns-in-Err-read_whole-clause-refused g c = λ tree h.
     let ((bytes, answer, has), done) = c.in-Ok.ensures.bytes tree h in
-    inl (c.in-Err-read_all.ensures.lost bytes has)
+    inl (c.in-Err-read_whole.ensures.lost bytes has.lies has.ahead)
 
-pub returns-in-Err-read_all-clause-cause : goal.returns-in-Err-read_all-clause-cause
-returns-in-Err-read_all-clause-cause g c =
-    let e = c.in-Err-read_all.error in
-    let read = c.in-Err-read_all.ensures in (
-      cause_since (mini_of c.args.self.now) (mini_of c.find_stream.new.self) (mini_of c.read_all.new.self) e c.find_stream.ensures.rests.mini read.cause,
+pub returns-in-Err-read_whole-clause-cause : goal.returns-in-Err-read_whole-clause-cause
+returns-in-Err-read_whole-clause-cause g c =
+    let e = c.in-Err-read_whole.error in
+    let read = c.in-Err-read_whole.ensures in (
+      cause_since (mini_of c.args.self.now) (mini_of c.find_stream.new.self) (mini_of (read_by c.find_stream.new.self c.read_whole.new.mini c.read_whole.new.ahead)) e c.find_stream.ensures.rests.mini read.cause,
       ⊎_elim (λ fault. inl fault) (λ place. inr (place_is e place)) read.fault,
     )
 
-pub returns-in-Ok-read_all-clause-rests : goal.returns-in-Ok-read_all-clause-rests
-returns-in-Ok-read_all-clause-rests g c = rests_twice c.args.self.now c.find_stream.new.self c.read_all.new.self c.find_stream.ensures.rests c.read_all.ensures.keeps.rests
+pub returns-in-Ok-read_whole-clause-rests : goal.returns-in-Ok-read_whole-clause-rests
+returns-in-Ok-read_whole-clause-rests g c = rests_twice c.args.self.now c.find_stream.new.self (read_by c.find_stream.new.self c.read_whole.new.mini c.read_whole.new.ahead) c.find_stream.ensures.rests (keeps_by c.find_stream.new.self c.read_whole.new.mini c.read_whole.new.ahead c.in-Ok.len c.read_whole.ensures.rests c.read_whole.ensures.most c.read_whole.ensures.kept c.read_whole.ensures.ahead).rests
 
-pub returns-in-Ok-read_all-clause-told : goal.returns-in-Ok-read_all-clause-told
-returns-in-Ok-read_all-clause-told g c = λ tree h.
+pub returns-in-Ok-read_whole-clause-told : goal.returns-in-Ok-read_whole-clause-told
+returns-in-Ok-read_whole-clause-told g c = λ tree h.
     let ((finds, bytes, answer, size), done) = c.in-Ok.ensures.told tree h in
-    let read = c.in-Ok-read_all.ensures in
-    let now = c.in-Ok-read_all.bytes.items in
-    ((found_yet c.args.self.now c.find_stream.new.self c.read_all.new.self c.args.path.now c.in-Ok.len c.read_all.ensures.keeps now read.size finds, bytes, answer, read.size ∙ size), tt)
+    let read = c.in-Ok-read_whole.ensures in
+    let now = c.in-Ok-read_whole.bytes.items in
+    ((found_yet c.args.self.now c.find_stream.new.self (read_by c.find_stream.new.self c.read_whole.new.mini c.read_whole.new.ahead) c.args.path.now c.in-Ok.len (keeps_by c.find_stream.new.self c.read_whole.new.mini c.read_whole.new.ahead c.in-Ok.len c.read_whole.ensures.rests c.read_whole.ensures.most c.read_whole.ensures.kept c.read_whole.ensures.ahead) now read.size finds, bytes, answer, read.size ∙ size), tt)
 
-pub returns-in-Ok-read_all-clause-bytes : goal.returns-in-Ok-read_all-clause-bytes
-returns-in-Ok-read_all-clause-bytes g c = λ tree h.
+pub returns-in-Ok-read_whole-clause-bytes : goal.returns-in-Ok-read_whole-clause-bytes
+returns-in-Ok-read_whole-clause-bytes g c = λ tree h.
     let ((bytes, answer, has), done) = c.in-Ok.ensures.bytes tree h in
-    let now = c.in-Ok-read_all.bytes.items in
-    answer ∙ ap (λ b. has_bytes b) (sym (all_read c.find_stream.new.self c.in-Ok.len bytes now has (c.in-Ok-read_all.ensures.read bytes has)))
+    let now = c.in-Ok-read_whole.bytes.items in
+    answer ∙ ap (λ b. has_bytes b) (sym (all_read c.find_stream.new.self c.in-Ok.len bytes now has (c.in-Ok-read_whole.ensures.read bytes has.lies has.ahead)))
 
-pub returns-in-Ok-read_all-clause-found : goal.returns-in-Ok-read_all-clause-found
-returns-in-Ok-read_all-clause-found g c = λ true.
+pub returns-in-Ok-read_whole-clause-found : goal.returns-in-Ok-read_whole-clause-found
+returns-in-Ok-read_whole-clause-found g c = λ true.
     let mid = c.find_stream.new.self in
     let has = c.in-Ok.ensures.found true in
-    let read = c.in-Ok-read_all.ensures in
-    let now = c.in-Ok-read_all.bytes.items in
-    bytes_yet c.args.self.now mid c.read_all.new.self c.args.path.now c.in-Ok.len c.read_all.ensures.keeps now read.size has (all_read mid c.in-Ok.len (bytes_found mid c.in-Ok.len) now has (read.read _ has))
+    let read = c.in-Ok-read_whole.ensures in
+    let now = c.in-Ok-read_whole.bytes.items in
+    bytes_yet c.args.self.now mid (read_by c.find_stream.new.self c.read_whole.new.mini c.read_whole.new.ahead) c.args.path.now c.in-Ok.len (keeps_by c.find_stream.new.self c.read_whole.new.mini c.read_whole.new.ahead c.in-Ok.len c.read_whole.ensures.rests c.read_whole.ensures.most c.read_whole.ensures.kept c.read_whole.ensures.ahead) now read.size has (all_read mid c.in-Ok.len (bytes_found mid c.in-Ok.len) now has (read.read _ has.lies has.ahead))

@@ -17,7 +17,7 @@ returns-in-Ok g c =
       record {
         leaves = tt;
         bytes = λ path tree content s.
-            subst (λ n. bytes ≡ take (length bytes) (drop n content)) c.in-Ok.ensures.unmoved (c.buffer.ensures.bytes path tree content (c.in-Ok.ensures.rests.keeps path tree content s));
+            subst (λ n. bytes ≡ take (length bytes) (drop n content)) c.in-Ok.ensures.unmoved (c.buffer.ensures.bytes path tree content (c.in-Ok.ensures.rests.keeps path tree content s).0);
         most = search rules;
         some = search rules;
         failed = λ wrong. absurd (let no = c.in-Ok.ensures.failed wrong in cc);

@@ -1,8 +1,8 @@
-use Rattle.std.proofs.Common.{◌≡◌, ◌∙◌, ◌+◌, ◌-◌, ◌++◌, ap, drop, length, refl, replicate, sym, take, length-drop}
+use Rattle.std.proofs.Common.{◌≡◌, ◌∙◌, ◌+◌, ◌-◌, ◌++◌, ap, drop, length, refl, replicate, sym, take, length-drop, rules}
 use Rattle.std.specs.Prelude.{vec_len}
 use Rattle.cfb.specs.Writing.{place_of, stream_len}
 use Rattle.cfb.proofs.Appending.{appended}
-use Rattle.cfb.proofs.Standing.{gone_as, rests_as, stands_as}
+use Rattle.cfb.proofs.Standing.{gone_as, rests_as, rests_so, stands_as}
 use Rattle.cfb.proofs.written_stream.Stream.read_to_end.Goals as goal
 
 pub returns-in-Ok-clause-read : goal.returns-in-Ok-clause-read
@@ -24,3 +24,6 @@ returns-in-Err-clause-rests g c = rests_as c.args.self.now _ c.read.new.self ref
 
 pub returns-in-Err-clause-fault : goal.returns-in-Err-clause-fault
 returns-in-Err-clause-fault g c = gone_as c.args.self.now _ c.in-Err.error refl refl refl c.in-Err.ensures.fault
+
+pub returns-in_err-resize-clause-rests : goal.returns-in_err-resize-clause-rests
+returns-in_err-resize-clause-rests g c = rests_so c.args.self.now _ refl refl refl (search rules)

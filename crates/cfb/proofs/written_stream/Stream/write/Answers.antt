@@ -1,15 +1,16 @@
 use Rattle.std.proofs.Common.{◌<◌, ◌≤◌, ◌^◌, arith, inl, inr, refl, subst, ⊎_elim}
 use Rattle.cfb_fat.specs.Tables.{version_of}
+use Rattle.cfb_medium.specs.Bytes.{overwritten}
 use Rattle.cfb_medium.specs.Versions.{stream_len_mask}
 use Rattle.cfb_medium.specs.declared.error.Error.TheVariants.{Full}
 use Rattle.cfb_writing.specs.Streams.{LacksRoom}
 use Rattle.cfb.specs.Views.{mini_of}
-use Rattle.cfb.specs.Writing.{allocator_under, file_under, stream_len}
-use Rattle.cfb.proofs.Standing.{err_as, on_err, on_ok, stands_as}
+use Rattle.cfb.specs.Writing.{allocator_under, file_under, place_of, stream_len}
+use Rattle.cfb.proofs.Standing.{err_as, keeps_as, kept_as, on_err, on_ok, rewrites_as, stands_as}
 use Rattle.cfb.proofs.written_stream.Stream.write.Goals as goal
 
 pub returns-then-end-self-clause-written : goal.returns-then-end-self-clause-written
-returns-then-end-self-clause-written g c = on_ok c.extend.result (λ did path tree content s. did path tree content (stands_as c.args.self.now _ refl refl refl path tree content s)) c.extend.ensures.written
+returns-then-end-self-clause-written g c = on_ok c.extend.result (rewrites_as (λ content. overwritten content (place_of c.args.self.now) c.args.bytes.now) c.args.self.now _ _ refl refl refl) c.extend.ensures.written
 
 pub returns-then-end-self-clause-large : goal.returns-then-end-self-clause-large
 returns-then-end-self-clause-large g c = λ wrong path tree content s.
@@ -19,10 +20,10 @@ pub returns-then-end-self-clause-refused : goal.returns-then-end-self-clause-ref
 returns-then-end-self-clause-refused g c = λ wrong path tree content s. c.extend.ensures.refused wrong path tree content (stands_as c.args.self.now _ refl refl refl path tree content s)
 
 pub returns-then-end-self-clause-kept : goal.returns-then-end-self-clause-kept
-returns-then-end-self-clause-kept g c = on_err c.extend.result (⊎_elim (λ failed. inl failed) (λ k. inr (λ path tree content s. k path tree content (stands_as c.args.self.now _ refl refl refl path tree content s)))) c.extend.ensures.kept
+returns-then-end-self-clause-kept g c = on_err c.extend.result (⊎_elim (λ failed. inl failed) (λ k. inr (kept_as c.args.self.now _ _ refl refl refl k))) c.extend.ensures.kept
 
 pub returns-clause-written : goal.returns-clause-written
-returns-clause-written g c = on_ok c.overwrite.result (λ did path tree content s. did path tree content (stands_as c.args.self.now _ refl refl refl path tree content s)) c.overwrite.ensures.written
+returns-clause-written g c = on_ok c.overwrite.result (rewrites_as (λ content. overwritten content (place_of c.args.self.now) c.args.bytes.now) c.args.self.now _ _ refl refl refl) c.overwrite.ensures.written
 
 pub returns-clause-large : goal.returns-clause-large
 returns-clause-large g c = λ wrong path tree content s. absurd (c.overwrite.ensures.large wrong path tree content (stands_as c.args.self.now _ refl refl refl path tree content s))
@@ -31,10 +32,10 @@ pub returns-clause-refused : goal.returns-clause-refused
 returns-clause-refused g c = λ wrong path tree content s. c.overwrite.ensures.refused wrong path tree content (stands_as c.args.self.now _ refl refl refl path tree content s)
 
 pub returns-clause-kept : goal.returns-clause-kept
-returns-clause-kept g c = on_err c.overwrite.result (⊎_elim (λ failed. inl failed) (λ k. inr (λ path tree content s. k path tree content (stands_as c.args.self.now _ refl refl refl path tree content s)))) c.overwrite.ensures.kept
+returns-clause-kept g c = on_err c.overwrite.result (⊎_elim (λ failed. inl failed) (λ k. inr (kept_as c.args.self.now _ _ refl refl refl k))) c.overwrite.ensures.kept
 
 pub returns-in-Err-clause-unchanged : goal.returns-in-Err-clause-unchanged
-returns-in-Err-clause-unchanged g c = λ wrong path tree content s. stands_as c.args.self.now _ refl refl refl path tree content s
+returns-in-Err-clause-unchanged g c = λ wrong. keeps_as c.args.self.now _ refl refl refl
 
 pub returns-then-end-self-clause-unchanged : goal.returns-then-end-self-clause-unchanged
 returns-then-end-self-clause-unchanged g c = λ wrong path tree content s.
@@ -57,3 +58,6 @@ returns-then-end-self-clause-full g c = λ wrong live.
 
 pub returns-clause-full : goal.returns-clause-full
 returns-clause-full g c = λ wrong live. absurd (c.overwrite.ensures.room wrong)
+
+pub returns-in-Err-clause-kept : goal.returns-in-Err-clause-kept
+returns-in-Err-clause-kept g c = inr (keeps_as c.args.self.now _ refl refl refl)
