@@ -179,40 +179,44 @@ module _ {F : Type 0} {g : Ghosts F} (medium : F) (a : CompoundFile F g) (opens 
 abbrev Answer : (F : Type 0) → Ghosts F → Type 0
 Answer F g = Result (Package F g) (F × Error)
 
-module _ {F : Type 0} {g : Ghosts F} (medium : F) (a : CompoundFile F g) (opens : OpensAt medium (mini_of a)) (r : Answer F g) (ok : IfOk r (IsFound a)) (err : IfErr r (λ e. IsGivenUp a e.0 e.1)) where
-  pub answer_opens : IfOk r (λ it. OpensAt medium (mini_of (file_in it)))
-  answer_opens = by r ok
-    where
-      by : (r : Answer F g) → IfOk r (IsFound a) → IfOk r (λ it. OpensAt medium (mini_of (file_in it)))
-      by (Ok it) found = opens_yet medium a opens (file_in it) found.rests
-      by (Err e) found = tt
+module _ {F : Type 0} {g : Ghosts F} (medium : F) (a : CompoundFile F g) (opens : OpensAt medium (mini_of a)) where
+  module _ (r : Answer F g) (ok : IfOk r (IsFound a)) where
+    pub answer_opens : IfOk r (λ it. OpensAt medium (mini_of (file_in it)))
+    answer_opens = by r ok
+      where
+        by : (r : Answer F g) → IfOk r (IsFound a) → IfOk r (λ it. OpensAt medium (mini_of (file_in it)))
+        by (Ok it) found = opens_yet medium a opens (file_in it) found.rests
+        by (Err e) found = tt
 
-  pub answer_cause : IfErr r (λ e. HasCauseSince g.continues g.failures g.failed medium e.0 e.1)
-  answer_cause = by r err
-    where
-      by : (r : Answer F g) → IfErr r (λ e. IsGivenUp a e.0 e.1) → IfErr r (λ e. HasCauseSince g.continues g.failures g.failed medium e.0 e.1)
-      by (Ok it) given = tt
-      by (Err e) given = subst (λ m. HasCauseSince g.continues g.failures g.failed medium m e.1) (sym given.medium_is) (cause_since medium a opens given.new e.1 given.cause)
-
-  pub answer_left : IfErr r (λ e. OnlyReads g.honest g.bytes g.continues medium e.0)
-  answer_left = by r err
-    where
-      by : (r : Answer F g) → IfErr r (λ e. IsGivenUp a e.0 e.1) → IfErr r (λ e. OnlyReads g.honest g.bytes g.continues medium e.0)
-      by (Ok it) given = tt
-      by (Err e) given = subst (λ m. OnlyReads g.honest g.bytes g.continues medium m) (sym given.medium_is) (left_since medium (mini_of given.new) (opens_yet medium a opens given.new given.rests))
-
-  module _ (letters : Letters) (named : letters_in a ≡ letters) (may : may_use letters ≡ true) (as_opened : IsTrue (g.honest medium) → IsOpenedAs Permissive letters (g.bytes medium) a) where
-    pub answer_opened : IfOk r (λ it. IsTrue (g.honest medium) → IsOpenedPackage letters (g.bytes medium) it)
-    answer_opened = by r ok
+    pub answer_opened : (letters : Letters) → letters_in a ≡ letters → may_use letters ≡ true → (IsTrue (g.honest medium) → IsOpenedAs Permissive letters (g.bytes medium) a)
+        → IfOk r (λ it. IsTrue (g.honest medium) → IsOpenedPackage letters (g.bytes medium) it)
+    answer_opened letters named may as_opened = by r ok
       where
         by : (r : Answer F g) → IfOk r (IsFound a) → IfOk r (λ it. IsTrue (g.honest medium) → IsOpenedPackage letters (g.bytes medium) it)
         by (Ok it) found = λ honest. found_opened medium a opens letters named may honest (as_opened honest) it found
         by (Err e) found = tt
 
-    pub answer_refused : IfErr r (λ e. IsTrue (g.honest medium) → IsFaultUnless ⊥ e.1 ⊎ IsRefused letters (g.bytes medium) e.1)
-    answer_refused = by r err
+  -- a refusal, whatever would have been answered in its place
+  module _ {X : Type 0} (r : Result X (F × Error)) (err : IfErr r (λ e. IsGivenUp a e.0 e.1)) where
+    pub answer_cause : IfErr r (λ e. HasCauseSince g.continues g.failures g.failed medium e.0 e.1)
+    answer_cause = by r err
       where
-        by : (r : Answer F g) → IfErr r (λ e. IsGivenUp a e.0 e.1) → IfErr r (λ e. IsTrue (g.honest medium) → IsFaultUnless ⊥ e.1 ⊎ IsRefused letters (g.bytes medium) e.1)
+        by : (r : Result X (F × Error)) → IfErr r (λ e. IsGivenUp a e.0 e.1) → IfErr r (λ e. HasCauseSince g.continues g.failures g.failed medium e.0 e.1)
+        by (Ok it) given = tt
+        by (Err e) given = subst (λ m. HasCauseSince g.continues g.failures g.failed medium m e.1) (sym given.medium_is) (cause_since medium a opens given.new e.1 given.cause)
+
+    pub answer_left : IfErr r (λ e. OnlyReads g.honest g.bytes g.continues medium e.0)
+    answer_left = by r err
+      where
+        by : (r : Result X (F × Error)) → IfErr r (λ e. IsGivenUp a e.0 e.1) → IfErr r (λ e. OnlyReads g.honest g.bytes g.continues medium e.0)
+        by (Ok it) given = tt
+        by (Err e) given = subst (λ m. OnlyReads g.honest g.bytes g.continues medium m) (sym given.medium_is) (left_since medium (mini_of given.new) (opens_yet medium a opens given.new given.rests))
+
+    pub answer_refused : (letters : Letters) → letters_in a ≡ letters → may_use letters ≡ true → (IsTrue (g.honest medium) → IsOpenedAs Permissive letters (g.bytes medium) a)
+        → IfErr r (λ e. IsTrue (g.honest medium) → IsFaultUnless ⊥ e.1 ⊎ IsRefused letters (g.bytes medium) e.1)
+    answer_refused letters named may as_opened = by r err
+      where
+        by : (r : Result X (F × Error)) → IfErr r (λ e. IsGivenUp a e.0 e.1) → IfErr r (λ e. IsTrue (g.honest medium) → IsFaultUnless ⊥ e.1 ⊎ IsRefused letters (g.bytes medium) e.1)
         by (Ok it) given = tt
         by (Err e) given = λ honest. given_refused medium a opens letters named may honest (as_opened honest) e.0 e.1 given
 

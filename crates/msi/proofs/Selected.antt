@@ -18,7 +18,7 @@ use Rattle.msi_parts.specs.Parts.{heading}
 use Rattle.msi_parts.specs.Whole.{IsWhole, Wide}
 use Rattle.msi_pool.specs.Pool.{Pool}
 use Rattle.msi_query.specs.Query.{Query, selected}
-use Rattle.msi_query.specs.Sources.{Tables}
+use Rattle.msi_query.specs.Sources.{IsRefusedSelect, Tables}
 use Rattle.msi_store.specs.Stores.{stored_in}
 use Rattle.msi_stored.specs.Reading.{TellsOrFault}
 use Rattle.msi_stored.specs.Stored.{AreTables, HasCause, HasTables, IsUnread, Stored, rows_in}
@@ -87,7 +87,7 @@ module _ {F : Type 0} {g : Ghosts F} (it : Package F g) (tables : Tables) (has :
   rows_by t is (Err e) ok err = subst (IsFaultUnless ⊥) (sym err) tt
 
   pub refused_by : (new : Stored F g) (e : Error)
-      → (e ≡ Memory) ⊎ HasCause (stored_in (store_in it)) new e ⊎ ((tables : Tables) → HasTables (stored_in (store_in it)) tables → selected tables (pool_in it).pool asked ≡ Err e)
+      → (e ≡ Memory) ⊎ HasCause (stored_in (store_in it)) new e ⊎ (IsRefusedSelect e × ((tables : Tables) → HasTables (stored_in (store_in it)) tables → selected tables (pool_in it).pool asked ≡ Err e))
       → IsFaultUnless ⊥ e ⊎ IsUnread (stored_in (store_in it)) e ⊎ (selected_by tables (pool_in it).pool asked ≡ Err e)
   refused_by new e (inl memory) = inl (subst (IsFaultUnless ⊥) (sym memory) tt)
   refused_by new e (inr (inl cause)) = by cause.either
@@ -95,7 +95,7 @@ module _ {F : Type 0} {g : Ghosts F} (it : Package F g) (tables : Tables) (has :
       by : IsFaultUnless ⊥ e ⊎ IsUnread (stored_in (store_in it)) e → IsFaultUnless ⊥ e ⊎ IsUnread (stored_in (store_in it)) e ⊎ (selected_by tables (pool_in it).pool asked ≡ Err e)
       by (inl fault) = inl fault
       by (inr unread) = inr (inl unread)
-  refused_by new e (inr (inr told)) = inr (inr (ap (λ r. r >>= λ t. Ok (shown_of (pool_in it).pool t)) (told tables has)))
+  refused_by new e (inr (inr told)) = inr (inr (ap (λ r. r >>= λ t. Ok (shown_of (pool_in it).pool t)) (told.1 tables has)))
 
 -- of a tree that the file holds
 module _ {F : Type 0} {g : Ghosts F} (it : Package F g) (tree : Tree) (held : FileHolds (file_in it) tree) where
@@ -159,8 +159,8 @@ module _ {F : Type 0} {g : Ghosts F} (it : Package F g) (P : Packed) (h : Packag
 
 -- why a query is refused: by its cause, or by the definition
 pub query_cause : {F : Type 0} {g : Ghosts F} (it : Package F g) (new : Stored F g) (asked : Query) (e : Error)
-    → (e ≡ Memory) ⊎ HasCause (stored_in (store_in it)) new e ⊎ ((tables : Tables) → HasTables (stored_in (store_in it)) tables → selected tables (pool_in it).pool asked ≡ Err e)
-    → HasCauseBelow (allocator_of (mini_of (file_in it))) (allocator_of (mini_of new.0)) e ⊎ ((tables : Tables) → HasTables (stored_in (store_in it)) tables → selected tables (pool_in it).pool asked ≡ Err e)
+    → (e ≡ Memory) ⊎ HasCause (stored_in (store_in it)) new e ⊎ (IsRefusedSelect e × ((tables : Tables) → HasTables (stored_in (store_in it)) tables → selected tables (pool_in it).pool asked ≡ Err e))
+    → HasCauseBelow (allocator_of (mini_of (file_in it))) (allocator_of (mini_of new.0)) e ⊎ (IsRefusedSelect e × ((tables : Tables) → HasTables (stored_in (store_in it)) tables → selected tables (pool_in it).pool asked ≡ Err e))
 query_cause it new asked e (inl memory) = inl (memory_cause (allocator_of (mini_of (file_in it))) (allocator_of (mini_of new.0)) e memory)
 query_cause it new asked e (inr (inl cause)) = inl cause.below
 query_cause it new asked e (inr (inr told)) = inr told

@@ -12,7 +12,7 @@ use Rattle.msi_parts.specs.Judged.{heading_named}
 use Rattle.msi_pool.specs.Pool.{Pool}
 use Rattle.msi_query.specs.Query.{Query, selected}
 use Rattle.msi_query.specs.Said.{query_of}
-use Rattle.msi_query.specs.Sources.{Tables}
+use Rattle.msi_query.specs.Sources.{IsRefusedSelect, Tables}
 use Rattle.msi_query.specs.declared.select.Select.{Select}
 use Rattle.msi_store.specs.Stores.{stored_in}
 use Rattle.msi_stored.specs.Stored.{HasTables, HasTooMany, rows_in}
@@ -47,6 +47,6 @@ module _ {F : Type 0} {g : Ghosts F} where
       let answer = selected_by (tables_at letters tree (tables_in it)) (pool_in it).pool (query_of query) in
       MatchResult result (λ rows. answer ≡ Ok (rows_shown rows)) (λ e. IsFaultUnless ⊥ e ⊎ ((e ≡ InvalidData) × HasTooMany letters tree (tables_in it)) ⊎ (answer ≡ Err e))
 
-  -- the definition refuses it so, of whichever tables the package has
+  -- a table or a column isn't there, and the definition refuses it so, of whichever tables the package has
   abbrev pub IsRefusedQuery : Package F g → Select → Error → Type 0
-  IsRefusedQuery it query e = (tables : Tables) → HasTables (stored_in (store_in it)) tables → selected tables (pool_in it).pool (query_of query) ≡ Err e
+  IsRefusedQuery it query e = IsRefusedSelect e × ((tables : Tables) → HasTables (stored_in (store_in it)) tables → selected tables (pool_in it).pool (query_of query) ≡ Err e)

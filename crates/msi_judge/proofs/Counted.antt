@@ -1,6 +1,6 @@
 -- Rows that are read table by table are those of a sound package, where they are unlisted and counted.
 use Rattle.std.proofs.Common.{◌≡◌, ◌∙◌, ℕ, Bool, true, false, cond, List, [], ◌∷◌, map, refl, sym, ap, subst, arith, Some, None}
-use Rattle.std.specs.Prelude.{◌&&◌, ◌||◌, not, Option, All, IfSome, IsSome, IsTrue, bytes_eq, find, is_some, option_map, unwrap_or}
+use Rattle.std.specs.Prelude.{◌&&◌, ◌||◌, not, Option, All, IsSome, IsTrue, bytes_eq, find, is_some, option_map, unwrap_or}
 use Rattle.std.specs.List.{list_any}
 use Rattle.std.proofs.lemmas.List.Elements.{All-cons, All-head, All-tail}
 use Rattle.cfb_tree.specs.Names.{Letters}
@@ -8,11 +8,10 @@ use Rattle.cfb_tree.specs.Tree.{Tree}
 use Rattle.msi_meaning.specs.Known.{HaveRows}
 use Rattle.msi_meaning.specs.Uses.{TextsAreCounted}
 use Rattle.msi_parts.proofs.Judging.{named_heading}
-use Rattle.msi_parts.specs.Judged.{AreSoundRows, IsUnlisted, heading_named, list_system}
+use Rattle.msi_parts.specs.Judged.{AreSoundRows, heading_named, list_system}
 use Rattle.msi_parts.specs.Parts.{heading}
 use Rattle.msi_pool.specs.Pool.{Pool}
 use Rattle.msi_stored.specs.Stored.{rows_in}
-use Rattle.msi_tables.specs.Rows.{Row, kinds_of, rows_of}
 use Rattle.msi_tables.specs.Schema.{begins_with, columns_name, tables_name}
 use Rattle.msi_tables.specs.Table.{Heading, Table, data_rows, row_data, table_named}
 use Rattle.msi_values.specs.Datum.{Datum}

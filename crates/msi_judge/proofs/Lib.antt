@@ -1,4 +1,5 @@
 pub mod Counted
+pub mod Noted
 pub mod Taken
 pub mod Told
 pub mod Unread

@@ -1,6 +1,6 @@
 -- What the parts of the judge tell, put together.
-use Rattle.std.proofs.Common.{◌≡◌, ◌∙◌, Bool, true, false, List, [], refl, sym, ap, subst, inl, inr, Some, None}
-use Rattle.std.specs.Prelude.{◌↔◌, ◌⊎◌, not, All, Err, IfErr, IfOk, IsTrue, Ok, Result, is_some, unwrap_or}
+use Rattle.std.proofs.Common.{◌≡◌, ◌∙◌, Bool, true, false, List, [], refl, sym, ap, inl, inr, Some, None}
+use Rattle.std.specs.Prelude.{◌↔◌, ◌⊎◌, not, All, Err, IfOk, IsTrue, Ok, Result, is_some, unwrap_or}
 use Rattle.cfb_medium.specs.Calls.{IsFaultUnless}
 use Rattle.cfb_medium.specs.declared.error.Error.{Error}
 use Rattle.cfb_medium.specs.declared.error.Error.TheVariants.{InvalidData}
@@ -87,7 +87,7 @@ module _ (letters : Letters) (tree : Tree) (it : PackageParts) (may : may_use le
     rows = rows;
   }
 
-  judged_so : (sound : Bool) → IsSoundIn letters tree sound → IsJudged letters tree it.summary it.pool.pool it.gives_back (headings_in it)
+  pub judged_so : (sound : Bool) → IsSoundIn letters tree sound → IsJudged letters tree it.summary it.pool.pool it.gives_back (headings_in it)
   judged_so sound s = sound_judged letters tree it.kind it.summary it.pool.pool it.gives_back (headings_in it) held.parts may s.1 s.2 s.3
 
   -- where the parts before them are so, all hangs on the rows

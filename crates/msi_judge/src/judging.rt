@@ -58,7 +58,7 @@ pub fn is_sound_package<F: ReadMedium>(
 }
 
 // Whether the objects under the root stand where they may. Objects that can't be listed are a no.
-fn are_objects_in_place<F: ReadMedium>(
+pub(crate) fn are_objects_in_place<F: ReadMedium>(
     alloc: Global,
     file: &CompoundFile<F>,
     tables: &[Rc<Table>],

@@ -13,4 +13,4 @@ pub use kind::kind_of;
 pub use laws::{parts_are_of_their_package, selected_rows_are_whole, sound_parts_are_judged_so};
 pub use parts::PackageParts;
 pub use unlisted::lists_system_table;
-pub use wellness::are_well;
+pub use wellness::{are_free_names, are_well, is_validation_usual};

@@ -59,8 +59,9 @@ pub fn are_well(parts: &PackageParts) -> bool
     is_validation_usual(&parts.tables)
 }
 
-// Whether each name can be a table's, and is none of the pool's two.
-fn are_free_names(tables: &[Rc<Table>]) -> bool
+/// Whether each table's name is an identifier that can name a stream, and is none of the pool's two, `_StringPool` and `_StringData`.
+/// It takes no memory.
+pub fn are_free_names(tables: &[Rc<Table>]) -> bool
     ensures { result ≡ are_free_names (map (λ t. heading_of (rc_value t)) tables.now) }
 {
     have_free_names(tables)
@@ -81,8 +82,8 @@ fn is_free_name(name: &str) -> bool
     Table::is_valid_name(name) && name != "_StringPool" && name != "_StringData"
 }
 
-// Whether _Validation, where it is a table, has its ten types and its two keys.
-fn is_validation_usual(tables: &[Rc<Table>]) -> bool
+/// Whether `_Validation`, where it is among the tables, has its ten types and its two keys. It takes no memory.
+pub fn is_validation_usual(tables: &[Rc<Table>]) -> bool
     ensures { IsTrue result ↔ IfSome
         (heading_named (map (λ t. heading_of (rc_value t)) tables.now) validation_name) IsUsual }
 {

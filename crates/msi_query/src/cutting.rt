@@ -1,5 +1,5 @@
 //! Of rows those that a condition lets through, and of columns those that are asked for.
-ghost use Rattle.cfb_medium.specs.declared.error.Error.TheVariants.{Memory};
+ghost use Rattle.cfb_medium.specs.declared.error.Error.TheVariants.{InvalidInput, Memory};
 ghost use Rattle.msi_pool.specs.Pool.{Pool};
 ghost use Rattle.msi_query.specs.Answered.{answered, table_held};
 ghost use Rattle.msi_query.specs.Query.{cut, parts_at, projected};
@@ -9,7 +9,7 @@ ghost use Rattle.msi_columns.specs.Held.{columns_of};
 ghost use Rattle.msi_tables.specs.Held.{heading_of, rows_held};
 ghost use Rattle.msi_texts.specs.Results.{Answers};
 ghost use Rattle.std.specs.List.{filter_map, list_all};
-ghost use Rattle.std.specs.Prelude.{◌≡◌, filter, map, string_bytes, IfErr, IfOk, IsTrue, Ok};
+ghost use Rattle.std.specs.Prelude.{◌≡◌, ◌⊎◌, filter, map, string_bytes, IfErr, IfOk, IsTrue, Ok};
 ghost use Rattle.std.specs.Rc.{rc_value};
 
 use cfb_medium::Error;
@@ -30,6 +30,7 @@ pub(crate) fn cut(
 ) -> Result<(Table, Vec<Vec<ValueRef>>), Error>
     ensures answer { Answers answered result (cut pool.now.pool (map string_bytes names.now)
         (condition_of condition.now) (answered found)) }
+    ensures kind { IfErr result (λ e. (e ≡ Memory) ⊎ (e ≡ InvalidInput)) }
     ensures width { IfOk result (λ cut. (heading_of cut.0).long ≡ (heading_of found.0).long) }
 {
     let (table, rows) = found;

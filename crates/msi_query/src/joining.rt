@@ -1,5 +1,5 @@
 //! Tables joined: each left row with the right rows for which a condition counts as true.
-ghost use Rattle.cfb_medium.specs.declared.error.Error.TheVariants.{Memory};
+ghost use Rattle.cfb_medium.specs.declared.error.Error.TheVariants.{InvalidInput, Memory};
 ghost use Rattle.msi_expr.specs.Formula.{formula_of};
 ghost use Rattle.msi_pool.specs.declared.stringref.ValueRef.TheVariants as cell;
 ghost use Rattle.msi_query.specs.Answered.{answered};
@@ -12,7 +12,7 @@ ghost use Rattle.msi_columns.specs.Held.{columns_of};
 ghost use Rattle.msi_tables.specs.Held.{heading_of, rows_held};
 ghost use Rattle.msi_texts.specs.Results.{Answers};
 ghost use Rattle.std.specs.List.{flat_map};
-ghost use Rattle.std.specs.Prelude.{◌≡◌, ◌++◌, map, replicate, IfErr, IfOk, IsTrue, OnOk};
+ghost use Rattle.std.specs.Prelude.{◌≡◌, ◌⊎◌, ◌++◌, map, replicate, IfErr, IfOk, IsTrue, OnOk};
 ghost use Rattle.std.specs.Rc.{rc_value};
 
 use crate::grouping::RightSide;
@@ -34,6 +34,7 @@ pub(crate) fn inner_joined(
 ) -> Result<(Table, Vec<Vec<ValueRef>>), Error>
     ensures answer { Answers answered result (inner_joined pool.now.pool (formula_of on.now)
         (answered left) (answered right)) }
+    ensures kind { IfErr result (λ e. (e ≡ Memory) ⊎ (e ≡ InvalidInput)) }
     ensures width { IfOk result (λ joined. (heading_of joined.0).long ≡ pool.now.pool.long) }
 {
     let mut columns = prefixed_columns(alloc, left.0.name(), left.0.columns())?;
@@ -59,6 +60,7 @@ pub(crate) fn left_joined(
 ) -> Result<(Table, Vec<Vec<ValueRef>>), Error>
     ensures answer { Answers answered result (left_joined pool.now.pool (formula_of on.now)
         (answered left) (answered right)) }
+    ensures kind { IfErr result (λ e. (e ≡ Memory) ⊎ (e ≡ InvalidInput)) }
     ensures width { IfOk result (λ joined. (heading_of joined.0).long ≡ pool.now.pool.long) }
 {
     let width = right.0.columns().len();

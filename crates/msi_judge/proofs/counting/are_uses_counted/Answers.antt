@@ -4,8 +4,7 @@ use Rattle.std.proofs.Math.ListN.{drop_of_length-le}
 use Rattle.std.proofs.Math.Seq.{take-append_seam}
 use Rattle.std.proofs.lemmas.List.{drop_more}
 use Rattle.std.specs.Rc.{rc_value}
-use Rattle.cfb.specs.Views.{letters_in, mini_of}
-use Rattle.cfb_mini.specs.Views.{allocator_of}
+use Rattle.cfb.specs.Views.{letters_in}
 use Rattle.msi_meaning.specs.Uses.{counts_of, has_none}
 use Rattle.msi_schema.specs.Headings.{headings_in}
 use Rattle.msi_stored.proofs.StoredLaws.{file_cause, file_refl, file_then}

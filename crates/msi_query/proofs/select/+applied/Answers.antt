@@ -23,7 +23,7 @@ Join::found_rows-returns-in_ok-second-in-Inner-clause-answer g t c =
     subst P (sym joined)
     (then_both (g.S.TableSource.has_tables c.args.source.now) (g.S.TableSource.has_cause c.args.source.now c.apply-in-Inner.new.source) answered c.inner_joined.result
     (λ tables. selected tables pool (query_of left)) (λ tables. selected tables pool (query_of right)) (inner_joined pool on)
-    (answered c.in_ok-first-in-Inner.first) (answered c.in_ok-second-in-Inner.second) c.in_ok-first-in-Inner.ensures.answer later c.inner_joined.ensures.answer)
+    (answered c.in_ok-first-in-Inner.first) (answered c.in_ok-second-in-Inner.second) c.in_ok-first-in-Inner.ensures.answer later c.inner_joined.ensures.answer c.inner_joined.ensures.kind)
 
 pub Join::found_rows-returns-in_ok-second-in-Left-clause-answer : goal.Join::found_rows-returns-in_ok-second-in-Left-clause-answer
 Join::found_rows-returns-in_ok-second-in-Left-clause-answer g t c =
@@ -40,7 +40,7 @@ Join::found_rows-returns-in_ok-second-in-Left-clause-answer g t c =
     subst P (sym joined)
     (then_both (g.S.TableSource.has_tables c.args.source.now) (g.S.TableSource.has_cause c.args.source.now c.apply-in-Left-2.new.source) answered c.left_joined.result
     (λ tables. selected tables pool (query_of left)) (λ tables. selected tables pool (query_of right)) (left_joined pool on)
-    (answered c.in_ok-first-in-Left.first) (answered c.in_ok-second-in-Left.second) c.in_ok-first-in-Left.ensures.answer later c.left_joined.ensures.answer)
+    (answered c.in_ok-first-in-Left.first) (answered c.in_ok-second-in-Left.second) c.in_ok-first-in-Left.ensures.answer later c.left_joined.ensures.answer c.left_joined.ensures.kind)
 
 pub Join::found_rows-returns-in_err-first-in-Inner-clause-answer : goal.Join::found_rows-returns-in_err-first-in-Inner-clause-answer
 Join::found_rows-returns-in_err-first-in-Inner-clause-answer g t c =

@@ -8,20 +8,20 @@ pub returns-then-touches-clause-refused : goal.returns-then-touches-clause-refus
 returns-then-touches-clause-refused g c honest = inr (inl (refl, may_not_be_used (letters_of c.args.letters) (sym c.touches.ensures ∙ c.if-touches.true)))
 
 pub returns-in-Ok-clause-opens : goal.returns-in-Ok-clause-opens
-returns-in-Ok-clause-opens g c = answer_opens c.args.medium c.in-Ok.file c.in-Ok.ensures.opens c.opened_package.result c.opened_package.ensures.ok c.opened_package.ensures.err
+returns-in-Ok-clause-opens g c = answer_opens c.args.medium c.in-Ok.file c.in-Ok.ensures.opens c.opened_package.result c.opened_package.ensures.ok
 
 pub returns-in-Ok-clause-opened : goal.returns-in-Ok-clause-opened
 returns-in-Ok-clause-opened g c =
-    answer_opened c.args.medium c.in-Ok.file c.in-Ok.ensures.opens c.opened_package.result c.opened_package.ensures.ok c.opened_package.ensures.err
+    answer_opened c.args.medium c.in-Ok.file c.in-Ok.ensures.opens c.opened_package.result c.opened_package.ensures.ok
     (letters_of c.args.letters) c.in-Ok.ensures.letters (may_be_used (letters_of c.args.letters) (sym c.touches.ensures ∙ c.if-touches.false)) c.in-Ok.ensures.opened
 
 pub returns-in-Ok-clause-refused : goal.returns-in-Ok-clause-refused
 returns-in-Ok-clause-refused g c =
-    answer_refused c.args.medium c.in-Ok.file c.in-Ok.ensures.opens c.opened_package.result c.opened_package.ensures.ok c.opened_package.ensures.err
+    answer_refused c.args.medium c.in-Ok.file c.in-Ok.ensures.opens c.opened_package.result c.opened_package.ensures.err
     (letters_of c.args.letters) c.in-Ok.ensures.letters (may_be_used (letters_of c.args.letters) (sym c.touches.ensures ∙ c.if-touches.false)) c.in-Ok.ensures.opened
 
 pub returns-in-Ok-clause-cause : goal.returns-in-Ok-clause-cause
-returns-in-Ok-clause-cause g c = answer_cause c.args.medium c.in-Ok.file c.in-Ok.ensures.opens c.opened_package.result c.opened_package.ensures.ok c.opened_package.ensures.err
+returns-in-Ok-clause-cause g c = answer_cause c.args.medium c.in-Ok.file c.in-Ok.ensures.opens c.opened_package.result c.opened_package.ensures.err
 
 pub returns-in-Ok-clause-left : goal.returns-in-Ok-clause-left
-returns-in-Ok-clause-left g c = answer_left c.args.medium c.in-Ok.file c.in-Ok.ensures.opens c.opened_package.result c.opened_package.ensures.ok c.opened_package.ensures.err
+returns-in-Ok-clause-left g c = answer_left c.args.medium c.in-Ok.file c.in-Ok.ensures.opens c.opened_package.result c.opened_package.ensures.err

@@ -1,0 +1,115 @@
+-- The defects of a file that was opened are those of its bytes.
+use Rattle.std.proofs.Common.{◌≡◌, ◌∙◌, ℕ, Bool, true, false, List, [], refl, sym, ap, subst, arith}
+use Rattle.std.specs.Prelude.{◌↔◌, Contains, Err, IfErr, IfOk, IsTrue, Ok, Result, Vec}
+use Rattle.std.specs.declared.alloc.Global.{Global}
+use Rattle.cfb.proofs.Holding.{holds_opened, holds_yet}
+use Rattle.cfb.proofs.OpenedFiles.{left_since}
+use Rattle.cfb.specs.Opened.{IsOpenedAs}
+use Rattle.cfb.specs.Streams.{FileHolds}
+use Rattle.cfb.specs.Views.{letters_in, mini_of, sound_of, FileRests}
+use Rattle.cfb.specs.declared.compound_file.CompoundFile.{CompoundFile}
+use Rattle.cfb_meaning.specs.Means.{Means}
+use Rattle.cfb_medium.specs.declared.error.Error.{Error}
+use Rattle.cfb_medium.specs.declared.medium.ReadMedium.{Ghosts}
+use Rattle.cfb_opening.specs.Opened.{OpensAt}
+use Rattle.cfb_opening.specs.Tables.{OnlyReads}
+use Rattle.cfb_sectors.specs.declared.validation.Validation.TheVariants.{Permissive}
+use Rattle.cfb_tree.specs.Names.{Letters}
+use Rattle.cfb_tree.specs.Tree.{Tree}
+use Rattle.msi_judge.specs.Defects.{AreDefects}
+use Rattle.msi_judge.specs.declared.defect.Defect.{Defect}
+use Rattle.msi_judge.specs.declared.defect.Defect.TheVariants.{Container}
+use Rattle.msi_meaning.specs.Opening.{may_use}
+use Rattle.msi_parts.specs.Held.{AreHeld}
+use Rattle.msi_parts.specs.Parts.{IsSoundIn}
+use Rattle.msi_parts.specs.declared.parts.PackageParts.{PackageParts}
+use Rattle.msi_store.proofs.ShownTrees.{shown_of_held, shown_opened}
+use Rattle.msi_stored.specs.Shown.{HoldsShown, ShowsTree}
+use Rattle.msi.proofs.OpenedPackages.{opens_yet}
+use Rattle.msi.specs.Checked.{HasDefects, IsChecked, IsMediumOf}
+use Rattle.msi.specs.Opened.{IsSoundFile}
+
+-- ---- in the file
+
+-- what was found in the file after it was read is so of the file before
+module _ {F : Type 0} {g : Ghosts F} (a b : CompoundFile F g) (rests : FileRests a b) (parts : PackageParts)
+    (shown : (tree : Tree) → HoldsShown a tree → may_use (letters_in a) ≡ true → AreHeld (letters_in a) tree parts) where
+  listed_before : (tree : Tree) (found : List Defect) → AreDefects (letters_in b) tree (sound_of b) parts found → AreDefects (letters_in a) tree (sound_of a) parts found
+  listed_before tree found are = subst (λ s. AreDefects (letters_in a) tree s parts found) rests.sound (subst (λ l. AreDefects l tree (sound_of b) parts found) rests.letters are)
+
+  none_before : (tree : Tree) (found : List Defect) → (found ≡ []) ↔ IsSoundIn (letters_in b) tree (sound_of b) → (found ≡ []) ↔ IsSoundIn (letters_in a) tree (sound_of a)
+  none_before tree found is = subst (λ s. (found ≡ []) ↔ IsSoundIn (letters_in a) tree s) rests.sound (subst (λ l. (found ≡ []) ↔ IsSoundIn l tree (sound_of b)) rests.letters is)
+
+  pub checked_before : (r : Result (Vec Defect Global) Error)
+      → ((tree : Tree) → FileHolds b tree → IfOk r (λ found. AreDefects (letters_in b) tree (sound_of b) parts found.items))
+      → ((tree : Tree) → FileHolds b tree → may_use (letters_in b) ≡ true → AreHeld (letters_in b) tree parts → IfOk r (λ found. (found.items ≡ []) ↔ IsSoundIn (letters_in b) tree (sound_of b)))
+      → (sound_of b ≡ false → IfOk r (λ found. Contains found.items Container)) → IfOk r (λ found. IsChecked a found.items)
+  checked_before (Ok found) listed none unsound = record {
+    parts = parts;
+    shown = shown;
+    listed = λ tree held. listed_before tree found.items (listed tree (holds_yet a b tree rests held));
+    none = λ tree held may. none_before tree found.items (none tree (holds_yet a b tree rests held) (ap may_use rests.letters ∙ may)
+        (subst (λ l. AreHeld l tree parts) (sym rests.letters) (shown tree (shown_of_held a tree held) may)));
+    unsound = λ e. unsound (rests.sound ∙ e);
+  }
+  checked_before (Err e) listed none unsound = tt
+
+-- ---- of the bytes
+
+module _ {F : Type 0} {g : Ghosts F} (medium : F) (a : CompoundFile F g) (opens : OpensAt medium (mini_of a)) (r : Result (F × Vec Defect Global) (F × Error))
+    (ok : IfOk r (λ found. IsMediumOf a found.0 × IsChecked a found.1.items)) where
+  pub checked_left : IfOk r (λ found. OnlyReads g.honest g.bytes g.continues medium found.0)
+  checked_left = by r ok
+    where
+      by : (r : Result (F × Vec Defect Global) (F × Error)) → IfOk r (λ found. IsMediumOf a found.0 × IsChecked a found.1.items) → IfOk r (λ found. OnlyReads g.honest g.bytes g.continues medium found.0)
+      by (Ok found) both = let back = both.0 in
+          subst (λ m. OnlyReads g.honest g.bytes g.continues medium m) (sym back.medium_is) (left_since medium (mini_of back.new) (opens_yet medium a opens back.new back.rests))
+      by (Err e) both = tt
+
+  module _ (letters : Letters) (named : letters_in a ≡ letters) (may : may_use letters ≡ true) (as_opened : IsTrue (g.honest medium) → IsOpenedAs Permissive letters (g.bytes medium) a) where
+    module _ (honest : IsTrue (g.honest medium)) (found : List Defect) (is : IsChecked a found) where
+      may_here : may_use (letters_in a) ≡ true
+      may_here = ap may_use named ∙ may
+
+      held : (tree : Tree) → Means letters (g.bytes medium) tree → FileHolds a tree
+      held tree means = holds_opened Permissive letters medium a tree honest opens named (as_opened honest) means
+
+      of_bytes : HasDefects letters (g.bytes medium) found
+      of_bytes = record {
+        parts = is.parts;
+        shown = λ tree shows. subst (λ l. AreHeld l tree is.parts) named (is.shown tree (shown_opened Permissive letters medium a tree honest opens named (as_opened honest) shows) may_here);
+        container = sound_of a;
+        judged = (as_opened honest).sound;
+        listed = λ tree means. subst (λ l. AreDefects l tree (sound_of a) is.parts found) named (is.listed tree (held tree means));
+      }
+
+      exact : (tree : Tree) → Means letters (g.bytes medium) tree → (found ≡ []) ↔ IsSoundIn letters tree (sound_of a)
+      exact tree means = subst (λ l. (found ≡ []) ↔ IsSoundIn l tree (sound_of a)) named (is.none tree (held tree means) may_here)
+
+      sound_to : (b : Bool) → sound_of a ≡ b → found ≡ [] → IsSoundFile letters (g.bytes medium)
+      sound_to false e none = let listed = subst (λ (ds : List Defect). Contains ds Container) none (is.unsound e) in let below = listed.1 in absurd (omega (arith, below))
+      sound_to true e none =
+          let sound = (as_opened honest).sound.0 e in
+          let tree = sound.1 in
+          let means : Means letters (g.bytes medium) tree = (sound.0, sound.2.means) in
+          let so = (exact tree means).0 none in
+          (sound, tree, means, so.1, so.2, so.3)
+
+      sound_exactly : (found ≡ []) ↔ IsSoundFile letters (g.bytes medium)
+      sound_exactly = (sound_to (sound_of a) refl, λ s. (exact s.1 s.2).1 ((as_opened honest).sound.1 s.0, s.3, s.4, s.5))
+
+    pub checked_told : IfOk r (λ found. IsTrue (g.honest medium) → HasDefects letters (g.bytes medium) found.1.items)
+    checked_told = by r ok
+      where
+        by : (r : Result (F × Vec Defect Global) (F × Error)) → IfOk r (λ found. IsMediumOf a found.0 × IsChecked a found.1.items)
+            → IfOk r (λ found. IsTrue (g.honest medium) → HasDefects letters (g.bytes medium) found.1.items)
+        by (Ok found) both = λ honest. of_bytes honest found.1.items both.1
+        by (Err e) both = tt
+
+    pub checked_none : IfOk r (λ found. IsTrue (g.honest medium) → (found.1.items ≡ []) ↔ IsSoundFile letters (g.bytes medium))
+    checked_none = by r ok
+      where
+        by : (r : Result (F × Vec Defect Global) (F × Error)) → IfOk r (λ found. IsMediumOf a found.0 × IsChecked a found.1.items)
+            → IfOk r (λ found. IsTrue (g.honest medium) → (found.1.items ≡ []) ↔ IsSoundFile letters (g.bytes medium))
+        by (Ok found) both = λ honest. sound_exactly honest found.1.items both.1
+        by (Err e) both = tt
