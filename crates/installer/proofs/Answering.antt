@@ -1,36 +1,38 @@
 -- What the commands of a session do that publish nothing.
-use Rattle.std.proofs.Common.{◌≡◌, ◌⊎◌, ◌∙◌, Bool, ap, false, inl, refl, subst, sym, true, ⊎_elim}
+use Rattle.std.proofs.Common.{◌≡◌, ◌⊎◌, ◌≤◌, ◌||◌, ◌∙◌, Bool, ap, ap₂, arith, false, inl, inr, refl, rules, subst, sym, true, ⊎_elim}
+use Rattle.std.proofs.lemmas.Bool.{both_ways}
 use Rattle.std.proofs.lemmas.Result.{IfErr-weaker}
 use Rattle.std.specs.Prelude.{Err, IfErr, Ok, Result}
 use Rattle.cfb.specs.Publishing.{medium_in}
 use Rattle.cfb.specs.Views.{mini_of}
 use Rattle.cfb.specs.declared.compound_file.CompoundFile.{CompoundFile}
-use Rattle.cfb_fat.specs.Keeping.{own_cause}
-use Rattle.cfb_fat.specs.Tables.{HasCauseBelow}
+use Rattle.cfb_fat.specs.Keeping.{own_cause, rests_keep}
+use Rattle.cfb_fat.specs.Tables.{has_failed_here, HasCauseBelow}
 use Rattle.cfb_fat.specs.declared.allocator.Allocator.{Allocator}
 use Rattle.cfb_medium.specs.Calls.{IsFaultUnless, Keeps}
 use Rattle.cfb_medium.specs.declared.error.Error.{Error}
-use Rattle.cfb_medium.specs.declared.error.Error.TheVariants.{Device, Failed, InvalidData, Memory}
+use Rattle.cfb_medium.specs.declared.error.Error.TheVariants.{Device, Failed, InvalidData, InvalidInput, Memory, NotFound}
 use Rattle.cfb_medium.specs.declared.medium.ReadMedium.{Ghosts}
 use Rattle.cfb_mini.specs.Views.{allocator_of}
 use Rattle.cfb_owned.specs.Chains.{GoesOn}
 use Rattle.command_file.specs.Request as asked
 use Rattle.command_file.specs.Request.{Request, is_changing, is_codepage, is_reading}
-use Rattle.msi.specs.Changing.{permission, KeepsHeld, PackageChanges, PackageWrites}
-use Rattle.msi.specs.Opened.{file_in, PackageHolds, PackageRests}
+use Rattle.msi.specs.Changing.{failed_in, permission, KeepsHeld, PackageChanges, PackageWrites}
+use Rattle.msi.specs.Opened.{file_in, sound_in, PackageHolds, PackageRests}
 use Rattle.msi.specs.declared.package.Package.{Package}
 use Rattle.msi_meaning.specs.Package.{Packed}
 use Rattle.msi_stored.proofs.StoredLaws.{file_refl}
 use Rattle.msi_stored.specs.Changing.{PackageRule}
 use Rattle.installer.proofs.Faults.{fault_of}
-use Rattle.installer.proofs.Going.{err_is, goes_changes, goes_lost, goes_told, moves_on, no_commit_read, not_ok, step_of_reading, unchanging, Moves, StepOr}
+use Rattle.installer.proofs.Going.{err_is, goes_changes, goes_lost, goes_told, moves_on, no_commit_read, not_ok, step_of_reading, unchanging, unread, Moves, StepOr}
 use Rattle.installer.proofs.Resting.{keeps_rests, rests_on}
 use Rattle.installer.proofs.Writing.{goes_writes}
+use Rattle.installer.specs.Behaviour.{BehavesOnce}
 use Rattle.installer.specs.Course.{Course}
 use Rattle.installer.specs.Follows.{AnswersQuietly}
 use Rattle.installer.specs.Reply.{Reply}
 use Rattle.installer.specs.Reply as told
-use Rattle.installer.specs.Sessions.{is_failed, package_in, phase_of, IsAt}
+use Rattle.installer.specs.Sessions.{condition_of, is_failed, package_in, phase_of, IsAt}
 use Rattle.installer.specs.Sessions.{letters_in as session_letters}
 use Rattle.installer.specs.Step.{Reads, Step, told_of}
 use Rattle.installer.specs.declared.session.SessionOver.{SessionOver}
@@ -56,6 +58,16 @@ data_own e is = (λ device. let never : InvalidData ≡ Device = sym is ∙ devi
 pub memory_own : (e : Error) → e ≡ Memory → IsOwn e
 memory_own e is = (λ device. let never : Memory ≡ Device = sym is ∙ device in absurd (cc), λ failed. let never : Memory ≡ Failed = sym is ∙ failed in absurd (cc))
 
+pub refusal_own : (e : Error) → (e ≡ NotFound) ⊎ (e ≡ InvalidInput) → IsOwn e
+refusal_own e is = (
+  λ device. ⊎_elim (λ a. let never : NotFound ≡ Device = sym a ∙ device in absurd (cc)) (λ b. let never : InvalidInput ≡ Device = sym b ∙ device in absurd (cc)) is,
+  λ failed. ⊎_elim (λ a. let never : NotFound ≡ Failed = sym a ∙ failed in absurd (cc)) (λ b. let never : InvalidInput ≡ Failed = sym b ∙ failed in absurd (cc)) is,
+)
+
+-- such an error has its cause
+pub cause_own : {F : Type 0} {g : Ghosts F} (old new : Package F g) (e : Error) → IsOwn e → HasCauseBelow (allocator_of (mini_of (file_in old))) (allocator_of (mini_of (file_in new))) e
+cause_own old new e own = own_cause (allocator_of (mini_of (file_in old))) (allocator_of (mini_of (file_in new))) e own.0 (λ failed. absurd (own.1 failed))
+
 -- such is the refusal of a change that isn't permitted, unless there was a fault
 pub permission_own : (failed sound : Bool) (r : Result (Unit {0}) Error) → failed ≡ false → r ≡ permission failed sound → IfErr r IsOwn
 permission_own failed sound (Ok u) live is = tt
@@ -65,6 +77,59 @@ permission_own failed false (Err e) live is = data_own e (err_is {X = Unit {0}} 
 -- a package that isn't touched
 pub rests_itself : {F : Type 0} {g : Ghosts F} (it : Package F g) → PackageRests it it
 rests_itself it = record { file = file_refl (file_in it); tables = refl; kind = refl; pool = refl; summary = refl; sound = refl; written = refl }
+
+same_refusal : (e f : Error) → told.refused e ≡ told.refused f → e ≡ f
+same_refusal e f is = search (rules, is)
+
+-- the error that is told is the call's
+pub told_error : (result : Result (Unit {0}) Error) (reply : Reply) (P : Error → Type 0) (e : Error) → reply ≡ told_of result → IfErr result P → reply ≡ told.refused e → P e
+told_error (Ok u) reply P e is each refused = let never : told.done ≡ told.refused e = sym is ∙ refused in absurd (cc)
+told_error (Err own) reply P e is each refused = let both : told.refused own ≡ told.refused e = sym is ∙ refused in subst P (same_refusal own e both) each
+
+-- an error is told
+abbrev pub is_refused : Reply → Bool
+is_refused (told.refused e) = true
+is_refused reply = false
+
+no_refusal : (reply : Reply) (e : Error) → is_refused reply ≡ false → reply ≡ told.refused e → ⊥
+no_refusal reply e other is = both_ways (is_refused reply) other (ap is_refused is)
+
+no_codepage : (request : Request) → is_changing request ≡ true → is_codepage request ≡ false
+no_codepage asked.codepage is = absurd (cc)
+no_codepage request is = refl
+
+-- how one behaves after a fault
+pub behaves_ended : {F : Type 0} {g : Ghosts F} (it : SessionOver F g) (request : Request) → is_failed it ≡ true → BehavesOnce (condition_of it) request (told.refused Failed) (condition_of it)
+behaves_ended it request failed = record {
+  ended = λ _. (refl, refl);
+  live = λ live _. both_ways (is_failed it) live failed;
+  device = λ is. absurd (cc);
+  reading = λ _. refl;
+  codepage = λ live. absurd (both_ways (is_failed it) live failed);
+  unsound = λ live. absurd (both_ways (is_failed it) live failed);
+  sound = refl;
+  counted = omega arith;
+}
+
+-- how a command behaves before a fault
+pub behaves_live : {F : Type 0} {g : Ghosts F} (refl_continues : (m : F) → g.continues m m) (old new : SessionOver F g) → is_failed old ≡ false → (request : Request) (reply : Reply)
+    → g.failures (medium_in (file_in (package_in old))) ≤ g.failures (medium_in (file_in (package_in new))) → sound_in (package_in new) ≡ sound_in (package_in old)
+    → ((e : Error) → reply ≡ told.refused e → HasCauseBelow (allocator_of (mini_of (file_in (package_in old)))) (allocator_of (mini_of (file_in (package_in new)))) e)
+    → ((e : Error) → reply ≡ told.refused e → is_codepage request ≡ false) → (is_reading request ≡ true → is_failed new ≡ false)
+    → (sound_in (package_in old) ≡ false → is_changing request ≡ true → (reply ≡ told.refused InvalidData) ⊎ (reply ≡ told.refused Memory))
+    → BehavesOnce (condition_of old) request reply (condition_of new)
+behaves_live refl_continues old new live request reply counted sound caused other reading unsound =
+    let start = medium_in (file_in (package_in old)) in
+    record {
+      ended = λ failed. absurd (both_ways (is_failed old) live failed);
+      live = λ _ is. both_ways (is_failed old) live ((caused Failed is start (refl_continues start)).earlier refl);
+      device = λ is. (caused Device is start (refl_continues start)).device refl;
+      reading = λ is. reading is ∙ sym live;
+      codepage = λ _ page e is. both_ways (is_codepage request) (other e is) page;
+      unsound = λ _. unsound;
+      sound = sound;
+      counted = counted;
+    }
 
 module _ {F : Type 0} {g : Ghosts F} (refl_continues : (m : F) → g.continues m m) (continues_keeps : (a b : F) → g.continues a b → Keeps g.honest g.failed g.failures a b)
     (old new : SessionOver F g) (live : is_failed old ≡ false) where
@@ -84,6 +149,10 @@ module _ {F : Type 0} {g : Ghosts F} (refl_continues : (m : F) → g.continues m
       letters = changes.seen.0;
       sound = changes.seen.1;
     };
+    behaves = behaves_live refl_continues old new live request reply (moves_on refl_continues continues_keeps (package_in old) (package_in new) on changes.seen.1).counted changes.seen.1
+        (λ e told. told_error result reply (HasCauseBelow (allocator_of (mini_of (file_in (package_in old)))) (allocator_of (mini_of (file_in (package_in new))))) e is cause told)
+        (λ e told. no_codepage request changing) (λ reads. absurd (both_ways (is_reading request) (unread request changing) reads))
+        (λ unsound _. inl (is ∙ ap told_of (changes.unsound live unsound).0));
     quiet = on;
   }
 
@@ -109,6 +178,9 @@ module _ {F : Type 0} {g : Ghosts F} (refl_continues : (m : F) → g.continues m
       letters = writes.seen.0;
       sound = writes.seen.1;
     };
+    behaves = behaves_live refl_continues old new live asked.flush reply (moves_on refl_continues continues_keeps (package_in old) (package_in new) on writes.seen.1).counted writes.seen.1
+        (λ e told. told_error result reply (HasCauseBelow (allocator_of (mini_of (file_in (package_in old)))) (allocator_of (mini_of (file_in (package_in new))))) e is cause told)
+        (λ e told. refl) (λ reads. absurd (cc)) (λ unsound changes. absurd (cc));
     quiet = on;
   }
 
@@ -122,37 +194,54 @@ module _ {F : Type 0} {g : Ghosts F} (refl_continues : (m : F) → g.continues m
     keeps : KeepsHeld (package_in old) (package_in new)
     keeps = keeps_rests (package_in old) (package_in new) rests
 
+    -- no fault has ended it
+    rested : is_failed new ≡ false
+    rested =
+        let here : has_failed_here (allocator_of (mini_of (file_in (package_in new)))) ≡ has_failed_here (allocator_of (mini_of (file_in (package_in old)))) =
+        (rests_keep (allocator_of (mini_of (file_in (package_in old)))) (allocator_of (mini_of (file_in (package_in new)))) rests.file.mini.directory.allocator).1 in
+        ap₂ (λ a b. a || b) here (sym moves.as_failed) ∙ live
+
+    behaves_reading : (request : Request) (reply : Reply) → is_reading request ≡ true
+        → ((e : Error) → reply ≡ told.refused e → HasCauseBelow (allocator_of (mini_of (file_in (package_in old)))) (allocator_of (mini_of (file_in (package_in new)))) e)
+        → ((e : Error) → reply ≡ told.refused e → is_codepage request ≡ false) → BehavesOnce (condition_of old) request reply (condition_of new)
+    behaves_reading request reply reading caused other =
+        behaves_live refl_continues old new live request reply moves.counted rests.sound caused other (λ _. rested)
+        (λ _ changing. absurd (both_ways (is_changing request) (unchanging request reading) changing))
+
     held_at : (start : Course) → IsAt (package_in old) start → PackageHolds (package_in old) start.held
     held_at start at = at.held (at.phase ∙ ap phase_of live)
 
     -- a call that reads, whose answer is that of the package that is held
-    pub answers_told : (request : Request) (reply : Reply) → is_reading request ≡ true
+    pub answers_told : (request : Request) (reply : Reply) → is_reading request ≡ true → is_refused reply ≡ false
         → ((P : Packed) → PackageHolds (package_in old) P → Step (session_letters old) P request reply P) → AnswersQuietly request reply old new
-    answers_told request reply reading step = record {
+    answers_told request reply reading other step = record {
       by_rule = record {
         goes = λ start at. goes_told refl_continues (package_in old) (package_in new) start at live moves request reply (no_commit_read request reading) keeps
             (step_of_reading (session_letters old) start.sound start.held start.held request reply (unchanging request reading) (step start.held (held_at start at)));
         letters = rests.file.letters;
         sound = rests.sound;
       };
+      behaves = behaves_reading request reply reading (λ e is. absurd (no_refusal reply e other is)) (λ e is. absurd (no_refusal reply e other is));
       quiet = on;
     }
 
     -- it is refused as the package that is held refuses it, or by a fault with a cause
     pub answers_refused : (request : Request) (e : Error) → is_reading request ≡ true → is_codepage request ≡ false
-        → ((P : Packed) → PackageHolds (package_in old) P
-        → (IsFaultUnless ⊥ e × HasCauseBelow (allocator_of (mini_of (file_in (package_in old)))) (allocator_of (mini_of (file_in (package_in new)))) e) ⊎ Step (session_letters old) P request (told.refused e) P)
+        → HasCauseBelow (allocator_of (mini_of (file_in (package_in old)))) (allocator_of (mini_of (file_in (package_in new)))) e
+        → ((P : Packed) → PackageHolds (package_in old) P → IsFaultUnless ⊥ e ⊎ Step (session_letters old) P request (told.refused e) P)
         → AnswersQuietly request (told.refused e) old new
-    answers_refused request e reading other is = record {
+    answers_refused request e reading other cause is = record {
       by_rule = record {
         goes = λ start at. ⊎_elim
             (λ fault. goes_lost refl_continues (package_in old) (package_in new) start at live moves request e keeps other
-            (inl (fault_of refl_continues (package_in old) (package_in new) start (record start { held = start.held; failures = g.failures (medium_in (file_in (package_in new))) }) e live at.failures refl fault.1 (inl fault.0))))
+            (inl (fault_of refl_continues (package_in old) (package_in new) start (record start { held = start.held; failures = g.failures (medium_in (file_in (package_in new))) }) e live at.failures refl cause (inl fault))))
             (λ step. goes_told refl_continues (package_in old) (package_in new) start at live moves request (told.refused e) (no_commit_read request reading) keeps
             (step_of_reading (session_letters old) start.sound start.held start.held request (told.refused e) (unchanging request reading) step)) (is start.held (held_at start at));
         letters = rests.file.letters;
         sound = rests.sound;
       };
+      behaves = behaves_reading request (told.refused e) reading
+          (λ f is. subst (HasCauseBelow (allocator_of (mini_of (file_in (package_in old)))) (allocator_of (mini_of (file_in (package_in new))))) (same_refusal e f is) cause) (λ f is. other);
       quiet = on;
     }
 
@@ -164,5 +253,8 @@ module _ {F : Type 0} {g : Ghosts F} (refl_continues : (m : F) → g.continues m
         letters = rests.file.letters;
         sound = rests.sound;
       };
+      behaves = behaves_live refl_continues old new live request (told.refused e) moves.counted rests.sound
+          (λ f told. cause_own (package_in old) (package_in new) f (memory_own f (sym (same_refusal e f told) ∙ is))) (λ f told. other) (λ _. rested)
+          (λ _ _. inr (ap (λ f. told.refused f) is));
       quiet = on;
     }

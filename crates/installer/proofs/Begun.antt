@@ -69,8 +69,3 @@ module _ {D : Type 0} (g : device.Ghosts D) (letters : Letters) (old new : D) (b
       → IsFaultUnless ⊥ e
   reopen_fault e honest kind = ⊎_elim (λ malformed. absurd (never_recovered (g.content old) bytes (malformed.1 honest) given))
       (λ more. ⊎_elim (λ fault. fault) (λ refused. absurd (never_refused letters bytes P holds e (subst (λ b. IsRefused letters b e) (same_bytes refused.0 refused.1) refused.2))) more) kind
-
--- a package that lies over a medium from which it goes on has not failed where the medium hadn't
-module _ {F : Type 0} {g : Ghosts F} (continues_keeps : (a b : F) → g.continues a b → Keeps g.honest g.failed g.failures a b) where
-  pub goes_on_live : (medium : F) (it : Package F g) → g.failed medium ≡ false → g.continues medium (medium_in (file_in it)) → has_failed_here (allocator_of (mini_of (file_in it))) ≡ false → failed_in it ≡ false
-  goes_on_live medium it live on here = package_live it here (sym (continues_keeps medium (medium_in (file_in it)) on).as_failed ∙ live)

@@ -78,6 +78,8 @@ module _ {D : Type 0} {g : device.Ghosts D} {h : Ghosts (Staged D g)}
   pub follows_quietly : (request : Request) (reply : Reply) (old new : SessionOver (Staged D g) h) → is_commit request ≡ false → AnswersQuietly request reply old new → Follows request reply old new
   follows_quietly request reply old new other answers = record {
     by_rule = answers.by_rule;
+    behaves = answers.behaves;
+    still = λ unsound. still (letters_in old) (package_in old) (package_in new) answers.quiet;
     survives = λ start at. rw (marks_other start.sound start.held request reply other) (still (letters_in old) (package_in old) (package_in new) answers.quiet);
   }
 

@@ -62,7 +62,7 @@ pub no_commit_read : (request : Request) → is_reading request ≡ true → is_
 no_commit_read asked.commit is = absurd (cc)
 no_commit_read request is = refl
 
-unread : (request : Request) → is_changing request ≡ true → is_reading request ≡ false
+pub unread : (request : Request) → is_changing request ≡ true → is_reading request ≡ false
 unread (asked.select q) is = absurd (cc)
 unread asked.tables is = absurd (cc)
 unread (asked.columns name) is = absurd (cc)

@@ -130,18 +130,6 @@ module _ (letters : Letters) where
         before = λ t x le since. ⊎_elim (λ past. inl past) (λ now. inr (x, now, refl)) (l.before t x le since);
       })
 
-      -- a commit that came to nothing
-      pub survives_begun : (a b : D) (m : Mark) → m.done ≡ false → Survives letters g a b [] → Survives letters g a b (m ∷ [])
-      survives_begun a b m undone s = record {
-        honest = s.honest;
-        counted = s.counted;
-        any_moment = λ honest recover.
-            let l = s.any_moment honest recover in
-            let into : (x : Option (List ℕ)) → IsGiven (listed g a) x → IsGiven (MayBeFound letters (listed g a) (begun m ∷ [])) x = λ x one. (one.0, one.1, inr (refl, one.2)) in
-            record { later = l.later; each = λ x since. into x (l.each x since); before = λ t x le since. ⊎_elim (λ past. inl past) (λ now. inr (into x now)) (l.before t x le since) };
-        at_return = λ honest recover x now. let one = s.at_return honest recover x now in (one.0, one.1, inr (undone, one.2));
-      }
-
       -- a commit: what might have been left before, or bytes that are found of its package; and such alone where it was answered Ok
       pub survives_commit : (a b : D) (m : Mark) → g.honest b ≡ g.honest a → g.failures a ≤ g.failures b
           → (IsTrue (g.honest a) → LeavesOnly g.moment (given_since g) a b (λ given. gives g a given ⊎ IsGiven (λ bytes. IsFound letters bytes m.held) given))

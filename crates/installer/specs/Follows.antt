@@ -1,5 +1,5 @@
 -- What one command does.
-use Rattle.std.specs.Prelude.{◌≡◌}
+use Rattle.std.specs.Prelude.{◌≡◌, false, []}
 use Rattle.cfb.specs.Views.{mini_of}
 use Rattle.cfb_medium.specs.declared.medium.ReadMedium.{Ghosts}
 use Rattle.cfb_mini.specs.Views.{allocator_of}
@@ -8,9 +8,10 @@ use Rattle.command_file.specs.Request.{Request}
 use Rattle.msi.specs.Opened.{file_in}
 use Rattle.staged.specs.declared.device.Device as device
 use Rattle.staged.specs.declared.staged.Staged.{Staged}
+use Rattle.installer.specs.Behaviour.{BehavesOnce}
 use Rattle.installer.specs.Course.{Course, Goes, marks_of}
 use Rattle.installer.specs.Reply.{Reply}
-use Rattle.installer.specs.Sessions.{device_below, is_sound, letters_in, package_in, IsAt}
+use Rattle.installer.specs.Sessions.{condition_of, device_below, is_sound, letters_in, package_in, IsAt}
 use Rattle.installer.specs.Survival.{Survives}
 use Rattle.installer.specs.declared.session.SessionOver.{SessionOver}
 
@@ -21,12 +22,16 @@ module _ {F : Type 0} {g : Ghosts F} where
     pub letters : letters_in new ≡ letters_in old
     pub sound : is_sound new ≡ is_sound old
 
-  -- so it does, and publishes nothing
+  -- so it does, and publishes nothing (a step of private functions)
   pub record AnswersQuietly (request : Request) (reply : Reply) (old new : SessionOver F g) : Type 0 where
     pub by_rule : GoesByRule request reply old new
+    pub behaves : BehavesOnce (condition_of old) request reply (condition_of new)
     pub quiet : GoesOn (allocator_of (mini_of (file_in (package_in old)))) (allocator_of (mini_of (file_in (package_in new))))
 
--- One command of a session over a device: it goes by its rule, and what a stop leaves is told with the commit that it begins.
+-- One command of a session over a device: it goes by its rule, whatever the device and the file it behaves, and what a stop leaves is told
+-- with the commit that it begins; none begins where the package isn't sound, also where the file packs none.
 pub record Follows {D : Type 0} {g : device.Ghosts D} {h : Ghosts (Staged D g)} (request : Request) (reply : Reply) (old new : SessionOver (Staged D g) h) : Type 0 where
   pub by_rule : GoesByRule request reply old new
+  pub behaves : BehavesOnce (condition_of old) request reply (condition_of new)
+  pub still : is_sound old ≡ false → Survives (letters_in old) g (device_below old) (device_below new) []
   pub survives : (start : Course) → IsAt (package_in old) start → Survives (letters_in old) g (device_below old) (device_below new) (marks_of start request reply)

@@ -11,6 +11,7 @@ use Rattle.msi_meaning.specs.Package.{Packed}
 use Rattle.staged.specs.Staged.{device_of}
 use Rattle.staged.specs.declared.device.Device as device
 use Rattle.staged.specs.declared.staged.Staged.{Staged}
+use Rattle.installer.specs.Behaviour.{Condition}
 use Rattle.installer.specs.Course.{Course, Phase, running, failed}
 use Rattle.installer.specs.declared.session.SessionOver.{SessionOver}
 
@@ -41,6 +42,10 @@ module _ {F : Type 0} {g : Ghosts F} where
   -- by which names are told apart
   abbrev pub letters_in : SessionOver F g → Letters
   letters_in s = file.letters_in (file_in (package_in s))
+
+  -- how it stands
+  abbrev pub condition_of : SessionOver F g → Condition
+  condition_of s = record { failed = is_failed s; sound = is_sound s; failures = g.failures (medium_in (file_in (package_in s))) }
 
   -- the place at which it begins with a package that is held
   abbrev pub beginning : SessionOver F g → Packed → Course

@@ -13,8 +13,8 @@ use staged::Device;
 /// Committed packages survive. A device on which a recovery gives a list of whatever a stop may leave goes through calls of sessions and
 /// recoveries, which return or are stopped at any moment, also in a recovery of a recovery. Whatever a stop may then leave, a recovery
 /// gives bytes that hold the package of the last commit that was answered `Ok`, or of one that was begun since, sound, where it can be
-/// written as it is; or, where none was answered
-/// `Ok`, a list that it might have given at first. After a recovery that succeeded the home file is such a list.
+/// written as it is; or, where none was answered `Ok`, a list that it might have given at first. After a recovery that succeeded the home
+/// file is such a list.
 pub fn committed_packages_survive<D: Device>()
     ensures survive { (letters : Letters) (first : D) (events : List (Event letters D.Device))
         (marks : List Mark) (last : D)
@@ -30,8 +30,8 @@ pub fn committed_packages_survive<D: Device>()
 
 /// A recovery is an event of that law, whatever it answers: what its contract says of honesty, failures and stops is all that it takes.
 pub fn recoveries_survive<D: Device>()
-    ensures { (letters : Letters) (old new : D) → D.honest new ≡ D.honest old → D.failures old ≤ D.failures new
-        → (IsTrue (D.honest old)
+    ensures { (letters : Letters) (old new : D) → D.honest new ≡ D.honest old
+        → D.failures old ≤ D.failures new → (IsTrue (D.honest old)
         → LeavesOnly D.moment D.left_since old new (GivesAlike (D.may_leave old)))
         → Survives letters D.Device old new [] }
 {}

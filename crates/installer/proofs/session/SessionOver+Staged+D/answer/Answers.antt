@@ -1,5 +1,6 @@
 use Rattle.std.proofs.Common.{ap, refl, sym, ◌∙◌}
 use Rattle.command_file.specs.Said.{said}
+use Rattle.installer.proofs.Answering.{behaves_ended}
 use Rattle.installer.proofs.Following.{follows_quietly, marks_none}
 use Rattle.installer.proofs.Stopping.{survives_stay}
 use Rattle.installer.specs.Course.{refuses}
@@ -16,6 +17,8 @@ returns-then-has_failed g c =
         letters = refl;
         sound = refl;
       };
+      behaves = behaves_ended old (said c.args.command.now) (sym c.has_failed.ensures ∙ c.if-has_failed.true);
+      still = λ unsound. survives_stay (letters_in old) g.D.Device d.counts_now d.only_now (device_below old);
       survives = λ start at. rw (marks_none start.sound start.held (said c.args.command.now)) (survives_stay (letters_in old) g.D.Device d.counts_now d.only_now (device_below old));
     }
 

@@ -1,10 +1,12 @@
 use Rattle.std.proofs.Common.{◌∙◌, [], ap, false, inl, inr, refl, subst, sym, true, ⊎_elim}
 use Rattle.cfb.specs.Publishing.{medium_in}
+use Rattle.installer.proofs.Answering.{behaves_ended, behaves_live, told_error}
 use Rattle.installer.proofs.Following.{commit_survives, failed_result, left_found, marks_none, not_failed_error, published_at, published_found, published_of}
 use Rattle.installer.proofs.Going.{by_sound}
 use Rattle.installer.proofs.Stopping.{survives_stay}
 use Rattle.installer.proofs.Writing.{goes_commits}
 use Rattle.installer.specs.Course.{refuses}
+use Rattle.installer.specs.Step.{told_of}
 use Rattle.installer.specs.Sessions.{device_below, is_failed, letters_in, package_in, phase_of}
 use Rattle.msi.specs.Opened.{file_in}
 use Rattle.staged.specs.Settled.{HasPublished}
@@ -30,6 +32,14 @@ returns-clause-follows g c =
         letters = told.commits.seen.0;
         sound = told.commits.seen.1;
       };
+      behaves = ⊎_elim
+          (λ failed. let both = told.commits.failed failed in rw both.1 (rw (failed_result c.commit.result both.0) (behaves_ended c.args.self.now asked.commit failed)))
+          (λ live. behaves_live (λ m. record { device = d.rests_refl _; failed = refl }) c.args.self.now (record c.args.self.now { «package» = new }) live asked.commit (told_of c.commit.result) told.counted told.commits.seen.1
+          (λ e is. told_error c.commit.result (told_of c.commit.result) _ e refl told.cause is) (λ e is. refl) (λ reads. absurd (cc)) (λ unsound changes. absurd (cc)))
+          (by_sound (is_failed c.args.self.now));
+      still = λ unsound. ⊎_elim
+          (λ failed. rw (told.commits.failed failed).1 stay)
+          (λ live. rw (told.commits.unsound live unsound).1 stay) (by_sound (is_failed c.args.self.now));
       survives = λ start at. ⊎_elim
           (λ failed. let both = told.commits.failed failed in rw both.1 (rw (failed_result c.commit.result both.0) (rw (marks_none start.sound start.held asked.commit) stay)))
           (λ live.

@@ -23,6 +23,17 @@ loop-command-preserved g c = record {
       rw (asked, told) (reaches_more c.args.self.now c.loop-command.self c.answer.new.self _ _ (said c.command-item.result) (told_by c.answer.result) c.loop-command.invariant.ran c.answer.ensures);
 }
 
+pub returns-clause-behaves : goal.returns-clause-behaves
+returns-clause-behaves g c =
+    let all : take c.loop-command.command-index c.args.commands.now ≡ c.args.commands.now = take_all c.loop-command.command-index c.args.commands.now c.loop-command-test.false in
+    let behaves = c.loop-command.invariant.ran.behaves in rw all at behaves
+
+pub returns-in_err-answers-clause-still : goal.returns-in_err-answers-clause-still
+returns-in_err-answers-clause-still g c = λ unsound. survives_stay (letters_in c.args.self.now) g.D.Device g.met.D.Device.counts_now g.met.D.Device.only_now (device_below c.args.self.now)
+
+pub returns-clause-still : goal.returns-clause-still
+returns-clause-still g c = c.loop-command.invariant.ran.still
+
 pub returns-clause-ran : goal.returns-clause-ran
 returns-clause-ran g c = λ start at.
     let all : take c.loop-command.command-index c.args.commands.now ≡ c.args.commands.now = take_all c.loop-command.command-index c.args.commands.now c.loop-command-test.false in

@@ -13,7 +13,7 @@ returns-in-Err g c =
 pub returns-in-Ok-names_of_tables : goal.returns-in-Ok-names_of_tables
 returns-in-Ok-names_of_tables g c =
     let G = g.met.F.ReadMedium in
-    answers_told G.continues_refl G.continues_keeps c.args.self.now _ c.requires (rests_itself (package_in c.args.self.now)) asked.tables _ refl
+    answers_told G.continues_refl G.continues_keeps c.args.self.now _ c.requires (rests_itself (package_in c.args.self.now)) asked.tables (told.names _) refl refl
     (λ P h. (refl, ap (λ names. told.names names) (c.in-Ok-names_of_tables.ensures.names ∙ c.in-Ok.ensures.held P h)))
 
 pub returns-in-Err-names_of_tables : goal.returns-in-Err-names_of_tables

@@ -1,0 +1,161 @@
+-- Runs that are settled by their commands.
+use Rattle.std.proofs.Common.{◌≡◌, ◌⊎◌, ◌∙◌, Bool, List, [], ◌∷◌, ap, ap₂, false, not, refl, subst, sym, true, ⊎_elim}
+use Rattle.std.specs.Prelude.{bytes_eq, filter, is_none, ℕ, Result, Ok, Err}
+use Rattle.cfb_medium.specs.declared.error.Error.{Error}
+use Rattle.cfb_medium.specs.declared.error.Error.TheVariants.{AlreadyExists, Device, Full, InvalidInput, Memory}
+use Rattle.cfb_meaning.specs.TreeRules.{Object}
+use Rattle.cfb_tree.specs.Names.{Letters}
+use Rattle.command_file.specs.Request.{Request, is_changing}
+use Rattle.command_file.specs.Request as command
+use Rattle.msi_changes.specs.Changes.{deleted, inserted, updated}
+use Rattle.msi_meaning.specs.Calls.{change, created, dropped, found_table, may_insert, may_update, new_table, own_columns, rows_beside, rows_put, selected_in, table_put, Change, Ends, PackagePuts}
+use Rattle.msi_meaning.specs.Package.{at_name, stream_name, Packed}
+use Rattle.msi_meaning.specs.Streams.{may_name, plain_stream_name, stream_read, stream_removed, stream_written}
+use Rattle.msi_tables.specs.Rows.{IsStored, Row}
+use Rattle.msi_tables.specs.Schema.{columns_columns, columns_name, tables_columns, tables_name, validation_name}
+use Rattle.msi_tables.specs.Table.{IsStoredByKeys}
+use Rattle.msi_texts.specs.Results.{unless_not, ◌>>=◌}
+use Rattle.installer.proofs.Once.{step_once}
+use Rattle.installer.specs.Course.{Course, Goes, IsTooMuch, IsUndone, Mark, Runs, StepAs, fails, refuses, stays, steps}
+use Rattle.installer.specs.Reply.{Reply}
+use Rattle.installer.specs.Reply as told
+use Rattle.installer.specs.Step.{PackageBecomes, Reads, Step}
+use Rattle.installer.specs.Undisturbed.{AreByRule, is_by_rule, is_outside, is_sized}
+
+-- ---- replies that a rule gave
+
+sized : (P : Packed) (request : Request) → IsTooMuch P request → is_sized request ≡ true
+sized P (command.write_stream name content) much = refl
+sized P command.flush much = refl
+sized P command.commit much = refl
+sized P request much = absurd much
+
+outside : (old new : Course) (request : Request) (e : Error) → IsUndone old request e new → is_outside (is_sized request) e ≡ true
+outside old new request e is = ⊎_elim
+    (λ fault. ⊎_elim (λ memory. rw memory refl) (λ more. ⊎_elim (λ full. rw full refl) (λ device. rw device.0 refl) more) fault)
+    (λ much. rw much.0 (sized old.held request much.1)) is
+
+-- what is undone, or refused after a fault, is by no rule
+not_by_rule : (request : Request) (reply : Reply) (e : Error) → reply ≡ told.refused e → is_outside (is_sized request) e ≡ true → is_by_rule request reply ≡ true → ⊥
+not_by_rule request reply e is out by =
+    let never : true ≡ false = sym by ∙ ap (is_by_rule request) is ∙ ap not out in
+    absurd (cc)
+
+went : (letters : Letters) (old new : Course) (request : Request) (reply : Reply) → Goes letters old request reply new → is_by_rule request reply ≡ true
+    → StepAs old.sound letters old.held request reply new.held × (new.sound ≡ old.sound)
+went letters old new request reply (steps run step committed yet sound counted) by = (step, sound)
+went letters old new request reply (stays e run is undone other same counted) by = absurd (not_by_rule request reply e is (outside old new request e undone) by)
+went letters old new request reply (fails e run is undone unread same counted) by = absurd (not_by_rule request reply e is (outside old new request e undone) by)
+went letters old new request reply (refuses run is same) by = absurd (not_by_rule request reply _ is refl by)
+
+-- ---- one answer
+
+unsound_once : (letters : Letters) (P Q R : Packed) (request : Request) (r s : Reply) (b : Bool) → is_changing request ≡ b
+    → StepAs false letters P request r Q → StepAs false letters P request s R → (Q ≡ R) × (r ≡ s)
+unsound_once letters P Q R request r s true is h k = let one = rw is at h in let two = rw is at k in (one.0 ∙ sym two.0, one.1 ∙ sym two.1)
+unsound_once letters P Q R request r s false is h k = let one = rw is at h in let two = rw is at k in step_once P Q R r s letters request one two
+
+as_once : (letters : Letters) (P Q R : Packed) (request : Request) (r s : Reply) (sound : Bool) → StepAs sound letters P request r Q → StepAs sound letters P request s R → (Q ≡ R) × (r ≡ s)
+as_once letters P Q R request r s true h k = step_once P Q R r s letters request h k
+as_once letters P Q R request r s false h k = unsound_once letters P Q R request r s (is_changing request) refl h k
+
+pub runs_once : (letters : Letters) (a b c d : Course) (requests : List Request) (rs ss : List Reply) (ms ns : List Mark) → a.held ≡ b.held → a.sound ≡ b.sound
+    → Runs letters a requests rs ms c → Runs letters b requests ss ns d → AreByRule requests rs → AreByRule requests ss → (rs ≡ ss) × (c.held ≡ d.held)
+runs_once letters a b c d [] [] [] ms ns held sound one two by too = (refl, ap (λ (x : Course). x.held) one.1 ∙ held ∙ sym (ap (λ (x : Course). x.held) two.1))
+runs_once letters a b c d (q ∷ qs) (r ∷ rs) (s ∷ ss) ms ns held sound one two by too =
+    let first = went letters a one.0 q r one.2 by.0 in
+    let second = went letters b two.0 q s two.2 too.0 in
+    let alike : StepAs a.sound letters a.held q s two.0.held = rw (sound, held) second.0 in
+    let same = as_once letters a.held one.0.held two.0.held q r s a.sound first.0 alike in
+    let rest = runs_once letters one.0 two.0 c d qs rs ss one.1 two.1 same.0 (first.1 ∙ sound ∙ sym second.1) one.3 two.3 by.1 too.1 in
+    (ap₂ (λ x xs. x ∷ xs) same.1 rest.0, rest.1)
+runs_once letters a b c d [] (r ∷ rs) ss ms ns held sound one two by too = absurd one
+runs_once letters a b c d [] [] (s ∷ ss) ms ns held sound one two by too = absurd two
+runs_once letters a b c d (q ∷ qs) [] ss ms ns held sound one two by too = absurd one
+runs_once letters a b c d (q ∷ qs) (r ∷ rs) [] ms ns held sound one two by too = absurd two
+
+-- ---- storages
+
+module _ (P Q : Packed) where
+  rows_keep : (name : List ℕ) (r : Result Change Error) (answer : Result (Unit {0}) Error) (Arranged : Change → List Row → Type 0)
+      → Ends r P Q answer (λ x. (stored : List Row) × Arranged x stored × PackagePuts P name x stored Q) → Q.storages ≡ P.storages
+  rows_keep name (Ok x) answer Arranged h = ap (λ (p : Packed). p.storages) h.1.2
+  rows_keep name (Err e) answer Arranged h = ap (λ (p : Packed). p.storages) h.0
+
+  tables_keep : {A : Type 0} (r : Result A Error) (answer : Result (Unit {0}) Error) (One Two Three : A → List Row → Type 0) (F : A → List Row → List Row → List Row → Packed)
+      → Ends r P Q answer (λ x. (c : List Row) × (t : List Row) × (v : List Row) × One x c × Two x t × Three x v × (Q ≡ F x c t v))
+      → ((x : A) (c t v : List Row) → (F x c t v).storages ≡ P.storages) → Q.storages ≡ P.storages
+  tables_keep (Ok x) answer One Two Three F h same = ap (λ (p : Packed). p.storages) h.1.6 ∙ same x h.1.0 h.1.1 h.1.2
+  tables_keep (Err e) answer One Two Three F h same = ap (λ (p : Packed). p.storages) h.0
+
+  reads_keep : (read : Result Reply Error) (r : Reply) → Reads read P Q r → Q.storages ≡ P.storages
+  reads_keep (Ok answer) r h = ap (λ (p : Packed). p.storages) h.0
+  reads_keep (Err e) r h = ap (λ (p : Packed). p.storages) h.0
+
+  -- those of what a call makes, or of the package that it leaves
+  abbrev storages_or : Result Packed Error → List Object
+  storages_or (Ok R) = R.storages
+  storages_or (Err e) = P.storages
+
+  bind_keeps : {A : Type 0} (m : Result A Error) (f : A → Result Packed Error) → ((x : A) → storages_or (f x) ≡ P.storages) → storages_or (m >>= f) ≡ P.storages
+  bind_keeps (Ok x) f each = each x
+  bind_keeps (Err e) f each = refl
+
+  becomes_keep : (next : Result Packed Error) (r : Reply) → storages_or next ≡ P.storages → PackageBecomes next P Q r → Q.storages ≡ P.storages
+  becomes_keep (Ok R) r keeps h = ap (λ (p : Packed). p.storages) h.0 ∙ keeps
+  becomes_keep (Err e) r keeps h = ap (λ (p : Packed). p.storages) h.0
+
+keeps : (letters : Letters) (P Q : Packed) (request : Request) (r : Reply) → Step letters P request r Q → Q.storages ≡ P.storages
+keeps letters P Q (command.create_table name columns) r h =
+    tables_keep P Q (created (is_none (at_name letters P.storages (stream_name name))) P name columns) h.0
+    (λ x c. IsStoredByKeys x.1 columns_columns x.0.0 c) (λ x t. IsStoredByKeys x.1 tables_columns x.0.1 t) (λ x v. IsStoredByKeys x.1 (own_columns P) x.0.2 v)
+    (λ x c t v. record P { pool = x.1; tables = rows_put columns_name c (rows_put tables_name t (rows_put validation_name v (table_put (new_table name columns) P.tables))) })
+    h.1 (λ x c t v. refl)
+keeps letters P Q (command.drop_table name) r h =
+    tables_keep P Q (dropped P name) h.0
+    (λ x c. IsStored columns_columns (rows_beside P columns_name name) c) (λ x t. IsStored tables_columns (rows_beside P tables_name name) t) (λ x v. IsStored (own_columns P) (rows_beside P validation_name name) v)
+    (λ x c t v. record P { pool = x.1; tables = rows_put columns_name c (rows_put tables_name t (rows_put validation_name v (filter (λ u. not (bytes_eq u.name name)) P.tables))) })
+    h.1 (λ x c t v. refl)
+keeps letters P Q (command.insert name new_rows) r h =
+    rows_keep P Q name (change P name (λ t. inserted (may_insert name) P.pool t new_rows)) h.0 (λ x stored. IsStoredByKeys x.pool x.table.columns x.rows stored) h.1
+keeps letters P Q (command.update name sets condition) r h =
+    rows_keep P Q name (change P name (λ t. updated (may_update name t.columns sets) P.pool t sets condition)) h.0 (λ x stored. IsStored x.table.columns x.rows stored) h.1
+keeps letters P Q (command.delete name condition) r h =
+    rows_keep P Q name (change P name (λ t. deleted (may_insert name) P.pool t condition)) h.0 (λ x stored. IsStored x.table.columns x.rows stored) h.1
+keeps letters P Q (command.select asked) r h = reads_keep P Q (selected_in P asked >>= λ x. Ok (told.rows x.0 x.1)) r h
+keeps letters P Q (command.columns name) r h = reads_keep P Q (found_table P name >>= λ t. Ok (told.columns t.columns)) r h
+keeps letters P Q (command.read_stream name) r h = reads_keep P Q (stream_read letters P name >>= λ b. Ok (told.bytes b)) r h
+keeps letters P Q (command.write_stream name content) r h =
+    becomes_keep P Q (stream_written letters P name content) r
+    (bind_keeps P Q (may_name letters name) _ (λ _. bind_keeps P Q (unless_not (is_none (at_name letters P.storages (plain_stream_name name))) AlreadyExists) _ (λ _. refl))) h
+keeps letters P Q (command.remove_stream name) r h = becomes_keep P Q (stream_removed letters P name) r (bind_keeps P Q (stream_read letters P name) _ (λ _. refl)) h
+keeps letters P Q command.tables r h = ap (λ (p : Packed). p.storages) h.0
+keeps letters P Q command.streams r h = ap (λ (p : Packed). p.storages) h.0
+keeps letters P Q command.has_signature r h = ap (λ (p : Packed). p.storages) h.0
+keeps letters P Q command.remove_signature r h = ap (λ (p : Packed). p.storages) h.0
+keeps letters P Q command.summary r h = ap (λ (p : Packed). p.storages) h.0
+keeps letters P Q (command.set_summary edit) r h = ap (λ (p : Packed). p.storages) h.0
+keeps letters P Q command.codepage r h = ap (λ (p : Packed). p.storages) h.0
+keeps letters P Q (command.set_codepage page) r h = ap (λ (p : Packed). p.storages) h.0
+keeps letters P Q command.flush r h = ap (λ (p : Packed). p.storages) h.0
+keeps letters P Q command.commit r h = ap (λ (p : Packed). p.storages) h.0
+
+keeps_unsound : (letters : Letters) (P Q : Packed) (request : Request) (r : Reply) (b : Bool) → is_changing request ≡ b → StepAs false letters P request r Q → Q.storages ≡ P.storages
+keeps_unsound letters P Q request r true is h = let one = rw is at h in ap (λ (p : Packed). p.storages) one.0
+keeps_unsound letters P Q request r false is h = let one = rw is at h in keeps letters P Q request r one
+
+keeps_as : (letters : Letters) (P Q : Packed) (request : Request) (r : Reply) (sound : Bool) → StepAs sound letters P request r Q → Q.storages ≡ P.storages
+keeps_as letters P Q request r true h = keeps letters P Q request r h
+keeps_as letters P Q request r false h = keeps_unsound letters P Q request r (is_changing request) refl h
+
+goes_keep : (letters : Letters) (old new : Course) (request : Request) (r : Reply) → Goes letters old request r new → new.held.storages ≡ old.held.storages
+goes_keep letters old new request r (steps run step committed yet sound counted) = keeps_as letters old.held new.held request r old.sound step
+goes_keep letters old new request r (stays e run is undone other same counted) = ap (λ (c : Course). c.held.storages) same
+goes_keep letters old new request r (fails e run is undone unread same counted) = ap (λ (c : Course). c.held.storages) same
+goes_keep letters old new request r (refuses run is same) = ap (λ (c : Course). c.held.storages) same
+
+pub runs_keep : (letters : Letters) (start end : Course) (requests : List Request) (replies : List Reply) (marks : List Mark) → Runs letters start requests replies marks end → end.held.storages ≡ start.held.storages
+runs_keep letters start end [] [] marks runs = ap (λ (c : Course). c.held.storages) runs.1
+runs_keep letters start end (q ∷ qs) (r ∷ rs) marks runs = runs_keep letters runs.0 end qs rs runs.1 runs.3 ∙ goes_keep letters start runs.0 q r runs.2
+runs_keep letters start end [] (r ∷ rs) marks runs = absurd runs
+runs_keep letters start end (q ∷ qs) [] marks runs = absurd runs

@@ -1,0 +1,32 @@
+-- Runs in which all went by the rules of packages.
+use Rattle.std.specs.Prelude.{◌≡◌, ◌||◌, Bool, true, false, not, List, [], ◌∷◌}
+use Rattle.cfb_medium.specs.declared.error.Error.{Error}
+use Rattle.cfb_medium.specs.declared.error.Error.TheVariants.{Device, Failed, Full, InvalidInput, Memory}
+use Rattle.command_file.specs.Request.{Request, is_writing}
+use Rattle.command_file.specs.Request as command
+use Rattle.installer.specs.Reply.{Reply}
+use Rattle.installer.specs.Reply as told
+
+-- a request that writes a stream, which may have too many bytes for a file of some version
+abbrev pub is_sized : Request → Bool
+is_sized (command.write_stream name content) = true
+is_sized request = is_writing request
+
+-- an error that no rule of packages gives to such a request: a fault, a session that has failed, or bytes that may be too many
+abbrev pub is_outside : Bool → Error → Bool
+is_outside sized Memory = true
+is_outside sized Full = true
+is_outside sized Device = true
+is_outside sized Failed = true
+is_outside sized InvalidInput = sized
+is_outside sized e = false
+
+-- a reply that a rule gave
+abbrev pub is_by_rule : Request → Reply → Bool
+is_by_rule request (told.refused e) = not (is_outside (is_sized request) e)
+is_by_rule request reply = true
+
+-- each reply is such a one
+abbrev pub AreByRule : List Request → List Reply → Type 0
+AreByRule (request ∷ requests) (reply ∷ replies) = (is_by_rule request reply ≡ true) × AreByRule requests replies
+AreByRule requests replies = Unit {0}
