@@ -1,6 +1,7 @@
 """The merge gate: proves every crate from nothing, looks at the layout, runs the programs, tries the wrong bodies of each
-crate whose line in must-fail.tried is missing or differs (many at a time, rt-many), ends runs of msidb by force, and refuses
-each request for memory of test_changes and test_packages in turn. It works on a copy."""
+crate whose line in must-fail.tried is missing or differs (many at a time, rt-many), ends runs of msidb by force, gives it
+commands at random, looks at the order of its writes and syncs, and refuses each request for memory of test_changes and
+test_packages in turn. It works on a copy."""
 import os
 import re
 import resource
@@ -44,6 +45,8 @@ def run(room):
 # Scripts that try a program from outside, each with the program and its words, which are read in the program's data.
 TRIALS = (
     ("kill-runs", "msidb"),
+    ("random-runs", "msidb"),
+    ("trace-commit", "msidb"),
     ("refuse-memory", "test_changes", "memory"),
     ("refuse-memory", "test_packages", "memory", "counted_c_empty.msi", "course.json"),
 )

@@ -1,13 +1,12 @@
 //! The run of commands on a package, and what is answered.
-use crate::failures::{Failure, Paths, Trouble, failure_of};
+use crate::failures::{Failure, Paths, failure_of};
 use crate::files::{self, Found};
-use crate::packages::is_sound_at;
 use crate::progress::Progress;
-use crate::refusals::{trouble_of, why_refused};
 use crate::sessions::{open_session, run_commands};
 use cfb_medium::Error;
 use file_device::FileDevice;
 use installer::{Answer, Command, Session, answer_text};
+use package_views::{Trouble, is_sound_at, trouble_of, why_refused};
 use std::alloc::Global;
 use std::fs::File;
 use std::io::Write;

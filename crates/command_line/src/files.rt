@@ -1,10 +1,11 @@
 //! The two files of a package, and which file is taken for a log.
-use crate::failures::{Failure, Paths, Trouble};
-use crate::looks::{has_folder, is_empty, trouble_at};
+use crate::failures::{Failure, Paths};
 use cfb_medium::{Error, ReadMedium};
 use file_device::{FileDevice, FileMedium};
+use package_views::{Trouble, trouble_at};
 use staged::{Recovered, is_log, recover};
-use std::fs::File;
+use std::fs::{self, File};
+use std::path::Path;
 use std::rt::Files;
 
 /// What was found where a log is named.
@@ -157,5 +158,25 @@ fn why_not_opened<R: Files<File = File>>(rt: &R, paths: &Paths<'_>) -> Failure {
         Failure::Package(Trouble::Unwritable)
     } else {
         Failure::Log(Trouble::Unwritable)
+    }
+}
+
+// Whether a file has no bytes.
+fn is_empty<R: Files<File = File>>(rt: &R, path: &str) -> bool {
+    match fs::metadata(rt, path) {
+        Ok(metadata) => metadata.len() == 0,
+        Err(_) => false,
+    }
+}
+
+// Whether the folder of a path is there.
+fn has_folder<R: Files<File = File>>(rt: &R, path: &str) -> bool {
+    let folder = match Path::new(path).parent() {
+        Some(folder) if !folder.as_str().is_empty() => folder.as_str(),
+        _ => ".",
+    };
+    match fs::metadata(rt, folder) {
+        Ok(metadata) => metadata.is_dir(),
+        Err(_) => false,
     }
 }

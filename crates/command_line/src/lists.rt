@@ -2,12 +2,11 @@
 use crate::commands::{Ending, print_line};
 use crate::failures::{Failure, Paths, failure_of};
 use crate::files::{self, Found};
-use crate::packages::{package_at, streams_of, tables_of};
-use crate::refusals::trouble_of;
 use cfb::FileMedium;
 use cfb_medium::Error;
 use installer::Answer;
 use msi::Package;
+use package_views::{package_at, streams_of, tables_of, trouble_of};
 use std::alloc::Global;
 use std::fs::File;
 use std::io::Write;

@@ -2,17 +2,16 @@
 ghost use Rattle.std.specs.Prelude.{◌≤◌};
 
 use crate::commands::{Ending, run};
-use crate::export::export;
-use crate::failures::{Failure, Paths, Trouble, failure_of, tell, tell_failure};
+use crate::failures::{Failure, Paths, failure_of, tell_failure};
 use crate::files::{self, Found};
 use crate::lists::list;
 use crate::progress::Progress;
 use crate::sessions::{commit, create_session};
-use crate::show::show;
 use crate::texts::commands_in;
-use crate::{Line, Log, read_words};
 use cfb_medium::Error;
 use clap::error::ErrorKind;
+use command_words::{Line, Log, read_words};
+use package_views::{Trouble, check_package, export_package, show_package, tell};
 use staged::Recovered;
 use std::alloc::{AllocError, Global};
 use std::fs::File;
@@ -83,8 +82,9 @@ fn carry_out<R: Files<File = File> + AllocGlobal + Clock, O: Write, E: Write>(
             let word = Word::Run(commands, shows_progress);
             on_files(rt, word, package, log, out, err)
         }
-        Line::Show(path, parts) => show(rt, path, parts, out, err),
-        Line::Export(path, folder) => export(rt, path, folder, err),
+        Line::Show(path, parts) => show_package(rt, path, parts, out, err),
+        Line::Check(path) => check_package(rt, path, out, err),
+        Line::Export(path, folder) => export_package(rt, path, folder, err),
     }
 }
 

@@ -1,8 +1,7 @@
 //! The text of a command file.
-use crate::failures::{Trouble, tell, tell_trouble};
-use crate::looks::trouble_at;
 use cfb_medium::Error;
 use command_file::{Command, Refusal, read_commands, refusal_in};
+use package_views::{Trouble, tell, tell_trouble, trouble_at};
 use serde_json::Value as Json;
 use std::alloc::Global;
 use std::fs::{self, File};

@@ -5,16 +5,17 @@ ghost use Rattle.msi_tables.specs.Held.{heading_of};
 ghost use Rattle.msi_tables.specs.Row.{ValueRow};
 
 use crate::pool::rows_text;
-use crate::told::{commands_of, named, shown, value_at, with_parts};
 use cfb_medium::Error;
-use command_file::Command;
+use command_file::{Command, read_commands};
 use msi_pool::{StringRef, ValueRef};
 use msi_tables::{Column, ColumnBuilder, ColumnType, Row as Record, Rows, Table};
 use msi_texts::Category;
 use msi_values::Value;
 use std::alloc::Global;
 use std::rc::Rc;
-use test_support::{Row, Subject, bytes_at, copy_of, hex_of, yes_or_no};
+use test_support::{
+    Row, Subject, bytes_at, copy_of, hex_of, named, shown, value_at, with_parts, yes_or_no,
+};
 
 /// Answers calls on columns, and on the table that was made last.
 #[derive(Drop)]
@@ -48,6 +49,12 @@ impl Subject for Columns {
             },
         }
     }
+}
+
+/// The commands of a row that is a command file.
+pub fn commands_of(alloc: Global, row: &Row) -> Result<Vec<Command>, Error> {
+    let text = row.json(alloc)?;
+    read_commands(alloc, text.as_str())
 }
 
 // The table that a command makes.

@@ -1,7 +1,6 @@
 //! Tables in memory, and commands on them.
-use crate::columns::new_table;
+use crate::columns::{commands_of, new_table};
 use crate::pool::{of_pool, rows_text};
-use crate::told::{commands_of, named};
 use cfb_medium::Error;
 use command_file::Command;
 use msi_pool::{StringPool, ValueRef};
@@ -10,7 +9,7 @@ use msi_tables::{Column, Table};
 use msi_texts::CodePage;
 use std::alloc::Global;
 use std::rc::Rc;
-use test_support::{Row, Shelf, Subject};
+use test_support::{Row, Shelf, Subject, named};
 
 // A table with its rows.
 #[derive(Drop)]

@@ -1,14 +1,11 @@
-//! Values, references and the string pool.
-use crate::told::{shown, value_at};
+//! References and the string pool.
 use cfb_medium::Error;
 use msi_pool::{StringPool, StringPoolBuilder, StringRef, ValueRef};
-use msi_texts::{CodePage, LanguageId};
-use msi_values::Value;
+use msi_texts::CodePage;
 use std::alloc::Global;
-use test_support::{Row, Subject, bytes_at, copy_of, hex_of, yes_or_no};
-use uuid::Uuid;
+use test_support::{Row, Subject, bytes_at, copy_of, hex_of, shown, value_at, yes_or_no};
 
-/// Answers calls on values and on one pool.
+/// Answers calls on references and on one pool.
 #[derive(Drop)]
 pub struct Pools {
     pool: StringPool,
@@ -36,9 +33,6 @@ impl Pools {
 impl Subject for Pools {
     fn answer(&mut self, alloc: Global, row: &Row) -> Result<String, Error> {
         match row.call() {
-            "value" => laid_out(alloc, row),
-            "languages" => joined_texts(alloc, row),
-            "identifier" => in_braces(alloc, row.text(1)),
             "reference" => reference(alloc, row),
             "reference bytes" => reference_bytes(alloc, row),
             "new pool" => self.empty(alloc),
@@ -46,80 +40,6 @@ impl Subject for Pools {
             _ => of_pool(alloc, &mut self.pool, row),
         }
     }
-}
-
-// A value under a layout.
-fn laid_out(alloc: Global, row: &Row) -> Result<String, Error> {
-    let value = value_at(alloc, row, 2)?;
-    match row.text(1) {
-        ">6" => in_six(alloc, &value),
-        ">7" => in_seven(alloc, &value),
-        "~>8" => behind_marks(alloc, &value),
-        "^9" => in_middle(alloc, &value),
-        _ => cut_value(alloc, row.text(1), &value),
-    }
-}
-
-fn in_six(alloc: Global, value: &Value) -> Result<String, Error> {
-    Ok(format!(in alloc; "{value:>6}")?)
-}
-
-fn in_seven(alloc: Global, value: &Value) -> Result<String, Error> {
-    Ok(format!(in alloc; "{value:>7}")?)
-}
-
-fn behind_marks(alloc: Global, value: &Value) -> Result<String, Error> {
-    Ok(format!(in alloc; "{value:~>8}")?)
-}
-
-fn in_middle(alloc: Global, value: &Value) -> Result<String, Error> {
-    Ok(format!(in alloc; "{value:^9}|")?)
-}
-
-// A value under a layout that may cut it.
-fn cut_value(alloc: Global, layout: &str, value: &Value) -> Result<String, Error> {
-    match layout {
-        ".2" => first_two(alloc, value),
-        ".3" => first_three(alloc, value),
-        "-<6.4" => first_four(alloc, value),
-        _ => shown(alloc, value),
-    }
-}
-
-fn first_two(alloc: Global, value: &Value) -> Result<String, Error> {
-    Ok(format!(in alloc; "{value:.2}")?)
-}
-
-fn first_three(alloc: Global, value: &Value) -> Result<String, Error> {
-    Ok(format!(in alloc; "{value:.3}|")?)
-}
-
-fn first_four(alloc: Global, value: &Value) -> Result<String, Error> {
-    Ok(format!(in alloc; "{value:-<6.4}|")?)
-}
-
-fn joined_texts(alloc: Global, row: &Row) -> Result<String, Error> {
-    let languages = languages_at(alloc, row, 1)?;
-    let both = Value::languages(alloc, &languages)?;
-    copy_of(alloc, both.as_str().unwrap_or(""))
-}
-
-/// The languages of a list of numbers.
-pub fn languages_at(alloc: Global, row: &Row, place: usize) -> Result<Vec<LanguageId>, Error> {
-    let mut languages = Vec::new(alloc);
-    for cell in row.list(place) {
-        let id = cell.as_u64().unwrap_or(0);
-        languages.push(LanguageId::from_id(u16::try_from(id).unwrap_or(0)))?;
-    }
-    Ok(languages)
-}
-
-fn in_braces(alloc: Global, text: &str) -> Result<String, Error> {
-    let Ok(uuid) = Uuid::parse_str(text) else {
-        return Err(Error::InvalidData);
-    };
-    let guid = Value::guid(alloc, uuid)?;
-    copy_of(alloc, guid.as_str().unwrap_or(""))
 }
 
 // The reference to a place, where the place can have one.

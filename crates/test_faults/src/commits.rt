@@ -1,12 +1,10 @@
 //! What a commit leaves, and how often it writes.
-use crate::cases::{made, print_case, same, wants};
-use crate::logs::open_log;
-use crate::store_calls::{
-    changed_pages, commit, device, flush, has_failed, home_of, into_device, len, log_of,
-    open_failing, open_recovered, read, recover, write,
-};
 use anyhow::Result;
 use cfb_medium::Error;
+use fault_support::{
+    changed_pages, commit, device, flush, has_failed, home_of, into_device, len, log_of, made,
+    open_failing, open_log, open_recovered, print_case, read, recover, same, wants, write,
+};
 use staged::{MemoryDevice, Recovered, Staged, Which};
 use std::alloc::Global;
 use test_support::{Failing, FailingDevice};

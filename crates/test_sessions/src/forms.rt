@@ -4,8 +4,8 @@ use cfb_medium::{Error, Timestamp};
 use command_file::{Command, SummaryEdit};
 use msi_columns::Column;
 use std::alloc::Global;
-use std::fmt::{Debug, Display};
-use test_support::{Row, Subject, copy_of};
+use std::fmt::Debug;
+use test_support::{Row, Subject, copy_of, named, shown};
 
 /// Reads a row that is a command file, a text, or so many brackets in one another.
 #[derive(Drop)]
@@ -53,14 +53,6 @@ fn command_told(alloc: Global, command: &Command) -> Result<String, Error> {
         Command::DropTable(name) => named(alloc, "drop", name),
         _ => copy_of(alloc, "another"),
     }
-}
-
-fn shown<T: Display>(alloc: Global, value: &T) -> Result<String, Error> {
-    Ok(format!(in alloc; "{value}")?)
-}
-
-fn named<T: Display>(alloc: Global, word: &str, value: &T) -> Result<String, Error> {
-    Ok(format!(in alloc; "{word} {value}")?)
 }
 
 // A value with its parts, behind a word.

@@ -7,6 +7,7 @@ mod printing;
 mod row;
 mod shelf;
 mod survivor;
+mod told;
 
 pub use bytes::{bytes_at, hex_of, part_of, runs};
 pub use failing::{Failing, FailingDevice, FailingMedium};
@@ -14,3 +15,4 @@ pub use printing::{Subject, print_rows};
 pub use row::{Row, copy_of, yes_or_no};
 pub use shelf::Shelf;
 pub use survivor::Survivor;
+pub use told::{named, shown, value_at, with_parts};

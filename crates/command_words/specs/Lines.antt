@@ -1,0 +1,85 @@
+-- What a line says of the words.
+use Rattle.std.specs.Prelude.{◌≡◌, Bool, false, List, [], ◌∷◌, Option, Some, None, codes, option_map}
+use Rattle.std.specs.Str.{bytes_eq}
+use Rattle.clap.specs.Words.{Row, Text, first_of, subcommand_of}
+use Rattle.command_words.specs.Words.{msidb}
+use Rattle.command_words.specs.declared.line.Line.{Line}
+use Rattle.command_words.specs.declared.line.Line.TheVariants.{Check, Create, List as ListNames, Export, Recover, Run, Show}
+use Rattle.command_words.specs.declared.line.Log.{Log}
+use Rattle.command_words.specs.declared.line.Log.TheVariants.{At, Beside, Twice}
+use Rattle.command_words.specs.declared.line.Parts.{Parts}
+
+-- what a line says: the word, and each path with the name under which it is given
+abbrev pub said : Line → Text × List (Text × Text)
+said (Create home log) = (codes "create", (codes "PACKAGE", home.now) ∷ [])
+said (Recover home log) = (codes "recover", (codes "PACKAGE", home.now) ∷ [])
+said (Run home log commands) = (codes "run", (codes "PACKAGE", home.now) ∷ [])
+said (ListNames home log) = (codes "list", (codes "PACKAGE", home.now) ∷ [])
+said (Show file parts) = (codes "show", (codes "FILE", file.now) ∷ [])
+said (Check file) = (codes "check", (codes "FILE", file.now) ∷ [])
+said (Export file folder) = (codes "export", (codes "FILE", file.now) ∷ (codes "FOLDER", folder.now) ∷ [])
+
+-- these paths were given under these names
+abbrev pub AreIn : List (Text × Text) → List Row → Type 0
+AreIn [] rows = Unit {0}
+AreIn (path ∷ paths) rows = (first_of path.0 rows ≡ Some path.1) × AreIn paths rows
+
+-- whether a flag was given: its row then says so
+abbrev pub is_set : Option Text → Bool
+is_set None = false
+is_set (Some text) = bytes_eq text (codes "true")
+
+-- these parts were asked for
+abbrev pub AreAsked : Parts → List Row → Type 0
+AreAsked parts rows = (option_map (λ s. s.now) parts.table ≡ first_of (codes "TABLE") rows)
+    × (parts.summary ≡ is_set (first_of (codes "summary") rows)) × (parts.streams ≡ is_set (first_of (codes "streams") rows))
+
+-- which log is named: none, one, or two
+pub data Named : Type 0 where
+  unnamed : Named
+  once : Text → Named
+  twice : Text → Text → Named
+
+abbrev pub named_by : Log → Named
+named_by Beside = unnamed
+named_by (At path) = once path.now
+named_by (Twice among behind) = twice among.now behind.now
+
+-- the log that is named by a path among the others, by the one behind `--log`, or by both
+abbrev pub named : Option Text → Option Text → Named
+named None None = unnamed
+named None (Some behind) = once behind
+named (Some among) None = once among
+named (Some among) (Some behind) = twice among behind
+
+-- of one path or two behind the package the last is that of the commands
+abbrev pub commands_among : Option Text → Option Text → Option Text
+commands_among first None = first
+commands_among first (Some last) = Some last
+
+-- and what stands in front of it that of the log
+abbrev pub log_among : Option Text → Option Text → Option Text
+log_among first None = None
+log_among first (Some last) = first
+
+abbrev pub IsNamedIn : Log → Option Text → List Row → Type 0
+IsNamedIn log among rows = named_by log ≡ named among (first_of (codes "log") rows)
+
+-- what is asked for besides the paths that must be there
+abbrev pub AsksFor : Line → List Row → Type 0
+AsksFor (Create home log) rows = IsNamedIn log (first_of (codes "LOG") rows) rows
+AsksFor (Recover home log) rows = IsNamedIn log (first_of (codes "LOG") rows) rows
+AsksFor (ListNames home log) rows = IsNamedIn log (first_of (codes "LOG") rows) rows
+AsksFor (Run home log commands) rows = let first = first_of (codes "COMMANDS") rows in let last = first_of (codes "LAST") rows in
+    (Some commands.now ≡ commands_among first last) × IsNamedIn log (log_among first last) rows
+AsksFor (Show file parts) rows = AreAsked parts rows
+AsksFor (Check file) rows = Unit {0}
+AsksFor (Export file folder) rows = Unit {0}
+
+-- the word that was found, with its paths, is what the line says
+abbrev pub SaidIn : Line → Option (Text × List Row) → Type 0
+SaidIn line None = ⊥
+SaidIn line (Some found) = ((said line).0 ≡ found.0) × AreIn (said line).1 found.1 × AsksFor line found.1
+
+abbrev pub HasSaid : Line → List Text → Type 0
+HasSaid line words = SaidIn line (subcommand_of msidb words)

@@ -1,0 +1,69 @@
+-- The command line: a word for what is to be done, and its paths.
+use Rattle.std.specs.Prelude.{true, codes, Some}
+use Rattle.clap.specs.Words.{App, Rule, Text, new_app, new_rule, with_rule, with_subcommand}
+use Rattle.clap.specs.declared.builder.action.ArgAction.TheVariants.{SetTrue}
+
+-- a path, which must be there
+abbrev pub path : Text → Rule
+path id = record (new_rule id) { required = true }
+
+-- the log behind `--log`, of which no more than one is named
+abbrev pub log_option : Rule
+log_option = record (new_rule (codes "log")) { long = Some (codes "log"); value_names = 1 }
+
+-- a word with the path of a package and with that of its log, which may be missing, or stand behind `--log`
+abbrev pub on_package : Text → App
+on_package name = with_rule (with_rule (with_rule (new_app name) (path (codes "PACKAGE"))) (new_rule (codes "LOG"))) log_option
+
+-- the word that runs commands: the package, and one path or two behind it, of which the last is that of the commands
+abbrev pub two_paths : App
+two_paths = with_rule (with_rule (new_app (codes "run")) (path (codes "PACKAGE"))) (path (codes "COMMANDS"))
+
+abbrev pub run : App
+run = with_rule (with_rule two_paths (new_rule (codes "LAST"))) log_option
+
+-- a word behind two hyphens, which nothing follows
+abbrev pub flag : Text → Rule
+flag id = record (new_rule id) { long = Some id; action = Some SetTrue }
+
+-- the word that shows a package: its path, a table's name, which may be missing, and two flags
+abbrev pub table_shown : App
+table_shown = with_rule (with_rule (new_app (codes "show")) (path (codes "FILE"))) (new_rule (codes "TABLE"))
+
+abbrev pub summary_shown : App
+summary_shown = with_rule table_shown (flag (codes "summary"))
+
+abbrev pub shown : App
+shown = with_rule summary_shown (flag (codes "streams"))
+
+-- the word that writes a package to a folder: the paths of both
+abbrev pub exported : App
+exported = with_rule (with_rule (new_app (codes "export")) (path (codes "FILE"))) (path (codes "FOLDER"))
+
+-- the word that judges a package: its path
+abbrev pub checked : App
+checked = with_rule (new_app (codes "check")) (path (codes "FILE"))
+
+-- no word yet: one must be there, or a wish for help or version, and the program's own name isn't among the words
+abbrev pub bare : App
+bare = let app = new_app (codes "msidb") in record app {
+  top = record app.top {
+    no_binary_name = true;
+    subcommand_required = true;
+    has_version = true;
+  };
+}
+
+-- the words on a package and its log
+abbrev pub without_run : App
+without_run = with_subcommand (with_subcommand bare (on_package (codes "create")).top) (on_package (codes "recover")).top
+
+abbrev pub with_log : App
+with_log = with_subcommand (with_subcommand without_run run.top) (on_package (codes "list")).top
+
+-- and those on one that is only read
+abbrev pub with_looks : App
+with_looks = with_subcommand (with_subcommand with_log shown.top) checked.top
+
+abbrev pub msidb : App
+msidb = with_subcommand with_looks exported.top

@@ -1,0 +1,7 @@
+//! The words of `msidb`'s command line: which there are, and what a line of them says.
+#![tactic(auto)]
+
+mod line;
+mod words;
+
+pub use line::{Line, Log, Parts, read_words};

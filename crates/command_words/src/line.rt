@@ -1,0 +1,179 @@
+//! A line of words.
+ghost use Rattle.std.specs.Prelude.{◌≡◌, IfOk, IfErr, IfSome, codes, option_map, map, string_bytes, true};
+ghost use Rattle.clap.specs.Words.{first_of, found_of, kind_of, rows_of, subcommand_rows_of, takes};
+ghost use Rattle.command_words.specs.Words.{msidb};
+ghost use Rattle.command_words.specs.Lines.{said, is_set, named, named_by, AreIn, AreAsked, AsksFor, IsNamedIn, SaidIn, HasSaid};
+
+use crate::words::matches;
+use clap::error::ErrorKind;
+use clap::{ArgMatches, Error};
+use std::alloc::{AllocError, Global};
+
+/// Which file is the log of a package.
+#[derive(Clone, Copy, Debug, PartialEq, Eq)]
+pub enum Log<'a> {
+    /// The one beside it, whose path is that of the package with `.log` behind it.
+    Beside,
+    /// The one of this path.
+    At(&'a str),
+    /// Two are named, one among the paths and one behind `--log`, so nothing can be done.
+    Twice(&'a str, &'a str),
+}
+
+/// The parts of a package that are asked for; none is all of them.
+#[derive(Clone, Copy, Debug, PartialEq, Eq)]
+pub struct Parts<'a> {
+    /// The table of this name.
+    pub table: Option<&'a str>,
+    /// The summary.
+    pub summary: bool,
+    /// The streams that belong to no table.
+    pub streams: bool,
+}
+
+/// What the program is asked for: the path of a package with its log, and of a command file; or the path of a file, and what is shown
+/// of it.
+#[derive(Clone, Copy, Debug, PartialEq, Eq)]
+pub enum Line<'a> {
+    /// Make a new package.
+    Create(&'a str, Log<'a>),
+    /// Finish a commit.
+    Recover(&'a str, Log<'a>),
+    /// Run the commands of a file.
+    Run(&'a str, Log<'a>, &'a str),
+    /// List the tables and the streams.
+    List(&'a str, Log<'a>),
+    /// Show parts of a package of any maker.
+    Show(&'a str, Parts<'a>),
+    /// Tell which rules a package of any maker breaks.
+    Check(&'a str),
+    /// Write a package of any maker to a new folder.
+    Export(&'a str, &'a str),
+}
+
+/// Reads the words after the program's name. Words that ask for nothing are refused, with a text that says why; so is a wish for help
+/// or for the version, whose text is that. A log that is named twice is no refusal here: the line says so.
+pub fn read_words<'a>(alloc: Global, words: &'a [String]) -> Result<Line<'a>, Error>
+    ensures ok { IfOk result (λ line. HasSaid line (map string_bytes words.entry.now)) }
+    ensures err { IfErr result (λ e. takes msidb (map string_bytes words.entry.now) ≡ true
+        → kind_of e ≡ ErrorKind.OutOfMemory) }
+{
+    let found = matches(alloc, words)?;
+    match line_in(&found) {
+        Some(line) => Ok(line),
+        None => Err(Error::from(AllocError)),
+    }
+}
+
+fn line_in<'a>(found: &ArgMatches<'a>) -> Option<Line<'a>>
+    ensures { IfSome result (λ line. SaidIn line (subcommand_rows_of found.now)) }
+{
+    let (name, paths) = found.subcommand()?;
+    line_of(name, paths)
+}
+
+fn line_of<'a>(name: &str, paths: &ArgMatches<'a>) -> Option<Line<'a>>
+    ensures { IfSome result (λ line. ((said line).0 ≡ name.now)
+        × AreIn (said line).1 (rows_of (found_of paths.now))
+        × AsksFor line (rows_of (found_of paths.now))) }
+{
+    match name {
+        "show" => {
+            let file = path(paths, "FILE")?;
+            let parts = parts_in(paths);
+            Some(Line::Show(file, parts))
+        }
+        "check" => {
+            let file = path(paths, "FILE")?;
+            Some(Line::Check(file))
+        }
+        "export" => {
+            let file = path(paths, "FILE")?;
+            let folder = path(paths, "FOLDER")?;
+            Some(Line::Export(file, folder))
+        }
+        "run" => line_of_run(paths),
+        _ => line_on_package(name, paths),
+    }
+}
+
+// The line of a word that has a package and its log.
+fn line_on_package<'a>(name: &str, paths: &ArgMatches<'a>) -> Option<Line<'a>>
+    ensures { IfSome result (λ line. ((said line).0 ≡ name.now)
+        × AreIn (said line).1 (rows_of (found_of paths.now))
+        × AsksFor line (rows_of (found_of paths.now))) }
+{
+    let package = path(paths, "PACKAGE")?;
+    let log = log_in(path(paths, "LOG"), paths);
+    match name {
+        "create" => Some(Line::Create(package, log)),
+        "recover" => Some(Line::Recover(package, log)),
+        "list" => Some(Line::List(package, log)),
+        _ => None,
+    }
+}
+
+// The line of the word that runs commands.
+fn line_of_run<'a>(paths: &ArgMatches<'a>) -> Option<Line<'a>>
+    ensures { IfSome result (λ line. ((said line).0 ≡ codes "run")
+        × AreIn (said line).1 (rows_of (found_of paths.now))
+        × AsksFor line (rows_of (found_of paths.now))) }
+{
+    let package = path(paths, "PACKAGE")?;
+    let first = path(paths, "COMMANDS")?;
+    match path(paths, "LAST") {
+        Some(last) => {
+            let log = log_in(Some(first), paths);
+            Some(Line::Run(package, log, last))
+        }
+        None => {
+            let log = log_in(None, paths);
+            Some(Line::Run(package, log, first))
+        }
+    }
+}
+
+// The log that is named among the paths, or behind `--log`.
+fn log_in<'a>(among: Option<&'a str>, paths: &ArgMatches<'a>) -> Log<'a>
+    ensures { IsNamedIn result (option_map (λ s. s.now) among.entry) (rows_of (found_of paths.now)) }
+{
+    log_of(among, path(paths, "log"))
+}
+
+fn log_of<'a>(among: Option<&'a str>, behind: Option<&'a str>) -> Log<'a>
+    ensures { named_by result
+        ≡ named (option_map (λ s. s.now) among.entry) (option_map (λ s. s.now) behind.entry) }
+{
+    match (among, behind) {
+        (None, None) => Log::Beside,
+        (Some(among), None) => Log::At(among),
+        (None, Some(behind)) => Log::At(behind),
+        (Some(among), Some(behind)) => Log::Twice(among, behind),
+    }
+}
+
+fn parts_in<'a>(paths: &ArgMatches<'a>) -> Parts<'a>
+    ensures { AreAsked result (rows_of (found_of paths.now)) }
+{
+    Parts {
+        table: path(paths, "TABLE"),
+        summary: has_flag(paths, "summary"),
+        streams: has_flag(paths, "streams"),
+    }
+}
+
+fn has_flag(paths: &ArgMatches<'_>, id: &str) -> bool
+    ensures { result ≡ is_set (first_of id.now (rows_of (found_of paths.now))) }
+{
+    match path(paths, id) {
+        Some(text) => text == "true",
+        None => false,
+    }
+}
+
+#[tactic(auto, using(crate::proofs::Firsts::first_is))]
+fn path<'a>(paths: &ArgMatches<'a>, id: &str) -> Option<&'a str>
+    ensures { option_map (λ s. s.now) result ≡ first_of id.now (rows_of (found_of paths.now)) }
+{
+    paths.get_str(id)
+}

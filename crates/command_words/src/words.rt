@@ -1,0 +1,285 @@
+//! The words that the program takes.
+ghost use Rattle.std.specs.Prelude.{◌≡◌, codes, true, false, IfOk, IfErr, map, string_bytes};
+ghost use Rattle.clap.specs.Words.{app_of, kind_of, rule_of, takes, with_rule, with_subcommand, HasMatchesOf};
+ghost use Rattle.clap.specs.declared.Command.TheViews.{out-Command as fields_of};
+ghost use Rattle.command_words.specs.Words.{bare, checked, exported, log_option, msidb, on_package, path, run, shown, summary_shown, table_shown, two_paths, with_log, with_looks, without_run};
+
+use clap::error::ErrorKind;
+use clap::{Arg, ArgAction, ArgMatches, Command, Error};
+use std::alloc::{AllocError, Global};
+
+// The number of this program's version.
+const VERSION: &str = "0.1.0";
+
+// What stands behind each help.
+const STATUSES: &str =
+    "Status: 0 done, 1 a command was refused by a rule, 2 words or a command file that can't be read, 3 a fault, or files that were refused.";
+
+// Adds an argument.
+fn add<'a>(command: Command<'a>, argument: Arg<'a>) -> Result<Command<'a>, AllocError>
+    requires whole { (fields_of command).has_globals ≡ false }
+    requires local { argument.global ≡ false }
+    ensures app { IfOk result (λ c. app_of c
+        ≡ with_rule (app_of command.entry) (rule_of argument.entry)) }
+    ensures local { IfOk result (λ c. (fields_of c).has_globals ≡ false) }
+{
+    command.arg(argument)
+}
+
+// A path that must be there.
+fn needed<'a>(alloc: Global, id: &'a str, help: &'a str) -> Arg<'a>
+    ensures rule { rule_of result ≡ path id.entry.now }
+    ensures local { result.global ≡ false }
+{
+    Arg::new(alloc, id).required(true).help(help)
+}
+
+// The option that names the log.
+fn log_behind<'a>(alloc: Global) -> Arg<'a>
+    ensures rule { rule_of result ≡ log_option }
+    ensures local { result.global ≡ false }
+{
+    Arg::new(alloc, "log").long("log").value_name("LOG").help(
+        "The log, if it isn't the package's path with `.log` behind it",
+    )
+}
+
+// A word with the paths of a package and of its log.
+fn with_paths<'a>(
+    alloc: Global,
+    name: &'a str,
+    about: &'a str,
+    example: &'a str,
+) -> Result<Command<'a>, AllocError>
+    ensures app { IfOk result (λ c. app_of c ≡ on_package name.entry.now) }
+    ensures local { IfOk result (λ c. (fields_of c).has_globals ≡ false) }
+{
+    let log = Arg::new(alloc, "LOG").help(
+        "Its log, by which a commit survives a stop; the same as behind `--log`",
+    );
+    let command = Command::new(alloc, name).about(about).after_help(example);
+    let first = add(command, needed(alloc, "PACKAGE", "The package"))?;
+    let second = add(first, log)?;
+    add(second, log_behind(alloc))
+}
+
+// What stands behind the help of the word that runs commands: an example of each op.
+fn help_on_commands() -> &'static str {
+    r#"Example: msidb run setup.msi commands.json
+Prints an answer for each command, a line of JSON each. A log that isn't there is made, once the package was found to be a sound one.
+A command file has a command of these, or several:
+[{"op":"create_table","table":"T","columns":[{"name":"Id","type":"int16","key":true}]},
+ {"op":"insert","table":"T","rows":[[1],[2]]},
+ {"op":"update","table":"T","set":[["Id",3]],"where":{"op":"eq","args":[{"col":"Id"},1]}},
+ {"op":"delete","table":"T","where":{"op":"eq","args":[{"col":"Id"},2]}},
+ {"op":"select","from":"T","columns":["Id"]},
+ {"op":"columns","table":"T"},
+ {"op":"tables"},
+ {"op":"drop_table","table":"T"},
+ {"op":"write_stream","name":"S","hex":"00ff"},
+ {"op":"read_stream","name":"S"},
+ {"op":"streams"},
+ {"op":"remove_stream","name":"S"},
+ {"op":"set_summary","field":"title","value":"Foo"},
+ {"op":"summary"},
+ {"op":"set_codepage","id":1252},
+ {"op":"codepage"},
+ {"op":"has_signature"},
+ {"op":"remove_signature"},
+ {"op":"flush"},
+ {"op":"commit"}]
+Status: 0 done, 1 a command was refused by a rule, 2 the command file was refused and nothing was opened, 3 a fault, or files that were refused."#
+}
+
+// The word that runs commands, with the paths of a package and of a command file.
+fn with_commands<'a>(alloc: Global) -> Result<Command<'a>, AllocError>
+    ensures app { IfOk result (λ c. app_of c ≡ two_paths) }
+    ensures local { IfOk result (λ c. (fields_of c).has_globals ≡ false) }
+{
+    let command = Command::new(alloc, "run")
+        .about("Runs the commands of a file")
+        .override_usage(
+            "msidb run [--log <LOG>] <PACKAGE> <COMMANDS>\n       msidb run <PACKAGE> <LOG> <COMMANDS>",
+        )
+        .after_help(help_on_commands());
+    let commands = needed(
+        alloc,
+        "COMMANDS",
+        "The command file: a JSON array of objects, each with its `op`",
+    );
+    add(
+        add(command, needed(alloc, "PACKAGE", "The package"))?,
+        commands,
+    )
+}
+
+// The same with the log: in front of the command file, which is then the last path, or behind its option.
+fn with_run<'a>(alloc: Global) -> Result<Command<'a>, AllocError>
+    ensures app { IfOk result (λ c. app_of c ≡ run) }
+    ensures local { IfOk result (λ c. (fields_of c).has_globals ≡ false) }
+{
+    let last = Arg::new(alloc, "LAST").hide(true);
+    let first = add(with_commands(alloc)?, last)?;
+    add(first, log_behind(alloc))
+}
+
+// The word that shows a package, with the path of a file and the name of a table.
+fn with_table<'a>(alloc: Global) -> Result<Command<'a>, AllocError>
+    ensures app { IfOk result (λ c. app_of c ≡ table_shown) }
+    ensures local { IfOk result (λ c. (fields_of c).has_globals ≡ false) }
+{
+    let table = Arg::new(alloc, "TABLE").help("The table of this name, its columns and rows");
+    let command = Command::new(alloc, "show")
+        .about("Shows what a package of any maker holds")
+        .after_help(
+            "Example: msidb show setup.msi Property\nPrints a line of JSON for each part that is asked for, or for all; a table's rows stand behind its columns. Nothing is written.\nStatus: 0 done, 1 no table has the name, 3 the file is no package, or a part of it can't be read.",
+        );
+    add(add(command, needed(alloc, "FILE", "The package"))?, table)
+}
+
+// The same with a flag for the summary.
+fn with_summary<'a>(alloc: Global) -> Result<Command<'a>, AllocError>
+    ensures app { IfOk result (λ c. app_of c ≡ summary_shown) }
+    ensures local { IfOk result (λ c. (fields_of c).has_globals ≡ false) }
+{
+    let summary = Arg::new(alloc, "summary")
+        .long("summary")
+        .action(ArgAction::SetTrue)
+        .help("The properties of the summary");
+    add(with_table(alloc)?, summary)
+}
+
+// The same with one for the streams.
+fn with_file<'a>(alloc: Global) -> Result<Command<'a>, AllocError>
+    ensures app { IfOk result (λ c. app_of c ≡ shown) }
+    ensures local { IfOk result (λ c. (fields_of c).has_globals ≡ false) }
+{
+    let streams = Arg::new(alloc, "streams")
+        .long("streams")
+        .action(ArgAction::SetTrue)
+        .help("The streams that hold no tables, with lengths and SHA-256");
+    add(with_summary(alloc)?, streams)
+}
+
+// The word that judges a package, with the path of a file.
+fn with_judged<'a>(alloc: Global) -> Result<Command<'a>, AllocError>
+    ensures app { IfOk result (λ c. app_of c ≡ checked) }
+    ensures local { IfOk result (λ c. (fields_of c).has_globals ≡ false) }
+{
+    let command = Command::new(alloc, "check")
+        .about("Tells which rules a package of any maker breaks")
+        .after_help(
+            "Example: msidb check setup.msi\nPrints a line for each rule of a sound package that this one breaks; for a sound one, nothing. Nothing is written.\nStatus: 0 sound, 1 not, 3 the file is no package, or can't be read.",
+        );
+    add(command, needed(alloc, "FILE", "The package"))
+}
+
+// The word that exports a package, with the paths of a file and of a folder.
+fn with_folder<'a>(alloc: Global) -> Result<Command<'a>, AllocError>
+    ensures app { IfOk result (λ c. app_of c ≡ exported) }
+    ensures local { IfOk result (λ c. (fields_of c).has_globals ≡ false) }
+{
+    let command = Command::new(alloc, "export")
+        .about("Writes what a package of any maker holds to files of a new folder")
+        .after_help(
+            "Example: msidb export setup.msi setup\nWrites each table as TABLE.idt, as Windows Installer exports it, and each other stream to _Streams.\nIn names of files each byte but letters, digits, `_`, `-` and a dot that isn't the first stands as % and two digits.\nStatus: 0 done, 3 the file is no package, or not all could be read and written.",
+        );
+    let folder = needed(
+        alloc,
+        "FOLDER",
+        "The folder, which is made and must not be there",
+    );
+    add(add(command, needed(alloc, "FILE", "The package"))?, folder)
+}
+
+fn root<'a>(alloc: Global) -> Result<Command<'a>, AllocError>
+    ensures app { IfOk result (λ c. app_of c ≡ bare) }
+    ensures local { IfOk result (λ c. (fields_of c).has_globals ≡ false) }
+{
+    Command::new(alloc, "msidb")
+        .about("Windows Installer databases that survive a stop at any moment")
+        .version(VERSION)
+        .after_help(STATUSES)
+        .no_binary_name(true)
+        .subcommand_required(true)
+        .bin_name("msidb")
+}
+
+fn with<'a>(command: Command<'a>, part: Command<'a>) -> Result<Command<'a>, AllocError>
+    requires whole { (fields_of command).has_globals ≡ false }
+    requires part { (fields_of part).has_globals ≡ false }
+    ensures app { IfOk result (λ c. app_of c
+        ≡ with_subcommand (app_of command.entry) (app_of part.entry).top) }
+    ensures local { IfOk result (λ c. (fields_of c).has_globals ≡ false) }
+{
+    command.subcommand(part)
+}
+
+// The words that make a package and that finish its commits.
+fn on_files<'a>(alloc: Global) -> Result<Command<'a>, AllocError>
+    ensures app { IfOk result (λ c. app_of c ≡ without_run) }
+    ensures local { IfOk result (λ c. (fields_of c).has_globals ≡ false) }
+{
+    let create = with_paths(
+        alloc,
+        "create",
+        "Makes a new package and commits it",
+        "Example: msidb create setup.msi\nMakes the package, and the log setup.msi.log. Where the package is there already it is left, with status 3; so is a file that is named as the log and is none.",
+    )?;
+    let recover = with_paths(
+        alloc,
+        "recover",
+        "Finishes a commit that a stop cut short",
+        "Example: msidb recover setup.msi\nPrints `closed` where there was nothing to do, else `applied` and how many pages were written.",
+    )?;
+    let bare = root(alloc)?;
+    let first = with(bare, create)?;
+    with(first, recover)
+}
+
+// And those that run commands and list names.
+fn on_packages<'a>(alloc: Global) -> Result<Command<'a>, AllocError>
+    ensures app { IfOk result (λ c. app_of c ≡ with_log) }
+    ensures local { IfOk result (λ c. (fields_of c).has_globals ≡ false) }
+{
+    let run = with_run(alloc)?;
+    let list = with_paths(
+        alloc,
+        "list",
+        "Lists the tables and the streams",
+        "Example: msidb list setup.msi\nPrints the names of the tables, and those of the streams that hold no tables, a JSON list on a line each. A commit that a stop cut short is finished first.",
+    )?;
+    let bare = on_files(alloc)?;
+    let first = with(bare, run)?;
+    with(first, list)
+}
+
+// And those on a package that is only read.
+fn on_looks<'a>(alloc: Global) -> Result<Command<'a>, AllocError>
+    ensures app { IfOk result (λ c. app_of c ≡ with_looks) }
+    ensures local { IfOk result (λ c. (fields_of c).has_globals ≡ false) }
+{
+    let show = with_file(alloc)?;
+    let check = with_judged(alloc)?;
+    let bare = on_packages(alloc)?;
+    let first = with(bare, show)?;
+    with(first, check)
+}
+
+// The program's words.
+fn definition<'a>(alloc: Global) -> Result<Command<'a>, AllocError>
+    ensures { IfOk result (λ c. app_of c ≡ msidb) }
+{
+    let export = with_folder(alloc)?;
+    let bare = on_looks(alloc)?;
+    with(bare, export)
+}
+
+// What was found among the words.
+pub fn matches<'a>(alloc: Global, words: &'a [String]) -> Result<ArgMatches<'a>, Error>
+    ensures ok { IfOk result (HasMatchesOf msidb (map string_bytes words.entry.now)) }
+    ensures err { IfErr result (λ e. takes msidb (map string_bytes words.entry.now) ≡ true
+        → kind_of e ≡ ErrorKind.OutOfMemory) }
+{
+    definition(alloc)?.try_get_matches_from(words)
+}

@@ -1,0 +1,71 @@
+//! Which rules of a sound package one of any maker breaks, a line each.
+ghost use Rattle.std.specs.Prelude.{◌≤◌};
+
+use crate::packages::defects_at;
+use crate::refusals::tell_why_refused;
+use crate::troubles::tell_error;
+use cfb_medium::Error;
+use msi::Defect;
+use std::fs::File;
+use std::io::Write;
+use std::rt::Files;
+
+// What is said of a rule that isn't kept.
+fn text_of(defect: Defect) -> &'static str {
+    match defect {
+        Defect::Container =>
+            "container: the compound file isn't sound: a sector serves two uses, one that is used is free or missing, or a stream isn't whole",
+        Defect::PoolTexts => "texts: one isn't given back by the code page of the database",
+        Defect::SummaryTexts => "summary: a text isn't given back by the code page of the summary",
+        Defect::SummarySections => "summary: it hasn't just one section",
+        Defect::FreePlaces => "texts: one stands in the string pool that no cell uses",
+        Defect::TableNames =>
+            "tables: one has a name that is no identifier, that no stream can have, or that is the string pool's",
+        Defect::Validation =>
+            "tables: _Validation hasn't the ten columns and two keys that it must have",
+        Defect::Objects =>
+            "streams: one is named as a table's and there is no such table, or a storage has the name of a table's stream",
+        Defect::ListedSystemTables =>
+            "tables: _Tables names itself or _Columns, or its rows can't be read",
+        Defect::Counts =>
+            "counts: the string pool doesn't count just the cells that use each text, or the rows of a table can't be read",
+    }
+}
+
+// Writes a line for each.
+fn write_defects<O: Write>(found: &[Defect], out: &mut O) -> Result<(), Error> {
+    for defect in found {
+        if writeln!(out, "{}", text_of(*defect)).is_err() {
+            return Err(Error::Device);
+        }
+    }
+    Ok(())
+}
+
+/// Tells which rules the package at a path breaks, which is only read: a line for each, none where it is sound. The status is 0 where it
+/// is sound, 1 where it isn't, 3 where the file is no package or can't be read, which is told with the file's name, and where nothing can
+/// be written.
+pub fn check_package<'a, R: Files<File = File> + AllocGlobal, O: Write, E: Write>(
+    rt: &R,
+    path: &'a str,
+    out: &'a mut O,
+    err: &'a mut E,
+) -> u8
+    ensures { result ≤ 3 }
+{
+    let found = match defects_at(rt, path) {
+        Ok(found) => found,
+        Err(error) => {
+            tell_why_refused(rt, path, error, err);
+            return 3;
+        }
+    };
+    match write_defects(&found, out) {
+        Ok(()) if found.is_empty() => 0,
+        Ok(()) => 1,
+        Err(error) => {
+            tell_error(path, error, err);
+            3
+        }
+    }
+}

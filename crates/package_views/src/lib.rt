@@ -1,0 +1,18 @@
+//! Packages of any maker as they are only read: shown, judged, written to a folder; what is wrong with a file that is none.
+#![tactic(auto)]
+
+mod check;
+mod export;
+mod looks;
+mod packages;
+mod refusals;
+mod show;
+mod troubles;
+
+pub use check::check_package;
+pub use export::export_package;
+pub use looks::trouble_at;
+pub use packages::{is_sound_at, package_at, streams_of, tables_of};
+pub use refusals::{trouble_of, why_refused};
+pub use show::show_package;
+pub use troubles::{Trouble, tell, tell_trouble};

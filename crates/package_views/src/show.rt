@@ -1,0 +1,281 @@
+//! What a package of any maker holds, a line of JSON each.
+ghost use Rattle.std.specs.Prelude.{◌≤◌};
+
+use crate::packages::{
+    facts_of, is_signed, is_sound, kind_of, package_at, page_of, properties_of, rows_of,
+    streams_of, table_named, tables_of,
+};
+use crate::refusals::tell_why_refused;
+use crate::troubles::{tell_error, tell_part};
+use cfb::FileMedium;
+use cfb_medium::Error;
+use command_words::Parts;
+use installer::{cell_value, columns_value, property_value};
+use msi::Package;
+use msi_columns::Column;
+use msi_export::{StreamFacts, property_name};
+use msi_props::PropertyValue;
+use msi_tables::Row;
+use msi_values::Value;
+use serde_json::{Value as Json, json};
+use std::alloc::{AllocError, Global};
+use std::fs::File;
+use std::io::Write;
+use std::rt::Files;
+
+// The number of the summary's code page.
+const CODEPAGE: u32 = 1;
+
+// How much was shown.
+#[derive(Clone, Copy, Debug, PartialEq, Eq)]
+enum Shown {
+    // All that was asked for.
+    Whole,
+    // Some of it: what couldn't be read was told.
+    Partly,
+    // A table was asked for that isn't there.
+    NoTable,
+}
+
+/// Shows parts of the package at a path, which is only read. The status is 0 where all was shown, 1 where no table has the name, 3
+/// where the file is no package or a part of it can't be read, which is told with the file's name, and where nothing can be written.
+pub fn show_package<'a, R: Files<File = File> + AllocGlobal, O: Write, E: Write>(
+    rt: &R,
+    path: &'a str,
+    parts: Parts<'_>,
+    out: &'a mut O,
+    err: &'a mut E,
+) -> u8
+    ensures { result ≤ 3 }
+{
+    let mut package = match package_at(rt, path) {
+        Ok(package) => package,
+        Err(error) => {
+            tell_why_refused(rt, path, error, err);
+            return 3;
+        }
+    };
+    let mut page = Page {
+        alloc: rt.alloc(),
+        path,
+        out,
+        err,
+    };
+    match show_parts(&mut page, &mut package, parts) {
+        Ok(Shown::Whole) => 0,
+        Ok(Shown::NoTable) => 1,
+        Ok(Shown::Partly) => 3,
+        Err(error) => {
+            tell_error(path, error, page.err);
+            3
+        }
+    }
+}
+
+// Shows the parts that are asked for, or all.
+fn show_parts<O: Write, E: Write>(
+    page: &mut Page<'_, O, E>,
+    package: &mut Package<FileMedium>,
+    parts: Parts<'_>,
+) -> Result<Shown, Error> {
+    if parts.summary {
+        page.show_summary(package)?;
+    }
+    if parts.streams && page.show_streams(package)? == Shown::Partly {
+        return Ok(Shown::Partly);
+    }
+    match parts.table {
+        Some(name) => page.show_table_asked(package, name),
+        None if parts.summary || parts.streams => Ok(Shown::Whole),
+        None => page.show_all(package),
+    }
+}
+
+// Where the parts of a package are shown.
+#[derive(Drop)]
+struct Page<'a, O, E> {
+    alloc: Global,
+    path: &'a str,
+    out: &'a mut O,
+    err: &'a mut E,
+}
+
+impl<'a, O: Write, E: Write> Page<'a, O, E> {
+    fn show_all(&mut self, package: &mut Package<FileMedium>) -> Result<Shown, Error> {
+        self.line(&facts_value(self.alloc, package)?)?;
+        self.show_summary(package)?;
+        let tables = self.show_tables(package)?;
+        let streams = self.show_streams(package)?;
+        Ok(if tables == Shown::Whole {
+            streams
+        } else {
+            tables
+        })
+    }
+
+    // Each property of the summary.
+    fn show_summary(&mut self, package: &Package<FileMedium>) -> Result<(), Error> {
+        for (number, value) in properties_of(package) {
+            let line = numbered_value(self.alloc, *number, value)?;
+            self.line(&line)?;
+        }
+        Ok(())
+    }
+
+    // Each table, by the bytes of the names.
+    fn show_tables(&mut self, package: &mut Package<FileMedium>) -> Result<Shown, Error> {
+        let mut shown = Shown::Whole;
+        for name in tables_of(package)? {
+            if self.show_table(package, &name)? == Shown::Partly {
+                shown = Shown::Partly;
+            }
+        }
+        Ok(shown)
+    }
+
+    fn show_table_asked(
+        &mut self,
+        package: &mut Package<FileMedium>,
+        name: &str,
+    ) -> Result<Shown, Error> {
+        if table_named(package, name).is_some() {
+            return self.show_table(package, name);
+        }
+        let _ = writeln!(self.err, "msidb: {}: no table {name}", self.path);
+        Ok(Shown::NoTable)
+    }
+
+    // The name and the columns of a table, and its rows, or why they can't be read.
+    fn show_table(
+        &mut self,
+        package: &mut Package<FileMedium>,
+        name: &str,
+    ) -> Result<Shown, Error> {
+        let heading = heading_value(self.alloc, package, name)?;
+        self.line(&heading)?;
+        match self.show_rows(package, name)? {
+            None => Ok(Shown::Whole),
+            Some(error) => {
+                tell_part(self.path, "table", name, error, self.err);
+                Ok(Shown::Partly)
+            }
+        }
+    }
+
+    // The rows of a table, or why they can't be read.
+    fn show_rows(
+        &mut self,
+        package: &mut Package<FileMedium>,
+        name: &str,
+    ) -> Result<Option<Error>, Error> {
+        let rows = match rows_of(self.alloc, package, name) {
+            Ok(rows) => rows,
+            Err(error) => return Ok(Some(error)),
+        };
+        for row in rows {
+            let line = row_value(self.alloc, &row)?;
+            self.line(&line)?;
+        }
+        Ok(None)
+    }
+
+    // Each stream that belongs to no table, in the container's order.
+    fn show_streams(&mut self, package: &mut Package<FileMedium>) -> Result<Shown, Error> {
+        let mut shown = Shown::Whole;
+        for name in streams_of(package)? {
+            match facts_of(self.alloc, package, &name) {
+                Ok(facts) => self.line(&stream_value(self.alloc, &name, &facts)?)?,
+                Err(error) => {
+                    tell_part(self.path, "stream", &name, error, self.err);
+                    shown = Shown::Partly;
+                }
+            }
+        }
+        Ok(shown)
+    }
+
+    // Writes a line. `Device` where it can't be written.
+    fn line(&mut self, value: &Json) -> Result<(), Error> {
+        let text = text_of_json(self.alloc, value)?;
+        match writeln!(self.out, "{text}") {
+            Ok(()) => Ok(()),
+            Err(_) => Err(Error::Device),
+        }
+    }
+}
+
+// What is said of the whole package.
+fn facts_value(alloc: Global, package: &Package<FileMedium>) -> Result<Json, AllocError> {
+    let kind = Json::String(format!(in alloc; "{:?}", kind_of(package))?);
+    let page = Json::from(page_of(package));
+    let (signed, sound) = (is_signed(package), is_sound(package));
+    json!(in alloc; {"codepage": page, "kind": kind, "signed": signed, "sound": sound})
+}
+
+// A property with its number and name. A code page is a number without a sign.
+fn numbered_value(alloc: Global, number: u32, value: &PropertyValue) -> Result<Json, AllocError> {
+    let value = match value {
+        PropertyValue::I2(page) if number == CODEPAGE => Json::from(page.cast_unsigned()),
+        _ => value_of_property(alloc, value)?,
+    };
+    let name = match property_name(number) {
+        Some(name) => text_value(alloc, name)?,
+        None => Json::Null,
+    };
+    let number = Json::from(number);
+    json!(in alloc; {"name": name, "number": number, "value": value})
+}
+
+// The name and the columns of a table.
+fn heading_value(
+    alloc: Global,
+    package: &Package<FileMedium>,
+    name: &str,
+) -> Result<Json, AllocError> {
+    let columns = match table_named(package, name) {
+        Some(table) => value_of_columns(alloc, table.columns())?,
+        None => Json::Null,
+    };
+    let name = text_value(alloc, name)?;
+    json!(in alloc; {"columns": columns, "table": name})
+}
+
+// The values of a row.
+fn row_value(alloc: Global, row: &Row) -> Result<Json, AllocError> {
+    let mut cells = Vec::new(alloc);
+    for place in 0..row.len() {
+        if let Some(cell) = row.value(place) {
+            cells.push(value_of_cell(alloc, cell)?)?;
+        }
+    }
+    Ok(Json::Array(cells))
+}
+
+// The length and the digest of a stream.
+fn stream_value(alloc: Global, name: &str, facts: &StreamFacts) -> Result<Json, AllocError> {
+    let length = Json::from(facts.len);
+    let name = text_value(alloc, name)?;
+    let digest = text_value(alloc, &facts.digest)?;
+    json!(in alloc; {"length": length, "name": name, "sha256": digest})
+}
+
+// Functions of their own, since what is told of these calls costs time wherever it is seen.
+fn value_of_cell(alloc: Global, cell: &Value) -> Result<Json, AllocError> {
+    cell_value(alloc, cell)
+}
+
+fn value_of_columns(alloc: Global, columns: &[Column]) -> Result<Json, AllocError> {
+    columns_value(alloc, columns)
+}
+
+fn value_of_property(alloc: Global, value: &PropertyValue) -> Result<Json, AllocError> {
+    property_value(alloc, value)
+}
+
+fn text_of_json(alloc: Global, value: &Json) -> Result<String, AllocError> {
+    value.to_string(alloc)
+}
+
+fn text_value(alloc: Global, text: &str) -> Result<Json, AllocError> {
+    Ok(Json::String(String::from_str(alloc, text)?))
+}

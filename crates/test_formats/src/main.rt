@@ -1,0 +1,35 @@
+//! Answers rows of data: a row names a call and what it is given; what is printed beneath it is what the call answers.
+#![tactic(auto)]
+
+mod commands;
+mod summary;
+mod texts;
+mod values;
+
+use anyhow::{Result, bail};
+use commands::Commands;
+use std::{env, fs};
+use summary::Properties;
+use test_support::print_rows;
+use texts::Texts;
+use values::Values;
+
+fn main(rt: HostRuntime) -> Result<()> {
+    for path in env::args(&rt)?.skip(1) {
+        print_file(&rt, path.as_str())?;
+    }
+    Ok(())
+}
+
+// Prints a file of rows with their answers.
+fn print_file(rt: &HostRuntime, path: &str) -> Result<()> {
+    let text = fs::read_to_string(rt, path)?;
+    println!(rt; "== {path}")?;
+    match path {
+        "commands.rows" => print_rows(rt, text.as_str(), Commands),
+        "summary.rows" => print_rows(rt, text.as_str(), Properties::new(rt.alloc())?),
+        "texts.rows" => print_rows(rt, text.as_str(), Texts),
+        "values.rows" => print_rows(rt, text.as_str(), Values),
+        _ => bail!("{path}: no such rows"),
+    }
+}
