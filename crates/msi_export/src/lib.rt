@@ -2,12 +2,14 @@
 #![tactic(auto)]
 
 mod headings;
+mod laws;
 mod names;
 mod properties;
 mod rows;
 mod streams;
 
 pub use headings::heading_lines;
+pub use laws::{different_names_have_different_files, files_stay_in_their_folder};
 pub use names::safe_name;
 pub use properties::property_name;
 pub use rows::row_text;

@@ -64,7 +64,18 @@ pub fn refusal<D: Device>(
 
 /// The table T has these rows.
 pub fn has_rows<D: Device>(alloc: Global, session: &mut Session<D>, keys: &[i32]) -> Result<()> {
-    same(&rows_or_refusal(alloc, session, keys)?, &None)
+    table_has_rows(alloc, session, "T", keys)
+}
+
+/// The table of this name has these rows.
+pub fn table_has_rows<D: Device>(
+    alloc: Global,
+    session: &mut Session<D>,
+    name: &str,
+    keys: &[i32],
+) -> Result<()> {
+    let answers = ask(alloc, session, select(alloc, name)?)?;
+    same(&are_told(&answers, keys)?, &None)
 }
 
 /// The table T has these rows, or why it isn't told.

@@ -18,8 +18,8 @@ pub fn print(rt: &HostRuntime) -> Result<()> {
     print_case(rt, "a_session_with_each_call_of_the_device_failing", case)
 }
 
-// A new package on an empty device.
-fn new_package(alloc: Global) -> Result<Session<MemoryDevice>, Error> {
+/// A new package on an empty device.
+pub fn new_package(alloc: Global) -> Result<Session<MemoryDevice>, Error> {
     made(create(alloc, device(alloc, &[], &[])?))
 }
 

@@ -1,6 +1,6 @@
 //! Commits of a session that are stopped: the package of the last commit is found again, or the one of the commit that was begun.
-use crate::commands::{has_rows, insert};
-use crate::faults::device_after_commit;
+use crate::commands::{create_table, does, has_rows, insert, table_has_rows};
+use crate::faults::{device_after_commit, new_package};
 use crate::session_calls::{commit, into_device, open, run};
 use anyhow::Result;
 use cfb_medium::Error;
@@ -15,11 +15,19 @@ use std::alloc::Global;
 // More device calls than any of these runs makes.
 const MANY: u64 = 1000;
 
+const TABLES: u64 = 30;
+
 /// Prints what comes of the cases.
 pub fn print(rt: &HostRuntime) -> Result<()> {
     let alloc = rt.alloc();
     let case = an_insert_stopped_after_each_call(alloc);
     print_case(rt, "an_insert_stopped_after_each_call", case)?;
+    let case = a_commit_of_thirty_tables_stopped_after_each_call(alloc);
+    print_case(
+        rt,
+        "a_commit_of_thirty_tables_stopped_after_each_call",
+        case,
+    )?;
     let case = insert_then_stop_behind_the_gate_finds_the_new_rows(alloc);
     print_case(
         rt,
@@ -43,21 +51,16 @@ fn two_rows(alloc: Global) -> Result<Pair> {
 }
 
 // Adds the row 3.
-fn insert_third(
-    alloc: Global,
-    session: &mut Session<FuseDevice<MemoryDevice>>,
-) -> Result<(), Error> {
-    let commands = vec![in alloc; insert(alloc, "T", 3)?]?;
-    run(session, &commands)?;
-    Ok(())
+fn third_row(alloc: Global) -> Result<Vec<Command>, Error> {
+    Ok(vec![in alloc; insert(alloc, "T", 3)?]?)
 }
 
-// Adds the row 3, and commits: whether it was done.
-fn insert_and_commit(
-    alloc: Global,
+// Runs commands, and commits: whether it was done.
+fn run_and_commit(
     session: &mut Session<FuseDevice<MemoryDevice>>,
+    commands: &[Command],
 ) -> Result<bool, Error> {
-    insert_third(alloc, session)?;
+    run(session, commands)?;
     match commit(session) {
         Ok(()) => Ok(true),
         Err(Error::Device | Error::Failed) => Ok(false),
@@ -65,20 +68,25 @@ fn insert_and_commit(
     }
 }
 
-// Opens a package, adds the row 3, and commits, over a device that stops after so many calls.
-fn insert_stopped(alloc: Global, files: &Pair, calls: u64) -> Result<Stopped, Error> {
+// Opens a package, runs commands, and commits, over a device that stops after so many calls.
+fn run_stopped(
+    alloc: Global,
+    files: &Pair,
+    commands: &[Command],
+    calls: u64,
+) -> Result<Stopped, Error> {
     match open(alloc, stopping(files.device(alloc)?, calls)) {
-        Ok(session) => commits(alloc, session),
+        Ok(session) => commits(session, commands),
         Err((_, Error::Memory)) => Err(Error::Memory),
         Err((device, _)) => Ok(run_over(device, false)),
     }
 }
 
 fn commits(
-    alloc: Global,
     mut session: Session<FuseDevice<MemoryDevice>>,
+    commands: &[Command],
 ) -> Result<Stopped, Error> {
-    match insert_and_commit(alloc, &mut session) {
+    match run_and_commit(&mut session, commands) {
         Ok(done) => Ok(run_over(into_device(session), done)),
         Err(error) => Err(error),
     }
@@ -126,24 +134,23 @@ fn each_given(alloc: Global, run: &Stopped, all: &[Pair], old: &[u8], new: &[u8]
 }
 
 // What this stop may leave gives the old package or the new, and the new once it is done: how many pairs were tried.
-fn stops_of_insert(
-    alloc: Global,
-    run: &Stopped,
-    files: &Pair,
-    new: &[u8],
-    calls: u64,
-) -> Result<u64> {
+fn tries_stop(alloc: Global, run: &Stopped, files: &Pair, new: &[u8], calls: u64) -> Result<u64> {
     let all = torn_pairs(alloc, &run.device, files, calls)?;
     each_given(alloc, run, &all, &files.home, new)?;
     Ok(all.len() as u64)
 }
 
 // A commit that is stopped after each of its calls: the run that was done, and how many stops that were.
-fn insert_with_stops(alloc: Global, files: &Pair, new: &[u8]) -> Result<(Stopped, u64)> {
+fn run_with_stops(
+    alloc: Global,
+    files: &Pair,
+    commands: &[Command],
+    new: &[u8],
+) -> Result<(Stopped, u64)> {
     let mut stops = 0u64;
     for calls in 0..MANY {
-        let run = insert_stopped(alloc, files, calls)?;
-        stops = stops.saturating_add(stops_of_insert(alloc, &run, files, new, calls)?);
+        let run = run_stopped(alloc, files, commands, calls)?;
+        stops = stops.saturating_add(tries_stop(alloc, &run, files, new, calls)?);
         if run.done {
             return Ok((run, stops));
         }
@@ -151,22 +158,80 @@ fn insert_with_stops(alloc: Global, files: &Pair, new: &[u8]) -> Result<(Stopped
     endless()
 }
 
-fn has_stops(alloc: Global, files: &Pair, new: &[u8]) -> Result<()> {
-    let (run, stops) = insert_with_stops(alloc, files, new)?;
-    wants(stops > 20, "a stop at each of twenty calls")?;
-    finds(alloc, run.device, &[1, 2, 3])
+// What is in the device once a commit that is stopped after each of its calls is done; that many stops came before.
+fn stopped_everywhere(
+    alloc: Global,
+    files: &Pair,
+    commands: &[Command],
+    least: u64,
+) -> Result<MemoryDevice> {
+    let whole = run_stopped(alloc, files, commands, u64::MAX)?;
+    let (run, stops) = run_with_stops(alloc, files, commands, home_of(&whole.device))?;
+    wants(stops > least, "a stop at each call")?;
+    Ok(run.device)
 }
 
 fn an_insert_stopped_after_each_call(alloc: Global) -> Result<()> {
     let files = two_rows(alloc)?;
-    let whole = insert_stopped(alloc, &files, u64::MAX)?;
-    has_stops(alloc, &files, home_of(&whole.device))
+    let device = stopped_everywhere(alloc, &files, &third_row(alloc)?, 20)?;
+    finds(alloc, device, &[1, 2, 3])
+}
+
+// The name of the n-th of thirty tables.
+fn name_of(alloc: Global, n: u64) -> Result<String, Error> {
+    Ok(format!(in alloc; "Table{n}")?)
+}
+
+// Makes thirty tables, each with the row 1, and commits.
+fn fill_tables(alloc: Global, session: &mut Session<MemoryDevice>) -> Result<()> {
+    for n in 0..TABLES {
+        let name = name_of(alloc, n)?;
+        does(alloc, session, create_table(alloc, &name)?)?;
+        does(alloc, session, insert(alloc, &name, 1)?)?;
+    }
+    commit(session)?;
+    Ok(())
+}
+
+// The files of a committed package of thirty tables.
+fn thirty_tables(alloc: Global) -> Result<Pair> {
+    let mut session = new_package(alloc)?;
+    fill_tables(alloc, &mut session)?;
+    let device = into_device(session);
+    Ok(Pair::new(alloc, home_of(&device), log_of(&device))?)
+}
+
+// Adds the row 2 to each of the thirty tables.
+fn second_rows(alloc: Global) -> Result<Vec<Command>, Error> {
+    let mut commands = Vec::new(alloc);
+    for n in 0..TABLES {
+        let name = name_of(alloc, n)?;
+        commands.push(insert(alloc, &name, 2)?)?;
+    }
+    Ok(commands)
+}
+
+// Each of the thirty tables has both rows.
+fn has_second_rows(alloc: Global, session: &mut Session<MemoryDevice>) -> Result<()> {
+    for n in 0..TABLES {
+        let name = name_of(alloc, n)?;
+        table_has_rows(alloc, session, &name, &[1, 2])?;
+    }
+    Ok(())
+}
+
+fn a_commit_of_thirty_tables_stopped_after_each_call(alloc: Global) -> Result<()> {
+    let files = thirty_tables(alloc)?;
+    let device = stopped_everywhere(alloc, &files, &second_rows(alloc)?, 20)?;
+    let mut session = opened(alloc, device)?;
+    has_second_rows(alloc, &mut session)
 }
 
 // After how many calls the gate stands open.
 fn first_open_gate(alloc: Global, files: &Pair) -> Result<u64, Error> {
+    let commands = third_row(alloc)?;
     for calls in 0..MANY {
-        let run = insert_stopped(alloc, files, calls)?;
+        let run = run_stopped(alloc, files, &commands, calls)?;
         if log_of(&run.device).first() == Some(&1) {
             return Ok(calls);
         }
@@ -178,7 +243,7 @@ fn insert_then_stop_behind_the_gate_finds_the_new_rows(alloc: Global) -> Result<
     let files = two_rows(alloc)?;
     // The gate's sync, and some pages.
     let calls = first_open_gate(alloc, &files)?.saturating_add(5);
-    let run = insert_stopped(alloc, &files, calls)?;
+    let run = run_stopped(alloc, &files, &third_row(alloc)?, calls)?;
     finds_new_rows(alloc, &run, &files)
 }
 
@@ -191,7 +256,7 @@ fn insert_then_stop_before_the_gate_keeps_the_committed_rows(alloc: Global) -> R
     let files = two_rows(alloc)?;
     // Without the gate, and the sync of the log before it.
     let calls = first_open_gate(alloc, &files)?.saturating_sub(2);
-    let run = insert_stopped(alloc, &files, calls)?;
+    let run = run_stopped(alloc, &files, &third_row(alloc)?, calls)?;
     finds_old_rows(alloc, &run, &files)
 }
 

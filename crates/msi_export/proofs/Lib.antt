@@ -1,0 +1,3 @@
+-- Lemmas on exports.
+pub mod FileNames
+pub mod Joined

@@ -1,0 +1,3 @@
+-- What exports are.
+pub mod Exported
+pub mod FileNames
