@@ -10,6 +10,7 @@ pub mod Moved
 pub mod Others
 pub mod Placed
 pub mod Refused
+pub mod Rehoused
 pub mod Replaced
 pub mod Rewritten
 pub mod StreamsMade

@@ -1,6 +1,7 @@
 -- The bytes and the places of a long stream that became longer or shorter, told by index.
-use Rattle.std.proofs.Common.{◌≡◌, ℕ, ◌+◌, ◌-◌, ◌*◌, ◌/◌, ◌%◌, ◌<◌, ◌≤◌, ◌⊎◌, inl, inr, List, ◌++◌, length, take, get_or, ap, sym, subst, ◌∙◌, ⊎_elim, arith, length-take, mul-le-mul_right}
-use Rattle.std.specs.Prelude.{min}
+use Rattle.std.proofs.Common.{◌≡◌, ℕ, ◌+◌, ◌-◌, ◌*◌, ◌/◌, ◌%◌, ◌<◌, ◌≤◌, ◌⊎◌, inl, inr, Bool, List, suc, ◌++◌, length, take, get_or, ap, sym, subst, ◌∙◌, ⊎_elim, arith, length-take, mul-le-mul_right}
+use Rattle.std.specs.Prelude.{min, nat_eq, if◌then◌else◌}
+use Rattle.std.specs.List.{count_by}
 use Rattle.std.proofs.lemmas.Bool.Decides.{leb_tells}
 use Rattle.std.proofs.lemmas.List.{get_or-take, get_or_past, length-replicate, take-replicate}
 use Rattle.cfb_chains.specs.Behind.{AreWhole}
@@ -10,7 +11,7 @@ use Rattle.cfb_chains.specs.declared.links.Links.{Links}
 use Rattle.cfb_chains.proofs.ChainWriting.{split_below}
 use Rattle.cfb_chains.proofs.Overwriting.{get_before, get_behind, get_written}
 use Rattle.cfb_fat.specs.Growing.{LacksNumbers}
-use Rattle.cfb_fat.specs.Tables.{bytes_of, version_of}
+use Rattle.cfb_fat.specs.Tables.{bytes_of, fat_of, version_of, AllRests}
 use Rattle.cfb_fat.specs.declared.allocator.Allocator.{Allocator}
 use Rattle.cfb_medium.specs.Bytes.{overwritten}
 use Rattle.cfb_medium.specs.Versions.{sector_len}
@@ -21,9 +22,11 @@ use Rattle.cfb_mini.specs.Views.{allocator_of}
 use Rattle.cfb_mini.specs.declared.mini_allocator.MiniAllocator.{MiniAllocator}
 use Rattle.cfb_owned.specs.Chains.{content_of, place_of, LacksSectors, Resizes}
 use Rattle.cfb_sectors.specs.Copies.{copies}
+use Rattle.cfb_sectors.specs.Header.{mini_cutoff}
 use Rattle.cfb_sectors.specs.Initial.{initial}
-use Rattle.cfb_sectors.specs.Sectors.{greatest_regular}
+use Rattle.cfb_sectors.specs.Sectors.{free, greatest_regular}
 use Rattle.cfb_sectors.specs.declared.initial.SectorInit.TheVariants.{Zero}
+use Rattle.cfb_writing.specs.Sizes.{sectors_of_stream}
 use Rattle.cfb_writing.specs.Streams.{IsPastNumbers, LacksRoom}
 use Rattle.cfb_writing.proofs.LongBytes.{copies_zero, get_grown, get_taken, get_zeros, joined_front, place_kept, place_new, zero_at, zeros}
 
@@ -201,6 +204,10 @@ lengthened_places v ids0 ids1 more b0 b1 b2 count size tail len one is_count tig
 pub zero_front : (v : Version) (len size : ℕ) → len ≡ sector_len v → take ((len - size % len) % len) (zeros 4096) ≡ zeros (tail_in v size)
 zero_front v len size same = subst (λ l. take ((l - size % l) % l) (zeros 4096) ≡ zeros (tail_in v size)) (sym same) (take-replicate (tail_in v size) 4096 0 (tail_fits v size))
 
+-- what is past the end of a chain is so with the rest of its sector too
+pub tail_more : (v : Version) (n size : ℕ) → n * sector_len v < 0 + size → n * sector_len v < size + tail_in v size
+tail_more v n size past = omega (arith, past)
+
 -- they lie in a chain of these bytes, or of more
 pub never_past : (v w : Version) (n size len : ℕ) → w ≡ v → n ≡ sectors_for v len → size ≤ len → n * sector_len w < size + tail_in w size → ⊥
 never_past v w n size len same count more past =
@@ -211,6 +218,25 @@ never_past v w n size len same count more past =
   where
     times : (x y l : ℕ) → x ≤ y → x * l ≤ y * l
     times x y l few = mul-le-mul_right l few
+
+-- a short stream has no sectors
+short_has : (v : Version) (size : ℕ) → size < mini_cutoff → sectors_of_stream v size ≡ 0
+short_has v size below =
+    ⊎_elim
+    (λ yes. ap (λ (t : Bool). if t then 0 else sectors_for v size) yes.0)
+    (λ no. let few = no.1 in absurd (omega (arith, few, below)))
+    (leb_tells (suc size) mini_cutoff)
+
+-- and none has more than its bytes need
+stream_has : (v : Version) (size : ℕ) → sectors_of_stream v size ≤ sectors_for v size
+stream_has v size =
+    ⊎_elim
+    (λ yes. let none = short_has v size yes.1 in omega (arith, none))
+    (λ no. let same : sectors_of_stream v size ≡ sectors_for v size = ap (λ (t : Bool). if t then 0 else sectors_for v size) no.0 in omega (arith, same))
+    (leb_tells (suc size) mini_cutoff)
+
+abbrev lacks_by : Version → List ℕ → ℕ → ℕ → Type 0
+lacks_by v fat size len = (greatest_regular + 1 + count_by (λ entry. nat_eq entry free) fat < length fat + (sectors_for v len - sectors_of_stream v size)) ⊎ (greatest_regular + 1 < sectors_for v len)
 
 -- numbers that are missing for some are missing for more
 few_more : (a b few more : ℕ) → a < b + few → few ≤ more → a < b + more
@@ -229,8 +255,22 @@ module _ {F : Type 0} {g : Ghosts F} where
   lacks_room it links size len room version lacks =
       let a = allocator_of it in
       let few = fewer_for (links_version links) (length (ids_of links)) size room in
-      subst (λ v. LacksNumbers a (sectors_for v len - sectors_for v size) ⊎ (greatest_regular + 1 < sectors_for v len)) version
-      (⊎_elim (λ lack. inl (few_more _ _ (sectors_for (links_version links) len - length (ids_of links)) _ lack (omega (arith, few)))) (λ long. inr long) lacks)
+      let some = stream_has (links_version links) size in
+      subst (λ v. LacksNumbers a (sectors_for v len - sectors_of_stream v size) ⊎ (greatest_regular + 1 < sectors_for v len)) version
+      (⊎_elim (λ lack. inl (few_more _ _ (sectors_for (links_version links) len - length (ids_of links)) _ lack (omega (arith, few, some)))) (λ long. inr long) lacks)
+
+  -- they were missing before reads too
+  pub lacks_resting : (old new : MiniAllocator F g) (size len : ℕ) → AllRests (allocator_of old) (allocator_of new) → LacksRoom new size len → LacksRoom old size len
+  unfolding LacksRoom
+  lacks_resting old new size len rests lacks =
+      subst (λ v. lacks_by v (fat_of (allocator_of old)) size len) rests.sectors.version (subst (λ f. lacks_by (version_of (allocator_of new)) f size len) rests.fat lacks)
+
+  -- a short stream lacks what one without bytes does
+  pub lacks_as_short : (it : MiniAllocator F g) (size len : ℕ) → size < mini_cutoff → LacksRoom it 0 len → LacksRoom it size len
+  unfolding LacksRoom
+  lacks_as_short it size len below lacks =
+      let v = version_of (allocator_of it) in
+      subst (λ n. LacksNumbers (allocator_of it) (sectors_for v len - n) ⊎ (greatest_regular + 1 < sectors_for v len)) (short_has v 0 (omega arith) ∙ sym (short_has v size below)) lacks
 
   -- a size for which no file has numbers
   pub past_lacks : (it : MiniAllocator F g) (size len : ℕ) → IsPastNumbers (version_of (allocator_of it)) len → LacksRoom it size len

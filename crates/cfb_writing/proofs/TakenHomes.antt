@@ -1,5 +1,5 @@
 -- A long stream that took its sectors anew.
-use Rattle.std.proofs.Common.{◌≡◌, ℕ, ◌+◌, ◌*◌, ◌/◌, ◌<◌, ◌≤◌, inl, List, [], ◌++◌, length, take, get_or, ap, sym, subst, ◌∙◌, ⊎_elim, arith, length-take}
+use Rattle.std.proofs.Common.{◌≡◌, ℕ, ◌+◌, ◌*◌, ◌/◌, ◌<◌, ◌≤◌, List, [], ◌++◌, length, take, get_or, ap, sym, subst, ◌∙◌, ⊎_elim, arith, length-take}
 use Rattle.std.specs.Prelude.{min}
 use Rattle.std.specs.List.{AllByRecursion}
 use Rattle.std.proofs.lemmas.Bool.Decides.{leb_tells}
@@ -10,8 +10,6 @@ use Rattle.cfb_chains.specs.declared.links.Links.{Links}
 use Rattle.cfb_chains.proofs.ChainWriting.{length-joined, split_below}
 use Rattle.cfb_chains.proofs.Overwriting.{get_behind, get_written}
 use Rattle.cfb_fat.specs.Tables.{bytes_of, version_of}
-use Rattle.cfb_live.specs.Live.{live_of}
-use Rattle.cfb_live.proofs.Strays.{strays_then}
 use Rattle.cfb_medium.specs.Bytes.{overwritten}
 use Rattle.cfb_medium.specs.Versions.{sector_len}
 use Rattle.cfb_medium.specs.declared.medium.ReadMedium.{Ghosts}
@@ -19,15 +17,13 @@ use Rattle.cfb_medium.specs.declared.version.Version.{Version}
 use Rattle.cfb_mini.specs.Views.{allocator_of}
 use Rattle.cfb_mini.specs.declared.mini_allocator.MiniAllocator.{MiniAllocator}
 use Rattle.cfb_owned.specs.Chains.{content_of, place_of, Overwrites, Resizes}
-use Rattle.cfb_owners.specs.Owners.{first_of, stream_owner, Owners, OwnsNothing}
-use Rattle.cfb_sectors.specs.Header.{mini_cutoff}
+use Rattle.cfb_owners.specs.Owners.{Owners}
 use Rattle.cfb_sectors.specs.Sectors.{joined, places}
 use Rattle.cfb_sectors.specs.declared.initial.SectorInit.TheVariants.{Zero}
-use Rattle.cfb_writing.specs.Moving.{Houses, MovesLong}
+use Rattle.cfb_writing.specs.Moving.{MovesLong, TakesLong}
 use Rattle.cfb_writing.specs.Streams.{resized}
 use Rattle.cfb_writing.proofs.LongBytes.{get_grown, get_zeros, length-resized, place_new, places_there, resized_is, zeros}
-use Rattle.cfb_writing.proofs.LongStreams.{longer_then, version_then}
-use Rattle.cfb_writing.proofs.Others.{others_then}
+use Rattle.cfb_writing.proofs.LongStreams.{long_then, longer_then, version_then}
 use Rattle.cfb_writing.proofs.Stretching.{grown_bytes, room_for}
 
 -- bytes over zeros
@@ -41,7 +37,7 @@ taken_bytes x0 x1 x2 bytes n m len none one two k below =
     (λ inside. ap (λ i. get_or (overwritten x1 0 bytes) i 0) (let same : k ≡ 0 + k = omega arith in same) ∙ get_written x1 0 bytes k inside.1)
     (leb_tells (length bytes) k)
 
-module _ {F : Type 0} {g : Ghosts F} (m0 m1 m2 : MiniAllocator F g) (who : Owners) (id len : ℕ) (links0 links2 : Links) (bytes : List ℕ) (nothing : OwnsNothing who (stream_owner id)) (none : ids_of links0 ≡ []) (up : mini_cutoff ≤ len)
+module _ {F : Type 0} {g : Ghosts F} (m0 m1 m2 : MiniAllocator F g) (who : Owners) (id len : ℕ) (links0 links2 : Links) (bytes : List ℕ) (none : ids_of links0 ≡ [])
     (long1 : MovesLong id (ids_of links2) m0 m1 who) (grown : Resizes Zero (sectors_for (version_of (allocator_of m0)) len) (allocator_of m0) (allocator_of m1) links0 links2) (count : length (ids_of links2) ≡ sectors_for (version_of (allocator_of m0)) len)
     (long2 : MovesLong id (ids_of links2) m1 m2 long1.moves.now) (over : Overwrites 0 bytes (allocator_of m1) (allocator_of m2) links2) where
   abbrev v : Version
@@ -78,33 +74,13 @@ module _ {F : Type 0} {g : Ghosts F} (m0 m1 m2 : MiniAllocator F g) (who : Owner
       empty : (t c n i : ℕ) → t ≡ min c n → n ≡ 0 → t ≤ i
       empty t c n i size zero_is = omega (arith, size, zero_is)
 
-  -- it has these bytes, and zeros behind them
-  pub taken : (it : Houses id (first_of (ids_of links2)) (resized len bytes) m0 m2 who) × (it.moves.now.sectors (stream_owner id) ≡ ids_of links2)
-  unfolding live_of
-  taken = (
-    record {
-      moves = record {
-        now = long2.moves.now;
-        stands = long2.moves.stands;
-        carries = others_then (stream_owner id) (live_of m0) (live_of m1) (live_of m2) who long1.moves.now long2.moves.now long1.moves.carries long2.moves.carries;
-        entries = inl (long2.entries ∙ long1.entries);
-        strays = strays_then m0 m1 m2 who long1.moves.now long2.moves.now long1.moves.strays long2.moves.strays;
-      };
-      has = λ f start size_is.
-          let new = size_is ∙ length-resized bytes len in
-          record {
-            short = λ below. absurd (let few = below in omega (arith, few, new, up));
-            long = λ most. (
-              long2.minis ∙ long1.minis ∙ nothing.1,
-              record {
-                start = start ∙ ap first_of (sym long2.mine);
-                content_is = bytes_then ∙ ap (λ n. take n (content_of (allocator_of m2) links2)) (sym new) ∙ ap (λ l. take f.size (joined (version_of (allocator_of m2)) (bytes_of (allocator_of m2)) l)) (sym long2.mine);
-                whole = sym size_is;
-                there = subst (λ l. AllByRecursion (λ p. p < length (bytes_of (allocator_of m2))) (take f.size (places (version_of (allocator_of m2)) l))) (sym long2.mine)
-                    (subst (λ n. AllByRecursion (λ p. p < length (bytes_of (allocator_of m2))) (take n (places (version_of (allocator_of m2)) (ids_of links2)))) (sym new) places_then);
-              },
-            );
-          };
-    },
-    long2.mine,
-  )
+  -- they have these bytes, and zeros behind them
+  pub taken : TakesLong id (ids_of links2) (resized len bytes) m0 m2 who
+  taken =
+      let size = sym (length-resized bytes len) in
+      let b2 = bytes_of (allocator_of m2) in
+      record {
+        long = long_then id (ids_of links2) (ids_of links2) m0 m1 m2 who long1 long2;
+        content_is = bytes_then ∙ ap (λ n. take n (content_of (allocator_of m2) links2)) size;
+        there = subst (λ n. AllByRecursion (λ p. p < length b2) (take n (places (version_of (allocator_of m2)) (ids_of links2)))) size places_then;
+      }

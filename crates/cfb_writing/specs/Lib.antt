@@ -1,2 +1,3 @@
+pub mod Sizes
 pub mod Streams
 pub mod Moving

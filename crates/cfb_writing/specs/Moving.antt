@@ -1,34 +1,25 @@
 -- What a live file is while the sectors of one of its streams are in change: all others stay.
-use Rattle.std.specs.Prelude.{◌≡◌, ℕ, ◌<◌, ◌≤◌, ◌⊎◌, List, [], length, slice_get, slice_set, Some}
+use Rattle.std.specs.Prelude.{◌≡◌, ℕ, ◌<◌, ◌≤◌, ◌⊎◌, List, [], length, slice_get, slice_set, take, Some}
+use Rattle.std.specs.List.{AllByRecursion}
 use Rattle.cfb_chains.specs.LinkViews.{ids_of, links_version}
 use Rattle.cfb_chains.specs.declared.links.Links.{Links}
 use Rattle.cfb_directory.specs.Views.{entries_held}
 use Rattle.cfb_live.specs.Freeing.{Stands}
 use Rattle.cfb_live.specs.Live.{live_of}
 use Rattle.cfb_live.specs.Strays.{HasNoMoreStrays}
-use Rattle.cfb_fat.specs.Tables.{version_of}
+use Rattle.cfb_fat.specs.Tables.{bytes_of, version_of}
 use Rattle.cfb_medium.specs.Versions.{stream_len_mask}
 use Rattle.cfb_medium.specs.declared.medium.ReadMedium.{Ghosts}
-use Rattle.cfb_medium.specs.declared.version.Version.{Version}
 use Rattle.cfb_mini.specs.Changing.{ChangesDirectory, HasOwners}
-use Rattle.cfb_mini.specs.LinkViews.{minis_of}
 use Rattle.cfb_mini.specs.Views.{allocator_of, directory_of}
 use Rattle.cfb_mini.specs.declared.mini_allocator.MiniAllocator.{MiniAllocator}
 use Rattle.cfb_owners.specs.Held.{mini_joined, mini_places_of, HasStream}
 use Rattle.cfb_owners.specs.LiveFile.{LiveFile}
 use Rattle.cfb_owners.specs.Owners.{first_of, mini_stream_owner, stream_owner, Owners}
 use Rattle.cfb_sectors.specs.Header.{mini_cutoff}
-use Rattle.cfb_sectors.specs.Sectors.{joined}
-use Rattle.cfb_streams.specs.declared.opening.StreamLinks.{StreamLinks}
-use Rattle.cfb_streams.specs.declared.opening.StreamLinks.TheVariants.{Long, Short}
+use Rattle.cfb_sectors.specs.Sectors.{joined, places}
 use Rattle.cfb_tree.specs.Directory.{Entry}
 use Rattle.cfb_writing.specs.Streams.{resized}
-
--- the links are of what the stream of entry `id` owns: of mini sectors where it has fewer than 4096 bytes, and else of sectors
--- ([MS-CFB] 2.4)
-abbrev pub AreOwned : Version → Owners → ℕ → ℕ → StreamLinks → Type 0
-AreOwned version who id size (Short minis) = (size < mini_cutoff) × (who.minis (stream_owner id) ≡ minis_of minis)
-AreOwned version who id size (Long links) = (mini_cutoff ≤ size) × (who.sectors (stream_owner id) ≡ ids_of links) × (links_version links ≡ version)
 
 -- the same version, at least as many bytes, and all streams but this owner's have the sectors and the mini sectors that they had,
 -- with their bytes
@@ -70,6 +61,12 @@ module _ {F : Type 0} {g : Ghosts F} where
     pub mine : moves.now.sectors (stream_owner id) ≡ later
     pub minis : moves.now.minis (stream_owner id) ≡ who.minis (stream_owner id)
     pub entries : entries_held (directory_of new) ≡ entries_held (directory_of old)
+
+  -- so they did, and the first of their bytes are these, which lie in the file
+  pub record TakesLong (id : ℕ) (later content : List ℕ) (old new : MiniAllocator F g) (who : Owners) : Type 0 where
+    pub long : MovesLong id later old new who
+    pub content_is : content ≡ take (length content) (joined (version_of (allocator_of new)) (bytes_of (allocator_of new)) later)
+    pub there : AllByRecursion (λ p. p < length (bytes_of (allocator_of new))) (take (length content) (places (version_of (allocator_of new)) later))
 
   -- where its entry tells of this start and of as many bytes, the stream of entry `id` has these bytes then; all other streams have
   -- what they had

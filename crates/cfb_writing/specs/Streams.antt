@@ -24,6 +24,7 @@ use Rattle.cfb_tree.specs.Names.{Letters}
 use Rattle.cfb_tree.specs.Objects.{a_stream, object_at}
 use Rattle.cfb_tree.specs.Paths.{Path}
 use Rattle.cfb_tree.specs.Tree.{Tree}
+use Rattle.cfb_writing.specs.Sizes.{sectors_of_stream}
 
 -- so many bytes: the first of these, and then zeros
 abbrev pub resized : ℕ → List ℕ → List ℕ
@@ -95,9 +96,9 @@ module _ {F : Type 0} {g : Ghosts F} where
   IsPast id links at count it = (letters : Letters) (tree : Tree) (path : Path) (content : List ℕ) → IsStreamAt letters it tree path id content → AreLinksOf id links it → length content < at + count
 
   -- numbers of sectors are missing, in the FAT or in a chain, for the further ones that a stream of `size` bytes needs to have `len`
-  -- ([MS-CFB] 2.2, 2.3)
+  -- ([MS-CFB] 2.2 to 2.4)
   unfoldable pub LacksRoom : MiniAllocator F g → ℕ → ℕ → Type 0
-  LacksRoom it size len = LacksNumbers (allocator_of it) (sectors_for (version_of (allocator_of it)) len - sectors_for (version_of (allocator_of it)) size)
+  LacksRoom it size len = LacksNumbers (allocator_of it) (sectors_for (version_of (allocator_of it)) len - sectors_of_stream (version_of (allocator_of it)) size)
       ⊎ (greatest_regular + 1 < sectors_for (version_of (allocator_of it)) len)
 
   -- so they are for the stream of entry `id` and these sectors to have `len` bytes

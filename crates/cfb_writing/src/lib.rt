@@ -4,6 +4,7 @@
 mod creating;
 mod emptying;
 mod finding;
+mod lengthening;
 mod lengths;
 mod moving;
 mod overwriting;
@@ -16,5 +17,4 @@ pub use creating::{create_stream, is_stream};
 pub use emptying::empty_stream;
 pub use finding::find_stream;
 pub use streams::{overwrite_stream, resize_stream};
-pub use taking::take_long;
 pub use writing::{overwrite_long_stream, resize_long_stream};

@@ -1,4 +1,4 @@
-//! Streams that take another home, as where their size comes to 4096 or falls below ([MS-CFB] 2.4, 2.6.3).
+//! Streams that move to other mini sectors ([MS-CFB] 2.4, 2.6.3).
 ghost use Rattle.cfb_chains.specs.ChainCalls.{IsInvalidPlace};
 ghost use Rattle.cfb_directory.specs.Views.{entries_held};
 ghost use Rattle.cfb_fat.specs.Calls.{FatAnswers};
@@ -9,44 +9,20 @@ ghost use Rattle.cfb_medium.specs.declared.error.Error.TheVariants.{Full, Invali
 ghost use Rattle.cfb_mini.specs.Changing.{KeepsOwners};
 ghost use Rattle.cfb_mini.specs.Views.{allocator_of, directory_of, MiniRests};
 ghost use Rattle.cfb_owned.specs.Chains.{GoesOn, IsInvalidPlaceOrFull};
-ghost use Rattle.cfb_owners.specs.Owners.{first_of};
 ghost use Rattle.cfb_sectors.specs.Header.{mini_cutoff};
 ghost use Rattle.cfb_streams.specs.Content.{HasContent};
-ghost use Rattle.cfb_streams.specs.Streams.{sectors_in};
-ghost use Rattle.cfb_writing.specs.Streams.{resized, AreAlike, HasNoLinks, IsNoStream, IsShort, Replaces, RewritesIn};
+ghost use Rattle.cfb_streams.specs.declared.opening.StreamLinks.TheVariants.{Short};
+ghost use Rattle.cfb_writing.specs.Streams.{resized, AreAlike, HasNoLinks, IsNoStream, Replaces, RewritesIn};
 ghost use Rattle.std.specs.Prelude.{false, length, take, true, IfErr, IfOk, IsErrOf, List, OnErr, OnOk, ℕ, ◌<◌, ◌≡◌, ◌≤◌, ◌⊎◌};
 
 use crate::placing::set_place;
-use crate::taking::take_home;
-use crate::writing::first_sector;
+use crate::taking::take_short;
 use cfb_live::free_stream;
 use cfb_medium::{Error, Medium};
-use cfb_mini::MiniAllocator;
-use cfb_sectors::{HasSectors, MINI_STREAM_CUTOFF};
+use cfb_mini::{MiniAllocator, MiniLinks};
+use cfb_sectors::HasSectors;
 use cfb_streams::{StreamLinks, read_stream};
 use std::alloc::Global;
-
-// The first of a stream's sectors or mini sectors; "end of chain" where it has none.
-fn start_of(links: &StreamLinks) -> u32
-    ensures { result ≡ first_of (sectors_in links.now) }
-{
-    match links {
-        StreamLinks::Short(minis) => minis.start_sector_id(),
-        StreamLinks::Long(links) => first_sector(links),
-    }
-}
-
-// How many bytes are at hand while a stream of this size moves to one of another: all that a short one will have, or all that it
-// had.
-fn moved_len(size: u64, len: u64) -> u64
-    ensures short { len < mini_cutoff → result ≡ len }
-    ensures long { mini_cutoff ≤ len → result ≡ size }
-{
-    if len < u64::from(MINI_STREAM_CUTOFF) {
-        return len;
-    }
-    size
-}
 
 // The first bytes of a stream. `InvalidData` where it hasn't its sectors. Nothing is changed.
 fn read_first<F: Medium>(
@@ -74,7 +50,7 @@ fn read_first<F: Medium>(
 
 // So many bytes of a stream of this size: its first, and zeros behind them. `InvalidData` where it hasn't its sectors. Nothing is
 // changed.
-fn read_front<F: Medium>(
+pub(crate) fn read_front<F: Medium>(
     alloc: Global,
     mini: &mut MiniAllocator<F>,
     links: &StreamLinks,
@@ -100,22 +76,20 @@ fn read_front<F: Medium>(
     Ok(bytes)
 }
 
-// Gives the stream that has this entry these bytes, and zeros behind them, in place of its own: its sectors or mini sectors are
-// free then, and it lies in others. After an error nothing is changed, or the file has failed.
+// Gives the stream that has this entry these bytes, fewer than 4096, in place of its own: its sectors or mini sectors are free then,
+// and it lies in other mini sectors. After an error nothing is changed, or the file has failed.
 fn replace_stream<F: Medium>(
     alloc: Global,
     mini: &mut MiniAllocator<F>,
     id: u32,
     bytes: &[u8],
-    len: u64,
-) -> Result<StreamLinks, Error>
+) -> Result<MiniLinks, Error>
     requires there { id < length (entries_held (directory_of mini.old)) }
-    requires fits { length bytes.now ≤ len }
-    requires whole { len < mini_cutoff → length bytes.now ≡ len }
+    requires short { length bytes.now < mini_cutoff }
     ensures replaced { IfOk result (λ links.
-        Replaces id (resized len bytes.now) links mini.old mini.new) }
+        Replaces id bytes.now (Short links) mini.old mini.new) }
     ensures large { IsErrOf result InvalidInput
-        → stream_len_mask (version_of (allocator_of mini.old)) < len }
+        → stream_len_mask (version_of (allocator_of mini.old)) < length bytes.now }
     ensures refused { IsErrOf result InvalidData → IsNoStream id mini.old }
     ensures rests { OnErr result ((has_failed_here (allocator_of mini.new) ≡ true)
         ⊎ KeepsOwners mini.old mini.new) }
@@ -127,19 +101,18 @@ fn replace_stream<F: Medium>(
     if let Err(error) = free_stream(mini, id) {
         return Err(error);
     }
-    let links = match take_home(alloc, mini, bytes, len) {
+    let links = match take_short(alloc, mini, bytes) {
         Ok(links) => links,
         Err(error) => return Err(error),
     };
-    if let Err(error) = set_place(mini, id, start_of(&links), len) {
+    if let Err(error) = set_place(mini, id, links.start_sector_id(), bytes.len() as u64) {
         return Err(error);
     }
     Ok(links)
 }
 
-// Makes the stream that has this entry and these sectors so many bytes long, in other sectors or mini sectors than it had: it keeps
-// its first bytes, and has zeros behind them. They are fewer than 4096, or the stream is short. After an error nothing is changed,
-// or the file has failed.
+// Makes the stream that has this entry and these sectors so many bytes long, fewer than 4096, in other mini sectors than it had: it
+// keeps its first bytes, and has zeros behind them. After an error nothing is changed, or the file has failed.
 pub(crate) fn move_stream<F: Medium>(
     alloc: Global,
     mini: &mut MiniAllocator<F>,
@@ -147,7 +120,7 @@ pub(crate) fn move_stream<F: Medium>(
     links: &mut StreamLinks,
     len: u64,
 ) -> Result<(), Error>
-    requires { mini_cutoff ≤ len → IsShort links.old }
+    requires { len < mini_cutoff }
     ensures resized { OnOk result (RewritesIn id (resized len) links.old links.new
         mini.old mini.new) }
     ensures kept { OnErr result (AreAlike links.old links.new) }
@@ -167,22 +140,15 @@ pub(crate) fn move_stream<F: Medium>(
     if id as usize >= mini.directory().dir_entries().len() {
         return Err(Error::InvalidData);
     }
-    if len > mini.version().stream_len_mask() {
-        return Err(Error::InvalidInput);
-    }
     let size = mini.directory().dir_entry(id).stream_len;
-    let count = moved_len(size, len);
-    if count >= u64::from(MINI_STREAM_CUTOFF) {
-        return Err(Error::InvalidData);
-    }
-    let bytes = match read_front(alloc, mini, links, size, count) {
+    let bytes = match read_front(alloc, mini, links, size, len) {
         Ok(bytes) => bytes,
         Err(error) => return Err(error),
     };
-    let home = match replace_stream(alloc, mini, id, &bytes, len) {
+    let home = match replace_stream(alloc, mini, id, &bytes) {
         Ok(home) => home,
         Err(error) => return Err(error),
     };
-    *links = home;
+    *links = StreamLinks::Short(home);
     Ok(())
 }

@@ -12,6 +12,7 @@ ghost use Rattle.cfb_streams.specs.declared.opening.StreamLinks.TheVariants.{Sho
 ghost use Rattle.cfb_writing.specs.Streams.{resized, AreAlike, HasNoLinks, IsPast, IsPastNumbers, LacksRoomFor, RewritesIn};
 ghost use Rattle.std.specs.Prelude.{false, length, true, IsErrOf, IsTrue, OnErr, OnOk, ◌<◌, ◌≡◌, ◌⊎◌, ◌↔◌};
 
+use crate::lengthening::lengthen_short;
 use crate::moving::move_stream;
 use crate::writing::{lies_in, overwrite_long_stream, resize_long_stream};
 use cfb_medium::{Error, Medium, Version};
@@ -135,6 +136,6 @@ pub fn resize_stream<F: Medium>(
     }
     match links {
         StreamLinks::Long(long) => resize_long_stream(mini, id, long, len),
-        StreamLinks::Short(_) => move_stream(alloc, mini, id, links, len),
+        StreamLinks::Short(_) => lengthen_short(alloc, mini, id, links, len),
     }
 }

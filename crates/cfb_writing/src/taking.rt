@@ -1,63 +1,62 @@
-//! Sectors and mini sectors for a stream that has none ([MS-CFB] 2.3, 2.4).
+//! Sectors and mini sectors for a stream that has none of them ([MS-CFB] 2.3, 2.4).
 ghost use Rattle.cfb_chains.specs.ChainCalls.{IsInvalidOrFull};
 ghost use Rattle.cfb_chains.specs.LinkViews.{ids_of, links_version};
+ghost use Rattle.cfb_fat.specs.Calls.{FatAnswers};
 ghost use Rattle.cfb_fat.specs.Tables.{has_failed_here, version_of, HasCauseBelow};
 ghost use Rattle.cfb_live.specs.Freeing.{Stands};
 ghost use Rattle.cfb_medium.specs.Calls.{IsFaultUnless};
-ghost use Rattle.cfb_medium.specs.declared.error.Error.TheVariants.{InvalidData};
+ghost use Rattle.cfb_medium.specs.declared.error.Error.TheVariants.{Full, InvalidData};
+ghost use Rattle.cfb_mini.specs.Changing.{KeepsOwners};
 ghost use Rattle.cfb_mini.specs.LinkViews.{minis_of};
 ghost use Rattle.cfb_mini.specs.Views.{allocator_of};
 ghost use Rattle.cfb_owned.specs.Chains.{GoesOn};
 ghost use Rattle.cfb_owners.specs.Owners.{first_of, stream_owner, Owners, OwnsNothing};
 ghost use Rattle.cfb_sectors.specs.Header.{mini_cutoff};
-ghost use Rattle.cfb_streams.specs.Streams.{sectors_in};
-ghost use Rattle.cfb_writing.specs.Moving.{AreOwned, Houses};
-ghost use Rattle.cfb_writing.specs.Streams.{resized};
-ghost use Rattle.std.specs.Prelude.{false, length, true, IfErr, IfOk, IsErrOf, OnErr, OnOk, ℕ, ◌<◌, ◌≡◌, ◌≤◌, ◌⊎◌};
+ghost use Rattle.cfb_writing.specs.Moving.{Houses, TakesLong};
+ghost use Rattle.cfb_writing.specs.Streams.{resized, LacksRoom};
+ghost use Rattle.std.specs.Prelude.{[], false, length, true, IfErr, IfOk, IsErrOf, OnErr, OnOk, ℕ, ◌<◌, ◌≡◌, ◌≤◌, ◌⊎◌};
 
 use crate::lengths::resize_chain;
 use crate::overwriting::overwrite_long;
 use cfb_chains::Links;
 use cfb_medium::{Error, Medium};
 use cfb_mini::{MiniAllocator, MiniLinks};
-use cfb_sectors::{MINI_SECTOR_LEN, MINI_STREAM_CUTOFF};
-use cfb_streams::StreamLinks;
+use cfb_sectors::{HasSectors, MINI_SECTOR_LEN};
 use std::alloc::Global;
 
-/// Takes sectors for a long stream of so many bytes that owns none: it has these bytes, and zeros behind them. The stream's entry is
-/// to tell of them then. `Full` where fewer numbers of sectors are left, `InvalidData` where the FAT's tables can't be changed.
-/// After an error it has failed ([MS-CFB] 2.3).
-pub fn take_long<F: Medium>(
+// Takes sectors for a long stream of so many bytes that owns none: they have these bytes, and zeros behind them. What it owns
+// besides stays, and its entry is to tell of them then. `Full` where fewer numbers of sectors are left, `InvalidData` where the
+// FAT's tables can't be changed. After an error nothing is changed, or it has failed ([MS-CFB] 2.3).
+pub(crate) fn take_long<F: Medium>(
     alloc: Global,
     mini: &mut MiniAllocator<F>,
     bytes: &[u8],
     len: u64,
 ) -> Result<Links, Error>
-    requires live { has_failed_here (allocator_of mini.old) ≡ false }
-    requires fits { length bytes.now ≤ len }
+    requires { length bytes.now ≤ len }
     ensures taken { IfOk result (λ links. (who : Owners) (id : ℕ) → Stands mini.old who
-        → OwnsNothing who (stream_owner id) → mini_cutoff ≤ len
-        → (it : Houses id (first_of (ids_of links)) (resized len bytes.now) mini.old mini.new who)
-        × (it.moves.now.sectors (stream_owner id) ≡ ids_of links)) }
+        → who.sectors (stream_owner id) ≡ []
+        → TakesLong id (ids_of links) (resized len bytes.now) mini.old mini.new who) }
     ensures version { IfOk result (λ links.
         links_version links ≡ version_of (allocator_of mini.old)) }
     ensures refused { IsErrOf result InvalidData → (who : Owners) (id : ℕ) → Stands mini.old who
-        → OwnsNothing who (stream_owner id) → mini_cutoff ≤ len → ⊥ }
-    ensures live { OnOk result (has_failed_here (allocator_of mini.new) ≡ false) }
-    ensures failed { OnErr result (has_failed_here (allocator_of mini.new) ≡ true) }
+        → who.sectors (stream_owner id) ≡ [] → ⊥ }
+    ensures rests { OnErr result ((has_failed_here (allocator_of mini.new) ≡ true)
+        ⊎ KeepsOwners mini.old mini.new) }
+    ensures full { IsErrOf result Full → has_failed_here (allocator_of mini.new) ≡ false
+        → LacksRoom mini.old 0 len }
     ensures goes_on { GoesOn (allocator_of mini.old) (allocator_of mini.new) }
-    ensures cause { IfErr result (HasCauseBelow (allocator_of mini.old) (allocator_of mini.new)) }
-    ensures fault { IfErr result (λ e. IsFaultUnless ⊥ e ⊎ IsInvalidOrFull e) }
+    ensures answers { FatAnswers IsInvalidOrFull result (allocator_of mini.old)
+        (allocator_of mini.new) }
 {
+    if mini.directory().allocator().is_failed() {
+        return Err(Error::Failed);
+    }
     let mut links = match Links::new(mini.version(), Vec::new(alloc)) {
         Ok(links) => links,
-        Err(error) => {
-            mini.fail();
-            return Err(error);
-        }
+        Err(error) => return Err(error),
     };
     if let Err(error) = resize_chain(mini, &mut links, len) {
-        mini.fail();
         return Err(error);
     }
     if let Err(error) = overwrite_long(mini, &links, 0, bytes) {
@@ -69,7 +68,7 @@ pub fn take_long<F: Medium>(
 
 // Takes mini sectors for a short stream of these bytes that owns none. The stream's entry is to tell of them then. `Full` where
 // fewer numbers are left, `InvalidData` where the FAT's tables can't be changed. After an error it has failed ([MS-CFB] 2.4).
-fn take_short<F: Medium>(
+pub(crate) fn take_short<F: Medium>(
     alloc: Global,
     mini: &mut MiniAllocator<F>,
     bytes: &[u8],
@@ -99,39 +98,4 @@ fn take_short<F: Medium>(
         return Err(error);
     }
     Ok(links)
-}
-
-// Takes mini sectors for a stream of so many bytes that owns none where they are fewer than 4096, and else sectors: it has these
-// bytes, and zeros behind them. After an error it has failed ([MS-CFB] 2.4).
-pub(crate) fn take_home<F: Medium>(
-    alloc: Global,
-    mini: &mut MiniAllocator<F>,
-    bytes: &[u8],
-    len: u64,
-) -> Result<StreamLinks, Error>
-    requires live { has_failed_here (allocator_of mini.old) ≡ false }
-    requires fits { length bytes.now ≤ len }
-    requires whole { len < mini_cutoff → length bytes.now ≡ len }
-    ensures taken { IfOk result (λ links. (who : Owners) (id : ℕ) → Stands mini.old who
-        → OwnsNothing who (stream_owner id)
-        → (it : Houses id (first_of (sectors_in links)) (resized len bytes.now) mini.old mini.new
-        who) × AreOwned (version_of (allocator_of mini.old)) it.moves.now id len links) }
-    ensures refused { IsErrOf result InvalidData → (who : Owners) (id : ℕ) → Stands mini.old who
-        → OwnsNothing who (stream_owner id) → ⊥ }
-    ensures live { OnOk result (has_failed_here (allocator_of mini.new) ≡ false) }
-    ensures failed { OnErr result (has_failed_here (allocator_of mini.new) ≡ true) }
-    ensures goes_on { GoesOn (allocator_of mini.old) (allocator_of mini.new) }
-    ensures cause { IfErr result (HasCauseBelow (allocator_of mini.old) (allocator_of mini.new)) }
-    ensures fault { IfErr result (λ e. IsFaultUnless ⊥ e ⊎ IsInvalidOrFull e) }
-{
-    if len < u64::from(MINI_STREAM_CUTOFF) {
-        return match take_short(alloc, mini, bytes) {
-            Ok(links) => Ok(StreamLinks::Short(links)),
-            Err(error) => Err(error),
-        };
-    }
-    match take_long(alloc, mini, bytes, len) {
-        Ok(links) => Ok(StreamLinks::Long(links)),
-        Err(error) => Err(error),
-    }
 }

@@ -1,28 +1,25 @@
-use Rattle.std.proofs.Common.{◌≡◌, ◌⊎◌, inl, inr, length, ap, sym, subst, ◌∙◌, ⊎_elim, arith}
+use Rattle.std.proofs.Common.{◌≡◌, inl, inr, ap, sym, subst, ◌∙◌, ⊎_elim, arith}
 use Rattle.std.specs.Prelude.{slice_get, Err, Some}
-use Rattle.std.proofs.lemmas.Bool.Decides.{leb_tells}
 use Rattle.std.proofs.lemmas.Option.{slice_get_within}
 use Rattle.cfb_directory.specs.Entries.{entries_in}
 use Rattle.cfb_directory.specs.Views.{entries_held}
 use Rattle.cfb_fat.specs.Calls.{FatAnswers}
-use Rattle.cfb_live.specs.Strays.{HasNoMoreStrays}
 use Rattle.cfb_live.proofs.Resting.{keeps_rests}
 use Rattle.cfb_medium.specs.declared.error.Error.TheVariants.{InvalidData}
 use Rattle.cfb_mini.specs.Views.{allocator_of, directory_of}
 use Rattle.cfb_mini.proofs.Longer.{answers_after}
 use Rattle.cfb_owned.specs.Chains.{IsInvalidPlaceOrFull}
 use Rattle.cfb_owned.proofs.GoingOn.{goes_then, rests_go_on}
-use Rattle.cfb_sectors.specs.Header.{mini_cutoff}
 use Rattle.cfb_tree.specs.Directory.{Entry}
 use Rattle.cfb_tree.specs.EntryViews.{entry_in}
 use Rattle.cfb_tree.proofs.OneContent.{Some_same}
 use Rattle.cfb_streams.specs.Content.{HasContent}
-use Rattle.cfb_tree.specs.Changes.{changed, with_bytes}
-use Rattle.cfb_writing.specs.Streams.{resized, AreLinksOf, IsStreamAt}
+use Rattle.cfb_streams.specs.declared.opening.StreamLinks.TheVariants.{Short}
+use Rattle.cfb_writing.specs.Streams.{resized}
 use Rattle.cfb_writing.proofs.Links.{entries_count}
-use Rattle.cfb_writing.proofs.Moved.{kept_rests, rewrites_moved}
+use Rattle.cfb_writing.proofs.Moved.{kept_rests, moved_as}
 use Rattle.cfb_writing.proofs.Placed.{entry_of, found_at}
-use Rattle.cfb_writing.proofs.ShortAt.{alike_refl, content_there, kept_strays, short_size_below, size_there, stream_kept}
+use Rattle.cfb_writing.proofs.ShortAt.{alike_refl, content_there, kept_strays, size_there, stream_kept}
 use Rattle.cfb_writing.proofs.moving.move_stream.Goals as goal
 
 pub returns-then-id-dir_entries-clause-refused : goal.returns-then-id-dir_entries-clause-refused
@@ -33,25 +30,6 @@ returns-then-id-dir_entries-clause-refused g c = λ wrong letters tree path cont
     let past = c.if-id-dir_entries.true in
     let within = slice_get_within (entries_held (directory_of it)) c.args.id _ (found_at letters it tree path c.args.id content at) in
     omega (arith, size, past, within)
-
-pub returns-then-count-from-clause-refused : goal.returns-then-count-from-clause-refused
-returns-then-count-from-clause-refused g c = λ wrong letters tree path content at are.
-    let it = c.args.mini.now in
-    let id = c.args.id in
-    let was = entry_of letters it tree path id content at in
-    let told : slice_get (entries_held (directory_of it)) id ≡ Some (entry_in c.dir_entry.result.now) = ap (λ d. slice_get (entries_held d) id) (sym c.directory-3.ensures) ∙ c.dir_entry.ensures in
-    let same : was.entry ≡ entry_in c.dir_entry.result.now = Some_same (sym (found_at letters it tree path id content at) ∙ told) in
-    let size = ap (λ (x : Entry). x.size) same in
-    let past = c.if-count-from.true in
-    let cutoff = c.from.ensures in
-    let count = c.moved_len-count.ensures in
-    ⊎_elim
-    (λ up.
-    let below = short_size_below it was.entry.size c.args.links.now (c.requires up.1) (are was.entry (found_at letters it tree path id content at)).1 in
-    let is = count.long up.1 in
-    omega (arith, below, is, size, past, cutoff))
-    (λ few. let is = count.short few.1 in let low = few.1 in omega (arith, is, low, past, cutoff))
-    (leb_tells mini_cutoff c.args.len)
 
 pub returns-in-Err-clause-refused : goal.returns-in-Err-clause-refused
 returns-in-Err-clause-refused g c = λ wrong letters tree path content at are.
@@ -99,7 +77,6 @@ returns-clause-resized g c = λ letters tree path content at are.
     let new = c.replace_stream.new.mini in
     let id = c.args.id in
     let len = c.args.len in
-    let count = c.moved_len-count.result in
     let was = entry_of letters it tree path id content at in
     let told : slice_get (entries_held (directory_of it)) id ≡ Some (entry_in c.dir_entry.result.now) = ap (λ d. slice_get (entries_held d) id) (sym c.directory-3.ensures) ∙ c.dir_entry.ensures in
     let same : was.entry ≡ entry_in c.dir_entry.result.now = Some_same (sym (found_at letters it tree path id content at) ∙ told) in
@@ -110,11 +87,8 @@ returns-clause-resized g c = λ letters tree path content at are.
     let keeps = keeps_rests it mid c.read_front.ensures.rests in
     let mid_at = stream_kept letters it mid tree path id content keeps at in
     let did = c.in-Ok-replace_stream.ensures.replaced letters tree path content mid_at in
-    let which : (count ≡ len) ⊎ (count ≡ length content) =
-    ⊎_elim (λ up. inr (c.moved_len-count.ensures.long up.1 ∙ sym whole)) (λ few. inl (c.moved_len-count.ensures.short few.1)) (leb_tells mini_cutoff len) in
-    rewrites_moved letters it new at.means.who tree path id content len count c.in-Ok-replace_stream.home c.in-Ok.bytes.items bytes which
-    (subst (λ l. (then : IsStreamAt letters new (changed letters (with_bytes (resized len l)) path tree) path id (resized len l)) × AreLinksOf id c.in-Ok-replace_stream.home new × HasNoMoreStrays it new at.means.who then.means.who) c.deref.ensures.value
-    (did.0, did.1, kept_strays letters it mid new tree path id content keeps at did.0.means.who did.2))
+    moved_as letters it new at.means.who tree path id (Short c.in-Ok-replace_stream.home) c.deref.result.now (resized len content) (c.deref.ensures.value ∙ bytes)
+    (did.0, did.1, kept_strays letters it mid new tree path id content keeps at did.0.means.who did.2)
 
 pub returns-clause-goes_on : goal.returns-clause-goes_on
 returns-clause-goes_on g c =

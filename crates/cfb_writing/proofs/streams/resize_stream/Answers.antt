@@ -47,6 +47,3 @@ returns-in-Short-clause-spared g c = λ past.
 
 pub returns-then-len-from-clause-full : goal.returns-then-len-from-clause-full
 returns-then-len-from-clause-full g c = λ wrong live. let failed = c.move_stream.ensures.full wrong in absurd (cc)
-
-pub returns-in-Short-clause-full : goal.returns-in-Short-clause-full
-returns-in-Short-clause-full g c = λ wrong live. let failed = c.move_stream-in-Short.ensures.full wrong in absurd (cc)

@@ -1,0 +1,99 @@
+use Rattle.std.proofs.Common.{◌≡◌, inl, inr, ap, sym, subst, ◌∙◌, ⊎_elim}
+use Rattle.std.specs.Prelude.{Err}
+use Rattle.std.proofs.lemmas.Option.{slice_get_within}
+use Rattle.cfb_chains.specs.LinkViews.{ids_of}
+use Rattle.cfb_fat.specs.Keeping.{fails_cause}
+use Rattle.cfb_live.proofs.Standing.{stands_of}
+use Rattle.cfb_medium.specs.declared.error.Error.TheVariants.{InvalidData}
+use Rattle.cfb_mini.specs.Changing.{Frees}
+use Rattle.cfb_mini.specs.Views.{allocator_of}
+use Rattle.cfb_owned.proofs.GoingOn.{goes_cause, goes_then}
+use Rattle.cfb_writing.specs.Streams.{resized}
+use Rattle.cfb_writing.proofs.LongBytes.{length-resized}
+use Rattle.cfb_writing.proofs.Placed.{entry_moved, entry_of}
+use Rattle.cfb_writing.proofs.Rehoused.{rehoused, rehoused_moves, short_in_table, short_keeps, short_without}
+use Rattle.cfb_writing.proofs.lengthening.move_to_sectors.Goals as goal
+
+pub returns-in-Err-clause-refused : goal.returns-in-Err-clause-refused
+returns-in-Err-clause-refused g c = λ wrong letters tree path content at are.
+    let it = c.args.mini.now in
+    let is : c.in-Err.error ≡ InvalidData = cc in
+    c.in-Err.ensures.refused (ap Err is) at.means.who c.args.id (stands_of letters it tree at.means) (short_without letters it tree path c.args.id content at c.args.minis.now are)
+
+pub returns-in-Err-free_mini_chain-clause-refused : goal.returns-in-Err-free_mini_chain-clause-refused
+returns-in-Err-free_mini_chain-clause-refused g c = λ wrong letters tree path content at are.
+    let it = c.args.mini.now in
+    let id = c.args.id in
+    let links = c.in-Ok.links in
+    let later = resized c.args.len c.args.bytes.now in
+    let is : c.in-Err-free_mini_chain.error ≡ InvalidData = cc in
+    let took = c.in-Ok.ensures.taken at.means.who id (stands_of letters it tree at.means) (short_without letters it tree path id content at c.args.minis.now are) in
+    c.in-Err-free_mini_chain.ensures.refused (ap Err is) took.long.moves.now.sectors took.long.moves.stands.owners (short_in_table letters it tree path id content at c.args.minis.now are (ids_of links) later c.take_long.new.mini took)
+
+pub returns-in-Err-set_place-clause-refused : goal.returns-in-Err-set_place-clause-refused
+returns-in-Err-set_place-clause-refused g c = λ wrong letters tree path content at are.
+    let it = c.args.mini.now in
+    let m1 = c.take_long.new.mini in
+    let m2 = c.free_mini_chain.new.self in
+    let id = c.args.id in
+    let minis = c.args.minis.now in
+    let links = c.in-Ok.links in
+    let later = resized c.args.len c.args.bytes.now in
+    let is : c.in-Err-set_place.error ≡ InvalidData = cc in
+    let was = entry_of letters it tree path id content at in
+    let took = c.in-Ok.ensures.taken at.means.who id (stands_of letters it tree at.means) (short_without letters it tree path id content at minis are) in
+    let frees = subst (λ l. Frees l m1 m2 took.long.moves.now.sectors) (sym (short_keeps letters it tree path id content at minis are (ids_of links) later m1 took)) (c.in_default.ensures.freed took.long.moves.now.sectors took.long.moves.stands.owners) in
+    let moved = rehoused_moves it m1 m2 at.means.who id (ids_of links) later took c.free_mini_chain.ensures.goes_on c.in_default.ensures.answers.live.1 frees in
+    c.in-Err-set_place.ensures.refused (ap Err is) moved.now.sectors moved.stands.owners (slice_get_within _ id was.entry (entry_moved letters it tree path id content at m2 moved))
+
+pub returns-clause-moved : goal.returns-clause-moved
+returns-clause-moved g c = λ letters tree path content at are.
+    let it = c.args.mini.now in
+    let m1 = c.take_long.new.mini in
+    let m2 = c.free_mini_chain.new.self in
+    let id = c.args.id in
+    let minis = c.args.minis.now in
+    let links = c.in-Ok.links in
+    let later = resized c.args.len c.args.bytes.now in
+    let took = c.in-Ok.ensures.taken at.means.who id (stands_of letters it tree at.means) (short_without letters it tree path id content at minis are) in
+    let frees = subst (λ l. Frees l m1 m2 took.long.moves.now.sectors) (sym (short_keeps letters it tree path id content at minis are (ids_of links) later m1 took)) (c.in_default.ensures.freed took.long.moves.now.sectors took.long.moves.stands.owners) in
+    let did = c.in_default-set_place.ensures in
+    rehoused letters it m1 m2 c.set_place.new.mini tree path id content later at links took c.free_mini_chain.ensures.goes_on c.in_default.ensures.answers.live.1 frees
+    c.first_sector.result c.args.len c.first_sector.ensures (sym (length-resized c.args.bytes.now c.args.len)) c.requires.long did.placed c.set_place.ensures.goes_on did.live
+    (c.in-Ok.ensures.version ∙ sym c.take_long.ensures.goes_on.version ∙ sym c.free_mini_chain.ensures.goes_on.version)
+
+pub returns-in-Err-free_mini_chain-clause-answers : goal.returns-in-Err-free_mini_chain-clause-answers
+returns-in-Err-free_mini_chain-clause-answers g c =
+    let a = allocator_of c.args.mini.now in
+    let m = allocator_of c.take_long.new.mini in
+    let b = allocator_of c.free_mini_chain.new.self in
+    let told = c.in-Err-free_mini_chain.ensures.answers in
+    let live = c.in-Ok.ensures.answers.live in
+    record {
+      live = tt;
+      failed = λ failed. absurd (let before = live.0 in cc);
+      after = inl c.fail.ensures.sectors.failed;
+      cause = fails_cause a b (allocator_of c.fail.new.self) c.in-Err-free_mini_chain.error (goes_cause a m b c.in-Err-free_mini_chain.error c.take_long.ensures.goes_on live.1 told.cause) c.fail.ensures;
+      fault = ⊎_elim (λ fault. inl fault) (λ broken. inr (inl (inl broken))) told.fault;
+    }
+
+pub returns-in-Err-set_place-clause-goes_on : goal.returns-in-Err-set_place-clause-goes_on
+returns-in-Err-set_place-clause-goes_on g c = goes_then _ _ _ (goes_then _ _ _ c.take_long.ensures.goes_on c.free_mini_chain.ensures.goes_on) c.set_place.ensures.goes_on
+
+pub returns-in-Err-set_place-clause-answers : goal.returns-in-Err-set_place-clause-answers
+returns-in-Err-set_place-clause-answers g c =
+    let a = allocator_of c.args.mini.now in
+    let m = allocator_of c.free_mini_chain.new.self in
+    let b = allocator_of c.set_place.new.mini in
+    let told = c.in-Err-set_place.ensures in
+    let live = c.in-Ok.ensures.answers.live in
+    record {
+      live = tt;
+      failed = λ failed. absurd (let before = live.0 in cc);
+      after = inl told.failed;
+      cause = goes_cause a m b c.in-Err-set_place.error (goes_then _ _ _ c.take_long.ensures.goes_on c.free_mini_chain.ensures.goes_on) c.in_default.ensures.answers.live.1 told.cause;
+      fault = ⊎_elim (λ fault. inl fault) (λ place. inr (inl place)) told.fault;
+    }
+
+pub returns-clause-goes_on : goal.returns-clause-goes_on
+returns-clause-goes_on g c = goes_then _ _ _ (goes_then _ _ _ c.take_long.ensures.goes_on c.free_mini_chain.ensures.goes_on) c.set_place.ensures.goes_on
