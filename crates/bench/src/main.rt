@@ -8,6 +8,7 @@ mod files;
 mod inserts;
 mod joins;
 mod pools;
+mod stores;
 mod streams;
 mod tables;
 
@@ -23,6 +24,7 @@ insert-one ROWS   inserts one row into a table of so many
 join ROWS         joins two tables of so many rows by equal numbers
 pool TEXTS        counts a use of each of so many texts, and then another one of each
 pool-insert ROWS  inserts so many rows, an insert each, over a pool of 65535 texts
+store WRITES      writes 4,096 bytes to a store so often, at places far apart, and commits
 streams COUNT     makes so many streams in one storage, in shuffled order, and removes them
 streams-up COUNT  the same in rising order
 write COUNT       writes so many streams of 100 bytes and as many of 10,000, and reads them from the file that is opened again
@@ -64,6 +66,7 @@ fn run(rt: &HostRuntime, name: &str, size: usize) -> Result<()> {
         "pool-insert" => pools::insert_one_each(rt, size),
         "write" => contents::write_and_read(rt, size),
         "large" => contents::write_large(rt, size),
+        "store" => stores::write_apart(rt, size),
         "streams" => streams::make_and_remove(rt, size, false),
         "streams-up" => streams::make_and_remove(rt, size, true),
         _ => bail!("there is no benchmark of this name"),

@@ -76,7 +76,7 @@ impl<D: Device> FuseDevice<D> {
 }
 
 impl<D: Device> Device for FuseDevice<D> {
-    ghost use Rattle.staged.specs.Fuse.{inner_of, fuse_failures, fuse_writes, fuse_syncs, FuseRests, GoesByFuse, DeviceIsRead, IsOneWrite, IsOneSync};
+    ghost use Rattle.staged.specs.Fuse.{inner_of, fuse_failures, fuse_writes, fuse_syncs, FuseRests, GoesByFuse, DeviceIsRead, IsOneMore, IsOneWrite, IsOneSync};
 
     ghost content = { λ d. D.content d.inner };
 
@@ -157,9 +157,7 @@ impl<D: Device> Device for FuseDevice<D> {
             (TornFile which at (length bytes.now) (D.content (inner_of self.old))
             (D.content (inner_of self.new))) }
         ensures honest { D.honest (inner_of self.new) ≡ D.honest (inner_of self.old) }
-        ensures count { fuse_writes self.new which ≡ counted_up (fuse_writes self.old which) }
-        ensures others { (other : Which) → other ≢ which
-            → fuse_writes self.new other ≡ fuse_writes self.old other }
+        ensures count { IsOneMore which (fuse_writes self.old) (fuse_writes self.new) }
         ensures leaves { IsTrue (D.honest (inner_of self.old))
             → LeavesOnly (λ d. D.moment (inner_of d))
             (λ d moment left. D.left_since (inner_of d) moment left) self.old self.new

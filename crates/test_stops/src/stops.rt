@@ -189,12 +189,12 @@ fn a_commit_behind_a_log_of_one_byte(alloc: Global) -> Result<()> {
 
 fn a_commit_of_three_pages_to_a_last_page_that_is_cut(alloc: Global) -> Result<()> {
     let files = Pair::new(alloc, &[7; 1100], &[0; 600])?;
-    same(&commit_with_stops(alloc, &files, 500, &[8; 560])?, &632)
+    same(&commit_with_stops(alloc, &files, 500, &[8; 560])?, &626)
 }
 
 fn a_commit_of_four_pages_to_a_home_file_that_grows(alloc: Global) -> Result<()> {
     let files = Pair::new(alloc, &[7; 600], &[0])?;
-    same(&commit_with_stops(alloc, &files, 300, &[8; 1500])?, &1107)
+    same(&commit_with_stops(alloc, &files, 300, &[8; 1500])?, &1097)
 }
 
 // What the first commit writes.
