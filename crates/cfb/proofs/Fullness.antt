@@ -15,7 +15,7 @@ use Rattle.cfb_owners.specs.Owners.{Owners}
 use Rattle.cfb_sectors.specs.Sectors.{free, greatest_regular}
 use Rattle.cfb_tree.specs.Paths.{Path}
 use Rattle.cfb_tree.specs.Tree.{Tree}
-use Rattle.cfb_writing.specs.Streams.{LacksRoom}
+use Rattle.cfb_writing.proofs.Stretching.{lacks_resting}
 use Rattle.cfb.specs.Putting.{HasNoRoomAt, IsRefusedOpening}
 use Rattle.cfb.specs.Streams.{IsWant}
 use Rattle.cfb.specs.Views.{mini_of, FileRests}
@@ -29,9 +29,6 @@ never_room e why is = elim why [
   | inr place ↦ elim place [ inl broken ↦ absurd (cc) | inr input ↦ absurd (cc) ]
 ]
 
-abbrev lacks_by : Version → List ℕ → ℕ → ℕ → Type 0
-lacks_by v fat size len = (greatest_regular + 1 + count_by (λ entry. nat_eq entry free) fat < length fat + (sectors_for v len - sectors_for v size)) ⊎ (greatest_regular + 1 < sectors_for v len)
-
 module _ {F : Type 0} {g : Ghosts F} where
   -- nor is a stream that isn't found
   pub never_full : (it : CompoundFile F g) (e : Error) → IsWant it e ⊎ IsRefusedOpening e → e ≡ Full → ⊥
@@ -41,17 +38,11 @@ module _ {F : Type 0} {g : Ghosts F} where
   ]
 
   -- numbers were missing before the stream was found
-  lacks_before : (old mid : CompoundFile F g) → FileRests old mid → (size len : ℕ) → LacksRoom (mini_of mid) size len → LacksRoom (mini_of old) size len
-  unfolding LacksRoom
-  lacks_before old mid r size len lacks =
-      let rests = r.mini.directory.allocator in
-      subst (λ v. lacks_by v (fat_of (allocator_of (mini_of old))) size len) rests.sectors.version (subst (λ f. lacks_by (version_of (allocator_of (mini_of mid))) f size len) rests.fat lacks)
-
   pub full_at : (old mid : CompoundFile F g) → FileRests old mid → (path : Option Path) (tree : Tree) (id was len : ℕ) (who : Owners) → FindsWritten old mid path tree id was who → LacksRoomAt id len mid → HasNoRoomAt old path tree len
   full_at old mid r path tree id was len who found lacks = record {
     names = found.names;
     at_path = found.at_path;
     content = found.content;
     answer = found.answer;
-    lacks = lacks_before old mid r (length found.content) len (lacks found.names tree found.content found.written);
+    lacks = lacks_resting (mini_of old) (mini_of mid) (length found.content) len r.mini.directory.allocator (lacks found.names tree found.content found.written);
   }

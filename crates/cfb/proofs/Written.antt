@@ -34,6 +34,7 @@ use Rattle.cfb_tree.specs.Tree.{Content, Facts, Tree}
 use Rattle.cfb_tree.proofs.OneContent.{Some_same}
 use Rattle.cfb_writing.specs.Streams.{AreAlike, AreLinksOf, IsStreamAt, RewritesIn}
 use Rattle.cfb_writing.proofs.Placed.{entry_of, found_at}
+use Rattle.cfb_writing.proofs.Moved.{links_kept}
 use Rattle.cfb.specs.Doing.{FileMeans}
 use Rattle.cfb.specs.Streams.{HasStream, IsWant}
 use Rattle.cfb.specs.Views.{ahead_held, letters_in, links_held, mini_of, sound_of}
@@ -43,41 +44,6 @@ use Rattle.cfb.proofs.Holding.{entries_hold}
 use Rattle.cfb.proofs.LiveMeaning.{holds_meant}
 use Rattle.cfb.proofs.StreamBytes.{bytes_held, content_len, lies_where}
 use Rattle.cfb.proofs.StreamsFound.{none_ahead}
-
-module _ {F : Type 0} {g : Ghosts F} where
-  -- the mini stream is as long as it was
-  stream_len_kept : (old new : MiniAllocator F g) (k : KeepsOwners old new) (own : ℕ → List ℕ) → HasOwners old own → mini_stream_len new ≡ mini_stream_len old
-  stream_len_kept old new k own h =
-      let now = k.owners own h in
-      let ids : mini_stream_ids new ≡ mini_stream_ids old = sym now.mini_stream ∙ h.mini_stream in
-      let version = now.memory.over.stream_version ∙ k.allocator.sectors.version ∙ sym h.memory.over.stream_version in
-      ap (λ v. length (mini_stream_ids new) * sector_len v) version ∙ ap (λ l. length l * sector_len (links_version old.mini_fat.stream)) ids
-
-  -- each owner has what it had, so the stream lies where it did
-  links_kept : (old new : MiniAllocator F g) (k : KeepsOwners old new) (own : ℕ → List ℕ) → HasOwners old own → (id : ℕ) (links : StreamLinks) → AreLinksOf id links old → AreLinksOf id links new
-  links_kept old new k own h id links are e found =
-      let was = are e (ap (λ es. slice_get es id) (sym k.entries) ∙ found) in
-      let version = k.allocator.sectors.version in
-      let len = stream_len_kept old new k own h in (
-        record {
-          short = λ below.
-              let at = was.0.short below in (
-                subst (λ t. Chain t e.start (sectors_in links)) (sym k.mini_fat) at.0,
-                subst (λ n. AreInside n (sectors_in links)) (sym len) at.1,
-                at.2,
-              );
-          long = λ up.
-              let at = was.0.long up in (
-                subst (λ t. Chain t e.start (sectors_in links)) (sym k.allocator.fat) at.0,
-                subst (λ v. e.size ≤ length (sectors_in links) * sector_len v) (sym version) at.1,
-              );
-        },
-        by_level links was.1,
-      )
-    where
-      by_level : (links : StreamLinks) → IsOfLevel old e.size links → IsOfLevel new e.size links
-      by_level (Short minis) below = below
-      by_level (Long ids) level = (level.0, level.1 ∙ sym k.allocator.sectors.version)
 
 module _ {F : Type 0} {g : Ghosts F} (it : MiniAllocator F g) (id : ℕ) where
   -- links that tell of the same sectors
