@@ -1,0 +1,4 @@
+pub mod Places
+pub mod Recounting
+pub mod WrittenCounts
+pub mod Adopted
