@@ -6,12 +6,14 @@ use crate::failures::{Failure, Paths, failure_of, tell_failure};
 use crate::files::{self, Found};
 use crate::lists::list;
 use crate::progress::Progress;
-use crate::sessions::{commit, create_session};
+use crate::sessions::{commit, commit_copy, create_session};
 use crate::texts::commands_in;
+use cfb::MemoryMedium;
 use cfb_medium::Error;
 use clap::error::ErrorKind;
 use command_words::{Line, Log, read_words};
-use package_views::{Trouble, check_package, export_package, show_package, tell};
+use msi::Package;
+use package_views::{Trouble, adopted_package, check_package, export_package, show_package, tell};
 use staged::Recovered;
 use std::alloc::{AllocError, Global};
 use std::fs::File;
@@ -76,6 +78,9 @@ fn carry_out<R: Files<File = File> + AllocGlobal + Clock, O: Write, E: Write>(
 {
     match line {
         Line::Create(package, log) => on_files(rt, Word::Create, package, log, out, err),
+        Line::Adopt(package, log, source) => {
+            on_files(rt, Word::Adopt(source), package, log, out, err)
+        }
         Line::Recover(package, log) => on_files(rt, Word::Recover, package, log, out, err),
         Line::List(package, log) => on_files(rt, Word::List, package, log, out, err),
         Line::Run(package, log, commands) => {
@@ -92,6 +97,8 @@ fn carry_out<R: Files<File = File> + AllocGlobal + Clock, O: Write, E: Write>(
 #[derive(Clone, Copy, Debug)]
 enum Word<'a> {
     Create,
+    // With the path of the package that is read.
+    Adopt(&'a str),
     Recover,
     List,
     // With the path of the command file, and whether progress is shown.
@@ -145,6 +152,7 @@ fn do_word<R: Files<File = File> + AllocGlobal + Clock, O: Write, E: Write>(
 {
     let ended = match word {
         Word::Create => create(rt, paths, out),
+        Word::Adopt(source) => return adopt_file(rt, paths, source, out, err),
         Word::Recover => finish(rt, paths, out),
         Word::List => list(rt, paths, out),
         Word::Run(commands, shows_progress) => {
@@ -201,6 +209,39 @@ fn create<R: Files<File = File> + AllocGlobal, O: Write>(
     };
     match made {
         Ok(()) => answer("created", out),
+        Err(Error::InvalidData) => Err(Failure::Log(Trouble::UnfitCommit)),
+        Err(error) => Err(failure_of(error)),
+    }
+}
+
+// Makes a package of one of any maker, which is read first.
+fn adopt_file<R: Files<File = File> + AllocGlobal, O: Write, E: Write>(
+    rt: &R,
+    paths: &Paths<'_>,
+    source: &str,
+    out: &mut O,
+    err: &mut E,
+) -> u8
+    ensures { result ≤ 3 }
+{
+    let mut package = match adopted_package(rt, source, out, err) {
+        Ok(package) => package,
+        Err(status) => return status,
+    };
+    let ended = keep_copy(rt, paths, &mut package, out);
+    status_of(ended, paths, err)
+}
+
+// Makes the files of a package, and commits a copy of this one there.
+fn keep_copy<R: Files<File = File> + AllocGlobal, O: Write>(
+    rt: &R,
+    paths: &Paths<'_>,
+    package: &mut Package<MemoryMedium>,
+    out: &mut O,
+) -> Result<Ending, Failure> {
+    let device = files::create(rt, paths)?;
+    match commit_copy(rt.alloc(), package, device) {
+        Ok(()) => answer("adopted", out),
         Err(Error::InvalidData) => Err(Failure::Log(Trouble::UnfitCommit)),
         Err(error) => Err(failure_of(error)),
     }

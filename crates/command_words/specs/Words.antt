@@ -22,6 +22,10 @@ two_paths = with_rule (with_rule (new_app (codes "run")) (path (codes "PACKAGE")
 abbrev pub run : App
 run = with_rule (with_rule two_paths (new_rule (codes "LAST"))) log_option
 
+-- the word that adopts a package: its own path, and that of the package that is read, with its log behind `--log`
+abbrev pub adopted : App
+adopted = with_rule (with_rule (with_rule (new_app (codes "adopt")) (path (codes "PACKAGE"))) (path (codes "SOURCE"))) log_option
+
 -- a word behind two hyphens, which nothing follows
 abbrev pub flag : Text → Rule
 flag id = record (new_rule id) { long = Some id; action = Some SetTrue }
@@ -65,5 +69,8 @@ with_log = with_subcommand (with_subcommand without_run run.top) (on_package (co
 abbrev pub with_looks : App
 with_looks = with_subcommand (with_subcommand with_log shown.top) checked.top
 
+abbrev pub with_files : App
+with_files = with_subcommand with_looks exported.top
+
 abbrev pub msidb : App
-msidb = with_subcommand with_looks exported.top
+msidb = with_subcommand with_files adopted.top

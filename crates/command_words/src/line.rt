@@ -37,6 +37,8 @@ pub struct Parts<'a> {
 pub enum Line<'a> {
     /// Make a new package.
     Create(&'a str, Log<'a>),
+    /// Make a package of one of any maker, whose texts are counted otherwise.
+    Adopt(&'a str, Log<'a>, &'a str),
     /// Finish a commit.
     Recover(&'a str, Log<'a>),
     /// Run the commands of a file.
@@ -93,6 +95,7 @@ fn line_of<'a>(name: &str, paths: &ArgMatches<'a>) -> Option<Line<'a>>
             Some(Line::Export(file, folder))
         }
         "run" => line_of_run(paths),
+        "adopt" => line_of_adoption(paths),
         _ => line_on_package(name, paths),
     }
 }
@@ -131,6 +134,18 @@ fn line_of_run<'a>(paths: &ArgMatches<'a>) -> Option<Line<'a>>
             Some(Line::Run(package, log, first))
         }
     }
+}
+
+// The line of the word that adopts a package.
+fn line_of_adoption<'a>(paths: &ArgMatches<'a>) -> Option<Line<'a>>
+    ensures { IfSome result (λ line. ((said line).0 ≡ codes "adopt")
+        × AreIn (said line).1 (rows_of (found_of paths.now))
+        × AsksFor line (rows_of (found_of paths.now))) }
+{
+    let package = path(paths, "PACKAGE")?;
+    let source = path(paths, "SOURCE")?;
+    let log = log_in(None, paths);
+    Some(Line::Adopt(package, log, source))
 }
 
 // The log that is named among the paths, or behind `--log`.

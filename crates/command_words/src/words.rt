@@ -2,7 +2,7 @@
 ghost use Rattle.std.specs.Prelude.{◌≡◌, codes, true, false, IfOk, IfErr, map, string_bytes};
 ghost use Rattle.clap.specs.Words.{app_of, kind_of, rule_of, takes, with_rule, with_subcommand, HasMatchesOf};
 ghost use Rattle.clap.specs.declared.Command.TheViews.{out-Command as fields_of};
-ghost use Rattle.command_words.specs.Words.{bare, checked, exported, log_option, msidb, on_package, path, run, shown, summary_shown, table_shown, two_paths, with_log, with_looks, without_run};
+ghost use Rattle.command_words.specs.Words.{adopted, bare, checked, exported, log_option, msidb, on_package, path, run, shown, summary_shown, table_shown, two_paths, with_files, with_log, with_looks, without_run};
 
 use clap::error::ErrorKind;
 use clap::{Arg, ArgAction, ArgMatches, Command, Error};
@@ -192,6 +192,31 @@ fn with_folder<'a>(alloc: Global) -> Result<Command<'a>, AllocError>
     add(add(command, needed(alloc, "FILE", "The package"))?, folder)
 }
 
+// The word that adopts a package, with the paths of both.
+fn with_source<'a>(alloc: Global) -> Result<Command<'a>, AllocError>
+    ensures app { IfOk result (λ c. app_of c ≡ adopted) }
+    ensures local { IfOk result (λ c. (fields_of c).has_globals ≡ false) }
+{
+    let command = Command::new(alloc, "adopt")
+        .about("Makes a package that can be changed of one whose texts are counted otherwise")
+        .after_help(
+            "Example: msidb adopt setup.msi other.msi\nMakes the package, and the log setup.msi.log. It holds what the other one does, and counts each text as often as cells use it. A package\nthat breaks further rules isn't adopted: they are told as `check` tells them, and nothing is made. The other package is only read.\nStatus: 0 done, 1 rules are broken, 3 the other file is no package, or there is a package already.",
+        );
+    let source = needed(
+        alloc,
+        "SOURCE",
+        "The package of any maker, which is only read",
+    );
+    let first = add(
+        add(
+            command,
+            needed(alloc, "PACKAGE", "The package that is made"),
+        )?,
+        source,
+    )?;
+    add(first, log_behind(alloc))
+}
+
 fn root<'a>(alloc: Global) -> Result<Command<'a>, AllocError>
     ensures app { IfOk result (λ c. app_of c ≡ bare) }
     ensures local { IfOk result (λ c. (fields_of c).has_globals ≡ false) }
@@ -266,13 +291,23 @@ fn on_looks<'a>(alloc: Global) -> Result<Command<'a>, AllocError>
     with(first, check)
 }
 
-// The program's words.
-fn definition<'a>(alloc: Global) -> Result<Command<'a>, AllocError>
-    ensures { IfOk result (λ c. app_of c ≡ msidb) }
+// And the one that writes a package to files.
+fn on_exports<'a>(alloc: Global) -> Result<Command<'a>, AllocError>
+    ensures app { IfOk result (λ c. app_of c ≡ with_files) }
+    ensures local { IfOk result (λ c. (fields_of c).has_globals ≡ false) }
 {
     let export = with_folder(alloc)?;
     let bare = on_looks(alloc)?;
     with(bare, export)
+}
+
+// The program's words.
+fn definition<'a>(alloc: Global) -> Result<Command<'a>, AllocError>
+    ensures { IfOk result (λ c. app_of c ≡ msidb) }
+{
+    let adopt = with_source(alloc)?;
+    let bare = on_exports(alloc)?;
+    with(bare, adopt)
 }
 
 // What was found among the words.

@@ -33,7 +33,7 @@ fn text_of(defect: Defect) -> &'static str {
 }
 
 // Writes a line for each.
-fn write_defects<O: Write>(found: &[Defect], out: &mut O) -> Result<(), Error> {
+pub(crate) fn write_defects<O: Write>(found: &[Defect], out: &mut O) -> Result<(), Error> {
     for defect in found {
         if writeln!(out, "{}", text_of(*defect)).is_err() {
             return Err(Error::Device);

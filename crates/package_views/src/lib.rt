@@ -1,6 +1,7 @@
 //! Packages of any maker as they are only read: shown, judged, written to a folder; what is wrong with a file that is none.
 #![tactic(auto)]
 
+mod adopt;
 mod check;
 mod export;
 mod looks;
@@ -9,6 +10,7 @@ mod refusals;
 mod show;
 mod troubles;
 
+pub use adopt::adopted_package;
 pub use check::check_package;
 pub use export::export_package;
 pub use looks::trouble_at;

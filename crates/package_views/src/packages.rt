@@ -1,7 +1,8 @@
 //! Packages that are only read: a function for each call, since what is told of a call costs time wherever it is seen.
-use cfb::{CaseMapper, FileMedium};
+use cfb::{CaseMapper, CompoundFile, FileMedium, MemoryMedium};
 use cfb_medium::Error;
 use msi::{Defect, Package, Streams, Tables, defects, open};
+use msi_adopting::adopt;
 use msi_export::{StreamFacts, facts_of_stream, row_text, stream_bytes};
 use msi_meaning::PackageType;
 use msi_props::PropertyValue;
@@ -29,6 +30,39 @@ pub(crate) fn defects_at<R: Files<File = File> + AllocGlobal>(
     let medium = FileMedium::open(rt, path)?;
     match defects(rt.alloc(), medium, letters) {
         Ok((_medium, found)) => Ok(found),
+        Err((_medium, error)) => Err(error),
+    }
+}
+
+/// A copy in memory of the package at a path, with right counts, which is sound. `InvalidData` where there is none.
+pub(crate) fn adopted_at<R: Files<File = File> + AllocGlobal>(
+    rt: &R,
+    path: &str,
+) -> Result<Package<MemoryMedium>, Error> {
+    let mut file = cfb::open(rt, rt.alloc(), path)?;
+    let target = copy_of(rt.alloc(), &mut file)?;
+    let package = package_in(rt.alloc(), target)?;
+    if package.is_sound() {
+        Ok(package)
+    } else {
+        Err(Error::InvalidData)
+    }
+}
+
+// The bytes of a copy with right counts.
+fn copy_of(alloc: Global, file: &mut CompoundFile<FileMedium>) -> Result<MemoryMedium, Error> {
+    let letters = CaseMapper::ascii(alloc)?;
+    match adopt(alloc, file, MemoryMedium::new(alloc), letters) {
+        Ok(target) => Ok(target),
+        Err((_target, error)) => Err(error),
+    }
+}
+
+// The package of these bytes.
+fn package_in(alloc: Global, medium: MemoryMedium) -> Result<Package<MemoryMedium>, Error> {
+    let letters = CaseMapper::ascii(alloc)?;
+    match Package::open(alloc, medium, letters) {
+        Ok(package) => Ok(package),
         Err((_medium, error)) => Err(error),
     }
 }

@@ -31,7 +31,7 @@ fn print_file(rt: &HostRuntime, path: &str) -> Result<()> {
         "answers.rows" => print_rows(rt, text.as_str(), Answers),
         "forms.rows" => print_rows(rt, text.as_str(), Forms),
         "logs.rows" => print_rows(rt, text.as_str(), Logs::new(rt.alloc())),
-        "programs.rows" | "files.rows" | "shown.rows" => print_rows(
+        "programs.rows" | "files.rows" | "shown.rows" | "adopted.rows" => print_rows(
             rt,
             text.as_str(),
             Programs::new(rt)?,

@@ -7,4 +7,4 @@ abbrev joined : App → App → App
 joined a b = with_subcommand a b.top
 
 pub returns : goal.returns
-returns c = IfOk-weaker c.with.result _ _ (λ r h. h ∙ ap₂ joined c.in_ok-bare.ensures.app c.in_ok-export.ensures.app) c.with.ensures.app
+returns c = IfOk-weaker c.with.result _ _ (λ r h. h ∙ ap₂ joined c.in_ok-bare.ensures.app c.in_ok-adopt.ensures.app) c.with.ensures.app

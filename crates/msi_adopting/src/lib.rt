@@ -1,0 +1,8 @@
+//! Packages that are adopted: a copy is made of one whose only defect is that its pool doesn't count the uses that its cells make.
+#![tactic(auto)]
+
+mod adopting;
+mod counting;
+
+pub use adopting::adopt;
+pub use counting::uses_of_places;

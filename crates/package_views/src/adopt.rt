@@ -1,0 +1,54 @@
+//! Packages of any maker that are adopted.
+ghost use Rattle.std.specs.Prelude.{◌≤◌, IfErr};
+
+use crate::check::write_defects;
+use crate::packages::{adopted_at, defects_at};
+use crate::refusals::tell_why_refused;
+use crate::troubles::tell_error;
+use cfb::MemoryMedium;
+use cfb_medium::Error;
+use msi::{Defect, Package};
+use std::fs::File;
+use std::io::Write;
+use std::rt::Files;
+
+/// A copy in memory of the package at a path, with right counts, which is sound. Where there can be none the status is given and what
+/// was found is told: 1 where the package breaks further rules, a line for each; 3 where the file is no package or can't be read, which
+/// is told with the file's name, and where nothing can be written. The file is only read.
+pub fn adopted_package<'a, R: Files<File = File> + AllocGlobal, O: Write, E: Write>(
+    rt: &R,
+    path: &'a str,
+    out: &'a mut O,
+    err: &'a mut E,
+) -> Result<Package<MemoryMedium>, u8>
+    ensures { IfErr result (λ status. status ≤ 3) }
+{
+    let found = match defects_at(rt, path) {
+        Ok(found) => found,
+        Err(error) => {
+            tell_why_refused(rt, path, error, err);
+            return Err(3);
+        }
+    };
+    match adopted_at(rt, path) {
+        Ok(package) => Ok(package),
+        Err(Error::InvalidData) if !found.is_empty() => Err(tell_defects(path, &found, out, err)),
+        Err(error) => {
+            tell_why_refused(rt, path, error, err);
+            Err(3)
+        }
+    }
+}
+
+// Writes a line for each rule that a package breaks.
+fn tell_defects<O: Write, E: Write>(path: &str, found: &[Defect], out: &mut O, err: &mut E) -> u8
+    ensures { result ≤ 3 }
+{
+    match write_defects(found, out) {
+        Ok(()) => 1,
+        Err(error) => {
+            tell_error(path, error, err);
+            3
+        }
+    }
+}
