@@ -1,7 +1,7 @@
 """The merge gate: proves every crate from nothing, looks at the layout, runs the programs, tries the wrong bodies of each
 crate whose line in must-fail.tried is missing or differs (many at a time, rt-many), ends runs of msidb by force, gives it
-commands at random, looks at the order of its writes and syncs, and refuses each request for memory of test_changes and
-test_packages in turn. It works on a copy."""
+commands at random, looks at the order of its writes and syncs, counts the uses of texts in packages that it adopts, and
+refuses each request for memory of test_changes and test_packages in turn. It works on a copy."""
 import os
 import re
 import resource
@@ -47,6 +47,7 @@ TRIALS = (
     ("kill-runs", "msidb"),
     ("random-runs", "msidb"),
     ("trace-commit", "msidb"),
+    ("count-uses", "msidb"),
     ("refuse-memory", "test_changes", "memory"),
     ("refuse-memory", "test_packages", "memory", "counted_c_empty.msi", "course.json"),
 )
