@@ -1,2 +1,4 @@
 pub mod FileDevice
 pub mod FileMedium
+pub mod Pair
+pub mod Raw

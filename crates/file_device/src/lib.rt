@@ -4,6 +4,10 @@
 mod device;
 mod file;
 mod medium;
+mod pair;
+mod raw;
 
-pub use device::FileDevice;
+pub use device::{FileDevice, SystemFile};
 pub use medium::FileMedium;
+pub use pair::RawDevice;
+pub use raw::RawFile;
