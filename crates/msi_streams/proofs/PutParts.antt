@@ -36,7 +36,7 @@ memory_fault e is = inl (subst (IsFaultUnless ⊥) (sym is) tt)
 
 -- what the rule makes of the root's objects where it accepts
 module _ (letters : Letters) (tree : Tree) (name bytes : List ℕ) (rising : IsStrictlySortedBy (name_cmp letters) (child_names tree.content)) where
-  shape : (putting bytes letters tree (name ∷ [])).1 ≡ done → IsPut letters name bytes tree (putting bytes letters tree (name ∷ [])).0
+  pub shape : (putting bytes letters tree (name ∷ [])).1 ≡ done → IsPut letters name bytes tree (putting bytes letters tree (name ∷ [])).0
   shape accepted = by (at_name letters (objects tree.content) name) refl
     where
       outcome_is : (o : Option Object) → at_name letters (objects tree.content) name ≡ o → putting bytes letters tree (name ∷ []) ≡ put_over bytes letters tree (name ∷ []) o
@@ -76,7 +76,7 @@ module _ {F : Type 0} {g : Ghosts F} where
     means : FileMeans new after
     is : IsPut (letters_in old) name bytes tree after
 
-  put_to : (name bytes : List ℕ) (path : Option Path) → path ≡ Some (name ∷ []) → (old new : CompoundFile F g) (x : Unit {0}) → FilePuts {T = Unit {0}} (putting bytes) path (Ok x) old new
+  pub put_to : (name bytes : List ℕ) (path : Option Path) → path ≡ Some (name ∷ []) → (old new : CompoundFile F g) (x : Unit {0}) → FilePuts {T = Unit {0}} (putting bytes) path (Ok x) old new
       → (tree : Tree) → FileMeans old tree → PutTo name bytes old new tree
   put_to name bytes path at old new x p tree m =
       let d = p.done tree m in
@@ -165,7 +165,7 @@ module _ {F : Type 0} {g : Ghosts F} where
 
   -- ---- where the streams stand nothing is refused by rule
 
-  there_fault : (name bytes : List ℕ) (path : Option Path) → path ≡ Some (name ∷ []) → (old new : CompoundFile F g) (e : Error) → FilePuts {T = Unit {0}} (putting bytes) path (Err e) old new
+  pub there_fault : (name bytes : List ℕ) (path : Option Path) → path ≡ Some (name ∷ []) → (old new : CompoundFile F g) (e : Error) → FilePuts {T = Unit {0}} (putting bytes) path (Err e) old new
       → (tree : Tree) → FileMeans old tree → (b : List ℕ) → stream_at (letters_in old) (objects tree.content) name ≡ Some b → IsFault e
   there_fault name bytes path at old new e p tree m b there = ⊎_elim (λ fault. fault) (λ told. refuted (at_name letters (objects tree.content) name) refl (answer told.0)) (p.refused tree m)
     where
