@@ -71,10 +71,10 @@ module _ (letters : Letters) (tree : Tree) (name bytes : List ℕ) (rising : IsS
 
 module _ {F : Type 0} {g : Ghosts F} where
   -- the file means a tree with these bytes at the name
-  record PutTo (name bytes : List ℕ) (old new : CompoundFile F g) (tree : Tree) : Type 0 where
-    after : Tree
-    means : FileMeans new after
-    is : IsPut (letters_in old) name bytes tree after
+  pub record PutTo (name bytes : List ℕ) (old new : CompoundFile F g) (tree : Tree) : Type 0 where
+    pub after : Tree
+    pub means : FileMeans new after
+    pub is : IsPut (letters_in old) name bytes tree after
 
   pub put_to : (name bytes : List ℕ) (path : Option Path) → path ≡ Some (name ∷ []) → (old new : CompoundFile F g) (x : Unit {0}) → FilePuts {T = Unit {0}} (putting bytes) path (Ok x) old new
       → (tree : Tree) → FileMeans old tree → PutTo name bytes old new tree
