@@ -1,4 +1,5 @@
 //! Calls over a medium that fails once, at each of its calls in turn.
+use crate::calls;
 use crate::files::change;
 use crate::told::tree_of;
 use cfb::CompoundFile;
@@ -22,7 +23,7 @@ fn file_over_faults(
     };
     let medium = FailingMedium::new(MemoryMedium::from_bytes(alloc, bytes), failing);
     match CaseMapper::ascii(alloc) {
-        Ok(letters) => CompoundFile::open(alloc, medium, letters),
+        Ok(letters) => calls::open(alloc, medium, letters),
         Err(error) => Err((medium, error)),
     }
 }

@@ -1,4 +1,5 @@
 //! Calls on a compound file in memory.
+use crate::calls;
 use crate::faults::{call_fails, open_fails};
 use crate::names::names_sum;
 use crate::streams::{append, open_limited, pieces_of, set_len, sum_of, sums_of, write_at};
@@ -95,7 +96,7 @@ fn open_leniently(
     medium: MemoryMedium,
 ) -> Result<CompoundFile<MemoryMedium>, Error> {
     let letters = CaseMapper::ascii(alloc)?;
-    CompoundFile::open(alloc, medium, letters).map_err(|refused| refused.1)
+    calls::open(alloc, medium, letters).map_err(|refused| refused.1)
 }
 
 fn open_strictly(alloc: Global, medium: MemoryMedium) -> Result<CompoundFile<MemoryMedium>, Error> {
@@ -147,25 +148,25 @@ pub fn change<F: Medium>(
     let path = row.text(1);
     let moment = Timestamp::from_unix(row.number(2), 0);
     match row.call() {
-        "storage" => file.create_storage(path, moment),
-        "storages" => file.create_storage_all(path, moment),
+        "storage" => calls::create_storage(file, path, moment),
+        "storages" => calls::create_storage_all(file, path, moment),
         "nested" => nest(alloc, file, path, row.number(2)),
         "beside" => make_beside(alloc, file, path, row.number(2)),
-        "stream" => file.create_new_stream(path),
-        "stream anew" => file.create_stream(path),
+        "stream" => calls::create_new_stream(file, path),
+        "stream anew" => calls::create_stream(file, path),
         "write" => write_at(alloc, file, row),
         "append" => append(alloc, file, row),
         "set len" => set_len(file, row),
-        "remove" => file.remove_stream(path),
-        "remove storage" => file.remove_storage(path),
-        "remove all" => file.remove_storage_all(path),
-        "touch" => file.touch(path, moment),
-        "created" => file.set_created_time(path, moment),
-        "modified" => file.set_modified_time(path, moment),
-        "bits" => file.set_state_bits(path, u32::try_from(row.number(2)).unwrap_or(0)),
+        "remove" => calls::remove_stream(file, path),
+        "remove storage" => calls::remove_storage(file, path),
+        "remove all" => calls::remove_storage_all(file, path),
+        "touch" => calls::touch(file, path, moment),
+        "created" => calls::set_created_time(file, path, moment),
+        "modified" => calls::set_modified_time(file, path, moment),
+        "bits" => calls::set_state_bits(file, path, u32::try_from(row.number(2)).unwrap_or(0)),
         "class" => {
             let clsid = Uuid::parse_str(row.text(2)).map_err(|_| Error::InvalidData)?;
-            file.set_storage_clsid(path, clsid)
+            calls::set_storage_clsid(file, path, clsid)
         }
         _ => Err(Error::InvalidInput),
     }
@@ -181,7 +182,7 @@ fn nest<F: Medium>(
     let mut path = String::new(alloc);
     for _ in 0..count {
         path.push_str(name)?;
-        file.create_storage(&path, Timestamp::zero())?;
+        calls::create_storage(file, &path, Timestamp::zero())?;
     }
     Ok(())
 }
@@ -195,7 +196,7 @@ fn make_beside<F: Medium>(
 ) -> Result<(), Error> {
     for number in 0..count {
         let path = format!(in alloc; "{name}{number}")?;
-        file.create_new_stream(&path)?;
+        calls::create_new_stream(file, &path)?;
     }
     Ok(())
 }

@@ -4,6 +4,7 @@
 //! part was left changed is told on a line, with status 0.
 #![tactic(auto)]
 
+mod calls;
 mod creating;
 mod disk;
 mod empty_file;

@@ -1,4 +1,5 @@
 //! Streams with many names in one storage, made and removed one by one.
+use crate::calls;
 use cfb::CompoundFile;
 use cfb_medium::{Error, MemoryMedium};
 use std::alloc::Global;
@@ -17,11 +18,11 @@ pub fn names_sum(
     let count = u32::try_from(row.number(2)).unwrap_or(0);
     let mut sum = 0;
     for number in 0..count {
-        file.create_new_stream(&path_of(alloc, row.text(1), number, count)?)?;
+        calls::create_new_stream(file, &path_of(alloc, row.text(1), number, count)?)?;
         sum = sum_of_names(file, sum)?;
     }
     for number in 0..count {
-        file.remove_stream(&path_of(alloc, row.text(1), number, count)?)?;
+        calls::remove_stream(file, &path_of(alloc, row.text(1), number, count)?)?;
         sum = sum_of_names(file, sum)?;
     }
     Ok(format!(in alloc; "{sum}")?)

@@ -1,4 +1,5 @@
 //! Files over a store of two files in memory, which go back to what was committed last.
+use crate::calls::{self, commit, roll_back};
 use crate::files::change;
 use crate::told::tree_of;
 use cfb::CompoundFile;
@@ -58,7 +59,7 @@ fn file_in_store(alloc: Global, bytes: &[u8], pass: u64) -> Result<CompoundFile<
     recover(&mut device)?;
     let store = Staged::new(alloc, device).map_err(|refused| refused.1)?;
     let letters = CaseMapper::ascii(alloc)?;
-    CompoundFile::open(alloc, store, letters).map_err(|refused| refused.1)
+    calls::open(alloc, store, letters).map_err(|refused| refused.1)
 }
 
 // What a call answers; one that changes the file answers "done".
@@ -76,8 +77,8 @@ fn answer_of(alloc: Global, file: &mut CompoundFile<Store>, row: &Row) -> Result
 
 fn call(alloc: Global, file: &mut CompoundFile<Store>, row: &Row) -> Result<(), Error> {
     match row.call() {
-        "commit" => file.commit(),
-        "roll back" => file.roll_back(),
+        "commit" => commit(file),
+        "roll back" => roll_back(file),
         _ => change(alloc, file, row),
     }
 }
@@ -127,7 +128,7 @@ fn goes_back(alloc: Global, bytes: &[u8], row: &Row) -> Result<String, Error> {
         match run(alloc, &mut file, row, 1) {
             Ok(()) => return copy_of(alloc, "each fault told, then done"),
             Err(Error::Device) if file.has_failed() => {
-                file.roll_back()?;
+                roll_back(&mut file)?;
                 if tree_of(alloc, &file)? != before {
                     return Ok(format!(in alloc; "another tree at call {pass}")?);
                 }
@@ -148,13 +149,13 @@ fn goes_back_twice(alloc: Global, bytes: &[u8], row: &Row) -> Result<String, Err
         let before = tree_of(alloc, &file)?;
         run(alloc, &mut file, row, 1)?;
         let changed = tree_of(alloc, &file)?;
-        match file.roll_back() {
+        match roll_back(&mut file) {
             Ok(()) => return copy_of(alloc, "each fault told, then done"),
             Err(Error::Device) if file.has_failed() => {}
             Err(Error::Device) if tree_of(alloc, &file)? == changed => {}
             Err(error) => return Ok(format!(in alloc; "{error:?} at call {pass}")?),
         }
-        file.roll_back()?;
+        roll_back(&mut file)?;
         if tree_of(alloc, &file)? != before {
             return Ok(format!(in alloc; "another tree at call {pass}")?);
         }
@@ -168,9 +169,9 @@ fn stays_failed(alloc: Global, bytes: &[u8], row: &Row) -> Result<String, Error>
     for pass in first..MANY {
         let mut file = file_in_store(alloc, bytes, pass)?;
         run(alloc, &mut file, row, 1)?;
-        match file.commit() {
+        match commit(&mut file) {
             Ok(()) => return copy_of(alloc, "each fault told, then done"),
-            Err(Error::Device) if file.roll_back() == Err(Error::Failed) => {}
+            Err(Error::Device) if roll_back(&mut file) == Err(Error::Failed) => {}
             Err(error) => return Ok(format!(in alloc; "{error:?} at call {pass}")?),
         }
     }
