@@ -1,5 +1,5 @@
 -- The steps of adopting a package, one after the other.
-use Rattle.std.proofs.Common.{◌≡◌, ◌∙◌, ◌⊎◌, ◌<◌, ℕ, Bool, true, List, ap, inl, inr, length, subst, sym}
+use Rattle.std.proofs.Common.{◌≡◌, ◌∙◌, ◌⊎◌, ◌<◌, ℕ, Bool, true, false, List, ap, inl, inr, length, refl, subst, sym}
 use Rattle.std.specs.Prelude.{Err, IfErr, IfOk, MatchResult, Ok, Result}
 use Rattle.cfb.proofs.LiveMeaning.{holds_meant, means_read}
 use Rattle.cfb.specs.Doing.{FileMeans}
@@ -24,6 +24,11 @@ use Rattle.msi_adopting.specs.Adopted.{GetsPool, GoesOnFrom, HasLongText, IsPack
 pub match_ok : {X E : Type 0} (A : X → Type 0) (B : E → Type 0) (r : Result X E) → MatchResult r A B → IfOk r A
 match_ok A B (Ok x) told = told
 match_ok A B (Err e) told = tt
+
+-- a file has failed, or hasn't
+pub by_failed : {A : Type 0} (failed : Bool) → (failed ≡ true → A) → (failed ≡ false → A) → A
+by_failed true one other = one refl
+by_failed false one other = other refl
 
 -- the medium went on from an earlier one
 pub left_then : {M : Type 0} (honest : M → Bool) (continues : M → M → Type 0) (a b : M) → honest b ≡ honest a → Extends continues a b → (r : Result M (M × Error))

@@ -2,7 +2,7 @@
 ghost use Rattle.std.specs.Prelude.{◌≡◌, ◌⊎◌, ◌<◌, ◌^◌, [], false, length, nat_lt, true, Err, IfErr, IfOk, IsTrue, MatchResult};
 ghost use Rattle.std.specs.List.{list_all};
 ghost use Rattle.cfb.specs.Streams.{FileHolds};
-ghost use Rattle.cfb.specs.Views.{letters_in, mini_of, FileRests};
+ghost use Rattle.cfb.specs.Views.{letters_in, mini_of, sound_of, FileRests};
 ghost use Rattle.cfb_fat.specs.Tables.{version_of, HasCauseBelow};
 ghost use Rattle.cfb_medium.specs.Calls.{HasCauseSince};
 ghost use Rattle.cfb_medium.specs.declared.error.Error.{Error};
@@ -54,6 +54,7 @@ pub fn adopt<S: ReadMedium, T: Medium>(
         → IsPackageIn (letters_of letters) source.old tree P → IfErr result
         (λ e. IsUnadopted (letters_of letters) tree P (HasLongText P
         ⊎ IsPoolTooLong (version_of (allocator_of (mini_of source.old))) P) e.1) }
+    ensures unsound { sound_of source.old ≡ false → IfOk result (λ medium. ⊥) }
     ensures unopened { (tree : Tree) (expected : Error) → HoldsShown source.old tree
         → may_use (letters_in source.old) ≡ true
         → opened (letters_in source.old) tree ≡ Err expected → MatchResult result (λ medium. ⊥)
