@@ -1,6 +1,6 @@
 -- Uses that are taken from the greatest counts, table by table.
-use Rattle.std.proofs.Common.{◌≡◌, ◌∙◌, ℕ, zero, suc, ◌+◌, ◌-◌, ◌<◌, ◌≤◌, ◌⊎◌, inl, inr, true, false, List, [], ◌∷◌, map, length, get_or, refl, sym, ap, subst, arith}
-use Rattle.std.specs.Prelude.{All, Err, IfErr, IfOk, MatchResult, Ok, Result, Vec, replicate}
+use Rattle.std.proofs.Common.{◌≡◌, ◌∙◌, ℕ, zero, suc, ◌+◌, ◌-◌, ◌<◌, ◌≤◌, ◌⊎◌, inl, inr, true, false, List, [], ◌∷◌, map, length, refl, sym, subst, arith}
+use Rattle.std.specs.Prelude.{All, Err, IfErr, IfOk, MatchResult, Ok, Result, Vec}
 use Rattle.std.specs.declared.alloc.Global.{Global}
 use Rattle.cfb_medium.specs.Calls.{IsFaultUnless}
 use Rattle.cfb_medium.specs.declared.error.Error.{Error}

@@ -1,25 +1,45 @@
 //! A copy of a package, with right counts.
-ghost use Rattle.std.specs.Prelude.{◌≡◌, ◌<◌, ◌^◌, [], IsTrue, length};
-ghost use Rattle.cfb.specs.Views.{FileRests};
+ghost use Rattle.std.specs.Prelude.{◌≡◌, ◌⊎◌, ◌<◌, ◌^◌, [], false, length, nat_lt, true, Err, IfErr, IfOk, IsTrue, MatchResult};
+ghost use Rattle.std.specs.List.{list_all};
+ghost use Rattle.cfb.specs.Streams.{FileHolds};
+ghost use Rattle.cfb.specs.Views.{letters_in, mini_of, sound_of, FileRests};
+ghost use Rattle.cfb_fat.specs.Tables.{version_of, HasCauseBelow};
+ghost use Rattle.cfb_medium.specs.Calls.{HasCauseSince};
+ghost use Rattle.cfb_medium.specs.declared.error.Error.{Error};
+ghost use Rattle.cfb_medium.specs.declared.error.Error.TheVariants.{InvalidData, InvalidInput, Memory};
+ghost use Rattle.cfb_mini.specs.Views.{allocator_of};
+ghost use Rattle.cfb_tree.specs.LetterViews.{letters_of};
+ghost use Rattle.cfb_tree.specs.Tree.{Tree};
+ghost use Rattle.msi_adopting.specs.Adopted.{GetsPool, GoesOnFrom, HasLongText, IsAdopted, IsAdoptError, IsPackageIn, IsPoolTooLong, IsRefusedAs, IsUnadopted};
+ghost use Rattle.msi_meaning.specs.Opening.{may_use, opened};
+ghost use Rattle.msi_meaning.specs.Package.{Packed, Packs};
+ghost use Rattle.msi_parts.specs.Held.{AreHeld};
+ghost use Rattle.msi_pool.specs.Pool.{pool_stream, stored_of};
+ghost use Rattle.msi_pool.specs.PoolKept.{AreFreeEmpty};
+ghost use Rattle.msi_pool.specs.PoolState.{length_limit};
+ghost use Rattle.msi_recounted.specs.Counts.{listed_uses, pool_with};
+ghost use Rattle.msi_stored.specs.Reading.{IsOpeningError};
+ghost use Rattle.msi_stored.specs.Shown.{bytes_in, HoldsShown};
 
 use crate::counting::uses_of_places;
+use crate::putting::with_pool;
 use cfb::{CaseMapper, CompoundFile};
 use cfb_medium::{Error, Medium, ReadMedium};
 use msi_parts::{PackageParts, are_free_names};
 use msi_recounted::{are_texts_used, recounted_stream};
 use msi_store::read_parts;
-use msi_texts::encode;
 use std::alloc::Global;
 
 // The greatest number that a reference names.
 const LAST_PLACE: u32 = 16777215;
 
 /// Makes a copy of a package in an empty medium, in which each text is counted as often as cells use it: the first stream of its pool
-/// says so, and all else is as it was. Names are compared under the letter table, which is that of the package. `InvalidData` where the
-/// container isn't sound; where a text isn't given back by its page, is used more often than 65535 times or by no cell, or a cell names
-/// none; where a table has a name that none may have, or its rows can't be read. Then as opening a package is refused. The other errors
-/// are faults, and `InvalidInput` where a stream would be too long. The package is only read, an error gives the medium back, and
-/// nothing is published.
+/// says so, and all else is as it was. The copy is then a sound package. Names are compared under the letter table, which is that of the
+/// package. What opening refuses is refused so. `InvalidData` where the container isn't sound, and where a sound package breaks
+/// another rule than that on counts: just where it can't be adopted. That is also where a text is used more often than 65535 times or by
+/// no cell, or a cell names none. `InvalidInput` where a text of the pool has 2^32 - 1 bytes or more, or the pool's first stream
+/// would be longer than one can be. The other errors are `Memory`, `Device` and `Failed` of package or medium, and `Full` where
+/// numbers of sectors are missing. The package is only read, an error gives the medium back, and nothing is published.
 pub fn adopt<S: ReadMedium, T: Medium>(
     alloc: Global,
     source: &mut CompoundFile<S>,
@@ -27,6 +47,24 @@ pub fn adopt<S: ReadMedium, T: Medium>(
     letters: CaseMapper,
 ) -> Result<T, (T, Error)>
     requires { IsTrue (T.honest target) → T.bytes target ≡ [] }
+    ensures adopted { (tree : Tree) (P : Packed) → IsTrue (T.honest target)
+        → IsPackageIn (letters_of letters) source.old tree P → IfOk result
+        (λ medium. IsAdopted (letters_of letters) tree P (T.bytes medium)) }
+    ensures refused { (tree : Tree) (P : Packed) → IsTrue (T.honest target)
+        → IsPackageIn (letters_of letters) source.old tree P → IfErr result
+        (λ e. IsUnadopted (letters_of letters) tree P (HasLongText P
+        ⊎ IsPoolTooLong (version_of (allocator_of (mini_of source.old))) P) e.1) }
+    ensures unsound { sound_of source.old ≡ false → IfOk result (λ medium. ⊥) }
+    ensures unopened { (tree : Tree) (expected : Error) → HoldsShown source.old tree
+        → may_use (letters_in source.old) ≡ true
+        → opened (letters_in source.old) tree ≡ Err expected → MatchResult result (λ medium. ⊥)
+        (λ e. IsRefusedAs (letters_in source.old) (bytes_in source.old) expected e.1) }
+    ensures kinds { IfErr result (λ e. IsAdoptError e.1) }
+    ensures cause { IfErr result (λ e. HasCauseBelow (allocator_of (mini_of source.old))
+        (allocator_of (mini_of source.new)) e.1
+        ⊎ HasCauseSince T.continues T.failures T.failed target e.0 e.1) }
+    ensures left { MatchResult result (GoesOnFrom T.honest T.continues target)
+        (λ e. GoesOnFrom T.honest T.continues target e.0) }
     ensures rests { FileRests source.old source.new }
 {
     let mut target = target;
@@ -44,7 +82,18 @@ fn recounted_pool<F: ReadMedium>(
     alloc: Global,
     file: &mut CompoundFile<F>,
 ) -> Result<Vec<u8>, Error>
+    ensures told { (tree : Tree) (P : Packed) → FileHolds file.old tree
+        → may_use (letters_in file.old) ≡ true → Packs (letters_in file.old) tree P
+        → MatchResult result (λ pool. GetsPool (letters_in file.old) tree P pool.items)
+        (IsUnadopted (letters_in file.old) tree P (HasLongText P)) }
+    ensures unopened { (tree : Tree) (expected : Error) → HoldsShown file.old tree
+        → may_use (letters_in file.old) ≡ true
+        → opened (letters_in file.old) tree ≡ Err expected → MatchResult result (λ pool. ⊥)
+        (IsRefusedAs (letters_in file.old) (bytes_in file.old) expected) }
     ensures rests { FileRests file.old file.new }
+    ensures cause { IfErr result (HasCauseBelow (allocator_of (mini_of file.old))
+        (allocator_of (mini_of file.new))) }
+    ensures kinds { IfErr result IsOpeningError }
 {
     match read_parts(alloc, file) {
         Ok(parts) => recounted_parts(alloc, file, &parts),
@@ -58,9 +107,20 @@ fn recounted_parts<F: ReadMedium>(
     file: &mut CompoundFile<F>,
     parts: &PackageParts,
 ) -> Result<Vec<u8>, Error>
+    ensures told { (tree : Tree) (P : Packed) → FileHolds file.old tree
+        → may_use (letters_in file.old) ≡ true → Packs (letters_in file.old) tree P
+        → AreHeld (letters_in file.old) tree parts.now
+        → MatchResult result (λ pool. GetsPool (letters_in file.old) tree P pool.items)
+        (IsUnadopted (letters_in file.old) tree P (HasLongText P)) }
     ensures rests { FileRests file.old file.new }
+    ensures cause { IfErr result (HasCauseBelow (allocator_of (mini_of file.old))
+        (allocator_of (mini_of file.new))) }
+    ensures kinds { IfErr result IsOpeningError }
 {
-    if !parts.gives_back || !are_free_names(&parts.tables) {
+    if !parts.gives_back {
+        return Err(Error::InvalidData);
+    }
+    if !are_free_names(&parts.tables) {
         return Err(Error::InvalidData);
     }
     if LAST_PLACE < parts.pool.num_strings() {
@@ -72,43 +132,20 @@ fn recounted_parts<F: ReadMedium>(
     }
 }
 
-// The same with these uses.
+// The same with these uses. `InvalidData` where a text has none, `InvalidInput` where one is too long.
 fn stream_of_uses(alloc: Global, parts: &PackageParts, uses: &[u16]) -> Result<Vec<u8>, Error>
     requires size { length uses.now ≡ length parts.now.pool.pool.places }
     requires few { length uses.now < 2 ^ 24 }
+    ensures told { MatchResult result
+        (λ pool. AreFreeEmpty (pool_with (listed_uses uses.now) parts.now.pool.pool).places
+        × (pool.items ≡ pool_stream (pool_with (listed_uses uses.now) parts.now.pool.pool)))
+        (λ e. (e ≡ Memory) ⊎ ((e ≡ InvalidData)
+        × (AreFreeEmpty (pool_with (listed_uses uses.now) parts.now.pool.pool).places → ⊥))
+        ⊎ ((e ≡ InvalidInput) × (list_all (λ s. nat_lt (length s.0) length_limit)
+        (stored_of parts.now.pool.pool) ≡ false))) }
 {
     if !are_texts_used(&parts.pool, uses) {
         return Err(Error::InvalidData);
     }
     recounted_stream(alloc, &parts.pool, uses)
-}
-
-// The medium of a copy, once its pool's first stream has these bytes.
-fn with_pool<T: Medium>(
-    alloc: Global,
-    medium: T,
-    letters: CaseMapper,
-    pool: &[u8],
-) -> Result<T, (T, Error)> {
-    let mut file = match CompoundFile::open(alloc, medium, letters) {
-        Ok(file) => file,
-        Err(refusal) => return Err(refusal),
-    };
-    match put_pool(alloc, &mut file, pool) {
-        Ok(()) => Ok(file.into_inner()),
-        Err(error) => Err((file.into_inner(), error)),
-    }
-}
-
-// Puts the pool's first stream.
-fn put_pool<T: Medium>(
-    alloc: Global,
-    file: &mut CompoundFile<T>,
-    pool: &[u8],
-) -> Result<(), Error> {
-    let path = encode(alloc, "_StringPool", true)?;
-    if file.version().stream_len_mask() < pool.len() as u64 {
-        return Err(Error::InvalidInput);
-    }
-    file.put_stream(path.as_str(), pool)
 }

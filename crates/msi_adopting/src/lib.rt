@@ -3,6 +3,8 @@
 
 mod adopting;
 mod counting;
+mod judging;
+mod putting;
 
 pub use adopting::adopt;
 pub use counting::uses_of_places;

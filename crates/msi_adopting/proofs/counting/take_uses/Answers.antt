@@ -1,4 +1,4 @@
-use Rattle.std.proofs.Common.{◌≡◌, ◌∙◌, ap, false, inl, inr, None, subst, sym, true, ⊎_elim}
+use Rattle.std.proofs.Common.{◌≡◌, ◌∙◌, ap, false, inl, inr, subst, sym, true, ⊎_elim}
 use Rattle.std.specs.Prelude.{is_some}
 use Rattle.cfb.specs.Views.{letters_in}
 use Rattle.msi_changes.specs.Laws.{uses_in}
