@@ -1,5 +1,5 @@
 -- Inserts into one table that are carried out as one.
-use Rattle.std.proofs.Common.{◌≡◌, ◌⊎◌, ◌<◌, ◌≤◌, ◌-◌, ◌^◌, ◌∙◌, ℕ, Bool, true, false, length, map, List, [], ◌∷◌, ◌++◌, inl, inr, refl, sym, ap, subst, arith, ⊎_elim, Ok, Err, Result}
+use Rattle.std.proofs.Common.{◌≡◌, ◌⊎◌, ◌<◌, ◌≤◌, ◌-◌, ◌^◌, ◌∙◌, ℕ, Bool, true, false, not, length, map, take, List, [], ◌∷◌, ◌++◌, inl, inr, refl, sym, ap, subst, arith, ⊎_elim, Ok, Err, Result}
 use Rattle.std.specs.Prelude.{nat_lt}
 use Rattle.std.proofs.lemmas.Bool.{both_ways}
 use Rattle.std.proofs.lemmas.Bool.Decides.{nat_tests}
@@ -19,23 +19,18 @@ use Rattle.staged.specs.declared.device.Device as device
 use Rattle.staged.specs.declared.staged.Staged.{Staged}
 use Rattle.installer.proofs.Following.{marks_other}
 use Rattle.installer.proofs.Going.{step_of_sound}
+use Rattle.installer.proofs.Running.{follow_one}
 use Rattle.installer.proofs.Stopping.{survives_then}
 use Rattle.installer.specs.Behaviour.{Behaves, BehavesOnce, Condition}
 use Rattle.installer.specs.Course.{committed_after, failed, fails, marks_as, marks_of, refuses, running, stays, steps, Course, Goes, IsFault, IsUndone, Mark, Phase, Runs, StepAs}
 use Rattle.installer.specs.Follows.{FollowAll, Follows, GoesOnFrom}
+use Rattle.installer.specs.Groups.{all_done, inserts_of}
 use Rattle.installer.specs.Reply.{Reply}
 use Rattle.installer.specs.Reply as told
 use Rattle.installer.specs.Sessions.{condition_of, device_below, is_failed, is_sound, letters_in, package_in, phase_of, IsAt}
 use Rattle.installer.specs.Step.{told_of, Step}
 use Rattle.installer.specs.Survival.{Survives}
 use Rattle.installer.specs.declared.session.SessionOver.{SessionOver}
-
--- the requests, and the reply to each where all are done
-abbrev pub inserts_of : List ℕ → List (List (List Datum)) → List Request
-inserts_of name groups = map (λ rows. asked.insert name rows) groups
-
-abbrev pub all_done : List Request → List Reply
-all_done requests = map (λ r. told.done) requests
 
 never_both : (p : Phase) → p ≡ running → p ≡ failed → ⊥
 never_both p a b = (let never : running ≡ failed = sym a ∙ b in cc never)
@@ -272,3 +267,29 @@ module _ {D : Type 0} {g : device.Ghosts D} {h : Ghosts (Staged D g)} where
       still = follows.still;
       sound = follows.by_rule.sound;
     }
+
+-- ---- what is said of commands that were put together
+
+heads : {X : Type 0} (x y : X) (xs ys : List X) → x ∷ xs ≡ y ∷ ys → x ≡ y
+heads x y xs ys is = cc is
+
+module _ {D : Type 0} {g : device.Ghosts D} {h : Ghosts (Staged D g)} {C : Type 0} (f : C → Request) (old new : SessionOver (Staged D g) h) (name : List ℕ) (all : List (List Datum)) (live : is_failed old ≡ false) (sound : is_sound old ≡ true) where
+  pub done_all : (commands : List C) (groups : List (List (List Datum))) → 0 < length commands → map f commands ≡ inserts_of name groups → all ≡ joined_rows groups → Follows (asked.insert name all) told.done old new
+      → FollowAll (map f commands) (all_done (map f commands)) old new
+  done_all [] groups some are is follows = absurd (omega (arith, some))
+  done_all (c ∷ cs) [] some are is follows = absurd (cc are)
+  done_all (c ∷ cs) (rows ∷ more) some are is follows =
+      let one = subst (λ l. Follows (asked.insert name l) told.done old new) is follows in
+      subst (λ requests. FollowAll requests (all_done requests) old new) (sym are) (all_follow old new name rows more live sound one)
+
+  pub first_failed : (e : Error) (commands : List C) (groups : List (List (List Datum))) → 0 < length commands → map f commands ≡ inserts_of name groups → Follows (asked.insert name all) (told.refused e) old new → is_failed new ≡ true
+      → FollowAll (map f (take 1 commands)) (told.refused e ∷ []) old new
+  first_failed e [] groups some are follows ended = absurd (omega (arith, some))
+  first_failed e (c ∷ cs) [] some are follows ended = absurd (cc are)
+  first_failed e (c ∷ cs) (rows ∷ more) some are follows ended =
+      let one : f c ≡ asked.insert name rows = heads (f c) (asked.insert name rows) (map f cs) (inserts_of name more) are in
+      subst (λ request. FollowAll (request ∷ []) (told.refused e ∷ []) old new) (sym one) (follow_one (asked.insert name rows) (told.refused e) old new (first_fails old new name all live sound e rows follows ended))
+
+pub said_sound : (b : Bool) → not b ≡ false → b ≡ true
+said_sound true is = refl
+said_sound false is = absurd (cc is)

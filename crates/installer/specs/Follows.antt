@@ -1,5 +1,5 @@
 -- What one command does.
-use Rattle.std.specs.Prelude.{◌≡◌, ◌<◌, false, length, List, []}
+use Rattle.std.specs.Prelude.{◌≡◌, ◌<◌, ◌++◌, false, length, List, []}
 use Rattle.cfb.specs.Views.{mini_of}
 use Rattle.cfb_medium.specs.declared.medium.ReadMedium.{Ghosts}
 use Rattle.cfb_mini.specs.Views.{allocator_of}
@@ -50,3 +50,7 @@ module _ {D : Type 0} {g : device.Ghosts D} {h : Ghosts (Staged D g)} where
   abbrev pub GoesOnFrom : SessionOver (Staged D g) h → SessionOver (Staged D g) h → Type 0
   GoesOnFrom first second = (requests : List Request) (replies : List Reply) (last : SessionOver (Staged D g) h) → 0 < length requests
       → FollowAll requests replies second last → FollowAll requests replies first last
+
+  -- these replies stand behind those that were told before
+  abbrev pub AreAnswered : List Request → List Reply → List Reply → SessionOver (Staged D g) h → SessionOver (Staged D g) h → Type 0
+  AreAnswered requests before after old new = (replies : List Reply) × (after ≡ before ++ replies) × FollowAll requests replies old new
