@@ -1,5 +1,5 @@
 -- Inserts into one table that are carried out as one.
-use Rattle.std.proofs.Common.{◌≡◌, ◌⊎◌, ◌<◌, ◌≤◌, ◌-◌, ◌^◌, ◌∙◌, ℕ, Bool, true, false, not, length, map, take, List, [], ◌∷◌, ◌++◌, inl, inr, refl, sym, ap, subst, arith, ⊎_elim, Ok, Err, Result}
+use Rattle.std.proofs.Common.{◌≡◌, ◌⊎◌, ◌<◌, ◌≤◌, ◌-◌, ◌^◌, ◌∙◌, ℕ, Bool, true, false, length, map, take, List, [], ◌∷◌, ◌++◌, inl, inr, refl, sym, ap, subst, arith, ⊎_elim, Ok, Err, Result}
 use Rattle.std.specs.Prelude.{nat_lt}
 use Rattle.std.proofs.lemmas.Bool.{both_ways}
 use Rattle.std.proofs.lemmas.Bool.Decides.{nat_tests}
@@ -251,7 +251,7 @@ module _ {D : Type 0} {g : device.Ghosts D} {h : Ghosts (Staged D g)} where
     runs_all start end at (steps phase step committed after alike counted) =
         let it = as_sound (letters_in old) start.sound start.held end.held (asked.insert name (joined_rows (rows ∷ more))) told.done (at.sound ∙ sound) step in
         let inserts = subst (λ a. Inserts start.held name (joined_rows (rows ∷ more)) end.held a) (done_so it.0 it.2) it.1 in
-        let texts = ((at.held phase).sound (rw sound tt)).1.counted in
+        let texts = ((at.held phase).sound sound).1.counted in
         runs_done (letters_in old) name end after (alike ∙ at.sound ∙ sound) start rows more phase alike committed counted (each start.held texts name rows more end.held inserts)
     runs_all start end at (stays e phase is undone page same counted) = absurd (cc is)
     runs_all start end at (fails e phase is undone reads same counted) = absurd (cc is)
@@ -289,7 +289,3 @@ module _ {D : Type 0} {g : device.Ghosts D} {h : Ghosts (Staged D g)} {C : Type 
   first_failed e (c ∷ cs) (rows ∷ more) some are follows ended =
       let one : f c ≡ asked.insert name rows = heads (f c) (asked.insert name rows) (map f cs) (inserts_of name more) are in
       subst (λ request. FollowAll (request ∷ []) (told.refused e ∷ []) old new) (sym one) (follow_one (asked.insert name rows) (told.refused e) old new (first_fails old new name all live sound e rows follows ended))
-
-pub said_sound : (b : Bool) → not b ≡ false → b ≡ true
-said_sound true is = refl
-said_sound false is = absurd (cc is)
