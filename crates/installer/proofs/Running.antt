@@ -1,7 +1,8 @@
 -- How commands go, one after another.
-use Rattle.std.proofs.Common.{false, ◌≡◌, ◌+◌, ◌<◌, ℕ, suc, map, length, take, List, [], ◌∷◌, ◌++◌, refl, sym, ap, subst, ◌∙◌, arith, append_assoc}
+use Rattle.std.proofs.Common.{false, true, Bool, ◌≡◌, ◌-◌, ◌<◌, ℕ, zero, suc, map, length, take, drop, List, [], ◌∷◌, ◌++◌, refl, sym, ap, subst, ◌∙◌, arith, append_assoc}
 use Rattle.std.proofs.lemmas.List.{append-nil, map-append}
-use Rattle.std.proofs.Math.Seq.{take-suc}
+use Rattle.std.specs.Prelude.{◌==◌, MatchBool}
+use Rattle.std.proofs.lemmas.Bool.Decides.{nat_tests}
 use Rattle.std.proofs.Math.ListN.{get_or}
 use Rattle.cfb_medium.specs.declared.medium.ReadMedium.{Ghosts}
 use Rattle.cfb_tree.specs.Names.{Letters}
@@ -11,7 +12,7 @@ use Rattle.staged.specs.declared.staged.Staged.{Staged}
 use Rattle.installer.proofs.Stopping.{survives_then}
 use Rattle.installer.specs.Behaviour.{Behaves, Condition}
 use Rattle.installer.specs.Course.{Course, Mark, Runs, marks_of}
-use Rattle.installer.specs.Follows.{FollowAll, Follows}
+use Rattle.installer.specs.Follows.{AreAnswered, FollowAll, Follows}
 use Rattle.installer.specs.Reply.{Reply}
 use Rattle.installer.specs.Sessions.{condition_of, device_below, is_sound, letters_in, package_in, IsAt}
 use Rattle.installer.specs.Survival.{Survives}
@@ -72,3 +73,52 @@ module _ {D : Type 0} {g : device.Ghosts D} {h : Ghosts (Staged D g)} where
         survives_then (letters_in old) g (device_below old) (device_below mid) (device_below new) [] [] (a.still unsound) own;
     sound = b.sound ∙ a.sound;
   }
+
+-- ---- commands and the replies that stand behind those before
+
+parts_make : {X : Type 0} (n : ℕ) (xs : List X) → take n xs ++ drop n xs ≡ xs
+parts_make zero [] = refl
+parts_make zero (x ∷ xs) = refl
+parts_make (suc n) [] = refl
+parts_make (suc n) (x ∷ xs) = ap (λ l. x ∷ l) (parts_make n xs)
+
+take_length : {X : Type 0} (xs : List X) → take (length xs) xs ≡ xs
+take_length [] = refl
+take_length (x ∷ xs) = ap (λ l. x ∷ l) (take_length xs)
+
+pub rest_of : {X : Type 0} (xs : List X) → take (length xs - 1) (drop 1 xs) ≡ drop 1 xs
+rest_of [] = refl
+rest_of (x ∷ xs) = (let one : length (x ∷ xs) - 1 ≡ length xs = omega arith in rw one (take_length xs))
+
+pub some_left : {C : Type 0} (f : C → Request) (commands : List C) → (length commands == 0) ≡ false → 0 < length (map f commands)
+some_left f [] some = absurd (cc some)
+some_left f (x ∷ xs) some = omega arith
+
+pub otherwise : (b : Bool) (P Q : Type 0) → b ≡ false → MatchBool b P Q → Q
+otherwise false P Q is m = m
+otherwise true P Q is m = absurd (cc is)
+
+module _ {D : Type 0} {g : device.Ghosts D} {h : Ghosts (Staged D g)} {C : Type 0} (f : C → Request) where
+  pub answered_none : (commands : List C) → (length commands == 0) ≡ true → (before : List Reply) (it : SessionOver (Staged D g) h) → Survives (letters_in it) g (device_below it) (device_below it) [] → AreAnswered (map f commands) before before it it
+  answered_none [] none before it stay = ([], sym (append-nil before), follow_none it stay)
+  answered_none (x ∷ xs) none before it stay = absurd (let never : length (x ∷ xs) ≡ 0 = grind (arith, nat_tests, none) in omega (arith, never))
+
+  pub answered_one : (commands : List C) (x : C) → length commands ≡ 1 → x ≡ get_or commands 0 x → (before after : List Reply) (reply : Reply) (old new : SessionOver (Staged D g) h) → after ≡ before ++ reply ∷ [] → Follows (f x) reply old new
+      → AreAnswered (map f commands) before after old new
+  answered_one [] x one is before after reply old new told follows = absurd (omega (arith, one))
+  answered_one (y ∷ []) x one is before after reply old new told follows = (reply ∷ [], told, follow_one (f y) reply old new (subst (λ z. Follows (f z) reply old new) is follows))
+  answered_one (y ∷ z ∷ zs) x one is before after reply old new told follows = absurd (omega (arith, one))
+
+  pub answered_then : (n : ℕ) (commands first second : List C) → first ≡ take n commands → second ≡ drop n commands → (before mid after : List Reply) (a b c : SessionOver (Staged D g) h) → AreAnswered (map f first) before mid a b
+      → AreAnswered (map f second) mid after b c → AreAnswered (map f commands) before after a c
+  answered_then n commands first second front back before mid after a b c one two =
+      let whole : map f first ++ map f second ≡ map f commands = sym (map-append f first second) ∙ ap (map f) (ap (λ l. l ++ second) front ∙ ap (λ l. take n commands ++ l) back ∙ parts_make n commands) in (
+        one.0 ++ two.0,
+        two.1 ∙ ap (λ l. l ++ two.0) one.1 ∙ append_assoc before one.0 two.0,
+        subst (λ requests. FollowAll requests (one.0 ++ two.0) a c) whole (follow_then (map f first) (map f second) one.0 two.0 a b c one.2 two.2),
+      )
+
+module _ {D : Type 0} {g : device.Ghosts D} {h : Ghosts (Staged D g)} where
+  -- where nothing was told before
+  pub told_alone : (requests : List Request) (before after : List Reply) (old new : SessionOver (Staged D g) h) → before ≡ [] → AreAnswered requests before after old new → FollowAll requests after old new
+  told_alone requests before after old new none all = subst (λ replies. FollowAll requests replies old new) (sym (all.1 ∙ ap (λ l. l ++ all.0) none)) all.2

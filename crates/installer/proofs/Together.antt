@@ -173,9 +173,13 @@ module _ {D : Type 0} {g : device.Ghosts D} {h : Ghosts (Staged D g)} where
         let there = s.place start at in
         let on = all.ran (record start { failures = there.0 }) there.2 in
         let runs = subst (λ (l : Letters). Runs l (record start { failures = there.0 }) (r ∷ rs) (p ∷ ps) on.1 on.0) s.letters on.2 in
-        let own = subst (λ (l : Letters). Survives l g (device_below mid) (device_below new) on.1) s.letters on.4 in
-        (on.0, on.1, (runs.0, runs.1, goes_before (letters_in old) start there.0 there.1 r p runs.0 (was_running old start s.live at) runs.2, runs.3, runs.4), on.3,
-          survives_then (letters_in old) g (device_below old) (device_below mid) (device_below new) [] on.1 there.3 own);
+        let own = subst (λ (l : Letters). Survives l g (device_below mid) (device_below new) on.1) s.letters on.4 in (
+          on.0,
+          on.1,
+          (runs.0, runs.1, goes_before (letters_in old) start there.0 there.1 r p runs.0 (was_running old start s.live at) runs.2, runs.3, runs.4),
+          on.3,
+          survives_then (letters_in old) g (device_below old) (device_below mid) (device_below new) [] on.1 there.3 own,
+        );
     letters = all.letters ∙ s.letters;
     behaves = (let b = all.behaves in (b.0, behaves_before old mid s r p b.0 b.1, b.2));
     still = λ unsound. absurd (both_ways (is_sound old) unsound s.is_sound_then);
