@@ -1,7 +1,8 @@
 -- How commands go, one after another.
-use Rattle.std.proofs.Common.{false, ◌≡◌, ◌+◌, ◌<◌, ℕ, suc, map, length, take, List, [], ◌∷◌, ◌++◌, refl, sym, ap, subst, ◌∙◌, arith, append_assoc}
+use Rattle.std.proofs.Common.{false, true, Bool, ◌≡◌, ◌-◌, ◌<◌, ℕ, zero, suc, map, length, take, drop, List, [], ◌∷◌, ◌++◌, refl, sym, ap, subst, ◌∙◌, arith, append_assoc}
 use Rattle.std.proofs.lemmas.List.{append-nil, map-append}
-use Rattle.std.proofs.Math.Seq.{take-suc}
+use Rattle.std.specs.Prelude.{◌==◌, MatchBool}
+use Rattle.std.proofs.lemmas.Bool.Decides.{nat_tests}
 use Rattle.std.proofs.Math.ListN.{get_or}
 use Rattle.cfb_medium.specs.declared.medium.ReadMedium.{Ghosts}
 use Rattle.cfb_tree.specs.Names.{Letters}
@@ -9,79 +10,115 @@ use Rattle.command_file.specs.Request.{Request}
 use Rattle.staged.specs.declared.device.Device as device
 use Rattle.staged.specs.declared.staged.Staged.{Staged}
 use Rattle.installer.proofs.Stopping.{survives_then}
-use Rattle.installer.specs.Behaviour.{Behaves, BehavesOnce, Condition}
-use Rattle.installer.specs.Course.{Course, Mark, Goes, Runs, marks_of}
-use Rattle.installer.specs.Follows.{Follows}
+use Rattle.installer.specs.Behaviour.{Behaves, Condition}
+use Rattle.installer.specs.Course.{Course, Mark, Runs, marks_of}
+use Rattle.installer.specs.Follows.{AreAnswered, FollowAll, Follows}
 use Rattle.installer.specs.Reply.{Reply}
 use Rattle.installer.specs.Sessions.{condition_of, device_below, is_sound, letters_in, package_in, IsAt}
 use Rattle.installer.specs.Survival.{Survives}
 use Rattle.installer.specs.declared.session.SessionOver.{SessionOver}
 
-runs_more : (letters : Letters) (start mid end : Course) (requests : List Request) (replies : List Reply) (marks : List Mark) (request : Request) (reply : Reply)
-    → Runs letters start requests replies marks mid → Goes letters mid request reply end → Runs letters start (requests ++ request ∷ []) (replies ++ reply ∷ []) (marks ++ marks_of mid request reply) end
-runs_more letters start mid end [] [] marks request reply runs goes = (
-  end,
-  [],
-  subst (λ m. Goes letters m request reply end) runs.1 goes,
-  (refl, refl),
-  ap (λ ms. ms ++ marks_of mid request reply) runs.0 ∙ ap (λ m. marks_of m request reply) runs.1 ∙ sym (append-nil (marks_of start request reply)),
+runs_then : (letters : Letters) (start mid end : Course) (first second : List Request) (told later : List Reply) (own marks : List Mark)
+    → Runs letters start first told own mid → Runs letters mid second later marks end → Runs letters start (first ++ second) (told ++ later) (own ++ marks) end
+runs_then letters start mid end [] second [] later own marks a b =
+    subst (λ ms. Runs letters start second later ms end) (sym (ap (λ ms. ms ++ marks) a.0)) (subst (λ m. Runs letters m second later marks end) a.1 b)
+runs_then letters start mid end (r ∷ rs) second (p ∷ ps) later own marks a b = (
+  a.0,
+  a.1 ++ marks,
+  a.2,
+  runs_then letters a.0 mid end rs second ps later a.1 marks a.3 b,
+  ap (λ ms. ms ++ marks) a.4 ∙ append_assoc (marks_of start r p) a.1 marks,
 )
-runs_more letters start mid end (r ∷ rs) (p ∷ ps) marks request reply runs goes = (
-  runs.0,
-  runs.1 ++ marks_of mid request reply,
-  runs.2,
-  runs_more letters runs.0 mid end rs ps runs.1 request reply runs.3 goes,
-  ap (λ ms. ms ++ marks_of mid request reply) runs.4 ∙ append_assoc (marks_of start r p) runs.1 (marks_of mid request reply),
-)
-runs_more letters start mid end [] (p ∷ ps) marks request reply runs goes = absurd runs
-runs_more letters start mid end (r ∷ rs) [] marks request reply runs goes = absurd runs
+runs_then letters start mid end [] second (p ∷ ps) later own marks a b = absurd a
+runs_then letters start mid end (r ∷ rs) second [] later own marks a b = absurd a
 
-behaves_more : (first last next : Condition) (requests : List Request) (replies : List Reply) (request : Request) (reply : Reply)
-    → Behaves first requests replies last → BehavesOnce last request reply next → Behaves first (requests ++ request ∷ []) (replies ++ reply ∷ []) next
-behaves_more first last next [] [] request reply all one = (next, subst (λ c. BehavesOnce c request reply next) all one, refl)
-behaves_more first last next (r ∷ rs) (p ∷ ps) request reply all one = (all.0, all.1, behaves_more all.0 last next rs ps request reply all.2 one)
-behaves_more first last next [] (p ∷ ps) request reply all one = absurd all
-behaves_more first last next (r ∷ rs) [] request reply all one = absurd all
+behaves_then : (old mid new : Condition) (first second : List Request) (told later : List Reply) → Behaves old first told mid → Behaves mid second later new → Behaves old (first ++ second) (told ++ later) new
+behaves_then old mid new [] second [] later a b = subst (λ c. Behaves c second later new) a b
+behaves_then old mid new (r ∷ rs) second (p ∷ ps) later a b = (a.0, a.1, behaves_then a.0 mid new rs second ps later a.2 b)
+behaves_then old mid new [] second (p ∷ ps) later a b = absurd a
+behaves_then old mid new (r ∷ rs) second [] later a b = absurd a
 
 module _ {D : Type 0} {g : device.Ghosts D} {h : Ghosts (Staged D g)} where
-  -- from the first session the last one is reached by these requests with these replies
-  pub record Reaches (first last : SessionOver (Staged D g) h) (requests : List Request) (replies : List Reply) : Type 0 where
-    pub ran : (start : Course) → IsAt (package_in first) start → (end : Course) × (marks : List Mark) × Runs (letters_in first) start requests replies marks end × IsAt (package_in last) end × Survives (letters_in first) g (device_below first) (device_below last) marks
-    pub letters : letters_in last ≡ letters_in first
-    pub behaves : Behaves (condition_of first) requests replies (condition_of last)
-    pub still : is_sound first ≡ false → Survives (letters_in first) g (device_below first) (device_below last) []
-    pub sound : is_sound last ≡ is_sound first
+  pub follow_none : (it : SessionOver (Staged D g) h) → Survives (letters_in it) g (device_below it) (device_below it) [] → FollowAll [] [] it it
+  follow_none it stay = record { ran = λ start at. (start, [], (refl, refl), at, stay); letters = refl; behaves = refl; still = λ _. stay; sound = refl }
 
-  pub reaches_itself : (first : SessionOver (Staged D g) h) → Survives (letters_in first) g (device_below first) (device_below first) [] → Reaches first first [] []
-  reaches_itself first stay = record { ran = λ start at. (start, [], (refl, refl), at, stay); letters = refl; behaves = refl; still = λ _. stay; sound = refl }
-
-  pub reaches_more : (first last next : SessionOver (Staged D g) h) (requests : List Request) (replies : List Reply) (request : Request) (reply : Reply)
-      → Reaches first last requests replies → Follows request reply last next → Reaches first next (requests ++ request ∷ []) (replies ++ reply ∷ [])
-  reaches_more first last next requests replies request reply reached follows = record {
+  pub follow_one : (request : Request) (reply : Reply) (old new : SessionOver (Staged D g) h) → Follows request reply old new → FollowAll (request ∷ []) (reply ∷ []) old new
+  follow_one request reply old new follows = record {
     ran = λ start at.
-        let before = reached.ran start at in
-        let mid = before.0 in
-        let marks = before.1 in
-        let on = follows.by_rule.goes mid before.3 in
-        let goes : Goes (letters_in first) mid request reply on.0 = subst (λ (l : Letters). Goes l mid request reply on.0) reached.letters on.1 in
-        let own : Survives (letters_in first) g (device_below last) (device_below next) (marks_of mid request reply) =
-        subst (λ (l : Letters). Survives l g (device_below last) (device_below next) (marks_of mid request reply)) reached.letters (follows.survives mid before.3) in (
-          on.0,
-          marks ++ marks_of mid request reply,
-          runs_more (letters_in first) start mid on.0 requests replies marks request reply before.2 goes,
-          on.2,
-          survives_then (letters_in first) g (device_below first) (device_below last) (device_below next) marks (marks_of mid request reply) before.4 own,
-        );
-    letters = follows.by_rule.letters ∙ reached.letters;
-    behaves = behaves_more (condition_of first) (condition_of last) (condition_of next) requests replies request reply reached.behaves follows.behaves;
-    still = λ unsound.
-        let own = subst (λ (l : Letters). Survives l g (device_below last) (device_below next) []) reached.letters (follows.still (reached.sound ∙ unsound)) in
-        survives_then (letters_in first) g (device_below first) (device_below last) (device_below next) [] [] (reached.still unsound) own;
-    sound = follows.by_rule.sound ∙ reached.sound;
+        let on = follows.by_rule.goes start at in
+        (on.0, marks_of start request reply, (on.0, [], on.1, (refl, refl), sym (append-nil (marks_of start request reply))), on.2, follows.survives start at);
+    letters = follows.by_rule.letters;
+    behaves = (condition_of new, follows.behaves, refl);
+    still = follows.still;
+    sound = follows.by_rule.sound;
   }
 
--- the items up to one more
-pub taken_more : {X Y : Type 0} (f : X → Y) (xs : List X) (i : ℕ) (x : X) → i < length xs → x ≡ get_or xs i x → map f (take (i + 1) xs) ≡ map f (take i xs) ++ f x ∷ []
-taken_more f xs i x less is =
-    let one : i + 1 ≡ suc i = omega arith in
-    rw one (ap (map f) (take-suc xs i x less ∙ ap (λ y. take i xs ++ y ∷ []) (sym is)) ∙ map-append f (take i xs) (x ∷ []))
+  pub follow_then : (first second : List Request) (told later : List Reply) (old mid new : SessionOver (Staged D g) h) → FollowAll first told old mid → FollowAll second later mid new → FollowAll (first ++ second) (told ++ later) old new
+  follow_then first second told later old mid new a b = record {
+    ran = λ start at.
+        let before = a.ran start at in
+        let on = b.ran before.0 before.3 in
+        let runs = subst (λ (l : Letters). Runs l before.0 second later on.1 on.0) a.letters on.2 in
+        let own = subst (λ (l : Letters). Survives l g (device_below mid) (device_below new) on.1) a.letters on.4 in (
+          on.0,
+          before.1 ++ on.1,
+          runs_then (letters_in old) start before.0 on.0 first second told later before.1 on.1 before.2 runs,
+          on.3,
+          survives_then (letters_in old) g (device_below old) (device_below mid) (device_below new) before.1 on.1 before.4 own,
+        );
+    letters = b.letters ∙ a.letters;
+    behaves = behaves_then (condition_of old) (condition_of mid) (condition_of new) first second told later a.behaves b.behaves;
+    still = λ unsound.
+        let own = subst (λ (l : Letters). Survives l g (device_below mid) (device_below new) []) a.letters (b.still (a.sound ∙ unsound)) in
+        survives_then (letters_in old) g (device_below old) (device_below mid) (device_below new) [] [] (a.still unsound) own;
+    sound = b.sound ∙ a.sound;
+  }
+
+-- ---- commands and the replies that stand behind those before
+
+parts_make : {X : Type 0} (n : ℕ) (xs : List X) → take n xs ++ drop n xs ≡ xs
+parts_make zero [] = refl
+parts_make zero (x ∷ xs) = refl
+parts_make (suc n) [] = refl
+parts_make (suc n) (x ∷ xs) = ap (λ l. x ∷ l) (parts_make n xs)
+
+take_length : {X : Type 0} (xs : List X) → take (length xs) xs ≡ xs
+take_length [] = refl
+take_length (x ∷ xs) = ap (λ l. x ∷ l) (take_length xs)
+
+pub rest_of : {X : Type 0} (xs : List X) → take (length xs - 1) (drop 1 xs) ≡ drop 1 xs
+rest_of [] = refl
+rest_of (x ∷ xs) = (let one : length (x ∷ xs) - 1 ≡ length xs = omega arith in rw one (take_length xs))
+
+pub some_left : {C : Type 0} (f : C → Request) (commands : List C) → (length commands == 0) ≡ false → 0 < length (map f commands)
+some_left f [] some = absurd (cc some)
+some_left f (x ∷ xs) some = omega arith
+
+pub otherwise : (b : Bool) (P Q : Type 0) → b ≡ false → MatchBool b P Q → Q
+otherwise false P Q is m = m
+otherwise true P Q is m = absurd (cc is)
+
+module _ {D : Type 0} {g : device.Ghosts D} {h : Ghosts (Staged D g)} {C : Type 0} (f : C → Request) where
+  pub answered_none : (commands : List C) → (length commands == 0) ≡ true → (before : List Reply) (it : SessionOver (Staged D g) h) → Survives (letters_in it) g (device_below it) (device_below it) [] → AreAnswered (map f commands) before before it it
+  answered_none [] none before it stay = ([], sym (append-nil before), follow_none it stay)
+  answered_none (x ∷ xs) none before it stay = absurd (let never : length (x ∷ xs) ≡ 0 = grind (arith, nat_tests, none) in omega (arith, never))
+
+  pub answered_one : (commands : List C) (x : C) → length commands ≡ 1 → x ≡ get_or commands 0 x → (before after : List Reply) (reply : Reply) (old new : SessionOver (Staged D g) h) → after ≡ before ++ reply ∷ [] → Follows (f x) reply old new
+      → AreAnswered (map f commands) before after old new
+  answered_one [] x one is before after reply old new told follows = absurd (omega (arith, one))
+  answered_one (y ∷ []) x one is before after reply old new told follows = (reply ∷ [], told, follow_one (f y) reply old new (subst (λ z. Follows (f z) reply old new) is follows))
+  answered_one (y ∷ z ∷ zs) x one is before after reply old new told follows = absurd (omega (arith, one))
+
+  pub answered_then : (n : ℕ) (commands first second : List C) → first ≡ take n commands → second ≡ drop n commands → (before mid after : List Reply) (a b c : SessionOver (Staged D g) h) → AreAnswered (map f first) before mid a b
+      → AreAnswered (map f second) mid after b c → AreAnswered (map f commands) before after a c
+  answered_then n commands first second front back before mid after a b c one two =
+      let whole : map f first ++ map f second ≡ map f commands = sym (map-append f first second) ∙ ap (map f) (ap (λ l. l ++ second) front ∙ ap (λ l. take n commands ++ l) back ∙ parts_make n commands) in (
+        one.0 ++ two.0,
+        two.1 ∙ ap (λ l. l ++ two.0) one.1 ∙ append_assoc before one.0 two.0,
+        subst (λ requests. FollowAll requests (one.0 ++ two.0) a c) whole (follow_then (map f first) (map f second) one.0 two.0 a b c one.2 two.2),
+      )
+
+module _ {D : Type 0} {g : device.Ghosts D} {h : Ghosts (Staged D g)} where
+  -- where nothing was told before
+  pub told_alone : (requests : List Request) (before after : List Reply) (old new : SessionOver (Staged D g) h) → before ≡ [] → AreAnswered requests before after old new → FollowAll requests after old new
+  told_alone requests before after old new none all = subst (λ replies. FollowAll requests replies old new) (sym (all.1 ∙ ap (λ l. l ++ all.0) none)) all.2

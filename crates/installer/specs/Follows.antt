@@ -1,5 +1,5 @@
 -- What one command does.
-use Rattle.std.specs.Prelude.{◌≡◌, false, []}
+use Rattle.std.specs.Prelude.{◌≡◌, ◌<◌, ◌++◌, false, length, List, []}
 use Rattle.cfb.specs.Views.{mini_of}
 use Rattle.cfb_medium.specs.declared.medium.ReadMedium.{Ghosts}
 use Rattle.cfb_mini.specs.Views.{allocator_of}
@@ -8,8 +8,8 @@ use Rattle.command_file.specs.Request.{Request}
 use Rattle.msi.specs.Opened.{file_in}
 use Rattle.staged.specs.declared.device.Device as device
 use Rattle.staged.specs.declared.staged.Staged.{Staged}
-use Rattle.installer.specs.Behaviour.{BehavesOnce}
-use Rattle.installer.specs.Course.{Course, Goes, marks_of}
+use Rattle.installer.specs.Behaviour.{Behaves, BehavesOnce}
+use Rattle.installer.specs.Course.{Course, Goes, Mark, Runs, marks_of}
 use Rattle.installer.specs.Reply.{Reply}
 use Rattle.installer.specs.Sessions.{condition_of, device_below, is_sound, letters_in, package_in, IsAt}
 use Rattle.installer.specs.Survival.{Survives}
@@ -35,3 +35,22 @@ pub record Follows {D : Type 0} {g : device.Ghosts D} {h : Ghosts (Staged D g)} 
   pub behaves : BehavesOnce (condition_of old) request reply (condition_of new)
   pub still : is_sound old ≡ false → Survives (letters_in old) g (device_below old) (device_below new) []
   pub survives : (start : Course) → IsAt (package_in old) start → Survives (letters_in old) g (device_below old) (device_below new) (marks_of start request reply)
+
+module _ {D : Type 0} {g : device.Ghosts D} {h : Ghosts (Staged D g)} where
+  -- The same of commands in order, with a reply for each.
+  pub record FollowAll (requests : List Request) (replies : List Reply) (old new : SessionOver (Staged D g) h) : Type 0 where
+    pub ran : (start : Course) → IsAt (package_in old) start → (end : Course) × (marks : List Mark) × Runs (letters_in old) start requests replies marks end
+        × IsAt (package_in new) end × Survives (letters_in old) g (device_below old) (device_below new) marks
+    pub letters : letters_in new ≡ letters_in old
+    pub behaves : Behaves (condition_of old) requests replies (condition_of new)
+    pub still : is_sound old ≡ false → Survives (letters_in old) g (device_below old) (device_below new) []
+    pub sound : is_sound new ≡ is_sound old
+
+  -- from the second session commands go on as from the first
+  abbrev pub GoesOnFrom : SessionOver (Staged D g) h → SessionOver (Staged D g) h → Type 0
+  GoesOnFrom first second = (requests : List Request) (replies : List Reply) (last : SessionOver (Staged D g) h) → 0 < length requests
+      → FollowAll requests replies second last → FollowAll requests replies first last
+
+  -- these replies stand behind those that were told before
+  abbrev pub AreAnswered : List Request → List Reply → List Reply → SessionOver (Staged D g) h → SessionOver (Staged D g) h → Type 0
+  AreAnswered requests before after old new = (replies : List Reply) × (after ≡ before ++ replies) × FollowAll requests replies old new

@@ -57,6 +57,15 @@ impl<F: Medium> SessionOver<F> {
         answer_of(self.package.insert_rows(insert))
     }
 
+    // The same as its outcome.
+    pub(crate) fn insert_joined(&mut self, insert: &Insert) -> Result<(), Error>
+        requires { is_failed self.old ≡ false }
+        ensures { AnswersQuietly (asked.insert (insert_name insert.now) (insert_rows insert.now))
+            (told_of result) self.old self.new }
+    {
+        self.package.insert_rows(insert)
+    }
+
     pub(crate) fn update(&mut self, update: &Update) -> Answer
         requires { is_failed self.old ≡ false }
         ensures { AnswersQuietly (asked.update (update_name update.now) (update_sets update.now)

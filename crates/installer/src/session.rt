@@ -140,9 +140,10 @@ impl<D: Device> SessionOver<Staged<D>> {
         }
     }
 
-    /// Runs commands in order, with an answer for each. `Memory` where there is no room for the answers: then none was run. On every
-    /// device, also one that lies, and whatever the file holds, answers name faults alone that there were. No command of a package that
-    /// isn't sound changes what a recovery gives.
+    /// Runs commands in order, with an answer for each. Inserts into one table that follow one another are carried out as one, if all of
+    /// them are done by that; what is answered, and what is held then, is the same. `Memory` where there is no room for the answers: then
+    /// none was run. On every device, also one that lies, and whatever the file holds, answers name faults alone that there were. No
+    /// command of a package that isn't sound changes what a recovery gives.
     pub fn run(&mut self, commands: &[Command]) -> Result<Vec<Answer>, Error>
         ensures ran { IfOk result (λ answers. (start : Course) → IsAt (package_in self.old) start
             → (end : Course) × (marks : List Mark)
@@ -157,14 +158,12 @@ impl<D: Device> SessionOver<Staged<D>> {
         ensures none_ran { IfErr result (λ e. (e ≡ error.Memory) × (self.new ≡ self.old)) }
     {
         let mut answers = Vec::with_capacity(self.alloc, commands.len())?;
-        for command in commands {
-            answers.push_reserved(self.answer(command));
-        }
+        self.answer_all(commands, &mut answers);
         Ok(answers)
     }
 
     // Runs one command.
-    fn answer(&mut self, command: &Command) -> Answer
+    pub(crate) fn answer(&mut self, command: &Command) -> Answer
         ensures { Follows (said command.now) (told_by result) self.old self.new }
     {
         if self.has_failed() {

@@ -1,0 +1,144 @@
+//! Commands in order, of which inserts into one table that follow one another are carried out as one.
+ghost use Rattle.command_file.specs.Request as asked;
+ghost use Rattle.command_file.specs.Said.{said};
+ghost use Rattle.installer.specs.Follows.{AreAnswered, FollowAll, GoesOnFrom};
+ghost use Rattle.installer.specs.Groups.{all_done, inserts_of};
+ghost use Rattle.installer.specs.Reply as told;
+ghost use Rattle.installer.specs.Said.{told_by};
+ghost use Rattle.msi_changes.specs.Said.{insert_name, insert_rows};
+ghost use Rattle.msi_joined.specs.Joined.{joined_rows};
+ghost use Rattle.msi_values.specs.Datum.{Datum};
+ghost use Rattle.std.specs.Prelude.{◌≡◌, ◌<◌, ◌≤◌, ◌+◌, ◌++◌, ◌∷◌, [], false, length, map, take, vec_capacity, vec_len, List, IfErr, IfOk, IfSome, MatchBool};
+
+use crate::Answer;
+use crate::session::SessionOver;
+use cfb_medium::Error;
+use command_file::Command;
+use msi_changes::Insert;
+use msi_joined::joined_with;
+use staged::{Device, Staged};
+use std::alloc::Global;
+
+// The insert of the command's rows behind those of this one. None where the command is no insert into the same table, or where there is
+// no memory.
+fn with_rows_of(alloc: Global, insert: Insert, command: &Command) -> Option<Insert>
+    ensures { IfSome result (λ all. (rows : List (List Datum))
+        × (said command.now ≡ asked.insert (insert_name insert) rows)
+        × (insert_name all ≡ insert_name insert)
+        × (insert_rows all ≡ insert_rows insert ++ rows)) }
+{
+    match command {
+        Command::Insert(other) => {
+            if other.table_name() != insert.table_name() {
+                return None;
+            }
+            match joined_with(alloc, insert, other) {
+                Ok(all) => Some(all),
+                Err(_) => None,
+            }
+        }
+        _ => None,
+    }
+}
+
+// The commands as one insert into the table of this name. None where one is no insert into it, or where there is no memory.
+fn joined_insert(alloc: Global, name: &str, commands: &[Command]) -> Option<Insert>
+    ensures { IfSome result (λ insert. (groups : List (List (List Datum)))
+        × (map said commands.now ≡ inserts_of (insert_name insert) groups)
+        × (insert_rows insert ≡ joined_rows groups)) }
+{
+    let mut all = match Insert::into(alloc, name) {
+        Ok(insert) => insert,
+        Err(_) => return None,
+    };
+    for command in commands {
+        all = match with_rows_of(alloc, all, command) {
+            Some(more) => more,
+            None => return None,
+        };
+    }
+    Some(all)
+}
+
+// Adds the answer that it was done for each of the commands.
+fn push_done(commands: &[Command], answers: &mut Vec<Answer>)
+    requires room { vec_len answers.old + length commands.now ≤ vec_capacity answers.old }
+    ensures capacity { vec_capacity answers.new ≡ vec_capacity answers.old }
+    ensures len { vec_len answers.new ≡ vec_len answers.old + length commands.now }
+    ensures done { map told_by answers.new.items
+        ≡ map told_by answers.old.items ++ all_done (map said commands.now) }
+{
+    for _ in commands {
+        answers.push_reserved(Answer::Done);
+    }
+}
+
+impl<D: Device> SessionOver<Staged<D>> {
+    ghost use Rattle.installer.specs.Sessions.{is_failed, is_sound};
+
+    // Runs commands in order, with an answer for each behind those that are there.
+    pub(crate) fn answer_all(&mut self, commands: &[Command], answers: &mut Vec<Answer>)
+        requires room { vec_len answers.old + length commands.now ≤ vec_capacity answers.old }
+        ensures capacity { vec_capacity answers.new ≡ vec_capacity answers.old }
+        ensures len { vec_len answers.new ≡ vec_len answers.old + length commands.now }
+        ensures ran { AreAnswered (map said commands.now) (map told_by answers.old.items)
+            (map told_by answers.new.items) self.old self.new }
+    {
+        if commands.is_empty() {
+            return;
+        }
+        if commands.len() == 1 {
+            answers.push_reserved(self.answer(&commands[0]));
+            return;
+        }
+        match self.insert_all(commands) {
+            Ok(true) => push_done(commands, answers),
+            Ok(false) => {
+                let (first, second) = commands.split_at(commands.len() / 2);
+                self.answer_all(first, answers);
+                self.answer_all(second, answers);
+            }
+            Err(error) => {
+                answers.push_reserved(Answer::Refused(error));
+                self.answer_all(&commands[1..], answers);
+            }
+        }
+    }
+
+    // Carries the commands out as one insert: whether it was done. Where it wasn't, nothing was changed, and they are as those of which
+    // none was tried; so it is where they are no inserts into one table, where the package isn't sound, and where the session has failed
+    // before. An error is that by which the session failed, which answers the first of them.
+    fn insert_all(&mut self, commands: &[Command]) -> Result<bool, Error>
+        requires some { 0 < length commands.now }
+        ensures done { IfOk result (λ done. MatchBool done
+            (FollowAll (map said commands.now) (all_done (map said commands.now)) self.old self.new)
+            (GoesOnFrom self.old self.new)) }
+        ensures failed { IfErr result (λ e. FollowAll (map said (take 1 commands.now))
+            (told.refused e ∷ []) self.old self.new) }
+    {
+        if self.has_failed() {
+            return Ok(false);
+        }
+        if !self.is_sound() {
+            return Ok(false);
+        }
+        let name = match commands.first() {
+            Some(Command::Insert(first)) => first.table_name(),
+            _ => return Ok(false),
+        };
+        let insert = match joined_insert(self.alloc, name, commands) {
+            Some(insert) => insert,
+            None => return Ok(false),
+        };
+        match self.insert_joined(&insert) {
+            Ok(()) => Ok(true),
+            Err(error) => {
+                if self.has_failed() {
+                    Err(error)
+                } else {
+                    Ok(false)
+                }
+            }
+        }
+    }
+}
