@@ -60,6 +60,59 @@ fn joined_insert(alloc: Global, name: &str, commands: &[Command]) -> Option<Inse
     Some(all)
 }
 
+// Whether both are inserts into one table.
+fn are_alike(one: &Command, other: &Command) -> bool {
+    match one {
+        Command::Insert(one) => match other {
+            Command::Insert(other) => one.table_name() == other.table_name(),
+            _ => false,
+        },
+        _ => false,
+    }
+}
+
+// Where the inserts into one table end that follow one another from before this place on; the place itself where there are none.
+fn end_of_run(commands: &[Command], from: usize) -> usize
+    requires some { 0 < from }
+    requires inside { from ≤ length commands.now }
+    ensures behind { from ≤ result }
+    ensures inside { result ≤ length commands.now }
+{
+    let mut end = from;
+    while end < commands.len() && are_alike(&commands[end - 1], &commands[end]) {
+        end += 1;
+    }
+    end
+}
+
+// Where those begin that go on at this place.
+fn start_of_run(commands: &[Command], from: usize) -> usize
+    requires inside { from < length commands.now }
+    ensures before { result ≤ from }
+{
+    let mut start = from;
+    while start > 0 && are_alike(&commands[start - 1], &commands[start]) {
+        start -= 1;
+    }
+    start
+}
+
+// Where two commands or more are cut in two: in the middle; but inserts into one table that follow one another there are left together,
+// unless there are no others.
+fn cut_of(commands: &[Command]) -> usize
+    requires some { 1 < length commands.now }
+    ensures some { 0 < result }
+    ensures inside { result < length commands.now }
+{
+    let half = commands.len() / 2;
+    let end = end_of_run(commands, half);
+    if end < commands.len() {
+        return end;
+    }
+    let start = start_of_run(commands, half);
+    if start > 0 { start } else { half }
+}
+
 // Adds the answer that it was done for each of the commands.
 fn push_done(commands: &[Command], answers: &mut Vec<Answer>)
     requires room { vec_len answers.old + length commands.now ≤ vec_capacity answers.old }
@@ -94,7 +147,7 @@ impl<D: Device> SessionOver<Staged<D>> {
         match self.insert_all(commands) {
             Ok(true) => push_done(commands, answers),
             Ok(false) => {
-                let (first, second) = commands.split_at(commands.len() / 2);
+                let (first, second) = commands.split_at(cut_of(commands));
                 self.answer_all(first, answers);
                 self.answer_all(second, answers);
             }

@@ -1,4 +1,4 @@
-use Rattle.std.proofs.Common.{◌∷◌, ◌∙◌, [], ap, map, refl, sym, ◌/◌, length}
+use Rattle.std.proofs.Common.{◌∷◌, ◌∙◌, [], ap, map, refl, sym, length}
 use Rattle.std.proofs.lemmas.List.{map-append}
 use Rattle.command_file.specs.Said.{said}
 use Rattle.installer.proofs.Running.{answered_none, answered_one, answered_then, otherwise, rest_of, some_left}
@@ -20,7 +20,7 @@ returns-then-commands-eq1-clause-ran g t c =
 
 pub returns-in-Ok-false-clause-ran : goal.returns-in-Ok-false-clause-ran
 returns-in-Ok-false-clause-ran g t c =
-    let both = answered_then said (length c.args.commands.now / 2) c.args.commands.now c.split_at.result.0.now c.split_at.result.1.now c.split_at.ensures.front c.split_at.ensures.back
+    let both = answered_then said c.cut_of.result c.args.commands.now c.split_at.result.0.now c.split_at.result.1.now c.split_at.ensures.front c.split_at.ensures.back
     (map told_by c.args.answers.now.items) (map told_by c.answer_all.new.answers.items) (map told_by c.answer_all-in-Ok-false.new.answers.items) c.insert_all.new.self c.answer_all.new.self c.answer_all-in-Ok-false.new.self
     c.answer_all.ensures.ran c.answer_all-in-Ok-false.ensures.ran in
     (both.0, both.1, otherwise _ _ _ c.in-Ok-false.field-0-test c.in-Ok-false.ensures.done (map said c.args.commands.now) both.0 c.answer_all-in-Ok-false.new.self (some_left said c.args.commands.now (sym c.is_empty.ensures ∙ c.if-is_empty.false)) both.2)
