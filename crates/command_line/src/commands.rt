@@ -13,7 +13,7 @@ use std::io::Write;
 use std::rt::Files;
 use std::time::Clock;
 
-// How many commands are run before their answers are printed.
+// How many commands are run before their answers are printed, if they aren't inserts.
 const SLICE: usize = 64;
 
 /// How a run ended that met no fault.
@@ -92,14 +92,40 @@ fn why_no_session<R: Files<File = File> + AllocGlobal>(
     }
 }
 
-// Runs commands in slices, whose answers are printed as they come.
+// Whether a command inserts rows: its answer takes no room, and a session carries out many of them at once.
+fn is_insert(command: &Command) -> bool {
+    match command {
+        Command::Insert(_) => true,
+        _ => false,
+    }
+}
+
+// Runs commands in slices, whose answers are printed as they come. Inserts that follow one another are one slice.
 fn run_all<O: Write, R: Clock, E: Write>(
     session: &mut Session<FileDevice>,
     commands: &[Command],
     answers: &mut Answers<'_, O>,
     progress: &mut Progress<'_, R, E>,
 ) -> Result<(), Error> {
-    for slice in commands.chunks(SLICE) {
+    for run in commands.chunk_by(|one, other| is_insert(one) == is_insert(other)) {
+        run_alike(session, run, answers, progress)?;
+    }
+    Ok(())
+}
+
+// The same of commands that are all inserts, or none is.
+fn run_alike<O: Write, R: Clock, E: Write>(
+    session: &mut Session<FileDevice>,
+    commands: &[Command],
+    answers: &mut Answers<'_, O>,
+    progress: &mut Progress<'_, R, E>,
+) -> Result<(), Error> {
+    let size = if commands.iter().any(is_insert) {
+        commands.len()
+    } else {
+        SLICE
+    };
+    for slice in commands.chunks(size.max(1)) {
         answers.take(&run_commands(session, slice)?);
         progress.step(slice.len());
     }
