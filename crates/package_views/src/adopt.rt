@@ -32,7 +32,9 @@ pub fn adopted_package<'a, R: Files<File = File> + AllocGlobal, O: Write, E: Wri
     };
     match adopted_at(rt, path) {
         Ok(package) => Ok(package),
-        Err(Error::InvalidData) if !found.is_empty() => Err(tell_defects(path, &found, out, err)),
+        Err(Error::InvalidData) if !found.is_empty() => Err(tell_defects(
+            rt, path, &found, out, err,
+        )),
         Err(error) => {
             tell_why_refused(rt, path, error, err);
             Err(3)
@@ -41,10 +43,16 @@ pub fn adopted_package<'a, R: Files<File = File> + AllocGlobal, O: Write, E: Wri
 }
 
 // Writes a line for each rule that a package breaks.
-fn tell_defects<O: Write, E: Write>(path: &str, found: &[Defect], out: &mut O, err: &mut E) -> u8
+fn tell_defects<R: Files<File = File> + AllocGlobal, O: Write, E: Write>(
+    rt: &R,
+    path: &str,
+    found: &[Defect],
+    out: &mut O,
+    err: &mut E,
+) -> u8
     ensures { result ≤ 3 }
 {
-    match write_defects(found, out) {
+    match write_defects(rt, path, found, out) {
         Ok(()) => 1,
         Err(error) => {
             tell_error(path, error, err);

@@ -2,6 +2,7 @@
 ghost use Rattle.std.specs.Prelude.{◌≤◌};
 
 use crate::packages::defects_at;
+use crate::places::write_places;
 use crate::refusals::tell_why_refused;
 use crate::troubles::tell_error;
 use cfb_medium::Error;
@@ -32,18 +33,25 @@ fn text_of(defect: Defect) -> &'static str {
     }
 }
 
-// Writes a line for each.
-pub(crate) fn write_defects<O: Write>(found: &[Defect], out: &mut O) -> Result<(), Error> {
+// Writes a line for each rule, and behind it one for each place at which it is broken, where these are known.
+pub(crate) fn write_defects<R: Files<File = File> + AllocGlobal, O: Write>(
+    rt: &R,
+    path: &str,
+    found: &[Defect],
+    out: &mut O,
+) -> Result<(), Error> {
     for defect in found {
         if writeln!(out, "{}", text_of(*defect)).is_err() {
             return Err(Error::Device);
         }
+        write_places(rt, path, *defect, out)?;
     }
     Ok(())
 }
 
-/// Tells which rules the package at a path breaks, which is only read: a line for each, none where it is sound. The status is 0 where it
-/// is sound, 1 where it isn't, 3 where the file is no package or can't be read, which is told with the file's name, and where nothing can
+/// Tells which rules the package at a path breaks, which is only read: a line for each, none where it is sound. Behind the line stand, with
+/// two blanks in front, texts that no cell uses, tables with a wrong name, tables whose rows can't be read, and texts that aren't counted
+/// right, where it is the rule on these. The status is 0 where it is sound, 1 where it isn't, 3 where the file is no package or can't be read, which is told with the file's name, and where nothing can
 /// be written.
 pub fn check_package<'a, R: Files<File = File> + AllocGlobal, O: Write, E: Write>(
     rt: &R,
@@ -60,7 +68,7 @@ pub fn check_package<'a, R: Files<File = File> + AllocGlobal, O: Write, E: Write
             return 3;
         }
     };
-    match write_defects(&found, out) {
+    match write_defects(rt, path, &found, out) {
         Ok(()) if found.is_empty() => 0,
         Ok(()) => 1,
         Err(error) => {

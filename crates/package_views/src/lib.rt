@@ -6,6 +6,7 @@ mod check;
 mod export;
 mod looks;
 mod packages;
+mod places;
 mod refusals;
 mod show;
 mod troubles;

@@ -3,7 +3,7 @@ ghost use Rattle.std.specs.Prelude.{◌≤◌};
 
 use crate::packages::{
     facts_of, is_signed, is_sound, kind_of, package_at, page_of, properties_of, rows_of,
-    streams_of, table_named, tables_of,
+    streams_of, table_named, tables_of, text_of_json,
 };
 use crate::refusals::tell_why_refused;
 use crate::troubles::{tell_error, tell_part};
@@ -270,10 +270,6 @@ fn value_of_columns(alloc: Global, columns: &[Column]) -> Result<Json, AllocErro
 
 fn value_of_property(alloc: Global, value: &PropertyValue) -> Result<Json, AllocError> {
     property_value(alloc, value)
-}
-
-fn text_of_json(alloc: Global, value: &Json) -> Result<String, AllocError> {
-    value.to_string(alloc)
 }
 
 fn text_value(alloc: Global, text: &str) -> Result<Json, AllocError> {

@@ -31,11 +31,9 @@ fn print_file(rt: &HostRuntime, path: &str) -> Result<()> {
         "answers.rows" => print_rows(rt, text.as_str(), Answers),
         "forms.rows" => print_rows(rt, text.as_str(), Forms),
         "logs.rows" => print_rows(rt, text.as_str(), Logs::new(rt.alloc())),
-        "programs.rows" | "files.rows" | "shown.rows" | "adopted.rows" => print_rows(
-            rt,
-            text.as_str(),
-            Programs::new(rt)?,
-        ),
+        "programs.rows" | "files.rows" | "shown.rows" | "checked.rows" | "adopted.rows" => {
+            print_rows(rt, text.as_str(), Programs::new(rt)?)
+        }
         _ => bail!("{path}: no such rows"),
     }
 }

@@ -1,0 +1,122 @@
+//! Where a package breaks a rule on texts or tables, a line each.
+use crate::packages::{
+    Looked, looked_at, miscounts_of, misnamed_of, text_at, text_of_json, unread_of, unused_of,
+};
+use cfb_medium::Error;
+use msi::Defect;
+use msi_findings::Miscount;
+use msi_tables::Table;
+use serde_json::Value as Json;
+use std::alloc::{AllocError, Global};
+use std::fs::File;
+use std::io::Write;
+use std::rc::Rc;
+use std::rt::Files;
+
+/// Writes each place at which the package at a path breaks a rule: of the rules on free places, on the names of tables and on counts.
+/// `Device` where nothing can be written.
+pub(crate) fn write_places<R: Files<File = File> + AllocGlobal, O: Write>(
+    rt: &R,
+    path: &str,
+    defect: Defect,
+    out: &mut O,
+) -> Result<(), Error> {
+    match defect {
+        Defect::FreePlaces | Defect::TableNames | Defect::Counts => {
+            let mut looked = looked_at(rt, path)?;
+            let mut lines = Lines {
+                alloc: rt.alloc(),
+                out,
+            };
+            lines.places(defect, &mut looked)
+        }
+        Defect::Container
+        | Defect::PoolTexts
+        | Defect::SummaryTexts
+        | Defect::SummarySections
+        | Defect::Validation
+        | Defect::Objects
+        | Defect::ListedSystemTables => Ok(()),
+    }
+}
+
+// Where the places are written.
+#[derive(Drop)]
+struct Lines<'a, O> {
+    alloc: Global,
+    out: &'a mut O,
+}
+
+impl<'a, O: Write> Lines<'a, O> {
+    // The places at which one of the three rules is broken.
+    fn places(&mut self, defect: Defect, looked: &mut Looked) -> Result<(), Error> {
+        match defect {
+            Defect::FreePlaces => self.unused_texts(looked),
+            Defect::TableNames => self.misnamed_tables(looked),
+            _ => self.counts(looked),
+        }
+    }
+
+    // Texts that no cell uses.
+    fn unused_texts(&mut self, looked: &Looked) -> Result<(), Error> {
+        for place in unused_of(self.alloc, looked)? {
+            let text = quoted(self.alloc, text_at(looked, place))?;
+            self.line(&format!(in self.alloc; "place {place}, {text}")?)?;
+        }
+        Ok(())
+    }
+
+    // Tables with a name that they can't have.
+    fn misnamed_tables(&mut self, looked: &Looked) -> Result<(), Error> {
+        let tables = misnamed_of(self.alloc, looked)?;
+        self.tables(&tables, "")
+    }
+
+    // Tables whose rows can't be read, and texts that aren't counted right.
+    fn counts(&mut self, looked: &mut Looked) -> Result<(), Error> {
+        let tables = unread_of(self.alloc, looked)?;
+        self.tables(&tables, ": its rows can't be read")?;
+        match miscounts_of(self.alloc, looked) {
+            Ok(found) => self.miscounts(looked, &found),
+            Err(Error::InvalidData) if tables.is_empty() => self.line(UNCOUNTED),
+            Err(Error::InvalidData) => Ok(()),
+            Err(error) => Err(error),
+        }
+    }
+
+    fn miscounts(&mut self, looked: &Looked, found: &[Miscount]) -> Result<(), Error> {
+        for it in found {
+            let text = quoted(self.alloc, text_at(looked, it.place))?;
+            let (place, used, counted) = (it.place, it.used, it.counted);
+            self.line(&format!(in self.alloc;
+                "place {place}, {text}: used {used}, counted {counted}"
+            )?)?;
+        }
+        Ok(())
+    }
+
+    // Tables, and what is said of each.
+    fn tables(&mut self, tables: &[Rc<Table>], what: &str) -> Result<(), Error> {
+        for table in tables {
+            let name = quoted(self.alloc, table.name())?;
+            self.line(&format!(in self.alloc; "table {name}{what}")?)?;
+        }
+        Ok(())
+    }
+
+    // Writes a line. `Device` where it can't be written.
+    fn line(&mut self, text: &str) -> Result<(), Error> {
+        match writeln!(self.out, "  {text}") {
+            Ok(()) => Ok(()),
+            Err(_) => Err(Error::Device),
+        }
+    }
+}
+
+// Said where no table is at fault, and the uses of texts can't be counted.
+const UNCOUNTED: &str = "a cell names no place of the string pool, or more than 65535 cells one";
+
+// A text as JSON has it.
+fn quoted(alloc: Global, text: &str) -> Result<String, AllocError> {
+    text_of_json(alloc, &Json::String(String::from_str(alloc, text)?))
+}
