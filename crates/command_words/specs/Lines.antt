@@ -34,6 +34,7 @@ is_set (Some text) = bytes_eq text (codes "true")
 abbrev pub AreAsked : Parts → List Row → Type 0
 AreAsked parts rows = (option_map (λ s. s.now) parts.table ≡ first_of (codes "TABLE") rows)
     × (parts.summary ≡ is_set (first_of (codes "summary") rows)) × (parts.streams ≡ is_set (first_of (codes "streams") rows))
+    × (parts.tree ≡ is_set (first_of (codes "tree") rows))
 
 -- which log is named: none, one, or two
 pub data Named : Type 0 where

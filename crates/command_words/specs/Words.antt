@@ -30,15 +30,18 @@ adopted = with_rule (with_rule (with_rule (new_app (codes "adopt")) (path (codes
 abbrev pub flag : Text → Rule
 flag id = record (new_rule id) { long = Some id; action = Some SetTrue }
 
--- the word that shows a package: its path, a table's name, which may be missing, and two flags
+-- the word that shows a package: its path, a table's name, which may be missing, and three flags
 abbrev pub table_shown : App
 table_shown = with_rule (with_rule (new_app (codes "show")) (path (codes "FILE"))) (new_rule (codes "TABLE"))
 
 abbrev pub summary_shown : App
 summary_shown = with_rule table_shown (flag (codes "summary"))
 
+abbrev pub streams_shown : App
+streams_shown = with_rule summary_shown (flag (codes "streams"))
+
 abbrev pub shown : App
-shown = with_rule summary_shown (flag (codes "streams"))
+shown = with_rule streams_shown (flag (codes "tree"))
 
 -- the word that writes a package to a folder: the paths of both
 abbrev pub exported : App

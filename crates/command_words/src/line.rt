@@ -20,7 +20,7 @@ pub enum Log<'a> {
     Twice(&'a str, &'a str),
 }
 
-/// The parts of a package that are asked for; none is all of them.
+/// The parts of a package that are asked for; none is all of them but the tree.
 #[derive(Clone, Copy, Debug, PartialEq, Eq)]
 pub struct Parts<'a> {
     /// The table of this name.
@@ -29,6 +29,8 @@ pub struct Parts<'a> {
     pub summary: bool,
     /// The streams that belong to no table.
     pub streams: bool,
+    /// The tree of the compound file.
+    pub tree: bool,
 }
 
 /// What the program is asked for: the path of a package with its log, and of a command file; or the path of a file, and what is shown
@@ -174,6 +176,7 @@ fn parts_in<'a>(paths: &ArgMatches<'a>) -> Parts<'a>
         table: path(paths, "TABLE"),
         summary: has_flag(paths, "summary"),
         streams: has_flag(paths, "streams"),
+        tree: has_flag(paths, "tree"),
     }
 }
 

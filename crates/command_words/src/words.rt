@@ -2,7 +2,7 @@
 ghost use Rattle.std.specs.Prelude.{◌≡◌, codes, true, false, IfOk, IfErr, map, string_bytes};
 ghost use Rattle.clap.specs.Words.{app_of, kind_of, rule_of, takes, with_rule, with_subcommand, HasMatchesOf};
 ghost use Rattle.clap.specs.declared.Command.TheViews.{out-Command as fields_of};
-ghost use Rattle.command_words.specs.Words.{adopted, bare, checked, exported, log_option, msidb, on_package, path, run, shown, summary_shown, table_shown, two_paths, with_files, with_log, with_looks, without_run};
+ghost use Rattle.command_words.specs.Words.{adopted, bare, checked, exported, log_option, msidb, on_package, path, run, shown, streams_shown, summary_shown, table_shown, two_paths, with_files, with_log, with_looks, without_run};
 
 use clap::error::ErrorKind;
 use clap::{Arg, ArgAction, ArgMatches, Command, Error};
@@ -132,7 +132,7 @@ fn with_table<'a>(alloc: Global) -> Result<Command<'a>, AllocError>
     let command = Command::new(alloc, "show")
         .about("Shows what a package of any maker holds")
         .after_help(
-            "Example: msidb show setup.msi Property\nPrints a line of JSON for each part that is asked for, or for all; a table's rows stand behind its columns. Nothing is written.\nStatus: 0 done, 1 no table has the name, 3 the file is no package, or a part of it can't be read.",
+            "Example: msidb show setup.msi Property\nPrints a line of JSON for each part that is asked for, or for all but the tree; a table's rows stand behind its columns. Nothing is written.\nStatus: 0 done, 1 no table has the name, 3 the file is no package, or a part of it can't be read.",
         );
     add(add(command, needed(alloc, "FILE", "The package"))?, table)
 }
@@ -150,8 +150,8 @@ fn with_summary<'a>(alloc: Global) -> Result<Command<'a>, AllocError>
 }
 
 // The same with one for the streams.
-fn with_file<'a>(alloc: Global) -> Result<Command<'a>, AllocError>
-    ensures app { IfOk result (λ c. app_of c ≡ shown) }
+fn with_streams<'a>(alloc: Global) -> Result<Command<'a>, AllocError>
+    ensures app { IfOk result (λ c. app_of c ≡ streams_shown) }
     ensures local { IfOk result (λ c. (fields_of c).has_globals ≡ false) }
 {
     let streams = Arg::new(alloc, "streams")
@@ -159,6 +159,18 @@ fn with_file<'a>(alloc: Global) -> Result<Command<'a>, AllocError>
         .action(ArgAction::SetTrue)
         .help("The streams that hold no tables, with lengths and SHA-256");
     add(with_summary(alloc)?, streams)
+}
+
+// The same with one for the tree.
+fn with_file<'a>(alloc: Global) -> Result<Command<'a>, AllocError>
+    ensures app { IfOk result (λ c. app_of c ≡ shown) }
+    ensures local { IfOk result (λ c. (fields_of c).has_globals ≡ false) }
+{
+    let tree = Arg::new(alloc, "tree")
+        .long("tree")
+        .action(ArgAction::SetTrue)
+        .help("The tree of the compound file, which need be no package: storages and streams");
+    add(with_streams(alloc)?, tree)
 }
 
 // The word that judges a package, with the path of a file.

@@ -9,6 +9,7 @@ mod packages;
 mod places;
 mod refusals;
 mod show;
+mod tree;
 mod troubles;
 
 pub use adopt::adopted_package;

@@ -1,5 +1,5 @@
 //! Packages that are only read: a function for each call, since what is told of a call costs time wherever it is seen.
-use cfb::{CaseMapper, CompoundFile, FileMedium, MemoryMedium};
+use cfb::{CaseMapper, CompoundFile, Entries, Entry, FileMedium, MemoryMedium};
 use cfb_medium::Error;
 use msi::{Defect, Package, Streams, Tables, defects, open};
 use msi_adopting::adopt;
@@ -103,6 +103,24 @@ pub(crate) fn text_at(looked: &Looked, place: u32) -> &str {
 
 pub(crate) fn text_of_json(alloc: Global, value: &Json) -> Result<String, AllocError> {
     value.to_string(alloc)
+}
+
+/// The objects of the compound file at a path, each storage before what it holds.
+pub(crate) fn entries_at<R: Files<File = File> + AllocGlobal>(
+    rt: &R,
+    path: &str,
+) -> Result<Entries, Error> {
+    let file = cfb::open(rt, rt.alloc(), path)?;
+    entries_of(&file)
+}
+
+fn entries_of(file: &CompoundFile<FileMedium>) -> Result<Entries, Error> {
+    file.walk()
+}
+
+/// The class of an object, as it is written with hyphens.
+pub(crate) fn class_of(alloc: Global, entry: &Entry) -> Result<String, AllocError> {
+    format!(in alloc; "{}", entry.clsid())
 }
 
 /// A copy in memory of the package at a path, with right counts, which is sound. `InvalidData` where there is none.

@@ -6,6 +6,7 @@ use crate::packages::{
     streams_of, table_named, tables_of, text_of_json,
 };
 use crate::refusals::tell_why_refused;
+use crate::tree::{tree_at, write_tree};
 use crate::troubles::{tell_error, tell_part};
 use cfb::FileMedium;
 use cfb_medium::Error;
@@ -37,7 +38,8 @@ enum Shown {
     NoTable,
 }
 
-/// Shows parts of the package at a path, which is only read. The status is 0 where all was shown, 1 where no table has the name, 3
+/// Shows parts of the package at a path, which is only read; the tree first, for which it need be no package but any compound file. The
+/// status is 0 where all was shown, 1 where no table has the name, 3
 /// where the file is no package or a part of it can't be read, which is told with the file's name, and where nothing can be written.
 pub fn show_package<'a, R: Files<File = File> + AllocGlobal, O: Write, E: Write>(
     rt: &R,
@@ -48,6 +50,12 @@ pub fn show_package<'a, R: Files<File = File> + AllocGlobal, O: Write, E: Write>
 ) -> u8
     ensures { result ≤ 3 }
 {
+    if parts.tree {
+        let status = show_tree(rt, path, out, err);
+        if status != 0 || is_tree_alone(parts) {
+            return status;
+        }
+    }
     let mut package = match package_at(rt, path) {
         Ok(package) => package,
         Err(error) => {
@@ -72,7 +80,37 @@ pub fn show_package<'a, R: Files<File = File> + AllocGlobal, O: Write, E: Write>
     }
 }
 
-// Shows the parts that are asked for, or all.
+// Whether nothing but the tree is asked for.
+fn is_tree_alone(parts: Parts<'_>) -> bool {
+    parts.table.is_none() && !parts.summary && !parts.streams
+}
+
+// Shows the tree. The status is 0 where it was shown, else 3.
+fn show_tree<R: Files<File = File> + AllocGlobal, O: Write, E: Write>(
+    rt: &R,
+    path: &str,
+    out: &mut O,
+    err: &mut E,
+) -> u8
+    ensures { result ≤ 3 }
+{
+    let entries = match tree_at(rt, path) {
+        Ok(entries) => entries,
+        Err(error) => {
+            tell_why_refused(rt, path, error, err);
+            return 3;
+        }
+    };
+    match write_tree(rt.alloc(), entries, out) {
+        Ok(()) => 0,
+        Err(error) => {
+            tell_error(path, error, err);
+            3
+        }
+    }
+}
+
+// Shows the parts that are asked for, or all but the tree.
 fn show_parts<O: Write, E: Write>(
     page: &mut Page<'_, O, E>,
     package: &mut Package<FileMedium>,
