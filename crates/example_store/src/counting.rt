@@ -1,9 +1,7 @@
 //! The store's two functions.
-ghost use Rattle.cfb_medium.specs.Bytes.{overwritten};
 ghost use Rattle.cfb_medium.specs.Stops.{LeavesOnly};
-ghost use Rattle.staged.specs.Log.{recovered};
-ghost use Rattle.std.specs.Int.{w64, to_le_bytes};
-ghost use Rattle.std.specs.Prelude.{◌≡◌, ◌⊎◌, Some, IfOk, IsTrue};
+ghost use Rattle.example_store.specs.Number.{counted_up, next_in};
+ghost use Rattle.std.specs.Prelude.{◌≡◌, ◌⊎◌, Some, IfOk, IsTrue, OnOk};
 
 use cfb_medium::{Error, Medium};
 use staged::{Device, Staged, recover};
@@ -19,12 +17,16 @@ pub fn opened<D: Device + Drop>(alloc: Global, mut device: D) -> Result<Staged<D
 }
 
 /// Counts up the number at the front of a store, and publishes it: whatever a stop leaves after `Ok`, the new number is there; one that
-/// comes before leaves the old one or the new. A store without bytes holds 0. An error is a fault of the store, and the number is as it
-/// was, or it is the new one where the commit couldn't be finished.
+/// comes before leaves what one might have left earlier, or the new number. A store without bytes holds 0. An error is a fault of the
+/// store, and the number is as it was, or it is the new one where the commit couldn't be finished.
 pub fn count_up<M: Medium>(store: &mut M) -> Result<u64, Error>
-    ensures published { IsTrue (M.honest store.old) → IfOk result (λ number.
-        M.has_published store.new
-        (overwritten (M.bytes store.old) 0 (to_le_bytes w64 number))) }
+    ensures number { IsTrue (M.honest store.old)
+        → IfOk result (λ number. number ≡ next_in (M.bytes store.old)) }
+    ensures published { IsTrue (M.honest store.old)
+        → OnOk result (M.has_published store.new (counted_up (M.bytes store.old))) }
+    ensures left { IsTrue (M.honest store.old)
+        → LeavesOnly M.moment M.left_since store.old store.new
+        (λ left. M.may_leave store.old left ⊎ (left ≡ Some (counted_up (M.bytes store.old)))) }
 {
     let mut number = [0; 8];
     store.read_at(0, &mut number)?;
