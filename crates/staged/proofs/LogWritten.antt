@@ -58,11 +58,11 @@ pub length-head_bytes : (len count : ℕ) → length (head_bytes len count) ≡ 
 length-head_bytes len count = refl
 
 -- the log begins with a head
-pub record HasHead (log : List ℕ) (len count : ℕ) : Type 0 where
+pub record HasHead (log : List ℕ) (len runs : ℕ) : Type 0 where
   pub long : 25 ≤ length log
   pub begins : take 8 (drop 1 log) ≡ magic
   pub names : length_in log ≡ len
-  pub count : count_in log ≡ count
+  pub count : count_in log ≡ runs
 
 pub head_written : (log : List ℕ) (len count : ℕ) → len < 2 ^ 64 → count < 2 ^ 64 → HasHead (overwritten log 1 (head_bytes len count)) len count
 head_written log len count fits few =

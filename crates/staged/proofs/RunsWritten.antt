@@ -5,7 +5,7 @@ use Rattle.std.specs.Int.{w32, w64, to_le_bytes}
 use Rattle.std.proofs.lemmas.Bool.{cases_lt, cases_eq, and_parts, and_from, lt-ltb, le-leb, ltb-true}
 use Rattle.std.proofs.lemmas.List.{take_at, drop_at, take_all, take_more, take-take, take-append-le, drop-append-le, drop-drop, drop-take, drop_all, at_drop_more, length_push}
 use Rattle.cfb_medium.specs.Bytes.{overwritten}
-use Rattle.staged.specs.Log.{number_of, numbered, pages_told, run_len, has_run, has_runs, pages_of_runs, runs_of, run_count}
+use Rattle.staged.specs.Log.{number_of, numbered, has_runs, pages_of_runs, runs_of, run_count}
 use Rattle.staged.specs.LogWritten.{run_bytes}
 use Rattle.staged.specs.Pages.{page_at, HoldsPage, Rises}
 use Rattle.staged.specs.declared.pages.Page.{Page}
@@ -61,36 +61,49 @@ length-run_bytes run is =
 
 -- ---- what is read of a run
 
-module _ (run : Written) (is : IsWritten run) (rest : List ℕ) where
+-- eight bytes of a number, four of another, and what is behind them
+module _ (first count : ℕ) (eight four bytes rest : List ℕ) (long : length eight ≡ 8) (short : length four ≡ 4) (first_is : number_of eight ≡ first) (count_is : number_of four ≡ count) (whole : length bytes ≡ 512 * count) where
   abbrev all : List ℕ
-  all = run_bytes run.first run.count run.bytes ++ rest
+  all = eight ++ four ++ bytes ++ rest
 
-  count_read : pages_told true all ≡ run.count
-  count_read = number_back_4 run.count is.most
+  regrouped : all ≡ eight ++ four ++ (bytes ++ rest)
+  regrouped = append_assoc (eight ++ four) bytes rest
 
-  behind_front : drop 12 all ≡ run.bytes ++ rest
-  behind_front = refl
+  apart : all ≡ eight ++ (four ++ (bytes ++ rest))
+  apart = regrouped ∙ append_assoc eight four (bytes ++ rest)
 
-  len_read : run_len true all ≡ 12 + 512 * run.count
-  len_read = let e : pages_told true all ≡ run.count = count_read in omega arith
+  pub first_read : number_of (take 8 all) ≡ first
+  first_read = ap number_of (ap (λ (l : List ℕ). take 8 l) apart ∙ take_at eight (four ++ (bytes ++ rest)) 8 long) ∙ first_is
 
-  rest_read : drop (run_len true all) all ≡ rest
-  rest_read = ap (λ (n : ℕ). drop n all) len_read ∙ sym (drop-drop (512 * run.count) 12 all) ∙ drop_at run.bytes rest (512 * run.count) is.whole
+  pub count_read : number_of (take 4 (drop 8 all)) ≡ count
+  count_read = ap number_of (ap (λ (l : List ℕ). take 4 (drop 8 l)) apart ∙ ap (λ (l : List ℕ). take 4 l) (drop_at eight (four ++ (bytes ++ rest)) 8 long) ∙ take_at four (bytes ++ rest) 4 short) ∙ count_is
 
-  pages_read : numbered (number_of (take 8 all)) (pages_told true all) (drop 12 all) ≡ numbered run.first run.count run.bytes
-  pages_read =
-      let first : number_of (take 8 all) ≡ run.first = number_back run.first is.fits in
-      let front : take (512 * run.count) (run.bytes ++ rest) ≡ run.bytes = take_at run.bytes rest (512 * run.count) is.whole in
-      ap (λ (n : ℕ). numbered n (pages_told true all) (drop 12 all)) first ∙ ap (λ (n : ℕ). numbered run.first n (drop 12 all)) count_read
-      ∙ sym (numbered_taken run.count run.first (run.bytes ++ rest)) ∙ ap (λ (l : List ℕ). numbered run.first run.count l) front
+  behind : drop 12 all ≡ bytes ++ rest
+  behind = let size : length (eight ++ four) ≡ 12 = omega (arith, length-append eight four) in ap (λ (l : List ℕ). drop 12 l) regrouped ∙ drop_at (eight ++ four) (bytes ++ rest) 12 size
 
-  has_read : has_run true all ≡ true
-  has_read =
-      let e : pages_told true all ≡ run.count = count_read in
-      let some : 0 < pages_told true all = omega (arith, is.some) in
-      let size : length all ≡ 12 + 512 * run.count + length rest = omega (arith, length-append (run_bytes run.first run.count run.bytes) rest, length-run_bytes run is) in
-      let fits : run_len true all ≤ length all = omega (arith, len_read, size) in
-      and_from (nat_lt 0 (pages_told true all)) (nat_le (run_len true all) (length all)) (lt-ltb 0 (pages_told true all) some) (le-leb (run_len true all) (length all) fits)
+  pub bytes_read : take (512 * count) (drop 12 all) ≡ bytes
+  bytes_read = ap (λ (l : List ℕ). take (512 * count) l) behind ∙ take_at bytes rest (512 * count) whole
+
+  pub rest_read : drop (12 + 512 * count) all ≡ rest
+  rest_read = sym (drop-drop (512 * count) 12 all) ∙ ap (λ (l : List ℕ). drop (512 * count) l) behind ∙ drop_at bytes rest (512 * count) whole
+
+  pub size_read : length all ≡ 12 + 512 * count + length rest
+  size_read = omega (arith, length-append (eight ++ four ++ bytes) rest, length-append (eight ++ four) bytes, length-append eight four)
+
+-- a run whose parts are these, and n behind it
+pub pages_step : (n first count : ℕ) (all bytes rest : List ℕ) → number_of (take 8 all) ≡ first → number_of (take 4 (drop 8 all)) ≡ count → take (512 * count) (drop 12 all) ≡ bytes → drop (12 + 512 * count) all ≡ rest
+    → pages_of_runs true (suc n) all ≡ numbered first count bytes ++ pages_of_runs true n rest
+pages_step n first count all bytes rest first_is count_is bytes_is rest_is =
+    ap (λ (m : ℕ). numbered m (number_of (take 4 (drop 8 all))) (drop 12 all) ++ pages_of_runs true n (drop (12 + 512 * number_of (take 4 (drop 8 all))) all)) first_is
+    ∙ ap (λ (m : ℕ). numbered first m (drop 12 all) ++ pages_of_runs true n (drop (12 + 512 * m) all)) count_is
+    ∙ ap (λ (ps : List Page). ps ++ pages_of_runs true n (drop (12 + 512 * count) all)) (sym (numbered_taken count first (drop 12 all)) ∙ ap (λ (l : List ℕ). numbered first count l) bytes_is)
+    ∙ ap (λ (l : List ℕ). numbered first count bytes ++ pages_of_runs true n l) rest_is
+
+pub has_step : (n count : ℕ) (all rest : List ℕ) → 0 < count → number_of (take 4 (drop 8 all)) ≡ count → length all ≡ 12 + 512 * count + length rest → drop (12 + 512 * count) all ≡ rest → has_runs true (suc n) all ≡ has_runs true n rest
+has_step n count all rest some count_is size rest_is =
+    let one : (nat_lt 0 count && nat_le (12 + 512 * count) (length all)) ≡ true = and_from (nat_lt 0 count) (nat_le (12 + 512 * count) (length all)) (lt-ltb 0 count some) (le-leb (12 + 512 * count) (length all) (omega (arith, size))) in
+    ap (λ (m : ℕ). nat_lt 0 m && nat_le (12 + 512 * m) (length all) && has_runs true n (drop (12 + 512 * m) all)) count_is
+    ∙ ap (λ (b : Bool). b && has_runs true n (drop (12 + 512 * count) all)) one ∙ ap (λ (l : List ℕ). has_runs true n l) rest_is
 
 -- all runs are read back
 pub runs_read : (runs : List Written) (rest : List ℕ) → AreWritten runs → (pages_of_runs true (length runs) (bytes_of runs ++ rest) ≡ pages_of runs) × (has_runs true (length runs) (bytes_of runs ++ rest) ≡ true)
@@ -98,17 +111,30 @@ runs_read [] rest are = (refl, refl)
 runs_read (run ∷ runs) rest are =
     let is = are zero run (omega arith) in
     let tail = bytes_of runs ++ rest in
-    let one = run_bytes run.first run.count run.bytes in
-    let split : bytes_of (run ∷ runs) ++ rest ≡ one ++ tail = append_assoc one (bytes_of runs) rest in
+    let eight = to_le_bytes w64 run.first in
+    let four = to_le_bytes w32 run.count in
     let others = runs_read runs rest (λ j e below. are (suc j) e (omega arith)) in
-    let left = rest_read run is tail in (
-      ap (λ (l : List ℕ). pages_of_runs true (suc (length runs)) l) split
-      ∙ ap (λ (l : List ℕ). numbered (number_of (take 8 (one ++ tail))) (pages_told true (one ++ tail)) (drop 12 (one ++ tail)) ++ pages_of_runs true (length runs) l) left
-      ∙ ap (λ (ps : List Page). ps ++ pages_of_runs true (length runs) tail) (pages_read run is tail) ∙ ap (λ (ps : List Page). numbered run.first run.count run.bytes ++ ps) others.0,
-      ap (λ (l : List ℕ). has_runs true (suc (length runs)) l) split
-      ∙ ap (λ (b : Bool). b && has_runs true (length runs) (drop (run_len true (one ++ tail)) (one ++ tail))) (has_read run is tail)
-      ∙ ap (λ (l : List ℕ). has_runs true (length runs) l) left ∙ others.1,
-    )
+    let first_is : number_of eight ≡ run.first = number_back run.first is.fits in
+    let count_is : number_of four ≡ run.count = number_back_4 run.count is.most in
+    one eight four refl refl first_is count_is is others
+  where
+    one : (eight four : List ℕ) → length eight ≡ 8 → length four ≡ 4 → number_of eight ≡ run.first → number_of four ≡ run.count → IsWritten run
+        → (pages_of_runs true (length runs) (bytes_of runs ++ rest) ≡ pages_of runs) × (has_runs true (length runs) (bytes_of runs ++ rest) ≡ true)
+        → (pages_of_runs true (suc (length runs)) (eight ++ four ++ run.bytes ++ bytes_of runs ++ rest) ≡ numbered run.first run.count run.bytes ++ pages_of runs) × (has_runs true (suc (length runs)) (eight ++ four ++ run.bytes ++ bytes_of runs ++ rest) ≡ true)
+    one eight four long short first_is count_is is others =
+        let tail = bytes_of runs ++ rest in
+        let split : eight ++ four ++ run.bytes ++ bytes_of runs ++ rest ≡ eight ++ four ++ run.bytes ++ tail = append_assoc (eight ++ four ++ run.bytes) (bytes_of runs) rest in
+        let all = eight ++ four ++ run.bytes ++ tail in (
+          ap (λ (l : List ℕ). pages_of_runs true (suc (length runs)) l) split
+          ∙ pages_step (length runs) run.first run.count all run.bytes tail
+              (first_read run.first run.count eight four run.bytes tail long short first_is count_is is.whole) (count_read run.first run.count eight four run.bytes tail long short first_is count_is is.whole)
+              (bytes_read run.first run.count eight four run.bytes tail long short first_is count_is is.whole) (rest_read run.first run.count eight four run.bytes tail long short first_is count_is is.whole)
+          ∙ ap (λ (ps : List Page). numbered run.first run.count run.bytes ++ ps) others.0,
+          ap (λ (l : List ℕ). has_runs true (suc (length runs)) l) split
+          ∙ has_step (length runs) run.count all tail is.some (count_read run.first run.count eight four run.bytes tail long short first_is count_is is.whole)
+              (size_read run.first run.count eight four run.bytes tail long short first_is count_is is.whole) (rest_read run.first run.count eight four run.bytes tail long short first_is count_is is.whole)
+          ∙ others.1,
+        )
 
 -- ---- where they are written
 
@@ -125,19 +151,18 @@ pub record Stands (start log : List ℕ) (place : ℕ) (runs : List Written) : T
   pub inside : place ≤ length log
   pub front : take place log ≡ take 25 start ++ bytes_of runs
 
+stands_behind : (log bytes start before after : List ℕ) (place n : ℕ) → length bytes ≡ n → 0 < n → after ≡ before ++ bytes → place ≤ length log → take place log ≡ start ++ before
+    → (place + n ≤ length (overwritten log place bytes)) × (take (place + n) (overwritten log place bytes) ≡ start ++ after)
+stands_behind log bytes start before after place n size some more inside front =
+    let taken : take (place + length bytes) (overwritten log place bytes) ≡ take place log ++ bytes = front_written log bytes place (omega arith) inside in
+    let long : length (take (place + length bytes) (overwritten log place bytes)) ≡ place + length bytes = ap (λ (l : List ℕ). length l) taken ∙ (let e : length (take place log ++ bytes) ≡ place + length bytes = omega (arith, length-append (take place log) bytes, length-take place log) in e) in
+    let all : take (place + length bytes) (overwritten log place bytes) ≡ start ++ after = taken ∙ ap (λ (l : List ℕ). l ++ bytes) front ∙ append_assoc start before bytes ∙ ap (λ (l : List ℕ). start ++ l) (sym more) in
+    (omega (arith, long, length-take (place + length bytes) (overwritten log place bytes)), ap (λ (m : ℕ). take (place + m) (overwritten log place bytes)) (sym size) ∙ all)
+
 pub stands_more : (start log : List ℕ) (place : ℕ) (runs : List Written) (run : Written) → IsWritten run → Stands start log place runs → Stands start (overwritten log place (run_bytes run.first run.count run.bytes)) (place + (12 + 512 * run.count)) (runs ++ run ∷ [])
 stands_more start log place runs run is stands =
-    let bytes = run_bytes run.first run.count run.bytes in
-    let size : length bytes ≡ 12 + 512 * run.count = length-run_bytes run is in
-    let some : 0 < length bytes = omega (arith, size) in
-    let front : take (place + length bytes) (overwritten log place bytes) ≡ take place log ++ bytes = front_written log bytes place some stands.inside in
-    let joined : take (place + length bytes) (overwritten log place bytes) ≡ take 25 start ++ bytes_of (runs ++ run ∷ []) =
-    front ∙ ap (λ (l : List ℕ). l ++ bytes) stands.front ∙ append_assoc (take 25 start) (bytes_of runs) bytes ∙ ap (λ (l : List ℕ). take 25 start ++ l) (sym (bytes_more runs run)) in
-    let long : place + length bytes ≤ length (overwritten log place bytes) =
-    let e : length (take (place + length bytes) (overwritten log place bytes)) ≡ length (take place log ++ bytes) = ap (λ (l : List ℕ). length l) front in
-    let inside = stands.inside in
-    omega (arith, e, length-take (place + length bytes) (overwritten log place bytes), length-append (take place log) bytes, length-take place log) in
-    subst (λ (n : ℕ). Stands start (overwritten log place bytes) (place + n) (runs ++ run ∷ [])) size (record { inside = long; front = joined })
+    let both = stands_behind log (run_bytes run.first run.count run.bytes) (take 25 start) (bytes_of runs) (bytes_of (runs ++ run ∷ [])) place (12 + 512 * run.count) (length-run_bytes run is) (omega arith) (bytes_more runs run) stands.inside stands.front in
+    record { inside = both.0; front = both.1 }
 
 -- what is read then
 pub stands_read : (start log : List ℕ) (place : ℕ) (runs : List Written) → 25 ≤ length start → AreWritten runs → Stands start log place runs
@@ -270,3 +295,48 @@ gathered_all pages k count buffer runs past gathered = elim (cases_lt 0 count) [
       let total : length runs + runs_of pages count (drop k pages) ≡ run_count pages = gathered.counted in
       (sym (append-nil (pages_of runs)) ∙ joined ∙ take_all k pages past, omega arith)
 ]
+
+-- how many runs are left behind a page
+pub next_run : (pages : List Page) (k count named : ℕ) → k < length pages → named ≡ (get_or pages k (page 0 [])).number → (b : Bool) → (is_some (page_at pages (named + 1)) && nat_lt (count + 1) 4294967295) ≡ b
+    → runs_of pages count (drop k pages) ≡ cond b (runs_of pages (count + 1) (drop (k + 1) pages)) (suc (runs_of pages 0 (drop (k + 1) pages)))
+next_run pages k count named within is b goes =
+    at_drop_more (runs_of pages count) pages k (page 0 []) within
+    ∙ ap (λ (n : ℕ). cond (is_some (page_at pages (n + 1)) && nat_lt (count + 1) 4294967295) (runs_of pages (count + 1) (drop (k + 1) pages)) (suc (runs_of pages 0 (drop (k + 1) pages)))) (sym is)
+    ∙ ap (λ (c : Bool). cond c (runs_of pages (count + 1) (drop (k + 1) pages)) (suc (runs_of pages 0 (drop (k + 1) pages)))) goes
+
+pub count_most : (some : Bool) (count : ℕ) → (some && nat_lt count 4294967295) ≡ true → count < 4294967295
+count_most some count is = ltb-true count 4294967295 (and_parts some (nat_lt count 4294967295) is).1
+
+pub stands_none : (start : List ℕ) → 25 ≤ length start → Stands start start 25 []
+stands_none start headed = record { inside = headed; front = sym (append-nil (take 25 start)) }
+
+-- what is gathered is no more than the numbers below
+pub gathered_few : (pages : List Page) (k count : ℕ) (buffer : List ℕ) (runs : List Written) → Gathered pages k count buffer runs → count ≤ (get_or pages k (page 0 [])).number
+gathered_few pages k count buffer runs gathered = elim (cases_lt 0 count) [ inl some ↦ (gathered.begun some).1 | inr all ↦ omega arith ]
+
+-- ---- the buffer
+
+pub pasted_before : (old block new : List ℕ) (at : ℕ) → at ≤ length old → new ≡ take at old ++ block ++ drop (at + 512) old → take at new ≡ take at old
+pasted_before old block new at fits is =
+    let size : length (take at old) ≡ at = omega (arith, length-take at old) in
+    ap (λ (l : List ℕ). take at l) (is ∙ append_assoc (take at old) block (drop (at + 512) old)) ∙ take_at (take at old) (block ++ drop (at + 512) old) at size
+
+pub pasted_block : (old block new : List ℕ) (at : ℕ) → at ≤ length old → length block ≡ 512 → new ≡ take at old ++ block ++ drop (at + 512) old → take 512 (drop at new) ≡ block
+pasted_block old block new at fits whole is =
+    let size : length (take at old) ≡ at = omega (arith, length-take at old) in
+    ap (λ (l : List ℕ). take 512 (drop at l)) (is ∙ append_assoc (take at old) block (drop (at + 512) old))
+    ∙ ap (λ (l : List ℕ). take 512 l) (drop_at (take at old) (block ++ drop (at + 512) old) at size) ∙ take_at block (drop (at + 512) old) 512 whole
+
+take_past : (a rest : List ℕ) (k n m : ℕ) → length a ≡ k → m ≡ k + n → take m (a ++ rest) ≡ a ++ take n rest
+take_past [] rest k n m size is = let e : m ≡ n = omega (arith, size) in ap (λ (j : ℕ). take j rest) e
+take_past (x ∷ a) rest k n zero size is = absurd (omega (arith, size))
+take_past (x ∷ a) rest k n (suc m) size is = ap (λ (l : List ℕ). x ∷ l) (take_past a rest (k - 1) n m (omega (arith, size)) (omega (arith, size)))
+
+-- what is written of the buffer
+pub run_front : (eight four rest new : List ℕ) (n : ℕ) → length eight ≡ 8 → length four ≡ 4 → new ≡ eight ++ four ++ rest → take (12 + n) new ≡ eight ++ four ++ take n rest
+run_front eight four rest new n long short is =
+    ap (λ (l : List ℕ). take (12 + n) l) is ∙ take_past (eight ++ four) rest 12 n (12 + n) (omega (arith, length-append eight four)) refl
+
+-- where the buffer holds none its bytes don't count
+pub gathered_zero : (pages : List Page) (k : ℕ) (buffer other : List ℕ) (runs : List Written) → Gathered pages k 0 buffer runs → Gathered pages k 0 other runs
+gathered_zero pages k buffer other runs is = record { good = is.good; begun = is.begun; joined = is.joined; counted = is.counted }

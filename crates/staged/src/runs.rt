@@ -102,8 +102,9 @@ pub fn write_runs<D: Device>(
 fn put_page(buffer: &mut [u8], index: u32, bytes: &[u8; 512])
     requires { 12 + 512 * (index + 1) ≤ length buffer.old }
     ensures whole { length bytes.now ≡ 512 }
-    ensures before { take (12 + 512 * index) buffer.new ≡ take (12 + 512 * index) buffer.old }
-    ensures page { take 512 (drop (12 + 512 * index) buffer.new) ≡ bytes.now }
+    ensures pasted { buffer.new
+        ≡ take (12 + 512 * index) buffer.old ++ bytes.now
+        ++ drop (12 + 512 * index + 512) buffer.old }
 {
     let place = RUN_HEAD + 512 * index as usize;
     buffer[place..place + 512].copy_from_slice(bytes);

@@ -9,7 +9,12 @@ use Rattle.staged.proofs.recovery.read_log.Goals as goal
 
 -- an error that is passed on
 passed : {A B : Type 0} (result : Result A Error) (error kind : Error) → result ≡ Err error → IsErrOf result kind → IsErrOf {T = B} {E = Error} (Err error) kind
-passed {A} {B} result error kind is told = subst (λ (r : Result A Error). IsErrOf r kind → IsErrOf {T = B} {E = Error} (Err error) kind) (sym is) (λ same. same) told
+passed {A} {B} result error kind is told =
+    let first : Result A Error = Err error in
+    let second : Result A Error = Err kind in
+    let one : first ≡ second = sym is ∙ told in
+    let same : error ≡ kind = cc in
+    ap (λ (e : Error). let r : Result B Error = Err e in r) same
 
 pub returns-in_err-head-clause-malformed : goal.returns-in_err-head-clause-malformed
 returns-in_err-head-clause-malformed g c =
