@@ -126,14 +126,14 @@ runs_read (run ∷ runs) rest are =
         let split : eight ++ four ++ run.bytes ++ bytes_of runs ++ rest ≡ eight ++ four ++ run.bytes ++ tail = append_assoc (eight ++ four ++ run.bytes) (bytes_of runs) rest in
         let all = eight ++ four ++ run.bytes ++ tail in (
           ap (λ (l : List ℕ). pages_of_runs true (suc (length runs)) l) split
-          ∙ pages_step (length runs) run.first run.count all run.bytes tail
+              ∙ pages_step (length runs) run.first run.count all run.bytes tail
               (first_read run.first run.count eight four run.bytes tail long short first_is count_is is.whole) (count_read run.first run.count eight four run.bytes tail long short first_is count_is is.whole)
               (bytes_read run.first run.count eight four run.bytes tail long short first_is count_is is.whole) (rest_read run.first run.count eight four run.bytes tail long short first_is count_is is.whole)
-          ∙ ap (λ (ps : List Page). numbered run.first run.count run.bytes ++ ps) others.0,
+              ∙ ap (λ (ps : List Page). numbered run.first run.count run.bytes ++ ps) others.0,
           ap (λ (l : List ℕ). has_runs true (suc (length runs)) l) split
-          ∙ has_step (length runs) run.count all tail is.some (count_read run.first run.count eight four run.bytes tail long short first_is count_is is.whole)
+              ∙ has_step (length runs) run.count all tail is.some (count_read run.first run.count eight four run.bytes tail long short first_is count_is is.whole)
               (size_read run.first run.count eight four run.bytes tail long short first_is count_is is.whole) (rest_read run.first run.count eight four run.bytes tail long short first_is count_is is.whole)
-          ∙ others.1,
+              ∙ others.1,
         )
 
 -- ---- where they are written

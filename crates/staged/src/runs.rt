@@ -55,11 +55,7 @@ fn goes_on(pages: &Pages, number: u64, count: u32) -> bool
 }
 
 /// The runs of the pages, behind a head. The buffer has room for all pages.
-pub fn write_runs<D: Device>(
-    device: &mut D,
-    pages: &Pages,
-    buffer: &mut [u8],
-) -> Result<(), Error>
+pub fn write_runs<D: Device>(device: &mut D, pages: &Pages, buffer: &mut [u8]) -> Result<(), Error>
     requires few { length (listed pages.now) ≤ 2 ^ 54 }
     requires small { (number : ℕ) → HoldsPage (listed pages.now) number → number < 2 ^ 55 }
     requires room { 0 < length (listed pages.now)

@@ -42,9 +42,9 @@ loop-index-preserved g c =
     let files = g.D.Device.content c.args.device.now in
     let was = λ (honest : IsTrue (g.D.Device.honest c.args.device.now)). subst (λ (b : Bool). IsTrue b) (sym inv.as_honest) honest in
     let room = λ (honest : IsTrue (g.D.Device.honest c.args.device.now)).
-        let whole : run.place + 512 * run.count ≤ length files.log = c.requires.whole honest in
-        let same : length (g.D.Device.content c.loop-index.device).log ≡ length files.log = ap (λ (l : List ℕ). length l) (inv.log honest) in
-        let e : run.place + 512 * k + 512 ≤ length (g.D.Device.content c.loop-index.device).log = omega (arith, c.loop-index-test.true) in e in
+    let whole : run.place + 512 * run.count ≤ length files.log = c.requires.whole honest in
+    let same : length (g.D.Device.content c.loop-index.device).log ≡ length files.log = ap (λ (l : List ℕ). length l) (inv.log honest) in
+    let e : run.place + 512 * k + 512 ≤ length (g.D.Device.content c.loop-index.device).log = omega (arith, c.loop-index-test.true) in e in
     record {
       as_honest = done.honest ∙ inv.as_honest;
       counted = let e = done.failures in let f = inv.counted in omega arith;
