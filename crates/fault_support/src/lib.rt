@@ -8,7 +8,7 @@ mod store_calls;
 mod tears;
 
 pub use cases::{endless, made, print_case, same, wants};
-pub use logs::open_log;
+pub use logs::{open_log, open_runs};
 pub use runs::{Stopped, run_over};
 pub use store_calls::{
     changed_pages, commit, cut, device, flush, has_failed, home_of, into_device, len, log_of,

@@ -3,13 +3,12 @@ use Rattle.std.proofs.Common.{inl, inr, ⊎_elim, ◌⊎◌, ◌≡◌, ◌≢�
 use Rattle.std.specs.Prelude.{IsTrue}
 use Rattle.std.specs.Option.{option_or}
 use Rattle.std.proofs.lemmas.Bool.{cases_lt, cases_eq}
-use Rattle.std.proofs.lemmas.List.{get_or_append_left, get_or-append_right, get_or-take, get_or_default, take_more, take_all}
+use Rattle.std.proofs.lemmas.List.{get_or_append_left, get_or-append_right, get_or-take, get_or_default}
 use Rattle.staged.specs.Log.{pages_for}
 use Rattle.staged.specs.Pages.{page_at, HoldsPage, Rises, Covers}
 use Rattle.staged.specs.declared.pages.Page.{Page}
 use Rattle.staged.proofs.Found.{at_head, at_append}
 use Rattle.staged.proofs.Added.{holds_more, holds_one}
-use Rattle.staged.proofs.Homed.{held_at}
 
 -- `least` is one past the last number, and `next` the first past the home file that none of them has
 pub record Checked (pages : List Page) (home len next least : ℕ) : Type 0 where
@@ -20,6 +19,18 @@ pub record Checked (pages : List Page) (home len next least : ℕ) : Type 0 wher
   pub from : home / 512 ≤ next
   pub reached : (n : ℕ) → home / 512 ≤ n → n < next → HoldsPage pages n
   pub missing : HoldsPage pages next → ⊥
+
+-- none was read
+pub checked_none : (home len : ℕ) → Checked [] home len (home / 512) 0
+checked_none home len = record {
+  rising = record { rising = λ i j d less within. absurd (omega arith) };
+  below = λ k d within. absurd (omega arith);
+  tight = λ m each. omega arith;
+  held = λ n there. absurd (cc there);
+  from = omega arith;
+  reached = λ n from less. absurd (omega arith);
+  missing = λ there. cc;
+}
 
 pub checked_more : (pages : List Page) (page : Page) (home len next least new : ℕ) → Checked pages home len next least → least ≤ page.number → 512 * page.number < len
     → ((page.number ≡ next) × (new ≡ next + 1)) ⊎ ((page.number ≢ next) × (new ≡ next)) → Checked (pages ++ page ∷ []) home len new (page.number + 1)
@@ -88,12 +99,6 @@ checked_more pages page home len next least new checked above inside step = reco
     here : (n : ℕ) → page.number ≡ n → HoldsPage (pages ++ page ∷ []) n
     here n is = subst (λ (p : Option (List ℕ)). IsTrue (is_some p)) (sym (joined n)) (or_right (page_at pages n) (page_at (page ∷ []) n) (ap (λ (p : Option (List ℕ)). is_some p) (at_head page [] n is)))
 
--- one more of the pages of a log
-pub checked_next : (pages : List Page) (k : ℕ) (d : Page) (home len next least new : ℕ) → k < length pages → Checked (take k pages) home len next least → least ≤ (get_or pages k d).number → 512 * (get_or pages k d).number < len
-    → (((get_or pages k d).number ≡ next) × (new ≡ next + 1)) ⊎ (((get_or pages k d).number ≢ next) × (new ≡ next)) → Checked (take (k + 1) pages) home len new ((get_or pages k d).number + 1)
-checked_next pages k d home len next least new within checked above inside step =
-    subst (λ (ps : List Page). Checked ps home len new ((get_or pages k d).number + 1)) (sym (take_more pages k d within)) (checked_more (take k pages) (get_or pages k d) home len next least new checked above inside step)
-
 -- a number that is too low
 pub too_low : (pages : List Page) (k : ℕ) (d : Page) (home len next least : ℕ) → k < length pages → Checked (take k pages) home len next least → (get_or pages k d).number < least → Rises pages → ⊥
 too_low pages k d home len next least within checked low rises =
@@ -102,12 +107,6 @@ too_low pages k d home len next least within checked low rises =
     let same : (get_or (take k pages) j e).number ≡ (get_or pages j d).number = ap (λ (p : Page). p.number) (get_or-take k pages j e early ∙ get_or_default pages j e d (omega arith)) in
     let rest : (get_or pages j d).number < (get_or pages k d).number = rises.rising j k d early within in
     omega arith) in
-    omega arith
-
--- a page that begins at or past the length
-pub too_far : (pages : List Page) (k : ℕ) (d : Page) (home len : ℕ) → k < length pages → len ≤ 512 * (get_or pages k d).number → Rises pages → Covers pages home len → ⊥
-too_far pages k d home len within far rises covers =
-    let e : 512 * (get_or pages k d).number < len = covers.inside (get_or pages k d).number (held_at pages k d rises within) in
     omega arith
 
 -- a page that is missing
@@ -123,6 +122,3 @@ covers_all pages home len next least checked longer whole = record {
   inside = λ n held. (checked.held n held).1;
   there = λ n grows past begins. let e = whole grows in checked.reached n (omega arith) (omega arith);
 }
-
-pub checked_all : (pages : List Page) (k home len next least : ℕ) → length pages ≤ k → Checked (take k pages) home len next least → Checked pages home len next least
-checked_all pages k home len next least past checked = subst (λ (ps : List Page). Checked ps home len next least) (take_all k pages past) checked

@@ -5,7 +5,7 @@ use Rattle.cfb_medium.specs.Stops.{LeavesOnly}
 use Rattle.staged.specs.Files.{Files}
 use Rattle.staged.specs.Device.{Torn}
 use Rattle.staged.specs.Pages.{Covers, laid_over}
-use Rattle.staged.specs.Log.{logged, recovered, ClosedLog, OpenLog, MalformedLog, has_open_gate, has_head, leads, length_in, pages_in}
+use Rattle.staged.specs.Log.{logged, recovered, ClosedLog, OpenLog, MalformedLog, has_open_gate, is_whole, leads, length_in, pages_in}
 use Rattle.staged.specs.Steps.{Steps, Lasts, AtGate, BehindGate, AtPage, GivesEither, GivesAlike}
 use Rattle.staged.specs.declared.device.Device.{Ghosts}
 use Rattle.staged.specs.declared.device.Which.TheVariants.{Home, Log}
@@ -17,7 +17,7 @@ use Rattle.staged.proofs.Steps.{same_files}
 
 -- a gate that is closed is no 01 before other bytes
 pub closed_gate : (files : Files) → logged files ≡ ClosedLog → has_open_gate files.log ≡ false
-closed_gate files closed = go (has_open_gate files.log) (has_head files.log && leads (pages_in files.log) (length files.home) (length_in files.log)) closed
+closed_gate files closed = go (has_open_gate files.log) (is_whole files.log && leads (pages_in files.log) (length files.home) (length_in files.log)) closed
   where
     go : (gate whole : Bool) → cond gate (cond whole (OpenLog (length_in files.log) (pages_in files.log)) MalformedLog) ClosedLog ≡ ClosedLog → gate ≡ false
     go false whole is = refl

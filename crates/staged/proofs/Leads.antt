@@ -3,10 +3,11 @@ use Rattle.std.proofs.Common.{inl, inr, ◌≡◌, ℕ, ◌+◌, ◌-◌, ◌*�
 use Rattle.std.specs.Prelude.{IsTrue}
 use Rattle.std.specs.List.{list_any, list_all}
 use Rattle.std.proofs.lemmas.Bool.{cases_lt, cases_eq, and_parts, and_from, ltb-true, lt-ltb, leb-true, le-leb, le-ltb, cond-true, cond-false, false_from_ne_true}
-use Rattle.staged.specs.Log.{rises, has_pages, fits_home, pages_for, leads, has_open_gate, has_head, length_in, count_in, pages_in, records, ClosedLog, MalformedLog, OpenLog, logged}
-use Rattle.staged.specs.Recovery.{IsHeadOf, IsWholeHead}
+use Rattle.staged.specs.Log.{rises, has_pages, fits_home, pages_for, leads, has_open_gate, has_head, is_whole, is_counted, has_runs, length_in, count_in, pages_in, pages_of_runs, ClosedLog, MalformedLog, OpenLog, logged}
+use Rattle.staged.specs.Walk.{IsWholeHead, FindsOpen}
 use Rattle.staged.specs.Files.{Files}
-use Rattle.staged.specs.declared.recovery.Head.{Head}
+use Rattle.staged.specs.declared.recovery.Opened.{Opened}
+use Rattle.staged.specs.declared.walk.Head.{Head}
 use Rattle.staged.specs.Pages.{page_at, HoldsPage, Rises, Covers}
 use Rattle.staged.specs.declared.pages.Page.{Page}
 use Rattle.staged.proofs.Found.{at_head, at_tail}
@@ -120,22 +121,58 @@ leads_from pages home len rising covers = and_from (rises pages) (fits_home home
 pub leads_refuted : (pages : List Page) (home len : ℕ) → (Rises pages → Covers pages home len → ⊥) → leads pages home len ≡ false
 leads_refuted pages home len never = false_from_ne_true (leads pages home len) (λ is. let both = leads_true pages home len is in never both.0 both.1)
 
--- an open gate before a whole head and pages that lead to its length
-pub open_head : (files : Files) (head : Head) → has_open_gate files.log ≡ true → IsWholeHead files.log head → leads (records head.count (drop 25 files.log)) (length files.home) head.len ≡ true → IsHeadOf files (Some head)
-open_head files head gate whole fits =
+-- the runs and pages that were read by a head are those of the log
+pub pages_same : (log : List ℕ) (head : Head) → IsWholeHead log head → pages_of_runs head.counted head.count (drop 25 log) ≡ pages_in log
+pages_same log head is = ap (λ (b : Bool). pages_of_runs b head.count (drop 25 log)) is.counted ∙ ap (λ (n : ℕ). pages_of_runs (is_counted log) n (drop 25 log)) is.count
+
+pub runs_same : (log : List ℕ) (head : Head) → IsWholeHead log head → has_runs head.counted head.count (drop 25 log) ≡ has_runs (is_counted log) (count_in log) (drop 25 log)
+runs_same log head is = ap (λ (b : Bool). has_runs b head.count (drop 25 log)) is.counted ∙ ap (λ (n : ℕ). has_runs (is_counted log) n (drop 25 log)) is.count
+
+-- an open gate before a whole head, whole runs, and pages that lead to its length
+pub open_head : (files : Files) (opened : Opened) → has_open_gate files.log ≡ true → IsWholeHead files.log opened.head → has_runs opened.head.counted opened.head.count (drop 25 files.log) ≡ true
+    → leads (pages_of_runs opened.head.counted opened.head.count (drop 25 files.log)) (length files.home) opened.head.len ≡ true
+    → opened.pages ≡ length (pages_of_runs opened.head.counted opened.head.count (drop 25 files.log)) → FindsOpen files (Some opened)
+open_head files opened gate is runs fits count =
     let log = files.log in
-    let pages = records head.count (drop 25 log) in
-    let same : pages ≡ pages_in log = ap (λ (n : ℕ). records n (drop 25 log)) whole.count in
-    let enough : 25 + 520 * count_in log ≤ length log = leb-true (25 + 520 * count_in log) (length log) (and_parts _ (nat_le (25 + 520 * count_in log) (length log)) whole.whole).1 in
-    let fit : leads (pages_in log) (length files.home) (length_in log) ≡ true = ap (λ (ps : List Page). leads ps (length files.home) (length_in log)) (sym same) ∙ ap (λ (n : ℕ). leads pages (length files.home) n) (sym whole.len) ∙ fits in
-    let both = leads_true pages (length files.home) head.len fits in
-    let opened : logged files ≡ OpenLog (length_in log) (pages_in log) =
-    cond-true (has_open_gate log) (cond (has_head log && leads (pages_in log) (length files.home) (length_in log)) (OpenLog (length_in log) (pages_in log)) MalformedLog) ClosedLog gate
-    ∙ cond-true (has_head log && leads (pages_in log) (length files.home) (length_in log)) (OpenLog (length_in log) (pages_in log)) MalformedLog (and_from (has_head log) _ whole.whole fit) in (
-      opened ∙ ap (λ (n : ℕ). OpenLog n (pages_in log)) (sym whole.len) ∙ ap (λ (ps : List Page). OpenLog head.len ps) (sym same),
+    let head = opened.head in
+    let same : pages_of_runs head.counted head.count (drop 25 log) ≡ pages_in log = pages_same log head is in
+    let whole : has_runs (is_counted log) (count_in log) (drop 25 log) ≡ true = sym (runs_same log head is) ∙ runs in
+    let here : leads (pages_in log) (length files.home) head.len ≡ true = ap (λ (ps : List Page). leads ps (length files.home) head.len) (sym same) ∙ fits in
+    let fit : leads (pages_in log) (length files.home) (length_in log) ≡ true = ap (λ (n : ℕ). leads (pages_in log) (length files.home) n) (sym is.len) ∙ here in
+    let both = leads_true (pages_in log) (length files.home) head.len here in
+    let all : is_whole log ≡ true = and_from (has_head log) (has_runs (is_counted log) (count_in log) (drop 25 log)) is.whole whole in
+    let open_log : logged files ≡ OpenLog (length_in log) (pages_in log) =
+    cond-true (has_open_gate log) (cond (is_whole log && leads (pages_in log) (length files.home) (length_in log)) (OpenLog (length_in log) (pages_in log)) MalformedLog) ClosedLog gate
+    ∙ cond-true (is_whole log && leads (pages_in log) (length files.home) (length_in log)) (OpenLog (length_in log) (pages_in log)) MalformedLog (and_from (is_whole log) _ all fit) in (
+      open_log ∙ ap (λ (n : ℕ). OpenLog n (pages_in log)) (sym is.len),
       record {
-        enough = let e = whole.count in omega arith;
+        read = is;
+        whole = whole;
         rising = both.0;
         covers = both.1;
       },
+      count ∙ ap (λ (ps : List Page). length ps) same,
     )
+
+malformed : (files : Files) → has_open_gate files.log ≡ true → (is_whole files.log && leads (pages_in files.log) (length files.home) (length_in files.log)) ≡ false → logged files ≡ MalformedLog
+malformed files gate never =
+    let log = files.log in
+    cond-true (has_open_gate log) (cond (is_whole log && leads (pages_in log) (length files.home) (length_in log)) (OpenLog (length_in log) (pages_in log)) MalformedLog) ClosedLog gate
+    ∙ cond-false (is_whole log && leads (pages_in log) (length files.home) (length_in log)) (OpenLog (length_in log) (pages_in log)) MalformedLog never
+
+-- a head that isn't whole, and one behind which the runs aren't, or their pages don't lead to the length
+pub malformed_head : (files : Files) → has_open_gate files.log ≡ true → has_head files.log ≡ false → logged files ≡ MalformedLog
+malformed_head files gate headless =
+    let log = files.log in
+    malformed files gate (ap (λ (b : Bool). b && has_runs (is_counted log) (count_in log) (drop 25 log) && leads (pages_in log) (length files.home) (length_in log)) headless)
+
+pub malformed_runs : (files : Files) (head : Head) → has_open_gate files.log ≡ true → IsWholeHead files.log head
+    → (has_runs head.counted head.count (drop 25 files.log) && leads (pages_of_runs head.counted head.count (drop 25 files.log)) (length files.home) head.len) ≡ false → logged files ≡ MalformedLog
+malformed_runs files head gate is never =
+    let log = files.log in
+    malformed files gate
+    (ap (λ (b : Bool). b && has_runs (is_counted log) (count_in log) (drop 25 log) && leads (pages_in log) (length files.home) (length_in log)) is.whole
+    ∙ ap (λ (b : Bool). b && leads (pages_in log) (length files.home) (length_in log)) (sym (runs_same log head is))
+    ∙ ap (λ (ps : List Page). has_runs head.counted head.count (drop 25 log) && leads ps (length files.home) (length_in log)) (sym (pages_same log head is))
+    ∙ ap (λ (n : ℕ). has_runs head.counted head.count (drop 25 log) && leads (pages_of_runs head.counted head.count (drop 25 log)) (length files.home) n) (sym is.len)
+    ∙ never)

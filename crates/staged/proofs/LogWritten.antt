@@ -1,21 +1,20 @@
 -- A log as it is written, and that it opens once it is whole.
-use Rattle.std.proofs.Common.{inl, inr, ◌⊎◌, ◌≡◌, ℕ, suc, ◌+◌, ◌-◌, ◌*◌, ◌^◌, ◌<◌, ◌≤◌, max, nat_le, nat_lt, ◌&&◌, ◌==◌, true, cond, List, [], ◌∷◌, length, get_or, take, drop, refl, sym, ◌∙◌, ap, arith, length-append, length-take, length-drop}
+use Rattle.std.proofs.Common.{◌≡◌, ℕ, suc, ◌+◌, ◌-◌, ◌*◌, ◌^◌, ◌<◌, ◌≤◌, max, nat_le, nat_lt, ◌&&◌, ◌||◌, ◌==◌, Bool, true, cond, List, [], ◌∷◌, length, get_or, take, drop, refl, sym, ◌∙◌, ap, arith, length-take, length-drop}
 use Rattle.std.specs.Prelude.{nat_eq}
-use Rattle.std.specs.Int.{w64, to_le_bytes}
+use Rattle.std.specs.Int.{w32, w64, to_le_bytes}
 use Rattle.std.specs.List.{starts_with}
 use Rattle.std.specs.Cmp.Lexicographic.{pointwise}
-use Rattle.std.proofs.lemmas.Nat.{from_le_bytes-to_le_bytes_8}
-use Rattle.std.proofs.lemmas.Bool.{cases_lt, and_from, le-leb, lt-ltb, cond-true}
-use Rattle.std.proofs.lemmas.List.{same_lists, get_or-take, get_or-drop, get_or_default, take_all}
+use Rattle.std.proofs.lemmas.Nat.{from_le_bytes-to_le_bytes_4, from_le_bytes-to_le_bytes_8}
+use Rattle.std.proofs.lemmas.Bool.{and_from, le-leb, lt-ltb, cond-true}
+use Rattle.std.proofs.lemmas.List.{same_lists, get_or-take, get_or-drop, get_or_default, drop-take, take-take}
 use Rattle.cfb_medium.specs.Bytes.{overwritten}
 use Rattle.staged.specs.Pages.{Rises, Covers}
-use Rattle.staged.specs.Log.{number_of, magic, records, record_at, length_in, count_in, pages_in, has_open_gate, has_head, leads, logged, OpenLog, ClosedLog, MalformedLog}
+use Rattle.staged.specs.Log.{number_of, magic, first_magic, length_in, count_in, is_counted, pages_in, pages_of_runs, has_runs, run_count, has_open_gate, has_magic, has_head, is_whole, leads, logged, OpenLog, ClosedLog, MalformedLog}
 use Rattle.staged.specs.declared.pages.Page.{Page}
 use Rattle.staged.proofs.Homed.{overwritten_some}
-use Rattle.staged.proofs.Staging.{before, inside, long}
-use Rattle.staged.proofs.Records.{length-records, get_records}
+use Rattle.staged.proofs.Staging.{inside, long}
 use Rattle.staged.proofs.Leads.{leads_from}
-use Rattle.staged.specs.LogWritten.{head_bytes, record_bytes, IsWrittenLog}
+use Rattle.staged.specs.LogWritten.{head_bytes, IsWrittenLog}
 
 -- ---- numbers
 
@@ -26,6 +25,12 @@ eight a b c d e f g h = omega arith
 
 pub number_back : (n : ℕ) → n < 2 ^ 64 → number_of (to_le_bytes w64 n) ≡ n
 number_back n fits = eight _ _ _ _ _ _ _ _ ∙ from_le_bytes-to_le_bytes_8 n fits
+
+four : (a b c d : ℕ) → a + 256 * (b + 256 * (c + 256 * (d + 256 * 0))) ≡ a + b * 256 + c * 65536 + d * 16777216
+four a b c d = omega arith
+
+pub number_back_4 : (n : ℕ) → n < 2 ^ 32 → number_of (to_le_bytes w32 n) ≡ n
+number_back_4 n fits = four _ _ _ _ ∙ from_le_bytes-to_le_bytes_4 n fits
 
 -- ---- parts of a list
 
@@ -40,12 +45,7 @@ same_part xs ys a b n first second each =
 long_written : (old bytes : List ℕ) (at : ℕ) → 0 < length bytes → length (overwritten old at bytes) ≡ max (length old) (at + length bytes)
 long_written old bytes at some = ap length (overwritten_some old at bytes some) ∙ long old bytes at
 
--- a part before a write stays, and a part of what is written stands there
-part_kept : (old bytes : List ℕ) (at a n : ℕ) → 0 < length bytes → at ≤ length old → a + n ≤ at → take n (drop a (overwritten old at bytes)) ≡ take n (drop a old)
-part_kept old bytes at a n some fits early =
-    same_part (overwritten old at bytes) old a a n (omega (arith, fits, early, long_written old bytes at some)) (omega (arith, fits, early)) (λ i below.
-    ap (λ (l : List ℕ). get_or l (a + i) 0) (overwritten_some old at bytes some) ∙ before old bytes at (a + i) (omega (arith, below, early)) (omega (arith, below, early, fits)))
-
+-- a part of what is written stands there
 part_new : (old bytes : List ℕ) (at a n place : ℕ) → 0 < length bytes → a + n ≤ length bytes → place ≡ at + a → take n (drop place (overwritten old at bytes)) ≡ take n (drop a bytes)
 part_new old bytes at a n place some within is =
     same_part (overwritten old at bytes) bytes place a n (omega (arith, is, within, long_written old bytes at some)) within (λ i below.
@@ -57,82 +57,64 @@ part_new old bytes at a n place some within is =
 pub length-head_bytes : (len count : ℕ) → length (head_bytes len count) ≡ 24
 length-head_bytes len count = refl
 
-pub head_written : (log : List ℕ) (pages : List Page) (len : ℕ) → len < 2 ^ 64 → length pages < 2 ^ 64 → IsWrittenLog (overwritten log 1 (head_bytes len (length pages))) pages len 0
-head_written log pages len fits few =
-    let bytes = head_bytes len (length pages) in
-    let size : length bytes ≡ 24 = length-head_bytes len (length pages) in
+-- the log begins with a head
+pub record HasHead (log : List ℕ) (len runs : ℕ) : Type 0 where
+  pub long : 25 ≤ length log
+  pub begins : take 8 (drop 1 log) ≡ magic
+  pub names : length_in log ≡ len
+  pub count : count_in log ≡ runs
+
+pub head_written : (log : List ℕ) (len count : ℕ) → len < 2 ^ 64 → count < 2 ^ 64 → HasHead (overwritten log 1 (head_bytes len count)) len count
+head_written log len count fits few =
+    let bytes = head_bytes len count in
+    let size : length bytes ≡ 24 = length-head_bytes len count in
     let some : 0 < length bytes = omega (arith, size) in
     record {
       long = omega (arith, size, long_written log bytes 1 some);
       begins = part_new log bytes 1 0 8 1 some (omega (arith, size)) refl;
       names = ap number_of (part_new log bytes 1 8 8 9 some (omega (arith, size)) refl) ∙ number_back len fits;
-      count = ap number_of (part_new log bytes 1 16 8 17 some (omega (arith, size)) refl) ∙ number_back (length pages) few;
-      first = refl;
+      count = ap number_of (part_new log bytes 1 16 8 17 some (omega (arith, size)) refl) ∙ number_back count few;
     }
 
--- ---- the records
+-- a part of the head
+part_of : (log : List ℕ) (a n : ℕ) → a + n ≤ 25 → take n (drop a (take 25 log)) ≡ take n (drop a log)
+part_of log a n fits =
+    let m = 25 - a in
+    let sum : 25 ≡ a + m = omega arith in
+    ap (λ (k : ℕ). take n (drop a (take k log))) sum ∙ ap (λ (l : List ℕ). take n l) (drop-take a m log) ∙ take-take n m (drop a log) (omega arith)
 
-pub length-record_bytes : (page : Page) → length page.bytes ≡ 512 → length (record_bytes page) ≡ 520
-length-record_bytes page whole =
-    let e : length (to_le_bytes w64 page.number) ≡ 8 = refl in
-    omega (arith, e, whole, length-append (to_le_bytes w64 page.number) page.bytes)
-
-same_record : (m n : ℕ) (xs ys : List ℕ) → m ≡ n → xs ≡ ys → (let p : Page = record { number = m; bytes = xs } in p) ≡ (let p : Page = record { number = n; bytes = ys } in p)
-same_record m n xs ys number bytes = ap (λ (k : ℕ). let p : Page = record { number = k; bytes = xs } in p) number ∙ ap (λ (l : List ℕ). let p : Page = record { number = n; bytes = l } in p) bytes
-
-record_kept : (log bytes : List ℕ) (k i : ℕ) → 0 < length bytes → 25 + 520 * k ≤ length log → i < k → record_at (overwritten log (25 + 520 * k) bytes) i ≡ record_at log i
-record_kept log bytes k i some fits early =
-    same_record _ _ _ _ (ap number_of (part_kept log bytes (25 + 520 * k) (25 + 520 * i) 8 some fits (omega arith))) (part_kept log bytes (25 + 520 * k) (33 + 520 * i) 512 some fits (omega arith))
-
-record_new : (log : List ℕ) (page : Page) (k : ℕ) → page.number < 2 ^ 64 → length page.bytes ≡ 512 → record_at (overwritten log (25 + 520 * k) (record_bytes page)) k ≡ page
-record_new log page k fits whole =
-    let size : length (record_bytes page) ≡ 520 = length-record_bytes page whole in
-    let some : 0 < length (record_bytes page) = omega (arith, size) in
-    same_record _ _ _ _
-    (ap number_of (part_new log (record_bytes page) (25 + 520 * k) 0 8 (25 + 520 * k) some (omega (arith, size)) (omega arith)) ∙ number_back page.number fits)
-    (part_new log (record_bytes page) (25 + 520 * k) 8 512 (33 + 520 * k) some (omega (arith, size)) (omega arith) ∙ take_all 512 page.bytes (omega (arith, whole)))
-
-pub record_written : (log : List ℕ) (pages : List Page) (len k : ℕ) (d : Page) → k < length pages → (get_or pages k d).number < 2 ^ 64 → length (get_or pages k d).bytes ≡ 512
-    → IsWrittenLog log pages len k → IsWrittenLog (overwritten log (25 + 520 * k) (record_bytes (get_or pages k d))) pages len (k + 1)
-record_written log pages len k d within fits whole is =
-    let page = get_or pages k d in
-    let bytes = record_bytes page in
-    let size : length bytes ≡ 520 = length-record_bytes page whole in
-    let some : 0 < length bytes = omega (arith, size) in
-    let at = 25 + 520 * k in
-    let new = overwritten log at bytes in
+-- the head stays, and all is there
+pub whole_log : (log now : List ℕ) (pages : List Page) (len : ℕ) → HasHead log len (run_count pages) → take 25 now ≡ take 25 log → has_runs true (run_count pages) (drop 25 now) ≡ true → pages_of_runs true (run_count pages) (drop 25 now) ≡ pages → IsWrittenLog now pages len
+whole_log log now pages len head same runs written =
+    let part = λ (a n : ℕ) (fits : a + n ≤ 25). sym (part_of now a n fits) ∙ ap (λ (l : List ℕ). take n (drop a l)) same ∙ part_of log a n fits in
+    let size : length (take 25 now) ≡ length (take 25 log) = ap (λ (l : List ℕ). length l) same in
+    let long = head.long in
     record {
-      long = omega (arith, size, long_written log bytes at some);
-      begins = part_kept log bytes at 1 8 some is.long (omega arith) ∙ is.begins;
-      names = ap number_of (part_kept log bytes at 9 8 some is.long (omega arith)) ∙ is.names;
-      count = ap number_of (part_kept log bytes at 17 8 some is.long (omega arith)) ∙ is.count;
-      first = same_lists (records (k + 1) (drop 25 new)) (take (k + 1) pages) (omega (arith, within, length-records (k + 1) (drop 25 new), length-take (k + 1) pages)) (λ i e below.
-          let less : i < k + 1 = omega (arith, below, length-records (k + 1) (drop 25 new)) in
-          get_records new (k + 1) i e less ∙ each i e less (cases_lt i k) ∙ sym (get_or-take (k + 1) pages i e less));
+      long = omega (arith, size, length-take 25 now, length-take 25 log);
+      begins = part 1 8 (omega arith) ∙ head.begins;
+      names = ap number_of (part 9 8 (omega arith)) ∙ head.names;
+      count = ap number_of (part 17 8 (omega arith)) ∙ head.count;
+      whole = runs;
+      written = written;
     }
-  where
-    each : (i : ℕ) (e : Page) → i < k + 1 → (i < k) ⊎ (k ≤ i) → record_at (overwritten log (25 + 520 * k) (record_bytes (get_or pages k d))) i ≡ get_or pages i e
-    each i e less (inl early) =
-        record_kept log (record_bytes (get_or pages k d)) k i (omega (arith, length-record_bytes (get_or pages k d) whole)) is.long early
-        ∙ sym (get_records log k i e early) ∙ ap (λ (ps : List Page). get_or ps i e) is.first ∙ get_or-take k pages i e early
-    each i e less (inr late) =
-        let same : k ≡ i = omega (arith, less, late) in
-        ap (λ (j : ℕ). record_at (overwritten log (25 + 520 * k) (record_bytes (get_or pages k d))) j) (sym same)
-        ∙ record_new log (get_or pages k d) k fits whole ∙ get_or_default pages k d e within ∙ ap (λ (j : ℕ). get_or pages j e) same
 
 -- ---- the whole log under an open gate
 
-pub log_opens : (home log : List ℕ) (pages : List Page) (len : ℕ) → IsWrittenLog log pages len (length pages) → Rises pages → Covers pages (length home) len → logged (record { home = home; log = 1 ∷ drop 1 log }) ≡ OpenLog len pages
-log_opens home [] pages len is rising covers = let e : 25 + 520 * length pages ≤ 0 = is.long in absurd (omega arith)
+pub log_opens : (home log : List ℕ) (pages : List Page) (len : ℕ) → IsWrittenLog log pages len → Rises pages → Covers pages (length home) len → logged (record { home = home; log = 1 ∷ drop 1 log }) ≡ OpenLog len pages
+log_opens home [] pages len is rising covers = let e : 25 ≤ 0 = is.long in absurd (omega arith)
 log_opens home (x ∷ xs) pages len is rising covers =
     let log : List ℕ = 1 ∷ xs in
-    let there : pages_in log ≡ pages = ap (λ (n : ℕ). records n (drop 24 xs)) is.count ∙ is.first ∙ take_all (length pages) pages (omega arith) in
-    let long : 25 + 520 * length pages ≤ suc (length xs) = is.long in
-    let count : count_in log ≡ length pages = is.count in
+    let counted : is_counted log ≡ true = ap (λ (l : List ℕ). pointwise nat_eq magic l) is.begins in
+    let count : count_in log ≡ run_count pages = is.count in
+    let there : pages_in log ≡ pages = ap (λ (b : Bool). pages_of_runs b (count_in log) (drop 25 log)) counted ∙ ap (λ (n : ℕ). pages_of_runs true n (drop 25 log)) count ∙ is.written in
+    let runs : has_runs (is_counted log) (count_in log) (drop 25 log) ≡ true = ap (λ (b : Bool). has_runs b (count_in log) (drop 25 log)) counted ∙ ap (λ (n : ℕ). has_runs true n (drop 25 log)) count ∙ is.whole in
+    let long : 25 ≤ suc (length xs) = is.long in
     let gate : has_open_gate log ≡ true = and_from (get_or log 0 0 == 1) (nat_lt 1 (length log)) refl (lt-ltb 1 (length log) (omega (arith, long))) in
-    let head : has_head log ≡ true = and_from (starts_with nat_eq (drop 1 log) magic) (nat_le (25 + 520 * count_in log) (length log)) (ap (λ (l : List ℕ). pointwise nat_eq magic l) is.begins) (le-leb (25 + 520 * count_in log) (length log) (omega (arith, long, count))) in
+    let magic_is : has_magic log ≡ true = ap (λ (b : Bool). b || starts_with nat_eq (drop 1 log) first_magic) counted in
+    let head : has_head log ≡ true = and_from (has_magic log) (nat_le 25 (length log)) magic_is (le-leb 25 (length log) (omega (arith, long))) in
+    let all : is_whole log ≡ true = and_from (has_head log) (has_runs (is_counted log) (count_in log) (drop 25 log)) head runs in
     let fit : leads (pages_in log) (length home) (length_in log) ≡ true =
     ap (λ (ps : List Page). leads ps (length home) (length_in log)) there ∙ ap (λ (n : ℕ). leads pages (length home) n) is.names ∙ leads_from pages (length home) len rising covers in
-    cond-true (has_open_gate log) (cond (has_head log && leads (pages_in log) (length home) (length_in log)) (OpenLog (length_in log) (pages_in log)) MalformedLog) ClosedLog gate
-    ∙ cond-true (has_head log && leads (pages_in log) (length home) (length_in log)) (OpenLog (length_in log) (pages_in log)) MalformedLog (and_from (has_head log) _ head fit)
+    cond-true (has_open_gate log) (cond (is_whole log && leads (pages_in log) (length home) (length_in log)) (OpenLog (length_in log) (pages_in log)) MalformedLog) ClosedLog gate
+    ∙ cond-true (is_whole log && leads (pages_in log) (length home) (length_in log)) (OpenLog (length_in log) (pages_in log)) MalformedLog (and_from (is_whole log) _ all fit)
     ∙ ap (λ (n : ℕ). OpenLog n (pages_in log)) is.names ∙ ap (λ (ps : List Page). OpenLog len ps) there

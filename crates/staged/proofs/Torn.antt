@@ -4,7 +4,7 @@ use Rattle.std.specs.Prelude.{IsTrue}
 use Rattle.std.proofs.lemmas.Bool.{cases_lt, cases_eq, and_parts, and_from, cond-true, cond-false}
 use Rattle.std.proofs.lemmas.List.{same_lists, get_or-take, get_or-drop}
 use Rattle.staged.specs.Pages.{page_at, HoldsPage, Covers, byte_in, laid_over}
-use Rattle.staged.specs.Log.{logged, recovered, recovered_by, OpenLog, ClosedLog, MalformedLog, has_open_gate, has_head, leads, length_in, pages_in}
+use Rattle.staged.specs.Log.{logged, recovered, recovered_by, OpenLog, ClosedLog, MalformedLog, has_open_gate, is_whole, leads, length_in, pages_in}
 use Rattle.staged.specs.Files.{Files}
 use Rattle.staged.specs.Device.{Torn}
 use Rattle.staged.specs.declared.pages.Page.{Page}
@@ -75,8 +75,8 @@ torn_more file pages len n before left held begins torn so_far = record {
 
 -- what an open log is made of
 opened_parts : (files : Files) (len : ℕ) (pages : List Page) → logged files ≡ OpenLog len pages
-    → (has_open_gate files.log ≡ true) × ((has_head files.log && leads (pages_in files.log) (length files.home) (length_in files.log)) ≡ true) × (length_in files.log ≡ len) × (pages_in files.log ≡ pages)
-opened_parts files len pages is = go (has_open_gate files.log) (has_head files.log && leads (pages_in files.log) (length files.home) (length_in files.log)) is
+    → (has_open_gate files.log ≡ true) × ((is_whole files.log && leads (pages_in files.log) (length files.home) (length_in files.log)) ≡ true) × (length_in files.log ≡ len) × (pages_in files.log ≡ pages)
+opened_parts files len pages is = go (has_open_gate files.log) (is_whole files.log && leads (pages_in files.log) (length files.home) (length_in files.log)) is
   where
     go : (g h : Bool) → cond g (cond h (OpenLog (length_in files.log) (pages_in files.log)) MalformedLog) ClosedLog ≡ OpenLog len pages → (g ≡ true) × (h ≡ true) × (length_in files.log ≡ len) × (pages_in files.log ≡ pages)
     go true true is = (refl, refl, cc, cc)
@@ -87,12 +87,12 @@ opened_parts files len pages is = go (has_open_gate files.log) (has_head files.l
 pub torn_open : (file log : List ℕ) (pages : List Page) (len : ℕ) (now : List ℕ) → logged (record { home = file; log = log }) ≡ OpenLog len pages → TornPages file pages len now → logged (record { home = now; log = log }) ≡ OpenLog len pages
 torn_open file log pages len now is torn =
     let parts = opened_parts (record { home = file; log = log }) len pages is in
-    let both = and_parts (has_head log) (leads (pages_in log) (length file) (length_in log)) parts.1 in
+    let both = and_parts (is_whole log) (leads (pages_in log) (length file) (length_in log)) parts.1 in
     let fit = leads_true (pages_in log) (length file) (length_in log) both.1 in
     let over : TornPages file (pages_in log) (length_in log) now = subst (λ (ps : List Page). TornPages file ps (length_in log) now) (sym parts.3) (subst (λ (n : ℕ). TornPages file pages n now) (sym parts.2) torn) in
     let still : leads (pages_in log) (length now) (length_in log) ≡ true = leads_from (pages_in log) (length now) (length_in log) fit.0 (torn_covers file (pages_in log) (length_in log) now fit.1 over) in
-    cond-true (has_open_gate log) (cond (has_head log && leads (pages_in log) (length now) (length_in log)) (OpenLog (length_in log) (pages_in log)) MalformedLog) ClosedLog parts.0
-    ∙ cond-true (has_head log && leads (pages_in log) (length now) (length_in log)) (OpenLog (length_in log) (pages_in log)) MalformedLog (and_from (has_head log) _ both.0 still)
+    cond-true (has_open_gate log) (cond (is_whole log && leads (pages_in log) (length now) (length_in log)) (OpenLog (length_in log) (pages_in log)) MalformedLog) ClosedLog parts.0
+    ∙ cond-true (is_whole log && leads (pages_in log) (length now) (length_in log)) (OpenLog (length_in log) (pages_in log)) MalformedLog (and_from (is_whole log) _ both.0 still)
     ∙ ap (λ (n : ℕ). OpenLog n (pages_in log)) parts.2 ∙ ap (λ (ps : List Page). OpenLog len ps) parts.3
 
 -- the widest lemma: an open gate before a whole log gives the new bytes over any torn home file
@@ -100,7 +100,7 @@ pub torn_recovers : (file log : List ℕ) (pages : List Page) (len : ℕ) (now :
     → recovered (record { home = now; log = log }) ≡ Some (laid_over file pages len)
 torn_recovers file log pages len now is torn =
     let parts = opened_parts (record { home = file; log = log }) len pages is in
-    let fit = leads_true (pages_in log) (length file) (length_in log) (and_parts (has_head log) (leads (pages_in log) (length file) (length_in log)) parts.1).1 in
+    let fit = leads_true (pages_in log) (length file) (length_in log) (and_parts (is_whole log) (leads (pages_in log) (length file) (length_in log)) parts.1).1 in
     let covers : Covers pages (length file) len = subst (λ (ps : List Page). Covers ps (length file) len) parts.3 (subst (λ (n : ℕ). Covers (pages_in log) (length file) n) parts.2 fit.1) in
     ap (recovered_by (record { home = now; log = log })) (torn_open file log pages len now is torn) ∙ ap (λ (l : List ℕ). Some l) (torn_laid file pages len now covers torn)
 
@@ -115,7 +115,7 @@ whole_torn file pages len covers = record {
 -- ---- gates
 
 pub shut : (files : Files) → has_open_gate files.log ≡ false → recovered files ≡ Some files.home
-shut files is = ap (recovered_by files) (cond-false (has_open_gate files.log) (cond (has_head files.log && leads (pages_in files.log) (length files.home) (length_in files.log)) (OpenLog (length_in files.log) (pages_in files.log)) MalformedLog) ClosedLog is)
+shut files is = ap (recovered_by files) (cond-false (has_open_gate files.log) (cond (is_whole files.log && leads (pages_in files.log) (length files.home) (length_in files.log)) (OpenLog (length_in files.log) (pages_in files.log)) MalformedLog) ClosedLog is)
 
 -- at most one byte, whatever a cut first gate left
 pub short_gate : (log : List ℕ) → length log ≤ 1 → has_open_gate log ≡ false

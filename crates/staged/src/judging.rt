@@ -3,11 +3,11 @@ ghost use Rattle.std.specs.Prelude.{◌≡◌, false, List, ℕ, IsTrue, IfOk, I
 ghost use Rattle.cfb_medium.specs.Calls.{Extends, HasCauseSince, IsFaultUnless};
 ghost use Rattle.staged.specs.Log.{is_log, IsNotOpen};
 
-use crate::layout::{HEAD, MAGIC};
+use crate::layout::{FIRST_MAGIC, HEAD, MAGIC};
 use cfb_medium::{Error, ReadMedium};
 
-/// Whether a file may be a log: it has at most one byte, begins with 00, or has the magic of a head behind its first byte. No open log
-/// that a recovery applies is told to be none. It only reads, nine bytes at most.
+/// Whether a file may be a log: it has at most one byte, begins with 00, or has the magic of one of the two forms behind its first
+/// byte. No open log that a recovery applies is told to be none. It only reads, nine bytes at most.
 pub fn is_log<F: ReadMedium>(file: &mut F) -> Result<bool, Error>
     ensures told { IsTrue (F.honest file.old) → IfOk result (λ is. is ≡ is_log (F.bytes file.old)) }
     ensures not_open { IsTrue (F.honest file.old)
@@ -29,5 +29,8 @@ pub fn is_log<F: ReadMedium>(file: &mut F) -> Result<bool, Error>
     }
     let mut magic = [0u8; 8];
     file.read_at(HEAD, &mut magic)?;
+    if magic == *FIRST_MAGIC {
+        return Ok(true);
+    }
     Ok(magic == *MAGIC)
 }

@@ -22,6 +22,8 @@ pub fn print(rt: &HostRuntime) -> Result<()> {
     print_case(rt, "a_log_of_one_byte_gets_a_closed_gate_first", case)?;
     let case = a_longer_log_is_written_over(alloc);
     print_case(rt, "a_longer_log_is_written_over", case)?;
+    let case = neighbouring_pages_are_one_write_to_the_log(alloc);
+    print_case(rt, "neighbouring_pages_are_one_write_to_the_log", case)?;
     let case = a_recovered_device_is_read_and_changed(alloc);
     print_case(rt, "a_recovered_device_is_read_and_changed", case)?;
     let case = an_end_past_the_last_place_is_refused(alloc);
@@ -83,7 +85,7 @@ fn has_one_page(device: &FailingDevice) -> Result<()> {
     let is_home = home_of(device.inner()) == [1, 0, 0, 0, 0, 2].as_slice();
     wants(is_home, "the bytes that were written")?;
     wants(log_of(device.inner()).starts_with(&[0]), "a closed gate")?;
-    same(&len_and_writes(device, Which::Log), &(545, 5))?;
+    same(&len_and_writes(device, Which::Log), &(549, 5))?;
     same(&len_and_writes(device, Which::Home), &(6, 1))?;
     same(&device.failures(), &0)
 }
@@ -129,13 +131,34 @@ fn is_unwritten(device: &FailingDevice) -> Result<()> {
 
 fn a_log_of_one_byte_gets_a_closed_gate_first(alloc: Global) -> Result<()> {
     let device = committed(written(alloc, &[1], &[(0, 1), (600, 2)])?, 2)?;
-    same(&device.writes(Which::Log), &6)?;
+    same(&device.writes(Which::Log), &5)?;
     same(&len_and_writes(&device, Which::Home), &(601, 2))
 }
 
 fn a_longer_log_is_written_over(alloc: Global) -> Result<()> {
     let device = committed(written(alloc, &[0; 600], &[(0, 1)])?, 1)?;
     same(&len_and_writes(&device, Which::Log), &(600, 4))
+}
+
+// A medium over a home file of six pages and a log of two bytes, of which three pages and one behind them were written.
+fn two_runs(alloc: Global) -> Result<Staged<FailingDevice>, Error> {
+    let device = device(alloc, &[0; 3072], &[0, 0])?;
+    let mut staged = made(open_failing(alloc, Failing::new(device, u64::MAX)))?;
+    match write_two_runs(&mut staged) {
+        Ok(()) => Ok(staged),
+        Err(error) => Err(error),
+    }
+}
+
+fn write_two_runs(staged: &mut Staged<FailingDevice>) -> Result<(), Error> {
+    write(staged, 0, &[1; 1536])?;
+    write(staged, 2560, &[2])
+}
+
+fn neighbouring_pages_are_one_write_to_the_log(alloc: Global) -> Result<()> {
+    let device = committed(two_runs(alloc)?, 4)?;
+    same(&len_and_writes(&device, Which::Log), &(2097, 5))?;
+    same(&len_and_writes(&device, Which::Home), &(3072, 4))
 }
 
 // A medium over the home file that an open log of two pages gives.

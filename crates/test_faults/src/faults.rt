@@ -3,7 +3,7 @@ use anyhow::Result;
 use cfb_medium::Error;
 use fault_support::{
     changed_pages, commit, device, flush, has_failed, home_of, into_device, len, log_of, made,
-    open_failing, open_log, print_case, read, recover, same, wants, write,
+    open_failing, open_log, open_runs, print_case, read, recover, same, wants, write,
 };
 use staged::{Recovered, Staged};
 use std::alloc::Global;
@@ -21,8 +21,14 @@ pub fn print(rt: &HostRuntime) -> Result<()> {
     print_case(rt, "a_commit_of_two_pages_with_each_call_failing", case)?;
     let case = with_each_call_failing(alloc, &Run::ApplyLog);
     print_case(rt, "a_recovery_with_each_call_failing", case)?;
+    let case = with_each_call_failing(alloc, &Run::ApplyRuns);
+    print_case(rt, "a_recovery_of_runs_with_each_call_failing", case)?;
     let case = with_each_call_failing(alloc, &Run::RefuseLog);
-    print_case(rt, "a_refused_recovery_with_each_call_failing", case)
+    print_case(rt, "a_refused_recovery_with_each_call_failing", case)?;
+    let case = first_form_cut_at_each_length(alloc);
+    print_case(rt, "a_log_of_the_first_form_cut_at_each_length", case)?;
+    let case = second_form_cut_at_each_length(alloc);
+    print_case(rt, "a_log_of_the_second_form_cut_at_each_length", case)
 }
 
 // What is run over a device whose calls fail in turn.
@@ -31,6 +37,7 @@ enum Run {
     CommitOnePage,
     CommitTwoPages,
     ApplyLog,
+    ApplyRuns,
     RefuseLog,
 }
 
@@ -218,18 +225,23 @@ fn commit_two_pages(alloc: Global, failing: u64) -> Result<u64> {
 fn apply_a_log(alloc: Global, failing: u64) -> Result<u64> {
     let log = open_log(alloc, 520, &[(0, 1), (1, 2)])?;
     let mut device = failing_device(alloc, &[7; 20], log.as_slice(), failing)?;
-    applies(&mut device)?;
+    applies(&mut device, b"\0MSISTG01")?;
+    Ok(device.failures())
+}
+
+// The same of two runs that are neighbours.
+fn apply_runs(alloc: Global, failing: u64) -> Result<u64> {
+    let log = open_runs(alloc, 520, &[(0, 1, 1), (1, 1, 2)])?;
+    let mut device = failing_device(alloc, &[7; 20], log.as_slice(), failing)?;
+    applies(&mut device, b"\0MSISTG02")?;
     Ok(device.failures())
 }
 
 // Recovers both pages, and closes the log.
-fn applies(device: &mut FailingDevice) -> Result<()> {
+fn applies(device: &mut FailingDevice, closed: &[u8]) -> Result<()> {
     recovers(device)?;
     wants(has_both_pages(home_of(device.inner())), "both pages")?;
-    wants(
-        log_of(device.inner()).starts_with(b"\0MSISTG01"),
-        "a closed log",
-    )
+    wants(log_of(device.inner()).starts_with(closed), "a closed log")
 }
 
 // Whether it is a page of 1 and eight bytes of 2.
@@ -255,6 +267,34 @@ fn refuse_a_log(alloc: Global, failing: u64) -> Result<u64> {
     Ok(device.failures())
 }
 
+// A log that was cut is closed or malformed, and both files stay.
+fn cut_is_left(alloc: Global, log: &[u8]) -> Result<()> {
+    let mut device = failing_device(alloc, &[7], log, u64::MAX)?;
+    let answer = recover(&mut device);
+    wants(
+        answer == Ok(Recovered::Closed) || answer == Err(Error::InvalidData),
+        "a closed log or a malformed one",
+    )?;
+    is_as_it_was(&device, log)
+}
+
+fn each_cut_is_left(alloc: Global, log: &[u8]) -> Result<()> {
+    for len in 0..log.len() {
+        cut_is_left(alloc, &log[..len])?;
+    }
+    Ok(())
+}
+
+fn first_form_cut_at_each_length(alloc: Global) -> Result<()> {
+    let log = open_log(alloc, 520, &[(0, 1), (1, 2)])?;
+    each_cut_is_left(alloc, &log)
+}
+
+fn second_form_cut_at_each_length(alloc: Global) -> Result<()> {
+    let log = open_runs(alloc, 520, &[(0, 2, 1)])?;
+    each_cut_is_left(alloc, &log)
+}
+
 // Both files are as they were.
 fn is_as_it_was(device: &FailingDevice, log: &[u8]) -> Result<()> {
     wants(
@@ -270,6 +310,7 @@ fn failures_in(alloc: Global, run: &Run, failing: u64) -> Result<u64> {
         Run::CommitOnePage => commit_one_page(alloc, failing),
         Run::CommitTwoPages => commit_two_pages(alloc, failing),
         Run::ApplyLog => apply_a_log(alloc, failing),
+        Run::ApplyRuns => apply_runs(alloc, failing),
         Run::RefuseLog => refuse_a_log(alloc, failing),
     }
 }

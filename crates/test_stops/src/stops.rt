@@ -179,22 +179,22 @@ fn commit_with_stops(alloc: Global, files: &Pair, at: u64, bytes: &[u8]) -> Resu
 
 fn a_first_commit_of_one_page(alloc: Global) -> Result<()> {
     let files = Pair::new(alloc, &[], &[])?;
-    same(&commit_with_stops(alloc, &files, 5, &[2])?, &250)
+    same(&commit_with_stops(alloc, &files, 5, &[2])?, &258)
 }
 
 fn a_commit_behind_a_log_of_one_byte(alloc: Global) -> Result<()> {
     let files = Pair::new(alloc, &[7; 512], &[1])?;
-    same(&commit_with_stops(alloc, &files, 511, &[8, 8])?, &387)
+    same(&commit_with_stops(alloc, &files, 511, &[8, 8])?, &369)
 }
 
 fn a_commit_of_three_pages_to_a_last_page_that_is_cut(alloc: Global) -> Result<()> {
     let files = Pair::new(alloc, &[7; 1100], &[0; 600])?;
-    same(&commit_with_stops(alloc, &files, 500, &[8; 560])?, &626)
+    same(&commit_with_stops(alloc, &files, 500, &[8; 560])?, &557)
 }
 
 fn a_commit_of_four_pages_to_a_home_file_that_grows(alloc: Global) -> Result<()> {
     let files = Pair::new(alloc, &[7; 600], &[0])?;
-    same(&commit_with_stops(alloc, &files, 300, &[8; 1500])?, &1097)
+    same(&commit_with_stops(alloc, &files, 300, &[8; 1500])?, &966)
 }
 
 // What the first commit writes.
@@ -233,7 +233,7 @@ fn is_dropped(device: &mut MemoryDevice) -> Result<()> {
 
 // A device behind the gate of a first commit, whose home file is torn.
 fn torn_device(alloc: Global) -> Result<MemoryDevice, Error> {
-    let run = first_commit(alloc, 6, 545)?;
+    let run = first_commit(alloc, 6, 549)?;
     cut_at(&run.device, &[0xFF, 0xFF], log_of(&run.device))
 }
 
@@ -266,7 +266,7 @@ fn is_log_dropped(alloc: Global, log: &[u8]) -> Result<()> {
 }
 
 fn torn_records_behind_a_closed_gate_are_dropped(alloc: Global) -> Result<()> {
-    let mut log = [0xFF; 545];
+    let mut log = [0xFF; 549];
     log[0] = 0;
     is_log_dropped(alloc, &log)
 }
