@@ -30,7 +30,7 @@ use cfb_tree::{CaseMapper, DirEntry, ObjType, validate_name};
 impl<F: Medium> Directory<F> {
     // Makes a link lead to an entry, in the file and in memory; the entry that has the link becomes black. `InvalidData` where
     // there is no such entry, or its place isn't in the file.
-    fn write_link(&mut self, link: Link, target: u32) -> Result<(), Error>
+    pub(crate) fn write_link(&mut self, link: Link, target: u32) -> Result<(), Error>
         ensures set { OnOk result ((e : Entry)
             × (slice_get (entries_held self.old) (holder link) ≡ Some e)
             × SetsEntry (holder link) (linked_to link target e) self.old self.new) }
@@ -140,7 +140,14 @@ impl<F: Medium> Directory<F> {
         if let Err(error) = validate_name(name) {
             return Err(error);
         }
-        self.add_child(link, DirEntry::new(name, obj_type, moment))
+        let id = match self.add_child(link, DirEntry::new(name, obj_type, moment)) {
+            Ok(id) => id,
+            Err(error) => return Err(error),
+        };
+        if let Err(error) = self.rise(letters, parent, name, link, id) {
+            return Err(error);
+        }
+        Ok(id)
     }
 
     // Sets a link where one is to be set.
@@ -217,15 +224,20 @@ impl<F: Medium> Directory<F> {
         if self.allocator.is_failed() {
             return Err(Error::Failed);
         }
-        let Some(removal) = plan_removal(&self.entries.items, link, id) else {
-            return Err(Error::InvalidData);
-        };
         if id as usize >= self.entries.items.len() {
             return Err(Error::InvalidData);
         }
         if let Err(error) = self.entries.note(id) {
             return Err(error);
         }
+        let link = match self.sink(link, id) {
+            Ok(link) => link,
+            Err(error) => return Err(error),
+        };
+        let Some(removal) = plan_removal(&self.entries.items, link, id) else {
+            self.allocator.fail();
+            return Err(Error::InvalidData);
+        };
         self.take_out(removal, id)
     }
 
