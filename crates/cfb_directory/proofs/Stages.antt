@@ -13,9 +13,9 @@ use Rattle.cfb_fat.specs.Tables.{bytes_of, tables_of, version_of}
 use Rattle.cfb_owned.specs.Chains.{GoesOn}
 use Rattle.cfb_owned.proofs.Owning.{none_behind_all}
 use Rattle.cfb_tree.specs.Directory.{Entry}
-use Rattle.cfb_directory.specs.Changes.{HasDirectory, SetsEntry}
+use Rattle.cfb_directory.specs.Changes.{SetsEntry}
 use Rattle.cfb_directory.specs.Growth.{count_words, GrowsDirectory, IsCounted}
-use Rattle.cfb_directory.specs.Turning.{SetsLinks}
+use Rattle.cfb_directory.specs.Turning.{WritesEntries}
 use Rattle.cfb_directory.specs.Views.{allocator_of, directory_ids}
 use Rattle.cfb_directory.specs.declared.directory.Directory.{Directory}
 
@@ -37,12 +37,6 @@ counted_still V3 S xs n a b h was = tt
 counted_still V4 S xs n a b h was = h.header 40 4 (omega arith) (inl (omega arith), tt) ∙ was
 
 module _ {F : Type 0} {g : Ghosts F} where
-  -- entries were written in their places
-  pub record WritesEntries (old new : Directory F g) : Type 0 where
-    pub ids : directory_ids new ≡ directory_ids old
-    pub becomes : HasDirectory old → Becomes (sector (version_of (allocator_of old))) [] (directory_ids old) [] (directory_ids old) (seen_of (allocator_of old)) (seen_of (allocator_of new))
-    pub has : HasDirectory old → HasDirectory new
-
   -- a directory that grew, and then entries that were written
   pub grows_more : (old mid new : Directory F g) → GoesOn (allocator_of old) (allocator_of mid) → GrowsDirectory old mid → WritesEntries mid new → GrowsDirectory old new
   unfolding seen_of
@@ -66,7 +60,3 @@ module _ {F : Type 0} {g : Ghosts F} where
   -- or one of them
   pub grows_then : (old mid new : Directory F g) (id : ℕ) (e : Entry) → GoesOn (allocator_of old) (allocator_of mid) → GrowsDirectory old mid → SetsEntry id e mid new → GrowsDirectory old new
   grows_then old mid new id e goes grown sets = grows_more old mid new goes grown (record { ids = sets.ids; becomes = sets.becomes; has = sets.has })
-
-  -- or links of them
-  pub grows_links : (old mid new : Directory F g) → GoesOn (allocator_of old) (allocator_of mid) → GrowsDirectory old mid → SetsLinks mid new → GrowsDirectory old new
-  grows_links old mid new goes grown sets = grows_more old mid new goes grown (record { ids = sets.ids; becomes = sets.becomes; has = sets.has })

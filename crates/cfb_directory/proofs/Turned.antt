@@ -1,12 +1,16 @@
 -- What entries hold after links of siblings were set.
-use Rattle.std.proofs.Common.{◌≡◌, ◌↔◌, ℕ, false, IsTrue, List, [], ◌∷◌, refl, sym, ◌∙◌, subst}
-use Rattle.std.specs.Prelude.{nat_eq, slice_get, slice_set, Some, Bool}
+use Rattle.std.proofs.Common.{◌≡◌, ◌↔◌, ℕ, true, false, inl, inr, ⊎_elim, IsTrue, List, [], ◌∷◌, refl, sym, ◌∙◌, subst}
+use Rattle.std.specs.Prelude.{Err, Ok, OnErr, OnOk, Result, nat_eq, slice_get, slice_set, Some, Bool}
 use Rattle.cfb_chains.specs.Owned.{Becomes}
+use Rattle.cfb_fat.specs.Calls.{FatAnswers}
 use Rattle.cfb_fat.specs.Seeing.{seen_of}
+use Rattle.cfb_fat.specs.declared.allocator.Allocator.{Allocator}
 use Rattle.cfb_fat.specs.Tables.{has_failed_here, version_of}
+use Rattle.cfb_medium.specs.declared.error.Error.{Error}
 use Rattle.cfb_medium.specs.declared.medium.ReadMedium.{Ghosts}
 use Rattle.cfb_medium.specs.declared.version.Version.{Version}
 use Rattle.cfb_owned.specs.Chains.{GoesOn}
+use Rattle.cfb_owned.proofs.GoingOn.{goes_cause}
 use Rattle.cfb_owned.proofs.WrittenParts.{becomes_same}
 use Rattle.cfb_sectors.specs.Sectors.{sector}
 use Rattle.cfb_siblings.specs.Changes.{AreColored, HoldsOneLess, HoldsOneMore, IsAlone, IsApart, TakesOut}
@@ -29,13 +33,15 @@ use Rattle.cfb_tree.specs.Names.{Letters}
 use Rattle.cfb_tree.specs.Objects.{name_of, Object}
 use Rattle.cfb_tree.specs.Paths.{Path}
 use Rattle.cfb_tree.specs.Tree.{Tree}
-use Rattle.cfb_directory.specs.Changes.{HasDirectory, SetsEntry}
+use Rattle.cfb_directory.specs.Changes.{HasDirectory, LiesBeside, SetsEntry}
 use Rattle.cfb_directory.specs.Children.{AddsAt, AddsChild, HasAt, HoldsChild, HoldsStorage, Removes, RemovesAt, RemovesChild}
 use Rattle.cfb_directory.specs.Entries.{SizesFit}
-use Rattle.cfb_directory.specs.Growth.{IsReady}
-use Rattle.cfb_directory.specs.Turning.{AreAs, HasTurning, HoldChild, HoldOn, SetsLinks}
-use Rattle.cfb_directory.specs.Views.{allocator_of, directory_ids, entries_held, numbers_noted}
+use Rattle.cfb_directory.specs.Growth.{GrowsDirectory, IsReady}
+use Rattle.cfb_directory.specs.Turning.{AreAs, HasTurning, HoldChild, HoldOn, SetsLinks, WritesEntries}
+use Rattle.cfb_directory.specs.Views.{allocator_of, directory_ids, entries_held, numbers_noted, IsDirectory}
 use Rattle.cfb_directory.specs.declared.directory.Directory.{Directory}
+use Rattle.cfb_directory.proofs.Growing.{grown_kept}
+use Rattle.cfb_directory.proofs.Setting.{failed_is}
 use Rattle.cfb_directory.proofs.Inserted.{Inserts, as_itself, at_then, length_relinked, relinked_at, relinked_sizes}
 use Rattle.cfb_directory.proofs.Stages.{becomes_again}
 
@@ -58,24 +64,24 @@ as_relinked link target es = record {
 }
 
 pub entry_as : (old new : List Entry) (k : ℕ) → AreAs old new → HasEntry old k → HasEntry new k
-entry_as old new k as (e, found) = let at = as.entries k e found in (at.0, at.1)
+entry_as old new k alike (e, found) = let at = alike.entries k e found in (at.0, at.1)
 
 -- a child more, and then siblings that are turned
 pub adds_still : (old mid new : List Entry) (e : Entry) (id : ℕ) → AddsAt old mid e id → AreAs mid new → AddsAt old new e id
-adds_still old mid new e id adds as = record {
-  entry = at_then mid new id e adds.entry (λ f at. as.entries id f at);
+adds_still old mid new e id adds alike = record {
+  entry = at_then mid new id e adds.entry (λ f at. alike.entries id f at);
   unused = adds.unused;
-  longer = λ k unused. as.len ∙ adds.longer k unused;
-  others = λ k x other found. at_then mid new k x (adds.others k x other found) (λ f at. as.entries k f at);
-  sizes = λ v small fits. as.sizes v (adds.sizes v small fits);
+  longer = λ k unused. alike.len ∙ adds.longer k unused;
+  others = λ k x other found. at_then mid new k x (adds.others k x other found) (λ f at. alike.entries k f at);
+  sizes = λ v small fits. alike.sizes v (adds.sizes v small fits);
 }
 
 -- siblings that are turned, and then a child less
 pub removes_still : (old mid new : List Entry) (id : ℕ) → AreAs old mid → RemovesAt mid new id → RemovesAt old new id
-removes_still old mid new id as removes = record {
+removes_still old mid new id alike removes = record {
   entry = removes.entry;
-  others = λ k x other found. at_then mid new k x (as.entries k x found) (λ f at. removes.others k f other at);
-  sizes = λ v fits. removes.sizes v (as.sizes v fits);
+  others = λ k x other found. at_then mid new k x (alike.entries k x found) (λ f at. removes.others k f other at);
+  sizes = λ v fits. removes.sizes v (alike.sizes v fits);
 }
 
 module _ (letters : Letters) (Reads : Entry → List ℕ → Type 0) (tree : Tree) (path : Path) (parent : ℕ) where
@@ -131,6 +137,7 @@ child_within letters reads old new tree ids path parent name now id still taken 
     record { within = record { holds = still.holds.holds; storage = still.storage }; taken = taken }
 
 pub child_then : (old mid new : List Entry) (link now then : Link) (id : ℕ) → HoldChild old mid link now id → HoldChild mid new now then id → HoldChild old new link then id
+unfolding child_within
 child_then old mid new link now then id first second letters reads tree path parent name h =
     let one = first letters reads tree path parent name h in
     let two = second letters reads tree path parent name (child_within letters reads old mid tree h.within.holds.ids path parent name now id one.0 one.1) in
@@ -195,6 +202,7 @@ pub removes_then : (old mid new : List Entry) (link now : Link) (id : ℕ) (remo
     → ((letters : Letters) (reads : ℕ → ℕ → List ℕ → Bool) (tree : Tree) (path : Path) (parent : ℕ) (name : List ℕ) → (h : HoldsChild letters reads mid tree path parent name now id)
     → TakesOut letters (ReadBy reads) mid tree h.within.holds.ids (path_to path name) id removal)
     → new ≡ slice_set (taken_out removal mid) id empty_entry → RemovesChild old new link id
+unfolding child_within
 removes_then old mid new link now id removal keeps plan is letters reads tree path parent name h =
     let one = keeps letters reads tree path parent name h in
     let out = plan letters reads tree path parent name (child_within letters reads old mid tree h.within.holds.ids path parent name now id one.0 one.1) in
@@ -212,35 +220,24 @@ removes_then old mid new link now id removal keeps plan is letters reads tree pa
     }
 
 module _ {F : Type 0} {g : Ghosts F} where
-  pub sets_same : (it : Directory F g) → SetsLinks it it
+  pub writes_same : (it : Directory F g) → WritesEntries it it
   unfolding seen_of
-  sets_same it = record {
+  writes_same it = record {
     ids = refl;
-    noted = refl;
-    as = as_same (entries_held it);
     becomes = λ has. becomes_same (sector (version_of (allocator_of it))) (directory_ids it) (seen_of (allocator_of it)) has.chain.has.linked;
     has = λ has. has;
   }
 
-  pub sets_one : (old new : Directory F g) (link : Link) (target : ℕ) (e : Entry) → SetsEntry (holder link) (linked_to link target e) old new
-      → numbers_noted new ≡ numbers_noted old → entries_held new ≡ relinked link target (entries_held old) → SetsLinks old new
-  sets_one old new link target e set noted is = record {
-    ids = set.ids;
-    noted = noted;
-    as = subst (AreAs (entries_held old)) (sym is) (as_relinked link target (entries_held old));
-    becomes = set.becomes;
-    has = set.has;
-  }
+  pub writes_one : (old new : Directory F g) (id : ℕ) (e : Entry) → SetsEntry id e old new → WritesEntries old new
+  writes_one old new id e set = record { ids = set.ids; becomes = set.becomes; has = set.has }
 
-  pub sets_then : (old mid new : Directory F g) → GoesOn (allocator_of old) (allocator_of mid) → SetsLinks old mid → SetsLinks mid new → SetsLinks old new
+  pub writes_then : (old mid new : Directory F g) → GoesOn (allocator_of old) (allocator_of mid) → WritesEntries old mid → WritesEntries mid new → WritesEntries old new
   unfolding seen_of
-  sets_then old mid new goes first second =
+  writes_then old mid new goes first second =
       let v = version_of (allocator_of old) in
       let ids = directory_ids old in
       record {
         ids = second.ids ∙ first.ids;
-        noted = second.noted ∙ first.noted;
-        as = as_then (entries_held old) (entries_held mid) (entries_held new) first.as second.as;
         becomes = λ has.
             let then = subst (λ u. Becomes (sector u) [] (directory_ids mid) [] (directory_ids mid) (seen_of (allocator_of mid)) (seen_of (allocator_of new))) goes.version (second.becomes (first.has has)) in
             let same = subst (λ l. Becomes (sector v) [] l [] l (seen_of (allocator_of mid)) (seen_of (allocator_of new))) first.ids then in
@@ -248,15 +245,57 @@ module _ {F : Type 0} {g : Ghosts F} where
         has = λ has. second.has (first.has has);
       }
 
+  pub sets_same : (it : Directory F g) → SetsLinks it it
+  sets_same it = record { written = writes_same it; alike = as_same (entries_held it); noted = refl }
+
+  pub sets_one : (old new : Directory F g) (link : Link) (target : ℕ) (e : Entry) → SetsEntry (holder link) (linked_to link target e) old new
+      → numbers_noted new ≡ numbers_noted old → entries_held new ≡ relinked link target (entries_held old) → SetsLinks old new
+  sets_one old new link target e set noted is = record {
+    written = writes_one old new (holder link) (linked_to link target e) set;
+    alike = subst (AreAs (entries_held old)) (sym is) (as_relinked link target (entries_held old));
+    noted = noted;
+  }
+
+  pub sets_then : (old mid new : Directory F g) → GoesOn (allocator_of old) (allocator_of mid) → SetsLinks old mid → SetsLinks mid new → SetsLinks old new
+  sets_then old mid new goes first second = record {
+    written = writes_then old mid new goes first.written second.written;
+    alike = as_then (entries_held old) (entries_held mid) (entries_held new) first.alike second.alike;
+    noted = second.noted ∙ first.noted;
+  }
+
   -- sizes fit still
   pub sizes_still : (old mid : Directory F g) → GoesOn (allocator_of old) (allocator_of mid) → AreAs (entries_held old) (entries_held mid)
       → SizesFit (version_of (allocator_of old)) (entries_held old) → SizesFit (version_of (allocator_of mid)) (entries_held mid)
-  sizes_still old mid goes as fits = subst (λ v. SizesFit v (entries_held mid)) (sym goes.version) (as.sizes (version_of (allocator_of old)) fits)
+  sizes_still old mid goes alike fits = subst (λ v. SizesFit v (entries_held mid)) (sym goes.version) (alike.sizes (version_of (allocator_of old)) fits)
 
   -- so the directory can take in entries still
   pub ready_still : (old mid : Directory F g) → GoesOn (allocator_of old) (allocator_of mid) → has_failed_here (allocator_of mid) ≡ false → SetsLinks old mid → IsReady old → IsReady mid
   ready_still old mid goes live sets ready = record {
-    has = sets.has ready.has;
+    has = sets.written.has ready.has;
     orderly = subst IsTrue (sym (goes.orderly live)) ready.orderly;
-    sizes = sizes_still old mid goes sets.as ready.sizes;
+    sizes = sizes_still old mid goes sets.alike ready.sizes;
   }
+
+module _ {F : Type 0} {g : Ghosts F} where
+  -- what a call answered, over what was done before
+  pub answers_wider : {T : Type 0} (refuses also : Error → Type 0) (r : Result T Error) (a m b : Allocator F g) → ((e : Error) → refuses e → also e)
+      → GoesOn a m → has_failed_here a ≡ false → has_failed_here m ≡ false → OnErr r (has_failed_here b ≡ true) → FatAnswers refuses r m b → FatAnswers also r a b
+  answers_wider refuses also (Ok x) a m b wider goes live alive failed told =
+      record { live = (live, told.live.1); failed = λ wrong. let never : true ≡ false = sym wrong ∙ live in absurd (cc); after = tt; cause = tt; fault = tt }
+  answers_wider refuses also (Err e) a m b wider goes live alive failed told = record {
+    live = tt;
+    failed = λ wrong. let never : true ≡ false = sym wrong ∙ live in absurd (cc);
+    after = inl failed;
+    cause = goes_cause a m b e goes alive told.cause;
+    fault = ⊎_elim (λ fault. inl fault) (λ is. inr (wider e is)) told.fault;
+  }
+
+  pub answers_then : {T : Type 0} (refuses : Error → Type 0) (r : Result T Error) (a m b : Allocator F g) → GoesOn a m → has_failed_here a ≡ false → has_failed_here m ≡ false
+      → OnErr r (has_failed_here b ≡ true) → FatAnswers refuses r m b → FatAnswers refuses r a b
+  answers_then refuses r a m b goes live alive failed told = answers_wider refuses refuses r a m b (λ e is. is) goes live alive failed told
+
+  -- memory is that of the bytes, unless it has failed
+  pub kept_or_failed : {T : Type 0} (r : Result T Error) (old new : Directory F g) → GoesOn (allocator_of old) (allocator_of new) → OnOk r (HasDirectory old → GrowsDirectory old new)
+      → OnErr r (has_failed_here (allocator_of new) ≡ true) → IsDirectory old → LiesBeside old → IsDirectory new
+  kept_or_failed (Ok x) old new goes grown failed = grown_kept old new goes grown
+  kept_or_failed (Err e) old new goes grown failed = λ held beside. failed_is new failed

@@ -46,11 +46,14 @@ HoldChild old new link now id = (letters : Letters) (reads : ℕ → ℕ → Lis
     → HoldsStill letters (ReadBy reads) old new tree h.within.holds.ids path parent × NameIsTaken letters new parent name now id
 
 module _ {F : Type 0} {g : Ghosts F} where
-  -- links of entries were set, in memory and in the file; no sector but the directory's own is touched, and these are those that
-  -- they were
-  pub record SetsLinks (old new : Directory F g) : Type 0 where
+  -- entries were written in their places: no sector but the directory's own is touched, and these are those that they were
+  pub record WritesEntries (old new : Directory F g) : Type 0 where
     pub ids : directory_ids new ≡ directory_ids old
-    pub noted : numbers_noted new ≡ numbers_noted old
-    pub as : AreAs (entries_held old) (entries_held new)
     pub becomes : HasDirectory old → Becomes (sector (version_of (allocator_of old))) [] (directory_ids old) [] (directory_ids old) (seen_of (allocator_of old)) (seen_of (allocator_of new))
     pub has : HasDirectory old → HasDirectory new
+
+  -- links of entries were set, in memory and in the file
+  pub record SetsLinks (old new : Directory F g) : Type 0 where
+    pub written : WritesEntries old new
+    pub alike : AreAs (entries_held old) (entries_held new)
+    pub noted : numbers_noted new ≡ numbers_noted old

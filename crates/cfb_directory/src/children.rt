@@ -4,6 +4,7 @@ ghost use Rattle.cfb_directory.specs.Changes.{HasDirectory, KeepsEntries, LiesBe
 ghost use Rattle.cfb_directory.specs.Children.{AddsAt, AddsChild, HasHolders, HasNoStorage, HoldsChild, HoldsStorage, IsNameFree, IsNameTaken, IsRefusedInsert, IsRefusedRemove, LinksNew, Removes, RemovesAt, RemovesChild};
 ghost use Rattle.cfb_directory.specs.Entries.{IsOneOf, SizesFit};
 ghost use Rattle.cfb_directory.specs.Growth.{GrowsDirectory, IsReady, LacksEntries};
+ghost use Rattle.cfb_directory.specs.Turning.{WritesEntries};
 ghost use Rattle.cfb_directory.specs.Views.{allocator_of, entries_held, numbers_noted, IsDirectory, DirectoryRests};
 ghost use Rattle.cfb_fat.specs.Calls.{FatAnswers};
 ghost use Rattle.cfb_fat.specs.Tables.{has_failed_here, version_of};
@@ -155,7 +156,7 @@ impl<F: Medium> Directory<F> {
         requires { has_failed_here (allocator_of self.old) ≡ false }
         ensures set { OnOk result (entries_held self.new
             ≡ joined_by joined (entries_held self.old)) }
-        ensures grown { OnOk result (HasDirectory self.old → GrowsDirectory self.old self.new) }
+        ensures written { OnOk result (WritesEntries self.old self.new) }
         ensures refused { IsErrOf result InvalidData → IsReady self.old
             → IfSome joined (λ it. HasEntry (entries_held self.old) (holder it.link)) → ⊥ }
         ensures noted { numbers_noted self.new ≡ numbers_noted self.old }
@@ -176,7 +177,7 @@ impl<F: Medium> Directory<F> {
         requires noted { IsOneOf (numbers_noted self.old) id }
         ensures taken { OnOk result (entries_held self.new
             ≡ slice_set (taken_out removal (entries_held self.old)) id empty_entry) }
-        ensures grown { OnOk result (HasDirectory self.old → GrowsDirectory self.old self.new) }
+        ensures written { OnOk result (WritesEntries self.old self.new) }
         ensures refused { IsErrOf result InvalidData → IsReady self.old
             → HasHolders (entries_held self.old) removal → ⊥ }
         ensures failed { OnErr result (has_failed_here (allocator_of self.new) ≡ true) }
