@@ -1,12 +1,15 @@
 -- What entries hold after links of siblings were set.
-use Rattle.std.proofs.Common.{◌≡◌, ◌↔◌, ℕ, true, false, inl, inr, ⊎_elim, IsTrue, List, [], ◌∷◌, refl, sym, ◌∙◌, subst}
+use Rattle.std.proofs.Common.{◌≡◌, ◌↔◌, ℕ, true, false, inl, inr, ◌⊎◌, ⊎_elim, IsTrue, List, [], ◌∷◌, refl, sym, ◌∙◌, subst}
 use Rattle.std.specs.Prelude.{Err, Ok, OnErr, OnOk, Result, nat_eq, slice_get, slice_set, Some, Bool}
+use Rattle.cfb_chains.specs.ChainCalls.{IsInvalid}
 use Rattle.cfb_chains.specs.Owned.{Becomes}
 use Rattle.cfb_fat.specs.Calls.{FatAnswers}
 use Rattle.cfb_fat.specs.Seeing.{seen_of}
 use Rattle.cfb_fat.specs.declared.allocator.Allocator.{Allocator}
 use Rattle.cfb_fat.specs.Tables.{has_failed_here, version_of}
+use Rattle.cfb_medium.specs.Calls.{IsFaultUnless}
 use Rattle.cfb_medium.specs.declared.error.Error.{Error}
+use Rattle.cfb_medium.specs.declared.error.Error.TheVariants.{AlreadyExists, InvalidData, InvalidInput}
 use Rattle.cfb_medium.specs.declared.medium.ReadMedium.{Ghosts}
 use Rattle.cfb_medium.specs.declared.version.Version.{Version}
 use Rattle.cfb_owned.specs.Chains.{GoesOn}
@@ -299,3 +302,10 @@ module _ {F : Type 0} {g : Ghosts F} where
       → OnErr r (has_failed_here (allocator_of new) ≡ true) → IsDirectory old → LiesBeside old → IsDirectory new
   kept_or_failed (Ok x) old new goes grown failed = grown_kept old new goes grown
   kept_or_failed (Err e) old new goes grown failed = λ held beside. failed_is new failed
+
+-- what a link that isn't set answers is no refusal of a name
+pub no_name : (e : Error) → IsFaultUnless ⊥ e ⊎ IsInvalid e → (e ≡ AlreadyExists) ⊎ (e ≡ InvalidInput) → ⊥
+no_name e (inl fault) (inl is) = subst (IsFaultUnless ⊥) is fault
+no_name e (inl fault) (inr is) = subst (IsFaultUnless ⊥) is fault
+no_name e (inr bad) (inl is) = let never : InvalidData ≡ AlreadyExists = sym bad ∙ is in absurd (cc)
+no_name e (inr bad) (inr is) = let never : InvalidData ≡ InvalidInput = sym bad ∙ is in absurd (cc)
