@@ -1,6 +1,6 @@
 -- What entries hold after links of siblings were set.
 use Rattle.std.proofs.Common.{◌≡◌, ◌↔◌, ℕ, true, false, inl, inr, ◌⊎◌, ⊎_elim, IsTrue, List, [], ◌∷◌, refl, sym, ◌∙◌, subst}
-use Rattle.std.specs.Prelude.{Err, Ok, OnErr, OnOk, Result, nat_eq, slice_get, slice_set, Some, Bool}
+use Rattle.std.specs.Prelude.{Err, Ok, OnErr, OnOk, Result, nat_eq, slice_set, Bool}
 use Rattle.cfb_chains.specs.ChainCalls.{IsInvalid}
 use Rattle.cfb_chains.specs.Owned.{Becomes}
 use Rattle.cfb_fat.specs.Calls.{FatAnswers}
@@ -11,14 +11,13 @@ use Rattle.cfb_medium.specs.Calls.{IsFaultUnless}
 use Rattle.cfb_medium.specs.declared.error.Error.{Error}
 use Rattle.cfb_medium.specs.declared.error.Error.TheVariants.{AlreadyExists, InvalidData, InvalidInput}
 use Rattle.cfb_medium.specs.declared.medium.ReadMedium.{Ghosts}
-use Rattle.cfb_medium.specs.declared.version.Version.{Version}
 use Rattle.cfb_owned.specs.Chains.{GoesOn}
 use Rattle.cfb_owned.proofs.GoingOn.{goes_cause}
 use Rattle.cfb_owned.proofs.WrittenParts.{becomes_same}
 use Rattle.cfb_sectors.specs.Sectors.{sector}
 use Rattle.cfb_siblings.specs.Changes.{AreColored, HoldsOneLess, HoldsOneMore, IsAlone, IsApart, TakesOut}
 use Rattle.cfb_siblings.specs.Links.{holder, linked_to, relinked, taken_out}
-use Rattle.cfb_siblings.specs.Places.{path_to, HasEntry, IsChild, IsStorageAt, LeadsBy, NameIsTaken}
+use Rattle.cfb_siblings.specs.Places.{path_to, HasEntry, IsChild, LeadsBy, NameIsTaken}
 use Rattle.cfb_siblings.specs.Reading.{ReadBy}
 use Rattle.cfb_siblings.specs.Rotations.{raises_left, raises_right, rotated, HoldsStill, IsRotation, TurnsIn}
 use Rattle.cfb_siblings.specs.declared.links.Link.{Link}
@@ -29,7 +28,7 @@ use Rattle.cfb_siblings.proofs.Raising.{turns}
 use Rattle.cfb_siblings.proofs.Same.{own_unique}
 use Rattle.cfb_siblings.proofs.Taking.{taken_child, taken_object}
 use Rattle.cfb_siblings.proofs.Unused.{read_by_place}
-use Rattle.cfb_tree.specs.Changes.{added, parent_of, removed}
+use Rattle.cfb_tree.specs.Changes.{added, removed}
 use Rattle.cfb_tree.specs.Directory.{Entry}
 use Rattle.cfb_tree.specs.Entries.{empty_entry}
 use Rattle.cfb_tree.specs.Names.{Letters}
@@ -37,7 +36,7 @@ use Rattle.cfb_tree.specs.Objects.{name_of, Object}
 use Rattle.cfb_tree.specs.Paths.{Path}
 use Rattle.cfb_tree.specs.Tree.{Tree}
 use Rattle.cfb_directory.specs.Changes.{HasDirectory, LiesBeside, SetsEntry}
-use Rattle.cfb_directory.specs.Children.{AddsAt, AddsChild, HasAt, HoldsChild, HoldsStorage, Removes, RemovesAt, RemovesChild}
+use Rattle.cfb_directory.specs.Children.{AddsAt, AddsChild, HoldsChild, HoldsStorage, RemovesAt, RemovesChild}
 use Rattle.cfb_directory.specs.Entries.{SizesFit}
 use Rattle.cfb_directory.specs.Growth.{GrowsDirectory, IsReady}
 use Rattle.cfb_directory.specs.Turning.{AreAs, HasTurning, HoldChild, HoldOn, SetsLinks, WritesEntries}

@@ -94,11 +94,11 @@ impl<F: Medium> Directory<F> {
     }
 
     /// Gives the storage `parent` a child of this name and kind, and tells the number of its entry: the entry is written first,
-    /// and then the link that leads to it; then it rises among its siblings. A stream is empty; a storage has the moment as both times. Refused are in this
-    /// order: a name that a child has (`AlreadyExists`), and one that is invalid (`InvalidInput`). `Full` where no entry is in
-    /// no use and numbers of entries or sectors are missing, `InvalidData` where the entries hold no tree with such a storage,
-    /// or the file hasn't the directory's sectors beside its tables. After an error nothing is changed, or it has failed
-    /// ([MS-CFB] 2.6.4).
+    /// and then the link that leads to it; then it rises among its siblings. A stream is empty; a storage has the moment as both
+    /// times. Refused are in this order: a name that a child has (`AlreadyExists`), and one that is invalid (`InvalidInput`).
+    /// `Full` where no entry is in no use and numbers of entries or sectors are missing, `InvalidData` where the entries hold no
+    /// tree with such a storage, or the file hasn't the directory's sectors beside its tables. After an error nothing is changed,
+    /// or it has failed ([MS-CFB] 2.6.4).
     pub fn insert_dir_entry(
         &mut self,
         letters: &CaseMapper,
@@ -201,9 +201,9 @@ impl<F: Medium> Directory<F> {
     }
 
     /// Takes the entry to which a link leads out of its siblings, with what is in it, as `find_place` tells the two: it sinks among
-    /// them until it lacks one, a link leads past it then, and an entry in no use is written in its place. `InvalidData` where the entries hold no tree with such a
-    /// child, or the file hasn't the directory's sectors beside its tables. After an error nothing is changed, or it has failed
-    /// ([MS-CFB] 2.6.3, 2.6.4).
+    /// them until it lacks one, a link leads past it then, and an entry in no use is written in its place. `InvalidData` where the
+    /// entries hold no tree with such a child, or the file hasn't the directory's sectors beside its tables. After an error nothing
+    /// is changed, or it has failed ([MS-CFB] 2.6.3, 2.6.4).
     pub fn unlink_dir_entry(&mut self, link: Link, id: u32) -> Result<(), Error>
         ensures removed { OnOk result (RemovesChild (entries_held self.old)
             (entries_held self.new) link id) }

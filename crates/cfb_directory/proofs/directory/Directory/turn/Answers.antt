@@ -1,4 +1,3 @@
-use Rattle.std.proofs.Common.{sym, subst}
 use Rattle.cfb_chains.specs.ChainCalls.{IsInvalid}
 use Rattle.cfb_owned.proofs.GoingOn.{goes_then}
 use Rattle.cfb_sectors.proofs.Appending.{on_ok}
