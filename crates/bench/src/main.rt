@@ -15,6 +15,7 @@ mod tables;
 use anyhow::{Result, bail};
 use std::env;
 use std::time::Instant;
+use streams::Order;
 
 // A line for each benchmark: its word, what its size counts, and what it does.
 const LIST: &str = "\
@@ -27,6 +28,7 @@ pool-insert ROWS  inserts so many rows, an insert each, over a pool of 65535 tex
 store WRITES      writes 4,096 bytes to a store so often, at places far apart, and commits
 streams COUNT     makes so many streams in one storage, in shuffled order, and removes them
 streams-up COUNT  the same in rising order
+streams-down COUNT  the same in falling order
 write COUNT       writes so many streams of 100 bytes and as many of 10,000, and reads them from the file that is opened again
 large MEGABYTES   so with one stream of so many megabytes
 read FILE         opens the compound file of that path, lists it, and reads each stream whole
@@ -67,8 +69,9 @@ fn run(rt: &HostRuntime, name: &str, size: usize) -> Result<()> {
         "write" => contents::write_and_read(rt, size),
         "large" => contents::write_large(rt, size),
         "store" => stores::write_apart(rt, size),
-        "streams" => streams::make_and_remove(rt, size, false),
-        "streams-up" => streams::make_and_remove(rt, size, true),
+        "streams" => streams::make_and_remove(rt, size, Order::Shuffled),
+        "streams-up" => streams::make_and_remove(rt, size, Order::Rising),
+        "streams-down" => streams::make_and_remove(rt, size, Order::Falling),
         _ => bail!("there is no benchmark of this name"),
     }
 }

@@ -10,13 +10,21 @@ use std::time::Instant;
 // Odd, so that no two numbers give one name; its multiples lie far apart, as those of the golden ratio do.
 const STEP: u32 = 2_654_435_761;
 
-// The path of the stream that is made as the n-th: by rising names, or by names far apart.
-fn path_of(alloc: Global, n: usize, is_rising: bool) -> Result<String> {
+/// In which order names are made and removed: far apart, rising or falling.
+#[derive(Clone, Copy)]
+pub enum Order {
+    Shuffled,
+    Rising,
+    Falling,
+}
+
+// The path of the stream that is made as the n-th.
+fn path_of(alloc: Global, n: usize, order: Order) -> Result<String> {
     let number = u32::try_from(n)?;
-    let number = if is_rising {
-        number
-    } else {
-        number.wrapping_mul(STEP)
+    let number = match order {
+        Order::Shuffled => number.wrapping_mul(STEP),
+        Order::Rising => number,
+        Order::Falling => u32::MAX - number,
     };
     Ok(format!(in alloc; "/{number:08x}")?)
 }
@@ -25,10 +33,10 @@ fn make_all(
     alloc: Global,
     file: &mut CompoundFile<MemoryMedium>,
     count: usize,
-    is_rising: bool,
+    order: Order,
 ) -> Result<()> {
     for n in 0..count {
-        let path = path_of(alloc, n, is_rising)?;
+        let path = path_of(alloc, n, order)?;
         make(file, &path)?;
     }
     Ok(())
@@ -38,30 +46,30 @@ fn remove_all(
     alloc: Global,
     file: &mut CompoundFile<MemoryMedium>,
     count: usize,
-    is_rising: bool,
+    order: Order,
 ) -> Result<()> {
     for n in 0..count {
-        let path = path_of(alloc, n, is_rising)?;
+        let path = path_of(alloc, n, order)?;
         remove(file, &path)?;
     }
     Ok(())
 }
 
 /// Makes so many streams without bytes, a call for each, and removes them.
-pub fn make_and_remove(rt: &HostRuntime, count: usize, is_rising: bool) -> Result<()> {
+pub fn make_and_remove(rt: &HostRuntime, count: usize, order: Order) -> Result<()> {
     let mut file = new_file(rt.alloc())?;
-    make_and_tell(rt, &mut file, count, is_rising)?;
-    remove_and_tell(rt, &mut file, count, is_rising)
+    make_and_tell(rt, &mut file, count, order)?;
+    remove_and_tell(rt, &mut file, count, order)
 }
 
 fn make_and_tell(
     rt: &HostRuntime,
     file: &mut CompoundFile<MemoryMedium>,
     count: usize,
-    is_rising: bool,
+    order: Order,
 ) -> Result<()> {
     let begin = Instant::now(rt)?;
-    make_all(rt.alloc(), file, count, is_rising)?;
+    make_all(rt.alloc(), file, count, order)?;
     print_time(rt, "streams made", count, begin)
 }
 
@@ -69,9 +77,9 @@ fn remove_and_tell(
     rt: &HostRuntime,
     file: &mut CompoundFile<MemoryMedium>,
     count: usize,
-    is_rising: bool,
+    order: Order,
 ) -> Result<()> {
     let begin = Instant::now(rt)?;
-    remove_all(rt.alloc(), file, count, is_rising)?;
+    remove_all(rt.alloc(), file, count, order)?;
     print_time(rt, "streams removed", count, begin)
 }

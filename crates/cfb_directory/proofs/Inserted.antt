@@ -17,13 +17,13 @@ use Rattle.cfb_tree.specs.Tree.{Tree}
 use Rattle.cfb_tree.proofs.OneContent.{Some_same}
 use Rattle.cfb_siblings.specs.Changes.{HoldsOn, HoldsOneMore, IsAlone, IsUnused}
 use Rattle.cfb_siblings.specs.Links.{holder, joined_by, linked_to, relinked, taken_out, with_entry}
-use Rattle.cfb_siblings.specs.Places.{path_to, HasEntry, IsFree, IsStorageAt}
+use Rattle.cfb_siblings.specs.Places.{path_to, HasEntry, IsChild, IsFree, IsStorageAt}
 use Rattle.cfb_siblings.specs.Reading.{ReadBy}
 use Rattle.cfb_siblings.specs.declared.links.Link.{Link}
 use Rattle.cfb_siblings.specs.declared.links.NewLink.{NewLink}
 use Rattle.cfb_siblings.specs.declared.removal.Removal.{Removal}
 use Rattle.cfb_siblings.specs.declared.links.Link.TheVariants.{Child, Left, Right}
-use Rattle.cfb_siblings.proofs.Adding.{grows}
+use Rattle.cfb_siblings.proofs.Adding.{grows, new_child, storage_there}
 use Rattle.cfb_siblings.proofs.Frames.{append_keeps, either_same, holds_stays, set_changes_only, set_found}
 use Rattle.cfb_siblings.proofs.Unused.{read_by_place, same_stay}
 use Rattle.cfb_directory.specs.Children.{AddsAt, HasAt, IsAs, LinksNew, RemovesAt, StayBut}
@@ -51,14 +51,24 @@ appended_on letters Reads old more tree h =
       ids_are = refl;
     }
 
+-- the tree with the child, in a storage that is there still
+pub record Inserts (letters : Letters) (Reads : Entry → List ℕ → Type 0) (old new : List Entry) (tree : Tree) (ids : List ℕ) (path : Path) (parent : ℕ) (name : List ℕ) (id : ℕ) : Type 0 where
+  pub more : HoldsOneMore letters Reads old new tree ids (path_to path name) id
+  pub storage : IsStorageAt letters new path parent
+  pub child : IsChild letters new parent name id
+
 module _ (reads : ℕ → ℕ → List ℕ → Bool) (letters : Letters) (tree : Tree) (path : Path) (parent : ℕ) (link : Link) (e : Entry) (object : Object) (alone : IsAlone (ReadBy reads) e object) where
   abbrev HoldsWith : List Entry → List Entry → List ℕ → ℕ → Type 0
-  HoldsWith old new ids id = HoldsOneMore letters (ReadBy reads) old new (added letters object (path_to path (name_of object)) tree) ids (path_to path (name_of object)) id
+  HoldsWith old new ids id = Inserts letters (ReadBy reads) old new (added letters object (path_to path (name_of object)) tree) ids path parent (name_of object) id
 
   added_to : (old new : List Entry) (id : ℕ) → (h : HoldsTree letters (ReadBy reads) old tree) → IsStorageAt letters old path parent → IsFree letters old parent (name_of object) link → IsUnused old id
       → new ≡ relinked link id (slice_set old id e) → HoldsWith old new h.ids id
   added_to old new id h s free unused is =
-      subst (λ l. HoldsWith old l h.ids id) (sym is) (grows letters (ReadBy reads) (read_by_place reads) old tree path parent link id e object h s free unused alone)
+      subst (λ l. HoldsWith old l h.ids id) (sym is) (record {
+        more = grows letters (ReadBy reads) (read_by_place reads) old tree path parent link id e object h s free unused alone;
+        storage = storage_there letters (ReadBy reads) (read_by_place reads) old tree path parent link id e object h s free unused alone;
+        child = new_child letters (ReadBy reads) (read_by_place reads) old tree path parent link id e object h s free unused alone;
+      })
 
   -- where entries came behind those of the tree
   added_behind : (old more new : List Entry) (id : ℕ) → (h : HoldsTree letters (ReadBy reads) old tree) → IsStorageAt letters old path parent → IsFree letters old parent (name_of object) link
@@ -69,10 +79,14 @@ module _ (reads : ℕ → ℕ → List ℕ → Bool) (letters : Letters) (tree :
       let with_it = subst (λ ids. HoldsWith (old ++ more) new ids id) on.ids_are
       (added_to (old ++ more) new id on.holds (storage_more letters old (old ++ more) keep path parent s) (free_more letters old (old ++ more) keep parent (name_of object) link free) unused is) in
       record {
-        holds = with_it.holds;
-        all_are = with_it.all_are;
-        at_path = with_it.at_path;
-        colors = λ right. with_it.colors (tree_colored old (old ++ more) keep (slice_get_past (old ++ more) no_entry (omega (arith, few))) letters (ReadBy reads) tree h right);
+        more = record {
+          holds = with_it.more.holds;
+          all_are = with_it.more.all_are;
+          at_path = with_it.more.at_path;
+          colors = λ right. with_it.more.colors (tree_colored old (old ++ more) keep (slice_get_past (old ++ more) no_entry (omega (arith, few))) letters (ReadBy reads) tree h right);
+        };
+        storage = with_it.storage;
+        child = with_it.child;
       }
 
   pub inserted_holds_tree : (version : Version) (old new : List Entry) (id : ℕ) → LinksNew version link e old new id → (h : HoldsTree letters (ReadBy reads) old tree) → IsStorageAt letters old path parent
@@ -85,7 +99,7 @@ module _ (reads : ℕ → ℕ → List ℕ → Bool) (letters : Letters) (tree :
       (λ longer. subst P (sym longer.0) (λ few unused is. added_behind old more new id h s free few unused is) longer.1 links.unused links.entries)
       links.behind
 
-as_itself : (e : Entry) → IsAs e e
+pub as_itself : (e : Entry) → IsAs e e
 as_itself e = record { name_units = refl; name_len = refl; kind = refl; facts = refl; start = refl; size = refl }
 
 as_linked : (link : Link) (target : ℕ) (e : Entry) → IsAs e (linked_to link target e)
@@ -120,23 +134,23 @@ as_then e f h first second = record {
 }
 
 -- so do two links
-at_then : (es es' : List Entry) (k : ℕ) (e : Entry) → HasAt es k e → ((f : Entry) → slice_get es k ≡ Some f → HasAt es' k f) → HasAt es' k e
+pub at_then : (es es' : List Entry) (k : ℕ) (e : Entry) → HasAt es k e → ((f : Entry) → slice_get es k ≡ Some f → HasAt es' k f) → HasAt es' k e
 at_then es es' k e (f, found, same) later = let next = later f found in (next.0, next.1, as_then e f next.0 same next.2)
 
-relinked_at : (link : Link) (target k : ℕ) (es : List Entry) (e : Entry) → slice_get es k ≡ Some e → HasAt (relinked link target es) k e
+pub relinked_at : (link : Link) (target k : ℕ) (es : List Entry) (e : Entry) → slice_get es k ≡ Some e → HasAt (relinked link target es) k e
 relinked_at link target k es e found = relinked_as link target k es e (slice_get es (holder link)) refl found
 
 differs : (k id : ℕ) → (k ≡ id → ⊥) → nat_eq id k ≡ false
 differs k id other = ⊎_elim (λ same. absurd (other (sym same.1))) (λ differ. differ.0) (eqb_tells id k)
 
-relinked_sizes : (v : Version) (link : Link) (target : ℕ) (es : List Entry) → SizesFit v es → SizesFit v (relinked link target es)
+pub relinked_sizes : (v : Version) (link : Link) (target : ℕ) (es : List Entry) → SizesFit v es → SizesFit v (relinked link target es)
 relinked_sizes v link target es fits = by_entry (slice_get es (holder link)) refl
   where
     by_entry : (at : Option Entry) → slice_get es (holder link) ≡ at → SizesFit v (with_entry es (holder link) (linked_to link target) at)
     by_entry None is = fits
     by_entry (Some x) is = sizes_set v es (holder link) (linked_to link target x) (let few = fits (holder link) x is in let same = (as_linked link target x).size in omega (arith, few, same)) fits
 
-length_relinked : (link : Link) (target : ℕ) (es : List Entry) → length (relinked link target es) ≡ length es
+pub length_relinked : (link : Link) (target : ℕ) (es : List Entry) → length (relinked link target es) ≡ length es
 length_relinked link target es = by_entry (slice_get es (holder link))
   where
     by_entry : (at : Option Entry) → length (with_entry es (holder link) (linked_to link target) at) ≡ length es

@@ -16,4 +16,5 @@ pub mod Readiness
 pub mod Results
 pub mod Setting
 pub mod Stages
+pub mod Turned
 pub mod Walking

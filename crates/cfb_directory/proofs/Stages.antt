@@ -15,11 +15,12 @@ use Rattle.cfb_owned.proofs.Owning.{none_behind_all}
 use Rattle.cfb_tree.specs.Directory.{Entry}
 use Rattle.cfb_directory.specs.Changes.{SetsEntry}
 use Rattle.cfb_directory.specs.Growth.{count_words, GrowsDirectory, IsCounted}
+use Rattle.cfb_directory.specs.Turning.{WritesEntries}
 use Rattle.cfb_directory.specs.Views.{allocator_of, directory_ids}
 use Rattle.cfb_directory.specs.declared.directory.Directory.{Directory}
 
 -- a chain that became longer, and then another of the same sectors
-becomes_again : (S : List ℕ → ℕ → List ℕ) (ws ids more later : List ℕ) (a b c : Seen) → Becomes S ws ids more later a b → Becomes S [] later [] later b c → AreNoneOf c.tables more → Becomes S ws ids more later a c
+pub becomes_again : (S : List ℕ → ℕ → List ℕ) (ws ids more later : List ℕ) (a b c : Seen) → Becomes S ws ids more later a b → Becomes S [] later [] later b c → AreNoneOf c.tables more → Becomes S ws ids more later a c
 becomes_again S ws ids more later a b c h k spare = record {
   leaves = leaves_more S ws ((ids ++ more) ++ (later ++ [])) (ids ++ more) a c
       (among_both (ids ++ more) (ids ++ more) (later ++ []) (λ n none. none) (among_both (ids ++ more) later [] h.among (λ n none k below same. absurd (omega (arith, below)))))
@@ -36,10 +37,10 @@ counted_still V3 S xs n a b h was = tt
 counted_still V4 S xs n a b h was = h.header 40 4 (omega arith) (inl (omega arith), tt) ∙ was
 
 module _ {F : Type 0} {g : Ghosts F} where
-  -- a directory that grew, and then an entry that was written
-  pub grows_then : (old mid new : Directory F g) (id : ℕ) (e : Entry) → GoesOn (allocator_of old) (allocator_of mid) → GrowsDirectory old mid → SetsEntry id e mid new → GrowsDirectory old new
+  -- a directory that grew, and then entries that were written
+  pub grows_more : (old mid new : Directory F g) → GoesOn (allocator_of old) (allocator_of mid) → GrowsDirectory old mid → WritesEntries mid new → GrowsDirectory old new
   unfolding seen_of
-  grows_then old mid new id e goes grown sets =
+  grows_more old mid new goes grown sets =
       let v = version_of (allocator_of old) in
       let later = directory_ids mid in
       let has = sets.has grown.has in
@@ -55,3 +56,7 @@ module _ {F : Type 0} {g : Ghosts F} where
         counted = λ was. subst (λ l. IsCounted v (bytes_of (allocator_of new)) (length l)) (sym sets.ids)
             (counted_still v (sector v) (later ++ []) (length later) (seen_of (allocator_of mid)) (seen_of (allocator_of new)) becomes.leaves (grown.counted was));
       }
+
+  -- or one of them
+  pub grows_then : (old mid new : Directory F g) (id : ℕ) (e : Entry) → GoesOn (allocator_of old) (allocator_of mid) → GrowsDirectory old mid → SetsEntry id e mid new → GrowsDirectory old new
+  grows_then old mid new id e goes grown sets = grows_more old mid new goes grown (record { ids = sets.ids; becomes = sets.becomes; has = sets.has })

@@ -4,5 +4,6 @@ pub mod Entries
 pub mod Growth
 pub mod Lent
 pub mod Taken
+pub mod Turning
 pub mod Views
 pub mod Walk

@@ -4,6 +4,7 @@ ghost use Rattle.cfb_directory.specs.Changes.{HasDirectory, KeepsEntries, LiesBe
 ghost use Rattle.cfb_directory.specs.Children.{AddsAt, AddsChild, HasHolders, HasNoStorage, HoldsChild, HoldsStorage, IsNameFree, IsNameTaken, IsRefusedInsert, IsRefusedRemove, LinksNew, Removes, RemovesAt, RemovesChild};
 ghost use Rattle.cfb_directory.specs.Entries.{IsOneOf, SizesFit};
 ghost use Rattle.cfb_directory.specs.Growth.{GrowsDirectory, IsReady, LacksEntries};
+ghost use Rattle.cfb_directory.specs.Turning.{WritesEntries};
 ghost use Rattle.cfb_directory.specs.Views.{allocator_of, entries_held, numbers_noted, IsDirectory, DirectoryRests};
 ghost use Rattle.cfb_fat.specs.Calls.{FatAnswers};
 ghost use Rattle.cfb_fat.specs.Tables.{has_failed_here, version_of};
@@ -30,7 +31,7 @@ use cfb_tree::{CaseMapper, DirEntry, ObjType, validate_name};
 impl<F: Medium> Directory<F> {
     // Makes a link lead to an entry, in the file and in memory; the entry that has the link becomes black. `InvalidData` where
     // there is no such entry, or its place isn't in the file.
-    fn write_link(&mut self, link: Link, target: u32) -> Result<(), Error>
+    pub(crate) fn write_link(&mut self, link: Link, target: u32) -> Result<(), Error>
         ensures set { OnOk result ((e : Entry)
             × (slice_get (entries_held self.old) (holder link) ≡ Some e)
             × SetsEntry (holder link) (linked_to link target e) self.old self.new) }
@@ -93,11 +94,11 @@ impl<F: Medium> Directory<F> {
     }
 
     /// Gives the storage `parent` a child of this name and kind, and tells the number of its entry: the entry is written first,
-    /// and then the link that leads to it. A stream is empty; a storage has the moment as both times. Refused are in this
-    /// order: a name that a child has (`AlreadyExists`), and one that is invalid (`InvalidInput`). `Full` where no entry is in
-    /// no use and numbers of entries or sectors are missing, `InvalidData` where the entries hold no tree with such a storage,
-    /// or the file hasn't the directory's sectors beside its tables. After an error nothing is changed, or it has failed
-    /// ([MS-CFB] 2.6.4).
+    /// and then the link that leads to it; then it rises among its siblings. A stream is empty; a storage has the moment as both
+    /// times. Refused are in this order: a name that a child has (`AlreadyExists`), and one that is invalid (`InvalidInput`).
+    /// `Full` where no entry is in no use and numbers of entries or sectors are missing, `InvalidData` where the entries hold no
+    /// tree with such a storage, or the file hasn't the directory's sectors beside its tables. After an error nothing is changed,
+    /// or it has failed ([MS-CFB] 2.6.4).
     pub fn insert_dir_entry(
         &mut self,
         letters: &CaseMapper,
@@ -140,7 +141,14 @@ impl<F: Medium> Directory<F> {
         if let Err(error) = validate_name(name) {
             return Err(error);
         }
-        self.add_child(link, DirEntry::new(name, obj_type, moment))
+        let id = match self.add_child(link, DirEntry::new(name, obj_type, moment)) {
+            Ok(id) => id,
+            Err(error) => return Err(error),
+        };
+        if let Err(error) = self.rise(letters, parent, name, link, id) {
+            return Err(error);
+        }
+        Ok(id)
     }
 
     // Sets a link where one is to be set.
@@ -148,7 +156,7 @@ impl<F: Medium> Directory<F> {
         requires { has_failed_here (allocator_of self.old) ≡ false }
         ensures set { OnOk result (entries_held self.new
             ≡ joined_by joined (entries_held self.old)) }
-        ensures grown { OnOk result (HasDirectory self.old → GrowsDirectory self.old self.new) }
+        ensures written { OnOk result (WritesEntries self.old self.new) }
         ensures refused { IsErrOf result InvalidData → IsReady self.old
             → IfSome joined (λ it. HasEntry (entries_held self.old) (holder it.link)) → ⊥ }
         ensures noted { numbers_noted self.new ≡ numbers_noted self.old }
@@ -169,7 +177,7 @@ impl<F: Medium> Directory<F> {
         requires noted { IsOneOf (numbers_noted self.old) id }
         ensures taken { OnOk result (entries_held self.new
             ≡ slice_set (taken_out removal (entries_held self.old)) id empty_entry) }
-        ensures grown { OnOk result (HasDirectory self.old → GrowsDirectory self.old self.new) }
+        ensures written { OnOk result (WritesEntries self.old self.new) }
         ensures refused { IsErrOf result InvalidData → IsReady self.old
             → HasHolders (entries_held self.old) removal → ⊥ }
         ensures failed { OnErr result (has_failed_here (allocator_of self.new) ≡ true) }
@@ -192,10 +200,10 @@ impl<F: Medium> Directory<F> {
         Ok(())
     }
 
-    /// Takes the entry to which a link leads out of its siblings, with what is in it, as `find_place` tells the two: at most two
-    /// links are written, and then an entry in no use in its place. `InvalidData` where the entries hold no tree with such a
-    /// child, or the file hasn't the directory's sectors beside its tables. After an error nothing is changed, or it has failed
-    /// ([MS-CFB] 2.6.3, 2.6.4).
+    /// Takes the entry to which a link leads out of its siblings, with what is in it, as `find_place` tells the two: it sinks among
+    /// them until it lacks one, a link leads past it then, and an entry in no use is written in its place. `InvalidData` where the
+    /// entries hold no tree with such a child, or the file hasn't the directory's sectors beside its tables. After an error nothing
+    /// is changed, or it has failed ([MS-CFB] 2.6.3, 2.6.4).
     pub fn unlink_dir_entry(&mut self, link: Link, id: u32) -> Result<(), Error>
         ensures removed { OnOk result (RemovesChild (entries_held self.old)
             (entries_held self.new) link id) }
@@ -217,15 +225,20 @@ impl<F: Medium> Directory<F> {
         if self.allocator.is_failed() {
             return Err(Error::Failed);
         }
-        let Some(removal) = plan_removal(&self.entries.items, link, id) else {
-            return Err(Error::InvalidData);
-        };
         if id as usize >= self.entries.items.len() {
             return Err(Error::InvalidData);
         }
         if let Err(error) = self.entries.note(id) {
             return Err(error);
         }
+        let link = match self.sink(link, id) {
+            Ok(link) => link,
+            Err(error) => return Err(error),
+        };
+        let Some(removal) = plan_removal(&self.entries.items, link, id) else {
+            self.allocator.fail();
+            return Err(Error::InvalidData);
+        };
         self.take_out(removal, id)
     }
 

@@ -8,6 +8,7 @@ mod free;
 mod husk;
 mod lending;
 mod reading;
+mod turning;
 mod walk;
 
 pub use changes::EntryChange;

@@ -127,7 +127,7 @@ module _ (letters : Letters) (Reads : Entry → List ℕ → Type 0) (by_place :
       (inserted_siblings old mid new Reads by_place letters object n f p st.entry.child st.children st.inside st.within link gap within_once n_behind.1
       outside unused.fits only n_found alone.left alone.right (made_object mid Reads n f object n_found alone.is) linked)
 
-  new_child : IsChild letters new p (name_of object) n
+  pub new_child : IsChild letters new p (name_of object) n
   new_child =
       let is_object = made_object mid Reads n f object n_found alone.is in
       let same : s.owner.entry ≡ st.entry = Some_same (sym s.owner.found ∙ st.found) in
@@ -144,6 +144,15 @@ module _ (letters : Letters) (Reads : Entry → List ℕ → Type 0) (by_place :
           named = object_named mid Reads n object [] f is_object n_found;
           compared = (name_cmp_equal letters (name_of object) (name_of object)).1 refl;
         };
+      }
+
+  -- the storage is there still
+  pub storage_there : IsStorageAt letters new path p
+  storage_there =
+      let links = all_parts (λ k. nat_eq (holder link) k ≡ false) st.sooner st.further link_apart in
+      record {
+        leads = (st.leads_so new owner.now owner.found owner.same owner.left owner.right (stay st.sooner n_sooner links.0) (stay st.further n_behind.2 links.1)).0;
+        owner = new_child.owner;
       }
 
   -- the path of the new child

@@ -12,6 +12,7 @@ use Rattle.cfb_siblings.specs.declared.links.Link.{Link}
 use Rattle.cfb_siblings.specs.declared.links.Link.TheVariants.{Child, Left, Right}
 use Rattle.cfb_siblings.specs.declared.places.Place.TheVariants.{Taken, Free}
 use Rattle.cfb_siblings.specs.Places.{Hangs, IsNamed, IsStorageAt, IsPlace}
+use Rattle.cfb_siblings.specs.Rotations.{IsReached}
 use Rattle.cfb_siblings.proofs.Records.{Searched}
 use Rattle.cfb_siblings.proofs.Bounds.{owner_fits}
 use Rattle.cfb_siblings.proofs.Choosing.{entries_in_order, found_of, chosen_child}
@@ -19,6 +20,7 @@ use Rattle.cfb_siblings.proofs.Leading.{object_from_last, leads_on}
 use Rattle.cfb_siblings.proofs.Owners.{holder_found}
 use Rattle.cfb_siblings.proofs.Searching.{begun, not_found, middle, object_named, go_left, go_right}
 use Rattle.cfb_siblings.proofs.Trees.{Storing, storing, storing_once}
+use Rattle.cfb_siblings.proofs.Turning.{hung_fits}
 
 module _ (letters : Letters) (directory : List Entry) (Reads : Entry → List ℕ → Type 0) (wanted : List ℕ) (tree : Tree) (path : Path) (parent : ℕ)
     (h : HoldsTree letters Reads directory tree) (s : IsStorageAt letters directory path parent) where
@@ -66,6 +68,18 @@ module _ (letters : Letters) (directory : List Entry) (Reads : Entry → List �
         )
 
     module _ (some_entry : at ≡ no_entry → ⊥) where
+      -- an entry on the way
+      pub on_way : IsReached directory parent link at
+      on_way =
+          let same : at_storage.entry ≡ s.owner.entry = Some_same (sym at_storage.found ∙ s.owner.found) in
+          record {
+            owner = s.owner;
+            front = it.front;
+            back = it.back;
+            hangs = subst (λ y. Hangs directory parent y.child link at it.front it.back) same it.hangs;
+            fits = hung_fits directory at it.here some_entry it.siblings;
+          }
+
       pub some_there : slice_get directory at ≡ None → ⊥
       some_there lost = by_siblings it.siblings
         where

@@ -21,11 +21,15 @@ pub mod Objects
 pub mod Ordering
 pub mod Owners
 pub mod Parts
+pub mod Raising
 pub mod Records
 pub mod Relinking
 pub mod Removing
+pub mod Rotating
+pub mod Same
 pub mod Searching
 pub mod Spots
 pub mod Taking
 pub mod Trees
+pub mod Turning
 pub mod Unused

@@ -89,7 +89,7 @@ pub record Owner (new : List Entry) (p : ℕ) (e : Entry) (child : ℕ) : Type 0
   pub right : now.right ≡ e.right
   pub child_is : now.child ≡ child
 
-same_facts : (e : Entry) → HasSameFacts e e
+pub same_facts : (e : Entry) → HasSameFacts e e
 same_facts e = record { name_units = refl; name_len = refl; kind = refl; facts = refl }
 
 pub owner_after : (old new : List Entry) (p : ℕ) (e : Entry) (link : Link) (target : ℕ) → Relinks old new link target → IsLinkOf p link
@@ -115,7 +115,7 @@ IsHeldIn (Child id) within = ⊤
 IsHeldIn (Left id) within = (xs : List ℕ) × (ys : List ℕ) × (within ≡ xs ++ id ∷ ys)
 IsHeldIn (Right id) within = (xs : List ℕ) × (ys : List ℕ) × (within ≡ xs ++ id ∷ ys)
 
-held_apart : (id : ℕ) (xs ys within others : List ℕ) → within ≡ xs ++ id ∷ ys → IsDistinct nat_eq (within ++ others) → IsApart id others
+pub held_apart : (id : ℕ) (xs ys within others : List ℕ) → within ≡ xs ++ id ∷ ys → IsDistinct nat_eq (within ++ others) → IsApart id others
 held_apart id xs ys within others is once =
     let whole : IsDistinct nat_eq (xs ++ id ∷ (ys ++ others)) =
     subst (IsDistinct nat_eq) (append_assoc xs (id ∷ ys) others) (subst (λ zs. IsDistinct nat_eq (zs ++ others)) is once) in
@@ -130,7 +130,7 @@ beyond (Child id) p within others own once held =
 beyond (Left id) p within others own once (xs, ys, is) = held_apart id xs ys within others is once.1
 beyond (Right id) p within others own once (xs, ys, is) = held_apart id xs ys within others is once.1
 
-among : (directory : List Entry) (Reads : Entry → List ℕ → Type 0) (id : ℕ) (xs ys : List ℕ) (c : Content) (within : List ℕ)
+pub among : (directory : List Entry) (Reads : Entry → List ℕ → Type 0) (id : ℕ) (xs ys : List ℕ) (c : Content) (within : List ℕ)
     → Holds directory Reads (xs ++ id ∷ ys) c within → (us : List ℕ) × (vs : List ℕ) × (within ≡ us ++ id ∷ vs)
 among directory Reads id xs ys c within h =
     let parts = halves directory Reads xs (id ∷ ys) c within h in

@@ -6,13 +6,13 @@ use Rattle.cfb_tree.specs.Names.{Letters}
 use Rattle.cfb_tree.specs.Paths.{Path}
 use Rattle.cfb_tree.specs.Tree.{Content, Tree}
 use Rattle.cfb_tree.specs.Directory.{Entry, Siblings, Holds, no_entry}
-use Rattle.cfb_tree.specs.Objects.{joined_contents, HoldsTree}
+use Rattle.cfb_tree.specs.Objects.{joined_contents, HoldsTree, IsObject, Object}
 use Rattle.cfb_tree.specs.Changes.{parent_of, removed, changed, holding, without_child}
 use Rattle.cfb_tree.specs.Entries.{IsBlackAt, IsColored}
 use Rattle.cfb_tree.proofs.OneContent.{Some_same}
 use Rattle.cfb_siblings.specs.Changes.{IsApart, HoldsOneLess, TakesOut}
 use Rattle.cfb_siblings.specs.Links.{holder, relinked}
-use Rattle.cfb_siblings.specs.Places.{HasEntry, Hangs, IsStorageAt, NameIsTaken, LeadsBy, path_to}
+use Rattle.cfb_siblings.specs.Places.{HasEntry, Hangs, IsChild, IsStorageAt, NameIsTaken, LeadsBy, path_to}
 use Rattle.cfb_siblings.specs.declared.links.Link.{Link}
 use Rattle.cfb_siblings.specs.declared.links.Link.TheVariants.{Child, Left, Right}
 use Rattle.cfb_siblings.proofs.Parts.{AllStay, ReadsByPlace, Relinks, root_after, IsOutside, IsPlaced}
@@ -37,7 +37,7 @@ removed_is letters (name ∷ names) wanted tree =
     ap (λ n. changed letters (holding (without_child letters n)) (parent_of (path_to (name ∷ names) wanted)) tree) (last_of_path (name ∷ names) wanted)
     ∙ ap (λ q. changed letters (holding (without_child letters wanted)) q tree) (parent_of_path (name ∷ names) wanted)
 
-outside_one : (link : Link) (p : ℕ) (within : List ℕ) → IsLinkOf p link → IsApart p within → IsOutside link within
+pub outside_one : (link : Link) (p : ℕ) (within : List ℕ) → IsLinkOf p link → IsApart p within → IsOutside link within
 outside_one (Child id) p within is apart = subst (λ k. IsApart k within) (sym is) apart
 outside_one (Left id) p within is apart = tt
 outside_one (Right id) p within is apart = tt
@@ -52,6 +52,20 @@ module _ (letters : Letters) (Reads : Entry → List ℕ → Type 0) (by_place :
   found = found_of old Reads letters wanted p st.entry.child st.children st.inside st.within link at taken.front taken.back
       (subst (λ y. Hangs old p y.child link at taken.front taken.back) (Some_same (sym taken.owner.found ∙ st.found)) taken.hangs)
       taken.fits taken.named st.siblings st.holds st.ordered.0
+
+  -- it is the child of the name, and an object
+  pub taken_child : IsChild letters old p wanted at
+  taken_child = record {
+    owner = taken.owner;
+    front = found.chosen.front;
+    back = found.chosen.back;
+    siblings = subst (λ y. Siblings old y.child (found.chosen.front ++ at ∷ found.chosen.back)) (Some_same (sym st.found ∙ taken.owner.found))
+        (subst (Siblings old st.entry.child) found.chosen.ids_are st.siblings);
+    named = taken.named;
+  }
+
+  pub taken_object : (o : Object) × (own : List ℕ) × IsObject old Reads at o own
+  taken_object = (found.chosen.object, found.chosen.own, found.chosen.is_object)
 
   abbrev rest_all : List ℕ
   rest_all = found.chosen.earlier_all ++ found.chosen.later_all

@@ -3,7 +3,9 @@ ghost use Rattle.cfb_siblings.specs.Changes.{AreColored, ObjectBecomes, HasSameL
 ghost use Rattle.cfb_siblings.specs.Links.{relinked};
 ghost use Rattle.cfb_siblings.specs.Places.{path_to, IsFree, IsStorageAt, LeadsTo};
 ghost use Rattle.cfb_siblings.specs.Reading.{ReadBy};
+ghost use Rattle.cfb_siblings.specs.Rotations.{IsReached, IsRotation, Turns};
 ghost use Rattle.cfb_siblings.specs.declared.links.Link.{Link as Way};
+ghost use Rattle.cfb_siblings.specs.declared.rotation.Rotation.{Rotation as Turning};
 ghost use Rattle.cfb_sectors.specs.Sectors.{end_of_chain};
 ghost use Rattle.cfb_tree.specs.Changes.{added, changed, made_at};
 ghost use Rattle.cfb_tree.specs.Directory.{kind_storage, kind_stream, Entry};
@@ -75,4 +77,15 @@ pub fn changed_entries_change_the_tree()
     ensures colors { (directory : List Entry) (ids : List ℕ) (id : ℕ) (e f : Entry)
         → slice_get directory id ≡ Some e → HasSameLinks e f → f.color ≡ e.color
         → AreColored directory ids → AreColored (slice_set directory id f) ids }
+{}
+
+/// Siblings are turned, where the link led to the upper one: the entries hold the tree still, of the same entries, whatever the
+/// shape of the trees of siblings is.
+pub fn rotated_entries_hold_the_tree()
+    ensures { (reads : ℕ → ℕ → List ℕ → Bool) (letters : Letters) (directory : List Entry)
+        (tree : Tree) (path : Path) (parent : ℕ) (link : Way) (upper : ℕ) (it : Turning)
+        → (h : HoldsTree letters (ReadBy reads) directory tree)
+        → IsStorageAt letters directory path parent → IsReached directory parent link upper
+        → IsRotation directory link upper it
+        → Turns letters (ReadBy reads) directory tree h.ids path parent upper it }
 {}

@@ -9,7 +9,7 @@ use Rattle.cfb_tree.specs.EntryViews.{entry_in}
 use Rattle.cfb_directory.specs.Views.{allocator_of, entries_held}
 use Rattle.cfb_directory.proofs.EntrySizes.{sizes_same}
 use Rattle.cfb_directory.proofs.Inserted.{joined_sizes, joined_there}
-use Rattle.cfb_directory.proofs.Stages.{grows_then}
+use Rattle.cfb_directory.proofs.Turned.{writes_one, writes_then}
 use Rattle.cfb_directory.proofs.directory.Directory.take_out.Goals as goal
 
 pub returns-in-Err-write_link-clause-goes_on : goal.returns-in-Err-write_link-clause-goes_on
@@ -52,14 +52,17 @@ returns-in-Err-write_entry-clause-answers g c =
       fault = told.fault;
     }
 
-pub returns-clause-grown : goal.returns-clause-grown
-returns-clause-grown g c = λ has.
+pub returns-clause-written : goal.returns-clause-written
+returns-clause-written g c =
     let old = c.args.self.now in
+    let one = c.write_joined.new.self in
     let mid = c.write_link.new.self in
+    let new = c.write_entry.new.self in
     let it = c.args.removal.replaced in
     let set = c.in_default-write_link.ensures.set in
-    grows_then old mid c.write_entry.new.self c.args.id (entry_in c.unallocated.result) (goes_then _ _ _ c.write_joined.ensures.goes_on c.write_link.ensures.goes_on)
-    (grows_then old c.write_joined.new.self mid (holder it.link) (linked_to it.link it.target set.0) c.write_joined.ensures.goes_on (c.in_default.ensures.grown has) set.2) c.in_default-write_entry.ensures.set
+    writes_then old mid new (goes_then _ _ _ c.write_joined.ensures.goes_on c.write_link.ensures.goes_on)
+    (writes_then old one mid c.write_joined.ensures.goes_on c.in_default.ensures.written (writes_one one mid (holder it.link) (linked_to it.link it.target set.0) set.2))
+    (writes_one mid new c.args.id (entry_in c.unallocated.result) c.in_default-write_entry.ensures.set)
 
 pub returns-clause-goes_on : goal.returns-clause-goes_on
 returns-clause-goes_on g c = goes_then _ _ _ (goes_then _ _ _ c.write_joined.ensures.goes_on c.write_link.ensures.goes_on) c.write_entry.ensures.goes_on
@@ -70,7 +73,7 @@ returns-in-Err-write_link-clause-refused g c = λ wrong ready holders.
     let mid = c.write_joined.new.self in
     let it = c.args.removal in
     let set = c.in_default.ensures.set in
-    c.in-Err-write_link.ensures.refused wrong (c.in_default.ensures.grown ready.has).has
+    c.in-Err-write_link.ensures.refused wrong (c.in_default.ensures.written.has ready.has)
     (subst (λ es. HasEntry es (holder it.replaced.link)) (sym set) (joined_there it.joined (entries_held old) (holder it.replaced.link) holders.replaced))
     (sizes_same (version_of (allocator_of old)) (version_of (allocator_of mid)) (joined_by it.joined (entries_held old)) (entries_held mid) c.write_joined.ensures.goes_on.version set
     (joined_sizes (version_of (allocator_of old)) it.joined (entries_held old) ready.sizes))

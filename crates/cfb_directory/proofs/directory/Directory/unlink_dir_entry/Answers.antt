@@ -1,71 +1,102 @@
-use Rattle.std.proofs.Common.{◌≡◌, ap, sym, subst, ◌∙◌, arith}
-use Rattle.std.specs.Prelude.{slice_set}
+use Rattle.std.proofs.Common.{◌≡◌, ◌∙◌, ap, refl, sym, subst, arith}
+use Rattle.std.specs.Prelude.{Err}
+use Rattle.cfb_chains.specs.ChainCalls.{IsInvalid}
+use Rattle.cfb_fat.specs.Resting.{all_rest_refl}
+use Rattle.cfb_fat.specs.Tables.{version_of}
+use Rattle.cfb_medium.specs.declared.error.Error.TheVariants.{InvalidData}
+use Rattle.cfb_owned.proofs.GoingOn.{goes_then, rests_go_on}
 use Rattle.cfb_sectors.proofs.Appending.{on_ok}
-use Rattle.cfb_siblings.specs.Changes.{HoldsOneLess, TakesOut}
-use Rattle.cfb_siblings.specs.Links.{taken_out}
+use Rattle.cfb_siblings.specs.Changes.{TakesOut}
 use Rattle.cfb_siblings.specs.Places.{path_to, IsStorageAt, NameIsTaken}
 use Rattle.cfb_siblings.specs.Reading.{ReadBy}
-use Rattle.cfb_tree.specs.Changes.{removed}
-use Rattle.cfb_tree.specs.Entries.{empty_entry}
 use Rattle.cfb_tree.specs.Objects.{HoldsTree}
-use Rattle.cfb_directory.specs.Entries.{entries_in}
+use Rattle.cfb_directory.specs.Children.{HoldsChild}
+use Rattle.cfb_directory.specs.Entries.{entries_in, SizesFit}
+use Rattle.cfb_directory.specs.Turning.{AreAs, HoldChild}
 use Rattle.cfb_directory.specs.Views.{allocator_of, entries_held}
-use Rattle.cfb_directory.specs.Children.{HasHolders}
-use Rattle.cfb_directory.specs.Entries.{SizesFit}
-use Rattle.cfb_directory.proofs.Inserted.{object_lost, removes_at, there}
-use Rattle.cfb_siblings.proofs.Entries.{lost_in}
-use Rattle.cfb_fat.specs.Tables.{version_of}
+use Rattle.cfb_directory.proofs.Growing.{none_grown}
+use Rattle.cfb_directory.proofs.Inserted.{removes_at, there}
+use Rattle.cfb_directory.proofs.Stages.{grows_more}
+use Rattle.cfb_directory.proofs.Turned.{answers_then, kept_or_failed, ready_still, removes_still, removes_then, writes_then}
 use Rattle.cfb_directory.proofs.directory.Directory.unlink_dir_entry.Goals as goal
+
+pub returns-in-Err-sink-clause-refused : goal.returns-in-Err-sink-clause-refused
+returns-in-Err-sink-clause-refused g c = λ wrong l reads tree path parent name child ready.
+    let same = c.note.ensures.same in
+    let is : c.in-Err-sink.error ≡ InvalidData = cc in
+    c.in-Err-sink.ensures.refused (ap Err is) l reads tree path parent name (subst (λ es. HoldsChild l reads es tree path parent name c.args.link c.args.id) (sym same) child)
+    (record { chain = ready.has.chain; entries = same ∙ ready.has.entries }) (subst (SizesFit (version_of (allocator_of c.args.self.now))) (sym same) ready.sizes)
+
+pub returns-in_default-plan_removal-clause-refused : goal.returns-in_default-plan_removal-clause-refused
+returns-in_default-plan_removal-clause-refused g c = λ wrong l reads tree path parent name child ready.
+    let id = c.args.id in
+    let mid = entries_held c.sink.new.self in
+    let keeps = subst (λ es. HoldChild es mid c.args.link c.in-Ok.link id) c.note.ensures.same c.in-Ok.ensures.holds in
+    let now = keeps l reads tree path parent name child in
+    let same : entries_in c.deref.result.now ≡ mid = ap entries_in c.deref.ensures.value in
+    c.in_default-plan_removal.ensures reads l tree path parent name (subst (λ es. HoldsTree l (ReadBy reads) es tree) (sym same) now.0.holds.holds)
+    (subst (λ es. IsStorageAt l es path parent) (sym same) now.0.storage) (subst (λ es. NameIsTaken l es parent name c.in-Ok.link id) (sym same) now.1)
 
 pub returns-clause-removed : goal.returns-clause-removed
 returns-clause-removed g c =
-    on_ok c.take_out.result _ _ (λ taken l reads tree path parent name child.
-    let h = child.within.holds in
-    let s = child.within.storage in
     let id = c.args.id in
-    let old = entries_held c.args.self.now in
-    let same : entries_in c.deref.result.now ≡ old = ap entries_in c.deref.ensures.value in
-    let plan = subst (λ es. (h : HoldsTree l (ReadBy reads) es tree) → IsStorageAt l es path parent → NameIsTaken l es parent name c.args.link id
+    let mid = entries_held c.sink.new.self in
+    let keeps = subst (λ es. HoldChild es mid c.args.link c.in-Ok.link id) c.note.ensures.same c.in-Ok.ensures.holds in
+    let same : entries_in c.deref.result.now ≡ mid = ap entries_in c.deref.ensures.value in
+    on_ok c.take_out.result _ _
+    (λ taken. removes_then (entries_held c.args.self.now) mid (entries_held c.take_out.new.self) c.args.link c.in-Ok.link id c.in-Some.removal keeps
+    (λ l reads tree path parent name h.
+    let plan = subst (λ es. (h : HoldsTree l (ReadBy reads) es tree) → IsStorageAt l es path parent → NameIsTaken l es parent name c.in-Ok.link id
     → TakesOut l (ReadBy reads) es tree h.ids (path_to path name) id c.in-Some.removal) same (λ h s t. c.in-Some.ensures reads l tree path parent name h s t) in
-    let out = plan h s child.taken in
-    record {
-      object = out.object;
-      own = out.own;
-      is_object = out.is_object;
-      holds = subst (λ es. HoldsOneLess l (ReadBy reads) old es (removed l (path_to path name) tree) h.ids (path_to path name) id out.own)
-          (ap (λ es. slice_set (taken_out c.in-Some.removal es) id empty_entry) (sym c.note.ensures.same) ∙ sym taken)
-          (out.leaves empty_entry);
-    })
-    c.take_out.ensures.taken
+    plan h.within.holds h.within.storage h.taken) taken) c.take_out.ensures.taken
 
 pub returns-clause-entry : goal.returns-clause-entry
 returns-clause-entry g c =
-    on_ok c.take_out.result _ _ (λ taken. removes_at c.in-Some.removal (entries_held c.args.self.now) (entries_held c.take_out.new.self) c.args.id (there (c.args.self.now.entries.items.items) c.args.id (let past = c.if-id-len.false in let size = c.len.ensures in omega (arith, past, size))) (taken ∙ ap (λ es. slice_set (taken_out c.in-Some.removal es) c.args.id empty_entry) c.note.ensures.same))
-    c.take_out.ensures.taken
-
-pub returns-in_default-clause-refused : goal.returns-in_default-clause-refused
-returns-in_default-clause-refused g c = λ wrong l reads tree path parent name child ready.
-    let same : entries_in c.deref.result.now ≡ entries_held c.args.self.now = ap entries_in c.deref.ensures.value in
-    c.in_default.ensures reads l tree path parent name (subst (λ es. HoldsTree l (ReadBy reads) es tree) (sym same) child.within.holds)
-    (subst (λ es. IsStorageAt l es path parent) (sym same) child.within.storage) (subst (λ es. NameIsTaken l es parent name c.args.link c.args.id) (sym same) child.taken)
-
-pub returns-then-id-len-clause-refused : goal.returns-then-id-len-clause-refused
-returns-then-id-len-clause-refused g c = λ wrong l reads tree path parent name child ready.
     let id = c.args.id in
-    let same : entries_in c.deref.result.now ≡ entries_held c.args.self.now = ap entries_in c.deref.ensures.value in
-    let plan = subst (λ es. (h : HoldsTree l (ReadBy reads) es tree) → IsStorageAt l es path parent → NameIsTaken l es parent name c.args.link id
-    → TakesOut l (ReadBy reads) es tree h.ids (path_to path name) id c.in-Some.removal) same (λ h s t. c.in-Some.ensures reads l tree path parent name h s t) in
-    let out = plan child.within.holds child.within.storage child.taken in
-    object_lost (entries_held c.args.self.now) (ReadBy reads) id out.object out.own out.is_object (lost_in c.args.self.now.entries.items.items id (let past = c.if-id-len.true in let size = c.len.ensures in omega (arith, past, size)))
+    let old = c.args.self.now in
+    let mid = entries_held c.sink.new.self in
+    let alike = subst (λ es. AreAs es mid) c.note.ensures.same c.in-Ok.ensures.links.alike in
+    let below = there old.entries.items.items id (let past = c.if-id-len.false in let size = c.len.ensures in omega (arith, past, size)) in
+    on_ok c.take_out.result _ _
+    (λ taken. removes_still (entries_held old) mid (entries_held c.take_out.new.self) id alike
+    (removes_at c.in-Some.removal mid (entries_held c.take_out.new.self) id (let len = alike.len in omega (arith, below, len)) taken)) c.take_out.ensures.taken
 
 pub returns-clause-refused : goal.returns-clause-refused
 returns-clause-refused g c = λ wrong l reads tree path parent name child ready.
     let id = c.args.id in
     let it = c.args.self.now in
-    let same : entries_in c.deref.result.now ≡ entries_held it = ap entries_in c.deref.ensures.value in
-    let plan = subst (λ es. (h : HoldsTree l (ReadBy reads) es tree) → IsStorageAt l es path parent → NameIsTaken l es parent name c.args.link id
+    let noted = record it { entries = c.note.new.self } in
+    let mid = entries_held c.sink.new.self in
+    let keeps = subst (λ es. HoldChild es mid c.args.link c.in-Ok.link id) c.note.ensures.same c.in-Ok.ensures.holds in
+    let now = keeps l reads tree path parent name child in
+    let same : entries_in c.deref.result.now ≡ mid = ap entries_in c.deref.ensures.value in
+    let plan = subst (λ es. (h : HoldsTree l (ReadBy reads) es tree) → IsStorageAt l es path parent → NameIsTaken l es parent name c.in-Ok.link id
     → TakesOut l (ReadBy reads) es tree h.ids (path_to path name) id c.in-Some.removal) same (λ h s t. c.in-Some.ensures reads l tree path parent name h s t) in
-    let out = plan child.within.holds child.within.storage child.taken in
+    let out = plan now.0.holds.holds now.0.storage now.1 in
     c.take_out.ensures.refused wrong
-    (record { has = record { chain = ready.has.chain; entries = c.note.ensures.same ∙ ready.has.entries }; orderly = ready.orderly; sizes = subst (SizesFit (version_of (allocator_of it))) (sym c.note.ensures.same) ready.sizes })
-    (subst (λ es. HasHolders es c.in-Some.removal) (sym c.note.ensures.same) (record { replaced = out.replaced; joined = out.joined }))
+    (ready_still noted c.sink.new.self c.sink.ensures.goes_on c.in-Ok.ensures.answers.live.1 c.in-Ok.ensures.links (record {
+      has = record { chain = ready.has.chain; entries = c.note.ensures.same ∙ ready.has.entries };
+      orderly = ready.orderly;
+      sizes = subst (SizesFit (version_of (allocator_of it))) (sym c.note.ensures.same) ready.sizes;
+    })) (record { replaced = out.replaced; joined = out.joined })
+
+pub returns-clause-grown : goal.returns-clause-grown
+returns-clause-grown g c =
+    let it = c.args.self.now in
+    let a = allocator_of it in
+    let noted = record it { entries = c.note.new.self } in
+    on_ok c.take_out.result _ _
+    (λ written has. grows_more it noted c.take_out.new.self (rests_go_on a a (all_rest_refl a)) (none_grown it noted refl refl c.note.ensures.same has)
+    (writes_then noted c.sink.new.self c.take_out.new.self c.sink.ensures.goes_on c.in-Ok.ensures.links.written written)) c.take_out.ensures.written
+
+pub returns-clause-goes_on : goal.returns-clause-goes_on
+returns-clause-goes_on g c = goes_then _ _ _ c.sink.ensures.goes_on c.take_out.ensures.goes_on
+
+pub returns-clause-memory : goal.returns-clause-memory
+returns-clause-memory g c =
+    kept_or_failed c.take_out.result c.args.self.now c.take_out.new.self (returns-clause-goes_on g c) (returns-clause-grown g c) c.take_out.ensures.failed
+
+pub returns-clause-answers : goal.returns-clause-answers
+returns-clause-answers g c =
+    answers_then IsInvalid c.take_out.result (allocator_of c.args.self.now) (allocator_of c.sink.new.self) (allocator_of c.take_out.new.self)
+    c.sink.ensures.goes_on c.in-Ok.ensures.answers.live.0 c.in-Ok.ensures.answers.live.1 c.take_out.ensures.failed c.take_out.ensures.answers
