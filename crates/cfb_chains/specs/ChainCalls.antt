@@ -184,3 +184,10 @@ module _ {H : Type 0} {s : Ghosts H} where
     pub live : g.failed mid ≡ false
     pub short : length (sectors_of old) + length more < count
     pub full : g.is_full mid ⊎ g.lacks mid (count - (length (sectors_of old) + length more)) ⊎ (greatest_regular + 1 < count)
+
+  -- `Full` of a chain that can't have so many sectors: the table could be changed, and where the layer lives numbers were missing
+  -- before the first was taken in
+  pub record IsShort (g : Growing H) (count : ℕ) (old new : Chain H s) : Type 0 where
+    pub orderly : IsTrue (g.orderly (holder_of old))
+    pub lacks : g.failed (holder_of new) ≡ false → LacksNumber g.lacks count old
+    pub ran_out : RunsOut g count old
