@@ -82,7 +82,7 @@ module _ {F : Type 0} {g : Ghosts F} where
     once_of = subst (IsDistinct nat_eq) (sym h.all) h.held.once.1
 
     -- its entries fill its directory's sectors
-    pub fills : FillSectors s.version s.entries
+    unfoldable pub fills : FillSectors s.version s.entries
     fills =
         let own = who.sectors directory_owner in
         let v = s.version in
