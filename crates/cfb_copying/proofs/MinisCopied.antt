@@ -114,5 +114,5 @@ module _ {F : Type 0} {g : Ghosts F} {T : Type 0} {h : Ghosts T} (a : Allocator 
           none = λ id apart. at_other mini_stream_owner stream own_then (stream_owner id) (λ e. omega (arith, e)) ∙ at_other mini_fat_owner minis new_own (stream_owner id) (λ e. omega (arith, e))
               ∙ at_other directory_owner (1 ∷ []) (λ k. []) (stream_owner id) (λ e. omega (arith, e));
           restarts = subst (Restarts s.entries [] own) list (restarts_root s.entries (entry_in e) own start found_there (is ∙ ap first_of (sym mine)));
-          lean = lean_same (version_of c) (version_of c) _ _ _ (1 + length (who.sectors mini_fat_owner) + length (who.sectors mini_stream_owner)) _ _ _ _ refl refl refl refl (let size = sectors_size who [] in omega (arith, size)) lean;
+          lean = lean_same (version_of c) (version_of c) _ _ _ (1 + length (who.sectors mini_fat_owner) + length (who.sectors mini_stream_owner)) _ _ _ _ refl refl refl refl (let size : length (sectors_among who []) ≡ length (who.sectors mini_fat_owner) + length (who.sectors mini_stream_owner) + 0 = sectors_size who [] in omega (arith, size)) lean;
         }

@@ -142,14 +142,18 @@ module _ {F : Type 0} {g : Ghosts F} (a : Allocator F g) (s : LiveFile) (who : O
   can_hold =
       let tables = h.held.kept.tables in
       let order = tables.orderly in
-      let few : length (tables_of s ++ who.sectors directory_owner ++ who.sectors mini_fat_owner ++ who.sectors mini_stream_owner ++ flat_map (used_of s who) (map key_of ids)) ≤ s.count = keys_few (used_of s who) s.count used_once used_apart used_below (all_keys ids) (subst (λ l. IsDistinct nat_eq (all_keys l)) (sym h.all) (all_once h.held.ids h.held.once)) in
-      let named = length-append s.difat_sectors s.fat_sectors in
-      let one = length-append (tables_of s) (who.sectors directory_owner ++ who.sectors mini_fat_owner ++ who.sectors mini_stream_owner ++ flat_map (used_of s who) (map key_of ids)) in
-      let two = length-append (who.sectors directory_owner) (who.sectors mini_fat_owner ++ who.sectors mini_stream_owner ++ flat_map (used_of s who) (map key_of ids)) in
-      let three = length-append (who.sectors mini_fat_owner) (who.sectors mini_stream_owner ++ flat_map (used_of s who) (map key_of ids)) in
-      let four = length-append (who.sectors mini_stream_owner) (flat_map (used_of s who) (map key_of ids)) in
-      let five = ap length (flat_keys s who ids) in
-      let size = sectors_size who ids in
+      let streams = flat_map (used_of s who) (map key_of ids) in
+      let stream = who.sectors mini_stream_owner ++ streams in
+      let minis = who.sectors mini_fat_owner ++ stream in
+      let all = who.sectors directory_owner ++ minis in
+      let few : length (tables_of s ++ all) ≤ s.count = keys_few (used_of s who) s.count used_once used_apart used_below (all_keys ids) (subst (λ l. IsDistinct nat_eq (all_keys l)) (sym h.all) (all_once h.held.ids h.held.once)) in
+      let named : length (tables_of s) ≡ length s.difat_sectors + length s.fat_sectors = length-append s.difat_sectors s.fat_sectors in
+      let one : length (tables_of s ++ all) ≡ length (tables_of s) + length all = length-append (tables_of s) all in
+      let two : length all ≡ length (who.sectors directory_owner) + length minis = length-append (who.sectors directory_owner) minis in
+      let three : length minis ≡ length (who.sectors mini_fat_owner) + length stream = length-append (who.sectors mini_fat_owner) stream in
+      let four : length stream ≡ length (who.sectors mini_stream_owner) + length streams = length-append (who.sectors mini_stream_owner) streams in
+      let five : length streams ≡ length (flat_map (λ id. who.sectors (stream_owner id)) ids) = ap length (flat_keys s who ids) in
+      let size : length (sectors_among who ids) ≡ length (who.sectors mini_fat_owner) + length (who.sectors mini_stream_owner) + length (flat_map (λ id. who.sectors (stream_owner id)) ids) = sectors_size who ids in
       let sum : length (who.sectors directory_owner) + length (sectors_among who ids) + length s.fat_sectors + length s.difat_sectors ≤ s.count = omega (arith, few, named, one, two, three, four, five, size) in
       let within = length-take s.count (fat_in s.version s.bytes s.fat_sectors) in
       let long : length s.fat ≤ length (fat_in s.version s.bytes s.fat_sectors) = let same = ap length tables.same in omega (arith, same, within) in

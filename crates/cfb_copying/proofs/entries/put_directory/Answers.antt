@@ -94,12 +94,12 @@ returns-in-Err-set_chain_len-clause-stopped g c = λ full mini_fat own bytes mad
     let a = c.args.target.now in
     let v = version_of a in
     let es = c.args.entries.now in
-    let content = c.deref.result.now in
+    let content = c.in-Ok.bytes.items in
     let before = c.in-Ok-open_chain.links in
     let opened = c.in-Ok-open_chain.ensures in
     let error : c.in-Err-set_chain_len.error ≡ Full = cc in
-    let size : length content ≡ length es * 128 = ap length c.deref.ensures.value ∙ c.in-Ok.ensures.size in
-    let len : c.len.result ≡ length content = c.len.ensures ∙ c.in-Ok.bytes.ok.0 ∙ ap length (sym c.deref.ensures.value) in
+    let size : length content ≡ length es * 128 = c.in-Ok.ensures.size in
+    let len : c.len.result ≡ length content = c.len.ensures ∙ c.in-Ok.bytes.ok.0 in
     let needed = sectors_needed v es content fills size (links_version before) c.len.result (sectors_for (links_version before) c.len.result) len opened.version refl in
     let one = ap length (first_sector mini_fat a own bytes made mine before opened.chain) in
     subst (λ n. RunsOut {g = g.T.ReadMedium} n fills.count a) one (subst (λ n. RunsOut {g = g.T.ReadMedium} (length (ids_of before)) n a) needed (c.in-Err-set_chain_len.ensures.stopped (ap Err error)))
