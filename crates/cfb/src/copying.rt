@@ -4,7 +4,7 @@ ghost use Rattle.cfb_copying.specs.Copied.{HoldsCopy};
 ghost use Rattle.cfb_fat.specs.Tables.{has_failed_here, version_of, HasCauseBelow};
 ghost use Rattle.cfb_live.specs.Doing.{IsFault};
 ghost use Rattle.cfb_medium.specs.Calls.{Extends, HasCauseSince};
-ghost use Rattle.cfb_medium.specs.declared.error.Error.TheVariants.{Failed, InvalidData};
+ghost use Rattle.cfb_medium.specs.declared.error.Error.TheVariants.{Failed, Full, InvalidData};
 ghost use Rattle.cfb_mini.specs.Views.{allocator_of};
 ghost use Rattle.cfb_tree.specs.Tree.{Tree};
 ghost use Rattle.std.specs.Prelude.{false, true, IfErr, IsErrOf, IsTrue, OnErr, OnOk, [], ◌≡◌, ◌⊎◌};
@@ -22,14 +22,16 @@ impl<F: ReadMedium> CompoundFile<F> {
     /// sector that serves no use; what the file holds in sectors and mini sectors of streams is copied whole. The file is only read.
     /// The copy is made in memory, and takes as much as it has bytes, besides a list of the file's entries; then it is written to
     /// the medium by one call, and nothing is published. `Failed` after an earlier fault of the file, before all else;
-    /// `InvalidData` where the file isn't sound. The other errors are `Memory`, `Device`, `Full` where numbers of sectors are
-    /// missing, and `Failed` of a medium that has failed. After an error the medium is as it was ([MS-CFB] 2).
+    /// `InvalidData` where the file isn't sound. The other errors are `Memory`, `Device`, and `Failed` of a medium that has failed;
+    /// `Full` never of a file that means a tree: a copy has no more sectors than the file. After an error the medium is as it was
+    /// ([MS-CFB] 2).
     pub fn copy_to<T: Medium>(&mut self, target: &mut T) -> Result<(), Error>
         requires { IsTrue (T.honest target.old) → T.bytes target.old ≡ [] }
         ensures copied { OnOk result (IsTrue (T.honest target.old) → (tree : Tree)
             → FileMeans self.old tree → HoldsCopy (version_of (allocator_of (mini_of self.old)))
             (letters_in self.old) (T.bytes target.new) tree) }
         ensures refused { IfErr result (λ e. (tree : Tree) → FileMeans self.old tree → IsFault e) }
+        ensures numbered { IsErrOf result Full → (tree : Tree) → FileMeans self.old tree → ⊥ }
         ensures failed { has_failed_here (allocator_of (mini_of self.old)) ≡ true
             → IsErrOf result Failed }
         ensures unsound { has_failed_here (allocator_of (mini_of self.old)) ≡ false

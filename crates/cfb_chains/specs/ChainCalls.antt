@@ -173,3 +173,21 @@ module _ {H : Type 0} {s : Ghosts H} where
   -- numbers are missing for a chain of so many sectors, in the layer or in a chain
   abbrev pub LacksNumber : (H → ℕ → Type 0) → ℕ → Chain H s → Type 0
   LacksNumber lacks count it = lacks (holder_of it) (count - length (sectors_of it)) ⊎ (greatest_regular + 1 < count)
+
+  -- Why it can't have so many sectors: when it had taken in some, and the live layer's table had changed at these entries, it was
+  -- short of them, and none was left, fewer than it wanted, or there are not so many numbers.
+  pub record RunsOut (g : Growing H) (count : ℕ) (old : Chain H s) : Type 0 where
+    pub more : List ℕ
+    pub changed : List ℕ
+    pub mid : H
+    pub grows : g.grows more changed (holder_of old) mid
+    pub live : g.failed mid ≡ false
+    pub short : length (sectors_of old) + length more < count
+    pub full : g.is_full mid ⊎ g.lacks mid (count - (length (sectors_of old) + length more)) ⊎ (greatest_regular + 1 < count)
+
+  -- `Full` of a chain that can't have so many sectors: the table could be changed, and where the layer lives numbers were missing
+  -- before the first was taken in
+  pub record IsShort (g : Growing H) (count : ℕ) (old new : Chain H s) : Type 0 where
+    pub orderly : IsTrue (g.orderly (holder_of old))
+    pub lacks : g.failed (holder_of new) ≡ false → LacksNumber g.lacks count old
+    pub ran_out : RunsOut g count old

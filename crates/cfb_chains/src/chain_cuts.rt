@@ -1,5 +1,5 @@
 //! Chains that become shorter, and chains of a given length.
-ghost use Rattle.cfb_chains.specs.ChainCalls.{chain_bytes, len_of, new_sector, ChainAnswers, ChainRests, Cuts, FreesBehind, ChainHolds, IsCutTo, IsInvalid, IsInvalidOrFull, IsUnlinked, ChainKeeps, KeepsBytes, LacksNumber, Lengthens, StaysLinked, StaysWritable};
+ghost use Rattle.cfb_chains.specs.ChainCalls.{chain_bytes, len_of, new_sector, ChainAnswers, ChainRests, Cuts, FreesBehind, ChainHolds, IsCutTo, IsInvalid, IsInvalidOrFull, IsShort, IsUnlinked, ChainKeeps, KeepsBytes, Lengthens, StaysLinked, StaysWritable};
 ghost use Rattle.cfb_chains.specs.Positions.{sectors_for};
 ghost use Rattle.cfb_medium.specs.declared.error.Error.TheVariants.{Failed, Full, InvalidData};
 ghost use Rattle.cfb_sectors.specs.Copies.{copies};
@@ -99,9 +99,8 @@ impl<'a, H: GrowsChains> Chain<'a, H> {
         ensures same { IsSameBut self.old self.new }
         ensures refused { IsErrOf result InvalidData
             → IsUnlinked H.FreesChains self.old × ChainRests H.rests self.old self.new }
-        ensures full { IsErrOf result Full → IsTrue (H.orderly (holder_of self.old))
-            × (H.failed (holder_of self.new) ≡ false
-            → LacksNumber H.lacks (sectors_for (version_of self.old) len) self.old) }
+        ensures full { IsErrOf result Full → IsShort H.GrowsChains
+            (sectors_for (version_of self.old) len) self.old self.new }
         ensures answers { ChainAnswers H.ChangesSectors IsInvalidOrFull result self.old self.new }
     {
         let count = needed_sectors(self.links.version(), len) as usize;

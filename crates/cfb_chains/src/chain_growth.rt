@@ -1,5 +1,5 @@
 //! Chains that become longer.
-ghost use Rattle.cfb_chains.specs.ChainCalls.{chain_bytes, new_sector, ChainAnswers, ChainRests, HasEnd, HasNoEnd, HasNoNumber, ChainHolds, IsInvalidOrFull, IsUnlinked, ChainKeeps, LacksNumber, Lengthens, MayWriteSector};
+ghost use Rattle.cfb_chains.specs.ChainCalls.{chain_bytes, new_sector, ChainAnswers, ChainRests, HasEnd, HasNoEnd, HasNoNumber, ChainHolds, IsInvalidOrFull, IsUnlinked, ChainKeeps, LacksNumber, Lengthens, MayWriteSector, RunsOut};
 ghost use Rattle.cfb_chains.specs.Changes.{AreAmong};
 ghost use Rattle.cfb_chains.specs.Grown.{IsLinked};
 ghost use Rattle.cfb_medium.specs.Calls.{IsFaultUnless};
@@ -141,6 +141,7 @@ impl<'a, H: GrowsChains> Chain<'a, H> {
         ensures full { IsErrOf result Full → (mid : H)
             × (H.is_full mid ⊎ (greatest_regular < length (sectors_of self.new)))
             × H.rests mid (holder_of self.new) }
+        ensures stopped { IsErrOf result Full → RunsOut H.GrowsChains count self.old }
         ensures error { IfErr result (λ e. H.has_cause (holder_of self.old) (holder_of self.new) e
             × (IsFaultUnless ⊥ e ⊎ (e ≡ Full))) }
     {
@@ -172,6 +173,7 @@ impl<'a, H: GrowsChains> Chain<'a, H> {
             → IsUnlinked H.FreesChains self.old × ChainRests H.rests self.old self.new }
         ensures full { IsErrOf result Full → IsTrue (H.orderly (holder_of self.old))
             × (H.failed (holder_of self.new) ≡ false → LacksNumber H.lacks count self.old) }
+        ensures stopped { IsErrOf result Full → RunsOut H.GrowsChains count self.old }
         ensures answers { ChainAnswers H.ChangesSectors IsInvalidOrFull result self.old self.new }
     {
         let wanted = count - self.num_sectors();

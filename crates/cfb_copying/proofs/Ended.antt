@@ -2,7 +2,8 @@
 use Rattle.std.proofs.Common.{◌≡◌, ℕ, ◌*◌, ◌≤◌, List, get_or, refl, ap, sym, subst, ◌∙◌, arith}
 use Rattle.std.specs.Prelude.{slice_get, Some}
 use Rattle.std.proofs.lemmas.Option.{slice_get_within, slice_get-get_or}
-use Rattle.cfb_medium.specs.Versions.{stream_len_mask}
+use Rattle.cfb_medium.specs.Versions.{sector_len, stream_len_mask}
+use Rattle.cfb_directory.specs.Entries.{SizesFit}
 use Rattle.cfb_medium.specs.declared.version.Version.{Version}
 use Rattle.cfb_medium.specs.declared.medium.ReadMedium.{Ghosts}
 use Rattle.cfb_sectors.specs.Held.{count_of}
@@ -20,7 +21,7 @@ use Rattle.cfb_copying.proofs.Made.{at_key, at_other}
 use Rattle.cfb_copying.proofs.Restarted.{again}
 
 -- entries that begin elsewhere fill as many sectors, and fit
-pub fill_again : (v : Version) (es later : List Entry) (ids : List ℕ) (own : ℕ → List ℕ) → Restarts es ids own later → FillSectors v es → FillSectors v later
+unfoldable pub fill_again : (v : Version) (es later : List Entry) (ids : List ℕ) (own : ℕ → List ℕ) → Restarts es ids own later → FillSectors v es → FillSectors v later
 fill_again v es later ids own h fills = record {
   count = fills.count;
   some = fills.some;
@@ -34,6 +35,10 @@ fill_again v es later ids own h fills = record {
       let same : e ≡ record (get_or es k e) { start = now.0 } = cc in
       subst (λ n. n ≤ stream_len_mask v) (ap (λ x. x.size) (sym same)) (fills.sizes k (get_or es k e) was);
 }
+
+-- in a file of the same version
+unfoldable pub fills_moved : (v w : Version) (es : List Entry) → w ≡ v → FillSectors v es → FillSectors w es
+fills_moved v w es same h = record { count = h.count; some = h.some; whole = h.whole ∙ ap (λ u. h.count * sector_len u) (sym same); sizes = subst (λ u. SizesFit u es) (sym same) h.sizes }
 
 -- the directory's sectors don't matter to what entries begin with
 restarts_under : (es later : List Entry) (ids ours : List ℕ) (own : ℕ → List ℕ) → Restarts es ids own later → Restarts es ids (with_list directory_owner ours own) later

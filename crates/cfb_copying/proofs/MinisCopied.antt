@@ -1,5 +1,5 @@
 -- Mini FAT and mini stream, put into a new file.
-use Rattle.std.proofs.Common.{◌≡◌, ℕ, ◌<◌, List, [], ◌∷◌, length, ap, sym, subst, ◌∙◌, arith}
+use Rattle.std.proofs.Common.{◌≡◌, ℕ, ◌+◌, ◌<◌, List, [], ◌∷◌, length, refl, ap, sym, subst, ◌∙◌, arith}
 use Rattle.std.specs.Prelude.{slice_get, slice_set, Some}
 use Rattle.std.proofs.Math.ListN.{length-set}
 use Rattle.std.proofs.lemmas.List.{length-map, map-set}
@@ -8,6 +8,9 @@ use Rattle.cfb_medium.specs.declared.medium.ReadMedium.{Ghosts}
 use Rattle.cfb_sectors.specs.Sectors.{end_of_chain, joined}
 use Rattle.cfb_creating.specs.NewFile.{new_directory}
 use Rattle.cfb_directory.specs.Entries.{entries_in}
+use Rattle.cfb_fat.specs.Growing.{IsLean}
+use Rattle.cfb_fat.specs.Keeping.{lean_same}
+use Rattle.cfb_owned.specs.Chains.{RunsOut}
 use Rattle.cfb_fat.specs.Tables.{bytes_of, version_of}
 use Rattle.cfb_fat.specs.declared.allocator.Allocator.{Allocator}
 use Rattle.cfb_owners.specs.LiveFile.{LiveFile}
@@ -19,7 +22,9 @@ use Rattle.cfb_tree.specs.EntryViews.{entry_in}
 use Rattle.cfb_tree.specs.declared.entry.DirEntry.{DirEntry}
 use Rattle.cfb_copying.specs.Copied.{Restarts}
 use Rattle.cfb_copying.specs.Making.{with_list, IsMade, IsOneOf}
-use Rattle.cfb_copying.specs.Steps.{CanPut, HasCopied, IsBegun, IsOriginal}
+use Rattle.cfb_copying.specs.Steps.{sectors_among, CanPut, HasCopied, IsBegun, IsOriginal}
+use Rattle.cfb_copying.proofs.Counted.{sectors_size}
+use Rattle.cfb_copying.proofs.Numbers.{can_hold, never_out, some_directory}
 use Rattle.cfb_copying.proofs.Made.{at_key, at_other, other_test}
 use Rattle.cfb_copying.proofs.Originals.{can_put}
 
@@ -50,6 +55,21 @@ module _ {F : Type 0} {g : Ghosts F} {T : Type 0} {h : Ghosts T} (a : Allocator 
   mini_fat_can start is =
       can_put a b s who ids start 1 end_of_chain mini_fat_owner new_own (with_list directory_owner (new_directory s.version) (λ k. [])) original is begun.of_version begun.made (at_other directory_owner (1 ∷ []) (λ k. []) mini_fat_owner (λ e. omega (arith, e)))
 
+  -- there are numbers for the mini FAT's sectors
+  pub mini_fat_never : RunsOut 0 (length (who.sectors mini_fat_owner)) b → ⊥
+  mini_fat_never =
+      let some = some_directory a s who ids original in
+      let size = sectors_size who ids in
+      never_out b s.version 0 (length (who.sectors mini_fat_owner)) 1 (length (who.sectors directory_owner) + length (sectors_among who ids)) begun.of_version (can_hold a s who ids original) begun.lean (omega (arith, some, size))
+
+  -- and behind these for the mini stream's
+  pub mini_stream_never : (y : Allocator T h) → version_of y ≡ version_of b → IsLean y (1 + length (who.sectors mini_fat_owner)) → RunsOut 0 (length (who.sectors mini_stream_owner)) y → ⊥
+  mini_stream_never y version lean =
+      let some = some_directory a s who ids original in
+      let size = sectors_size who ids in
+      never_out y s.version 0 (length (who.sectors mini_stream_owner)) (1 + length (who.sectors mini_fat_owner)) (length (who.sectors directory_owner) + length (sectors_among who ids)) (version ∙ begun.of_version) (can_hold a s who ids original)
+      (lean_same (version_of y) (version_of y) _ _ _ (1 + length (who.sectors mini_fat_owner)) _ _ _ _ refl refl refl refl (omega arith) lean) (omega (arith, some, size))
+
   module _ (x : Allocator F g) (y : Allocator T h) (minis : List ℕ) (read : IsOriginal x s who ids) (version : version_of y ≡ version_of b) (e : DirEntry) (found : slice_get (entries_in es) 0 ≡ Some (entry_in e))
       (made : IsMade 1 end_of_chain y (with_list mini_fat_owner minis new_own) (with_list mini_fat_owner (joined (version_of a) (bytes_of a) (who.sectors mini_fat_owner)) (with_list directory_owner (new_directory s.version) (λ k. [])))) where
     abbrev pub own_then : ℕ → List ℕ
@@ -71,8 +91,9 @@ module _ {F : Type 0} {g : Ghosts F} {T : Type 0} {h : Ghosts T} (a : Allocator 
 
     pub minis_copied : (c : Allocator T h) (stream : List ℕ) (start : ℕ) → start ≡ first_of stream → version_of c ≡ version_of y
         → IsMade 1 end_of_chain c (with_list mini_stream_owner stream own_then) (with_list mini_stream_owner (joined (version_of x) (bytes_of x) (who.sectors mini_stream_owner)) bytes_then)
+        → IsLean c (1 + length (who.sectors mini_fat_owner) + length (who.sectors mini_stream_owner))
         → HasCopied s who [] minis (entries_in (slice_set es 0 (record e { start_sector = start }))) c
-    minis_copied c stream start is later done =
+    minis_copied c stream start is later done lean =
         let own = with_list mini_stream_owner stream own_then in
         let content = joined (version_of x) (bytes_of x) (who.sectors mini_stream_owner) in
         let found_there : slice_get s.entries 0 ≡ Some (entry_in e) = ap (λ l. slice_get l 0) same ∙ found in
@@ -93,4 +114,5 @@ module _ {F : Type 0} {g : Ghosts F} {T : Type 0} {h : Ghosts T} (a : Allocator 
           none = λ id apart. at_other mini_stream_owner stream own_then (stream_owner id) (λ e. omega (arith, e)) ∙ at_other mini_fat_owner minis new_own (stream_owner id) (λ e. omega (arith, e))
               ∙ at_other directory_owner (1 ∷ []) (λ k. []) (stream_owner id) (λ e. omega (arith, e));
           restarts = subst (Restarts s.entries [] own) list (restarts_root s.entries (entry_in e) own start found_there (is ∙ ap first_of (sym mine)));
+          lean = lean_same (version_of c) (version_of c) _ _ _ (1 + length (who.sectors mini_fat_owner) + length (who.sectors mini_stream_owner)) _ _ _ _ refl refl refl refl (let size : length (sectors_among who []) ≡ length (who.sectors mini_fat_owner) + length (who.sectors mini_stream_owner) + 0 = sectors_size who [] in omega (arith, size)) lean;
         }

@@ -1,5 +1,5 @@
 -- A new file is one in the making, of which the directory owns a sector.
-use Rattle.std.proofs.Common.{◌≡◌, ◌⊎◌, ℕ, zero, suc, ◌+◌, ◌*◌, ◌<◌, ◌≤◌, false, true, IsTrue, inl, inr, List, [], ◌∷◌, ◌++◌, length, take, refl, ap, sym, subst, ◌∙◌, arith, append-nil, ⊎_elim}
+use Rattle.std.proofs.Common.{◌≡◌, ◌⊎◌, ℕ, zero, suc, ◌+◌, ◌*◌, ◌/◌, ◌<◌, ◌≤◌, false, true, IsTrue, inl, inr, List, [], ◌∷◌, ◌++◌, length, take, refl, ap, sym, subst, ◌∙◌, arith, append-nil, ⊎_elim}
 use Rattle.std.specs.Prelude.{nat_eq, slice_get, slice_index, Bool, Some, ◌||◌}
 use Rattle.std.proofs.lemmas.Bool.Decides.{eqb_tells}
 use Rattle.std.proofs.lemmas.Grind.{merely}
@@ -23,7 +23,8 @@ use Rattle.cfb_chains.specs.Owned.{Owned}
 use Rattle.cfb_creating.specs.NewFile.{new_directory, new_fat, new_file, new_header}
 use Rattle.cfb_creating.proofs.NewBytes.{directory_joined, fields, length-new_file, numbers_read, table_joined}
 use Rattle.cfb_fat.specs.Listed.{Lists}
-use Rattle.cfb_fat.specs.Orderly.{IsOrderly}
+use Rattle.cfb_fat.specs.Keeping.{lean_same}
+use Rattle.cfb_fat.specs.Orderly.{AreLean, IsOrderly}
 use Rattle.cfb_fat.specs.Seeing.{seen_of}
 use Rattle.cfb_fat.specs.Tables.{bytes_of, difat_sectors_of, fat_of, fat_sectors_of, has_failed_here, is_honest, orderly_of, sectors_of, tables_of, version_of}
 use Rattle.cfb_fat.specs.declared.allocator.Allocator.{Allocator}
@@ -123,6 +124,14 @@ only_memory e fault there device failed = ⊎_elim (λ is. by_kind e is device f
     by_kind UnexpectedEof is device failed = absurd is
     by_kind Full is device failed = absurd is
 
+-- its tables are one sector, which its directory needs
+new_lean : (v : Version) → AreLean v 2 1 0 1
+new_lean v = record {
+  most = omega arith;
+  fat = λ f d below named. let none : f ≡ 0 = omega (arith, below) in subst (λ n. n * (sector_len v / 4) ≤ 1 + n + d) (sym none) (omega arith);
+  difat = λ d below. absurd (omega (arith, below));
+}
+
 module _ {F : Type 0} {g : Ghosts F} where
   pub new_begun : (v : Version) (it : Allocator F g) → has_failed_here it ≡ false → IsTrue (is_honest it) → version_of it ≡ v → bytes_of it ≡ new_file v → difat_sectors_of it ≡ [] → fat_sectors_of it ≡ 0 ∷ []
       → fat_of it ≡ take (count_of (sectors_of it)) (fat_in v (new_file v) (0 ∷ [])) → IsBegun v it
@@ -164,6 +173,7 @@ module _ {F : Type 0} {g : Ghosts F} where
           tight = λ n below. let size = ap length fat_is in by_number n (omega (arith, below, size)) tables;
         };
         of_version = of_version;
+        lean = lean_same v (version_of it) 2 1 0 1 _ _ _ 1 of_version (ap length fat_is) (ap length fats) (ap length difat) (omega arith) (new_lean v);
       }
     where
       by_number : (n : ℕ) → n < 2 → tables_of it ≡ 0 ∷ [] → IsOneOf (tables_of it) n ⊎ ((key : ℕ) × IsOneOf (own key) n)

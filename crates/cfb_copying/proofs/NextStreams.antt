@@ -1,5 +1,5 @@
 -- The stream of an entry of the tree that comes next.
-use Rattle.std.proofs.Common.{◌≡◌, ℕ, ◌<◌, ◌≤◌, List, [], ◌∷◌, ◌++◌, get_or, length, map, ap, sym, subst, ◌∙◌, arith}
+use Rattle.std.proofs.Common.{◌≡◌, ℕ, ◌+◌, ◌<◌, ◌≤◌, List, [], ◌∷◌, ◌++◌, get_or, length, map, refl, ap, sym, subst, ◌∙◌, arith}
 use Rattle.std.specs.Prelude.{option_map, slice_get, slice_set, Option, Some}
 use Rattle.std.proofs.lemmas.List.{length-map, map-set}
 use Rattle.std.proofs.lemmas.Option.{slice_get-get_or, slice_get-map}
@@ -7,15 +7,20 @@ use Rattle.cfb_medium.specs.declared.medium.ReadMedium.{Ghosts}
 use Rattle.cfb_sectors.specs.Header.{mini_cutoff}
 use Rattle.cfb_sectors.specs.Sectors.{end_of_chain, joined}
 use Rattle.cfb_directory.specs.Entries.{entries_in}
+use Rattle.cfb_fat.specs.Growing.{IsLean}
+use Rattle.cfb_fat.specs.Keeping.{lean_same}
+use Rattle.cfb_owned.specs.Chains.{RunsOut}
 use Rattle.cfb_fat.specs.Tables.{bytes_of, version_of}
 use Rattle.cfb_fat.specs.declared.allocator.Allocator.{Allocator}
 use Rattle.cfb_owners.specs.LiveFile.{LiveFile}
-use Rattle.cfb_owners.specs.Owners.{first_of, stream_owner, Owners}
+use Rattle.cfb_owners.specs.Owners.{directory_owner, first_of, stream_owner, Owners}
 use Rattle.cfb_tree.specs.Directory.{kind_stream, Entry}
 use Rattle.cfb_tree.specs.EntryViews.{entry_in}
 use Rattle.cfb_tree.specs.declared.entry.DirEntry.{DirEntry}
 use Rattle.cfb_copying.specs.Making.{with_list, IsMade}
-use Rattle.cfb_copying.specs.Steps.{CanPut, HasCopied, IsNext, IsOriginal}
+use Rattle.cfb_copying.specs.Steps.{sectors_among, CanPut, HasCopied, IsNext, IsOriginal}
+use Rattle.cfb_copying.proofs.Counted.{sectors_split}
+use Rattle.cfb_copying.proofs.Numbers.{can_hold, never_out, some_directory}
 use Rattle.cfb_copying.proofs.Originals.{can_put, entry_there, long_start, part_of, past_root}
 use Rattle.cfb_copying.proofs.StreamSteps.{entry_yet, long_then, short_then}
 use Rattle.cfb_copying.proofs.Tight.{one_is_not_none}
@@ -28,6 +33,14 @@ module _ {F : Type 0} {g : Ghosts F} {T : Type 0} {h : Ghosts T} (a : Allocator 
     (original : IsOriginal a s who ids) (next : IsNext ids done id) (has : HasCopied s who done minis (entries_in es) b) where
   pub next_there : id < length es
   next_there = let there = entry_there a s who ids original id next.among in let size = has.restarts.size in let many = length-map es entry_in in omega (arith, there, size, many)
+
+  -- there are numbers for its sectors
+  pub next_never : RunsOut 0 (length (who.sectors (stream_owner id))) b → ⊥
+  next_never =
+      let split = ap (λ l. length (sectors_among who l)) next.splits ∙ sectors_split who done id next.rest in
+      let some = some_directory a s who ids original in
+      never_out b s.version 0 (length (who.sectors (stream_owner id))) (length (sectors_among who done) + 1) (length (who.sectors directory_owner) + length (sectors_among who ids)) has.version (can_hold a s who ids original)
+      (lean_same (version_of b) (version_of b) _ _ _ (length (sectors_among who done) + 1) _ _ _ _ refl refl refl refl (omega arith) has.lean) (omega (arith, split, some))
 
   past : id ≡ 0 → ⊥
   past = past_root a s who ids original id next.among
@@ -47,8 +60,9 @@ module _ {F : Type 0} {g : Ghosts F} {T : Type 0} {h : Ghosts T} (a : Allocator 
 
       pub next_long : (c : Allocator T h) (sectors : List ℕ) (start : ℕ) → start ≡ first_of sectors → version_of c ≡ version_of b
           → IsMade 1 end_of_chain c (with_list (stream_owner id) sectors has.own) (with_list (stream_owner id) (joined (version_of a) (bytes_of a) (who.sectors (stream_owner id))) has.bytes)
+          → IsLean c (length (sectors_among who done) + 1 + length (who.sectors (stream_owner id)))
           → HasCopied s who (done ++ id ∷ []) minis (entries_in (slice_set es id (record e { start_sector = start }))) c
-      next_long c sectors start is same made =
+      next_long c sectors start is same made lean =
           let key = stream_owner id in
           let content : joined (version_of a) (bytes_of a) (who.sectors key) ≡ joined s.version s.bytes (who.sectors key) =
           ap (λ v. joined v (bytes_of a) (who.sectors key)) original.version ∙ ap (λ l. joined s.version l (who.sectors key)) original.bytes in
@@ -56,4 +70,4 @@ module _ {F : Type 0} {g : Ghosts F} {T : Type 0} {h : Ghosts T} (a : Allocator 
           ap {A = ℕ} (λ n. slice_set (entries_in es) id (record (entry_in e) { start = n })) (sym is) ∙ sym (map-set entry_in es id (record e { start_sector = start })) in
           subst (λ l. HasCopied s who (done ++ id ∷ []) minis l c) entries
           (long_then s who done minis (entries_in es) id (entry_in e) (was_found (entry_in e) now) b c sectors has kind long next.fresh past same
-          (subst (λ l. IsMade 1 end_of_chain c (with_list key sectors has.own) (with_list key l has.bytes)) content made))
+          (subst (λ l. IsMade 1 end_of_chain c (with_list key sectors has.own) (with_list key l has.bytes)) content made) lean)

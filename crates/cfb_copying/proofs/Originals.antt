@@ -28,11 +28,11 @@ holds_of_one P (x ∷ xs) n all (zero, below, is) = subst P is all.0
 holds_of_one P (x ∷ xs) n all (suc k, below, is) = holds_of_one P xs n all.1 (k, omega (arith, below), is)
 
 -- whole sectors' bytes as whole entries
-in_entries : (v : Version) (count : ℕ) → count * sector_len v ≡ count * (sector_len v / 128) * 128
+pub in_entries : (v : Version) (count : ℕ) → count * sector_len v ≡ count * (sector_len v / 128) * 128
 in_entries V3 count = omega arith
 in_entries V4 count = omega arith
 
-some_sectors : (v : Version) (len count : ℕ) → len * 128 ≡ count * sector_len v → 0 < len → 0 < count
+pub some_sectors : (v : Version) (len count : ℕ) → len * 128 ≡ count * sector_len v → 0 < len → 0 < count
 some_sectors V3 len count is some = omega (arith, is, some)
 some_sectors V4 len count is some = omega (arith, is, some)
 
@@ -82,7 +82,7 @@ module _ {F : Type 0} {g : Ghosts F} where
     once_of = subst (IsDistinct nat_eq) (sym h.all) h.held.once.1
 
     -- its entries fill its directory's sectors
-    pub fills : FillSectors s.version s.entries
+    unfoldable pub fills : FillSectors s.version s.entries
     fills =
         let own = who.sectors directory_owner in
         let v = s.version in

@@ -1,6 +1,8 @@
 -- A chain that is put into a file in the making.
-use Rattle.std.proofs.Common.{◌≡◌, ℕ, inl, inr, false, List, [], ◌∷◌, refl, ap, sym, subst, ◌∙◌, ⊎_elim}
+use Rattle.std.proofs.Common.{◌≡◌, ◌⊎◌, ℕ, inl, inr, false, List, [], ◌∷◌, refl, ap, sym, subst, ◌∙◌, ⊎_elim}
+use Rattle.cfb_medium.specs.Calls.{IsFaultUnless}
 use Rattle.cfb_medium.specs.declared.error.Error.{Error}
+use Rattle.cfb_medium.specs.declared.error.Error.TheVariants.{Full, InvalidData, InvalidInput}
 use Rattle.cfb_medium.specs.declared.medium.ReadMedium.{Ghosts}
 use Rattle.cfb_sectors.specs.Sectors.{joined, Chain}
 use Rattle.cfb_chains.specs.ChainCalls.{IsInvalidPlace}
@@ -21,6 +23,20 @@ use Rattle.cfb_copying.proofs.Made.{made_more}
 -- an error of a copy that is none of a place is a fault
 pub fault_of : (e : Error) → (IsInvalidPlace e → ⊥) → IsCopyFault e → IsFault e
 fault_of e never fault = ⊎_elim (λ is. inl is) (λ rest. ⊎_elim (λ invalid. absurd (never invalid)) (λ full. inr full) rest) fault
+
+-- a fault that isn't want of numbers
+pub no_full : (e : Error) → (e ≡ Full → ⊥) → IsFault e → IsFaultUnless ⊥ e
+no_full e never fault = ⊎_elim (λ is. is) (λ full. absurd (never full)) fault
+
+-- want of numbers is no fault, and no refusal
+pub not_full : (e : Error) → IsFaultUnless ⊥ e ⊎ IsInvalidPlace e → e ≡ Full → ⊥
+not_full e fault is = ⊎_elim (λ f. subst (IsFaultUnless ⊥) is f) (λ place. ⊎_elim (λ invalid. let wrong : InvalidData ≡ Full = sym invalid ∙ is in differ_data wrong) (λ input. let wrong : InvalidInput ≡ Full = sym input ∙ is in differ_input wrong) place) fault
+  where
+    differ_data : InvalidData ≡ Full → ⊥
+    differ_data e = cc
+
+    differ_input : InvalidInput ≡ Full → ⊥
+    differ_input e = cc
 
 -- a chain from a start is one from its first sector
 pub linked_of : (fat : List ℕ) (start : ℕ) (ids : List ℕ) → Chain fat start ids → IsLinked fat ids

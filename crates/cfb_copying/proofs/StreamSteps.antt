@@ -1,5 +1,5 @@
 -- A stream more among those that were copied.
-use Rattle.std.proofs.Common.{◌≡◌, ℕ, zero, suc, ◌+◌, ◌<◌, ◌≤◌, ◌⊎◌, inl, inr, List, [], ◌∷◌, ◌++◌, length, length-append, take, refl, ap, sym, subst, ◌∙◌, arith, ⊎_elim}
+use Rattle.std.proofs.Common.{◌≡◌, ℕ, zero, suc, ◌+◌, ◌<◌, ◌≤◌, ◌⊎◌, inl, inr, List, [], ◌∷◌, ◌++◌, length, length-append, take, drop, refl, ap, sym, subst, ◌∙◌, arith, ⊎_elim}
 use Rattle.std.specs.Prelude.{false, nat_eq, slice_get, slice_index, slice_set, Some}
 use Rattle.std.specs.List.{AllByRecursion, IsDistinct}
 use Rattle.std.proofs.Math.ListN.{length-set}
@@ -10,6 +10,8 @@ use Rattle.cfb_medium.specs.declared.medium.ReadMedium.{Ghosts}
 use Rattle.cfb_sectors.specs.Header.{mini_cutoff}
 use Rattle.cfb_sectors.specs.Sectors.{end_of_chain, joined}
 use Rattle.cfb_chains.specs.Changes.{IsNoneOf}
+use Rattle.cfb_fat.specs.Growing.{IsLean}
+use Rattle.cfb_fat.specs.Keeping.{lean_same}
 use Rattle.cfb_fat.specs.Tables.{version_of}
 use Rattle.cfb_fat.specs.declared.allocator.Allocator.{Allocator}
 use Rattle.cfb_owners.specs.LiveFile.{LiveFile}
@@ -19,7 +21,8 @@ use Rattle.cfb_siblings.proofs.Frames.{set_found}
 use Rattle.cfb_tree.specs.Directory.{kind_stream, Entry}
 use Rattle.cfb_copying.specs.Copied.{IsLongAmong, Restarts}
 use Rattle.cfb_copying.specs.Making.{with_list, IsMade, IsOneOf}
-use Rattle.cfb_copying.specs.Steps.{HasCopied, IsNext}
+use Rattle.cfb_copying.specs.Steps.{sectors_among, HasCopied, IsNext}
+use Rattle.cfb_copying.proofs.Counted.{sectors_more}
 use Rattle.cfb_copying.proofs.CopiedTight.{one_behind, one_of_two}
 use Rattle.cfb_copying.proofs.Made.{at_key, at_other, other_test}
 use Rattle.cfb_copying.proofs.Tight.{one_is_not_none}
@@ -49,6 +52,14 @@ next_fresh (x ∷ xs) (suc i) once below = by_place (next_fresh xs i once.1 (ome
     by_place : IsNoneOf (take i xs) (slice_index xs i) → IsNoneOf (take (suc i) (x ∷ xs)) (slice_index (x ∷ xs) (suc i))
     by_place later zero there same = other_than xs i once.0 (omega (arith, below)) same
     by_place later (suc k) there same = later k (omega (arith, there)) same
+
+split_at : (xs : List ℕ) (i : ℕ) → i < length xs → xs ≡ take i xs ++ slice_index xs i ∷ drop (suc i) xs
+split_at [] i below = absurd (omega (arith, below))
+split_at (x ∷ xs) zero below = refl
+split_at (x ∷ xs) (suc i) below = ap (λ l. x ∷ l) (split_at xs i (omega (arith, below)))
+
+pub next_of : (xs : List ℕ) (i : ℕ) → IsDistinct nat_eq xs → i < length xs → IsNext xs (take i xs) (slice_index xs i)
+next_of xs i once below = record { among = (i, below, refl); fresh = next_fresh xs i once below; rest = drop (suc i) xs; splits = split_at xs i below }
 
 module _ (es : List Entry) (done : List ℕ) (id : ℕ) (e : Entry) (found : slice_get es id ≡ Some e) where
   abbrev more : List ℕ
@@ -130,13 +141,15 @@ module _ {F : Type 0} {g : Ghosts F} (s : LiveFile) (who : Owners) (done minis :
     streams = λ k it. h.streams k (fewer s.entries done id e found short k it);
     none = λ k apart. h.none k (λ it. apart (bigger s.entries done id e found k it));
     restarts = restarts_short s.entries done id e found short h.own later h.restarts;
+    lean = lean_same (version_of a) (version_of a) _ _ _ (length (sectors_among who done) + 1) _ _ _ _ refl refl refl refl (let size = sectors_more who done id in omega (arith, size)) h.lean;
   }
 
   -- a long one was copied to sectors of its own
   pub long_then : (a b : Allocator F g) (sectors : List ℕ) → (h : HasCopied s who done minis later a) → e.kind ≡ kind_stream → mini_cutoff ≤ e.size → IsNoneOf done id → (id ≡ 0 → ⊥) → version_of b ≡ version_of a
       → IsMade 1 end_of_chain b (with_list (stream_owner id) sectors h.own) (with_list (stream_owner id) (joined s.version s.bytes (who.sectors (stream_owner id))) h.bytes)
+      → IsLean b (length (sectors_among who done) + 1 + length (who.sectors (stream_owner id)))
       → HasCopied s who (done ++ id ∷ []) minis (slice_set later id (record e { start = first_of sectors })) b
-  long_then a b sectors h kind long fresh past same made =
+  long_then a b sectors h kind long fresh past same made lean =
       let key = stream_owner id in
       let content = joined s.version s.bytes (who.sectors key) in record {
         own = with_list key sectors h.own;
@@ -158,4 +171,5 @@ module _ {F : Type 0} {g : Ghosts F} (s : LiveFile) (who : Owners) (done minis :
             let differ : k ≡ id → ⊥ = λ is. apart (subst (IsLongAmong s.entries (done ++ id ∷ [])) (sym is) (here s.entries done id e found kind long fresh past sectors)) in
             at_other key sectors h.own (stream_owner k) (other_key s.entries done id e found kind long fresh past sectors k differ) ∙ h.none k (λ it. apart (bigger s.entries done id e found k it));
         restarts = restarts_long s.entries done id e found kind long fresh past sectors h.own later h.restarts;
+        lean = lean_same (version_of b) (version_of b) _ _ _ (length (sectors_among who done) + 1 + length (who.sectors key)) _ _ _ _ refl refl refl refl (let size = sectors_more who done id in omega (arith, size)) lean;
       }

@@ -1,13 +1,16 @@
 -- How far a copy has come, and what the steps of making it say.
-use Rattle.std.specs.Prelude.{◌≡◌, ℕ, ◌*◌, ◌<◌, List, [], ◌∷◌, false, length, IfErr, IsTrue, OnOk, Result}
+use Rattle.std.specs.Prelude.{◌≡◌, ℕ, ◌+◌, ◌*◌, ◌/◌, ◌<◌, ◌≤◌, List, [], ◌∷◌, ◌++◌, false, length, IfErr, IsTrue, OnOk, Result}
+use Rattle.std.specs.List.{flat_map}
 use Rattle.cfb_medium.specs.Versions.{sector_len}
 use Rattle.cfb_medium.specs.declared.error.Error.{Error}
 use Rattle.cfb_medium.specs.declared.medium.ReadMedium.{Ghosts}
 use Rattle.cfb_medium.specs.declared.version.Version.{Version}
-use Rattle.cfb_sectors.specs.Sectors.{end_of_chain, joined, Chain}
+use Rattle.cfb_sectors.specs.Sectors.{end_of_chain, greatest_regular, joined, Chain}
 use Rattle.cfb_chains.specs.Changes.{IsNoneOf}
 use Rattle.cfb_creating.specs.NewFile.{new_directory}
 use Rattle.cfb_directory.specs.Entries.{SizesFit}
+use Rattle.cfb_fat.specs.Growing.{IsLean}
+use Rattle.cfb_fat.specs.Orderly.{named_at_most}
 use Rattle.cfb_fat.specs.Tables.{bytes_of, fat_of, has_failed_here, is_honest, version_of, AllRests}
 use Rattle.cfb_fat.specs.declared.allocator.Allocator.{Allocator}
 use Rattle.cfb_owned.specs.Chains.{GoesOn}
@@ -35,10 +38,25 @@ pub record FillSectors (version : Version) (entries : List Entry) : Type 0 where
   pub whole : length entries * 128 ≡ count * sector_len version
   pub sizes : SizesFit version entries
 
--- entry `id` is one of these, and none of those that are done
+-- entry `id` is one of these, and none of those that are done, which stand before it
 pub record IsNext (ids done : List ℕ) (id : ℕ) : Type 0 where
   pub among : IsOneOf ids id
   pub fresh : IsNoneOf done id
+  pub rest : List ℕ
+  pub splits : ids ≡ done ++ id ∷ rest
+
+-- the sectors of mini FAT, mini stream, and these entries' streams
+abbrev pub sectors_among : Owners → List ℕ → List ℕ
+sectors_among who ids = who.sectors mini_fat_owner ++ who.sectors mini_stream_owner ++ flat_map (λ id. who.sectors (stream_owner id)) ids
+
+-- a file of this version can have so many sectors besides its tables', with an entry of the FAT for each and a number ([MS-CFB]
+-- 2.1, 2.3, 2.5)
+pub record CanHold (version : Version) (content : ℕ) : Type 0 where
+  pub fat_count : ℕ
+  pub difat_count : ℕ
+  pub covered : content + fat_count + difat_count ≤ fat_count * (sector_len version / 4)
+  pub named : fat_count ≤ named_at_most version difat_count
+  pub numbered : content + fat_count + difat_count ≤ greatest_regular + 1
 
 module _ {F : Type 0} {g : Ghosts F} where
   -- the file that is copied: an honest one, seen as this live file, which holds a tree of these entries
@@ -57,9 +75,10 @@ module _ {F : Type 0} {g : Ghosts F} where
   pub record IsBegun (version : Version) (it : Allocator F g) : Type 0 where
     pub made : IsMade 1 end_of_chain it (with_list directory_owner (1 ∷ []) (λ k. [])) (with_list directory_owner (new_directory version) (λ k. []))
     pub of_version : version_of it ≡ version
+    pub lean : IsLean it 1
 
   -- So far mini FAT, mini stream and the long streams among `done` were copied, and these entries tell where they begin; the mini
-  -- FAT has these sectors, and the directory is a new file's.
+  -- FAT has these sectors, and the directory is a new file's; the tables are no larger than these need.
   pub record HasCopied (s : LiveFile) (who : Owners) (done minis : List ℕ) (later : List Entry) (it : Allocator F g) : Type 0 where
     pub own : ℕ → List ℕ
     pub bytes : ℕ → List ℕ
@@ -72,6 +91,7 @@ module _ {F : Type 0} {g : Ghosts F} where
     pub streams : (id : ℕ) → IsLongAmong s.entries done id → bytes (stream_owner id) ≡ joined s.version s.bytes (who.sectors (stream_owner id))
     pub none : (id : ℕ) → (IsLongAmong s.entries done id → ⊥) → own (stream_owner id) ≡ []
     pub restarts : Restarts s.entries done own later
+    pub lean : IsLean it (length (sectors_among who done) + 1)
 
   -- the directory holds these entries, and its chain begins where it did; all other owners have what they had
   pub record HasEntries (version : Version) (mini_fat : ℕ) (own bytes : ℕ → List ℕ) (entries : List Entry) (ids : List ℕ) (it : Allocator F g) : Type 0 where

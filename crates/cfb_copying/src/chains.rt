@@ -2,9 +2,11 @@
 ghost use Rattle.cfb_chains.specs.ChainCalls.{IsInvalidPlace};
 ghost use Rattle.cfb_chains.specs.LinkViews.{ids_of, links_version};
 ghost use Rattle.cfb_copying.specs.Chains.{CopiesChain, HasCauseInEither, IsCopyFault};
-ghost use Rattle.cfb_fat.specs.Tables.{has_failed_here, orderly_of, AllRests};
-ghost use Rattle.cfb_owned.specs.Chains.{content_of, len_of, GoesOn, HasChain, HasLinks, Overwrites};
-ghost use Rattle.std.specs.Prelude.{false, length, IfErr, IsTrue, OnOk, ◌<◌, ◌^◌, ◌≡◌, ◌≤◌};
+ghost use Rattle.cfb_fat.specs.Tables.{has_failed_here, orderly_of, AllRests, KeepsTables};
+ghost use Rattle.cfb_medium.specs.Calls.{IsFaultUnless};
+ghost use Rattle.cfb_medium.specs.declared.error.Error.TheVariants.{Full};
+ghost use Rattle.cfb_owned.specs.Chains.{content_of, len_of, GoesOn, HasChain, HasLinks, Overwrites, RunsOut, StaysLean};
+ghost use Rattle.std.specs.Prelude.{false, length, IfErr, IsErrOf, IsTrue, OnOk, ◌<◌, ◌^◌, ◌≡◌, ◌≤◌, ◌⊎◌};
 
 use cfb_chains::Links;
 use cfb_fat::Allocator;
@@ -35,11 +37,12 @@ fn copy_bytes<F: ReadMedium, T: Medium>(
         → Overwrites 0 (content_of source.old from.now) target.old target.new to.now) }
     ensures refused { IfErr result (λ e. IsInvalidPlace e → HasLinks source.old from.now
         → HasChain target.old to.now → ⊥) }
+    ensures tables { OnOk result (KeepsTables target.old target.new) }
     ensures rests { AllRests source.old source.new }
     ensures goes_on { GoesOn target.old target.new }
     ensures live { OnOk result (has_failed_here target.new ≡ false) }
     ensures cause { IfErr result (HasCauseInEither source.old source.new target.old target.new) }
-    ensures fault { IfErr result IsCopyFault }
+    ensures fault { IfErr result (λ e. IsFaultUnless ⊥ e ⊎ IsInvalidPlace e) }
 {
     if target.is_failed() {
         return Err(Error::Failed);
@@ -62,7 +65,7 @@ fn copy_bytes<F: ReadMedium, T: Medium>(
 
 /// Makes a chain one that holds what a longer chain of another file does, in as many sectors; those that it takes in were in no
 /// use. The other file is only read. `InvalidData` where one of the files hasn't its chain, or the tables of the one that is written can't
-/// be changed; `Full` where numbers of sectors are missing. The other errors are faults: then the chain holds anything.
+/// be changed; `Full` where on the way numbers of sectors run out. The other errors are faults: then the chain holds anything.
 pub fn copy_chain<F: ReadMedium, T: Medium>(
     source: &mut Allocator<F>,
     from: &Links,
@@ -76,6 +79,10 @@ pub fn copy_chain<F: ReadMedium, T: Medium>(
         to.new) }
     ensures refused { IfErr result (λ e. IsInvalidPlace e → HasLinks source.old from.now
         → HasChain target.old to.old → IsTrue (orderly_of target.old) → ⊥) }
+    ensures stopped { IsErrOf result Full → RunsOut (length (ids_of to.old))
+        (length (ids_of from.now)) target.old }
+    ensures lean { OnOk result (StaysLean (length (ids_of to.old)) (length (ids_of from.now))
+        target.old target.new) }
     ensures rests { AllRests source.old source.new }
     ensures goes_on { GoesOn target.old target.new }
     ensures live { OnOk result (has_failed_here target.new ≡ false) }

@@ -4,8 +4,8 @@ ghost use Rattle.cfb_copying.specs.Copied.{HoldsCopy};
 ghost use Rattle.cfb_copying.specs.Steps.{HasCopy, IsOriginal};
 ghost use Rattle.cfb_directory.specs.Entries.{entries_in};
 ghost use Rattle.cfb_fat.specs.Tables.{has_failed_here, version_of, AllRests, HasCauseBelow};
-ghost use Rattle.cfb_live.specs.Doing.{IsFault};
 ghost use Rattle.cfb_live.specs.Live.{MeansLive};
+ghost use Rattle.cfb_medium.specs.Calls.{IsFaultUnless};
 ghost use Rattle.cfb_medium.specs.declared.error.Error.TheVariants.{Failed};
 ghost use Rattle.cfb_mini.specs.Views.{allocator_of, mini_fat_ids, MiniRests};
 ghost use Rattle.cfb_owners.specs.LiveFile.{LiveFile};
@@ -40,7 +40,7 @@ fn copy_file<F: ReadMedium>(
         → HasCopy s who ids.now bytes.items) }
     ensures refused { IfErr result (λ e. (s : LiveFile) (who : Owners)
         → IsOriginal source.old s who ids.now → s.entries ≡ entries_in entries.old
-        → mini_fat_at ≡ first_of (who.sectors mini_fat_owner) → IsFault e) }
+        → mini_fat_at ≡ first_of (who.sectors mini_fat_owner) → IsFaultUnless ⊥ e) }
     ensures rests { AllRests source.old source.new }
     ensures cause { IfErr result (HasCauseBelow source.old source.new) }
     ensures fault { IfErr result IsCopyFault }
@@ -86,7 +86,7 @@ fn copy_lent<F: ReadMedium>(
         → HasCopy s who ids.now bytes.items) }
     ensures refused { IfErr result (λ e. (s : LiveFile) (who : Owners)
         → IsOriginal (allocator_of mini.old) s who ids.now → s.entries ≡ entries_in entries.old
-        → mini_fat_at ≡ first_of (who.sectors mini_fat_owner) → IsFault e) }
+        → mini_fat_at ≡ first_of (who.sectors mini_fat_owner) → IsFaultUnless ⊥ e) }
     ensures rests { MiniRests mini.old mini.new }
     ensures cause { IfErr result (HasCauseBelow (allocator_of mini.old) (allocator_of mini.new)) }
     ensures fault { IfErr result IsCopyFault }
@@ -103,14 +103,15 @@ fn entries_again(alloc: Global, entries: &[DirEntry]) -> Result<Vec<DirEntry>, A
 
 /// The bytes of a copy of a live file: a file of the same version that means the same tree, and has no sector that serves no use.
 /// Each chain of the file is copied whole, so that it needs as much memory as the copy has bytes, besides a list of the entries.
-/// The file is only read. `Failed` after an earlier fault, before all else; `InvalidData` only where the file means no tree; `Full`
-/// where numbers of sectors are missing. The other errors are `Memory` and `Device` ([MS-CFB] 2).
+/// The file is only read. `Failed` after an earlier fault, before all else; `InvalidData` and `Full` only where the file means no
+/// tree: a copy has no more sectors than the file, so that numbers don't run out. The other errors are `Memory` and `Device`
+/// ([MS-CFB] 2).
 pub fn copy_of<F: ReadMedium>(alloc: Global, mini: &mut MiniAllocator<F>) -> Result<Vec<u8>, Error>
     ensures copied { IfOk result (λ bytes. (letters : Letters) (tree : Tree)
         → MeansLive letters mini.old tree
         → HoldsCopy (version_of (allocator_of mini.old)) letters bytes.items tree) }
     ensures refused { IfErr result (λ e. (letters : Letters) (tree : Tree)
-        → MeansLive letters mini.old tree → IsFault e) }
+        → MeansLive letters mini.old tree → IsFaultUnless ⊥ e) }
     ensures failed { has_failed_here (allocator_of mini.old) ≡ true → IsErrOf result Failed }
     ensures rests { MiniRests mini.old mini.new }
     ensures cause { IfErr result (HasCauseBelow (allocator_of mini.old) (allocator_of mini.new)) }

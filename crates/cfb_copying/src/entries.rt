@@ -2,17 +2,17 @@
 ghost use Rattle.cfb_chains.specs.LinkViews.{ids_of};
 ghost use Rattle.cfb_copying.specs.Chains.{IsCopyFault};
 ghost use Rattle.cfb_copying.specs.Making.{IsMade};
-ghost use Rattle.cfb_copying.specs.Steps.{FillSectors, HasCopied, HasCopy, HasEntries};
+ghost use Rattle.cfb_copying.specs.Steps.{sectors_among, CanHold, FillSectors, HasCopied, HasCopy, HasEntries};
 ghost use Rattle.cfb_directory.specs.Entries.{entries_in, SizesFit};
 ghost use Rattle.cfb_fat.specs.Tables.{bytes_of, has_failed_here, version_of, HasCauseBelow};
 ghost use Rattle.cfb_live.specs.Doing.{IsFault};
 ghost use Rattle.cfb_medium.specs.Calls.{IsFaultUnless};
-ghost use Rattle.cfb_medium.specs.declared.error.Error.TheVariants.{InvalidData, Memory};
-ghost use Rattle.cfb_owned.specs.Chains.{GoesOn};
+ghost use Rattle.cfb_medium.specs.declared.error.Error.TheVariants.{Full, InvalidData, Memory};
+ghost use Rattle.cfb_owned.specs.Chains.{GoesOn, RunsOut};
 ghost use Rattle.cfb_owners.specs.LiveFile.{LiveFile};
 ghost use Rattle.cfb_owners.specs.Owners.{directory_owner, first_of, Owners};
 ghost use Rattle.cfb_tree.specs.Directory.{entries_of};
-ghost use Rattle.std.specs.Prelude.{false, length, IfErr, IfOk, List, OnOk, [], ℕ, ◌*◌, ◌∷◌, ◌≡◌, ◌⊎◌};
+ghost use Rattle.std.specs.Prelude.{false, length, IfErr, IfOk, IsErrOf, List, OnOk, [], ℕ, ◌*◌, ◌+◌, ◌∷◌, ◌≡◌, ◌⊎◌};
 
 use crate::streams::start_of;
 use cfb_chains::Links;
@@ -60,6 +60,10 @@ fn put_directory<T: Medium>(
     ensures refused { IfErr result (λ e. (mini_fat : ℕ) (own bytes : ℕ → List ℕ)
         → IsMade 1 mini_fat target.old own bytes → own directory_owner ≡ 1 ∷ []
         → FillSectors (version_of target.old) (entries_in entries.now) → IsFault e) }
+    ensures stopped { IsErrOf result Full → (mini_fat : ℕ) (own bytes : ℕ → List ℕ)
+        → IsMade 1 mini_fat target.old own bytes → own directory_owner ≡ 1 ∷ []
+        → (fills : FillSectors (version_of target.old) (entries_in entries.now))
+        → RunsOut 1 fills.count target.old }
     ensures goes_on { GoesOn target.old target.new }
     ensures live { OnOk result (has_failed_here target.new ≡ false) }
     ensures cause { IfErr result (HasCauseBelow target.old target.new) }
@@ -136,8 +140,10 @@ pub(crate) fn end_copy<T: Medium>(
         → FillSectors s.version s.entries → HasCopied s who ids (ids_of mini_fat.now)
         (entries_in entries.now) target.old → HasCopy s who ids (bytes_of target.new)) }
     ensures refused { IfErr result (λ e. (s : LiveFile) (who : Owners) (ids : List ℕ)
-        → FillSectors s.version s.entries → HasCopied s who ids (ids_of mini_fat.now)
-        (entries_in entries.now) target.old → IsFault e) }
+        → (fills : FillSectors s.version s.entries)
+        → CanHold s.version (fills.count + length (sectors_among who ids))
+        → HasCopied s who ids (ids_of mini_fat.now) (entries_in entries.now) target.old
+        → IsFaultUnless ⊥ e) }
     ensures cause { IfErr result (HasCauseBelow target.old target.new) }
     ensures fault { IfErr result IsCopyFault }
 {

@@ -3,15 +3,19 @@ ghost use Rattle.cfb_chains.specs.LinkViews.{ids_of};
 ghost use Rattle.cfb_copying.specs.Making.{with_list, IsMade};
 ghost use Rattle.cfb_copying.specs.Steps.{CanPut, HasCopied, IsBegun, IsNext, IsOriginal, Steps};
 ghost use Rattle.cfb_directory.specs.Entries.{entries_in};
-ghost use Rattle.cfb_fat.specs.Tables.{bytes_of, has_failed_here, version_of};
+ghost use Rattle.cfb_fat.specs.Growing.{IsLean};
+ghost use Rattle.cfb_fat.specs.Tables.{bytes_of, fat_of, has_failed_here, version_of};
+ghost use Rattle.cfb_medium.specs.Calls.{IsFaultUnless};
+ghost use Rattle.cfb_medium.specs.declared.error.Error.TheVariants.{Full};
+ghost use Rattle.cfb_owned.specs.Chains.{RunsOut};
 ghost use Rattle.cfb_live.specs.Doing.{IsFault};
 ghost use Rattle.cfb_owners.specs.LiveFile.{LiveFile};
 ghost use Rattle.cfb_owners.specs.Owners.{first_of, mini_fat_owner, Owners};
 ghost use Rattle.cfb_sectors.specs.Header.{mini_cutoff};
-ghost use Rattle.cfb_sectors.specs.Sectors.{joined};
+ghost use Rattle.cfb_sectors.specs.Sectors.{joined, Chain};
 ghost use Rattle.cfb_tree.specs.Directory.{kind_stream};
 ghost use Rattle.cfb_tree.specs.EntryViews.{entry_in};
-ghost use Rattle.std.specs.Prelude.{false, IfErr, IfOk, IsTrue, List, OnOk, [], ℕ, ◌++◌, ◌∷◌, ◌≡◌, ◌≤◌, ◌↔◌};
+ghost use Rattle.std.specs.Prelude.{false, length, IfErr, IfOk, IsErrOf, IsTrue, List, OnOk, [], ℕ, ◌+◌, ◌++◌, ◌∷◌, ◌≡◌, ◌≤◌, ◌↔◌};
 
 use crate::chains::copy_chain;
 use cfb_chains::Links;
@@ -46,6 +50,10 @@ fn put_chain<F: ReadMedium, T: Medium>(
     ensures refused { IfErr result (λ e. (directory mini_fat key : ℕ) (own bytes : ℕ → List ℕ)
         (ids : List ℕ) → CanPut source.old start target.old directory mini_fat key own bytes ids
         → IsFault e) }
+    ensures stopped { IsErrOf result Full → (ids : List ℕ) → Chain (fat_of source.old) start ids
+        → RunsOut 0 (length ids) target.old }
+    ensures lean { OnOk result ((ids : List ℕ) → Chain (fat_of source.old) start ids
+        → (others : ℕ) → IsLean target.old others → IsLean target.new (others + length ids)) }
     ensures steps { Steps result source.old source.new target.old target.new }
 {
     let from = match source.open_chain(start) {
@@ -95,7 +103,7 @@ fn copy_stream<F: ReadMedium, T: Medium>(
         → HasCopied s who (done ++ id ∷ []) minis (entries_in entries.new) target.new) }
     ensures refused { IfErr result (λ e. (s : LiveFile) (who : Owners) (ids done minis : List ℕ)
         → IsOriginal source.old s who ids → IsNext ids done id
-        → HasCopied s who done minis (entries_in entries.old) target.old → IsFault e) }
+        → HasCopied s who done minis (entries_in entries.old) target.old → IsFaultUnless ⊥ e) }
     ensures steps { Steps result source.old source.new target.old target.new }
 {
     if id as usize >= entries.len() {
@@ -129,7 +137,7 @@ pub(crate) fn copy_streams<F: ReadMedium, T: Medium>(
         → HasCopied s who ids.now minis (entries_in entries.new) target.new) }
     ensures refused { IfErr result (λ e. (s : LiveFile) (who : Owners) (minis : List ℕ)
         → IsOriginal source.old s who ids.now
-        → HasCopied s who [] minis (entries_in entries.old) target.old → IsFault e) }
+        → HasCopied s who [] minis (entries_in entries.old) target.old → IsFaultUnless ⊥ e) }
     ensures steps { Steps result source.old source.new target.old target.new }
 {
     'copy: for id in ids {
@@ -156,7 +164,7 @@ pub(crate) fn copy_minis<F: ReadMedium, T: Medium>(
     ensures refused { IfErr result (λ e. (s : LiveFile) (who : Owners) (ids : List ℕ)
         → IsOriginal source.old s who ids → s.entries ≡ entries_in entries.old
         → mini_fat_at ≡ first_of (who.sectors mini_fat_owner) → IsBegun s.version target.old
-        → IsFault e) }
+        → IsFaultUnless ⊥ e) }
     ensures steps { Steps result source.old source.new target.old target.new }
 {
     if entries.is_empty() {

@@ -29,7 +29,7 @@ use Rattle.cfb_fat.proofs.Listing.{header_whole}
 use Rattle.cfb_chains.proofs.Beside.{beside_second}
 use Rattle.cfb_fat.proofs.Packed.{not_none}
 use Rattle.cfb_medium.specs.Calls.{Extends}
-use Rattle.cfb_fat.specs.Keeping.{grows_then, tables_same}
+use Rattle.cfb_fat.specs.Keeping.{grows_then, lean_kept, lean_more, tables_same}
 use Rattle.cfb_chains.proofs.LongerTables.{holds_then, never}
 
 module _ {F : Type 0} {g : Ghosts F} where
@@ -45,14 +45,15 @@ module _ {F : Type 0} {g : Ghosts F} where
     tables = λ live p n fits apart. subst (λ l. IsBeside (version_of a) (l ++ fat_sectors_of b) p n) (sym h.difat_sectors) (subst (λ l. IsBeside (version_of a) (difat_sectors_of a ++ l) p n) (sym h.fat_sectors) apart);
     still = λ live n. (subst (λ l. IsNoneOf l n) h.difat_sectors, subst (λ l. IsNoneOf l n) h.fat_sectors);
     longer = h.longer;
+    lean = λ live. lean_kept [] a b h.version (h.fat live).size h.fat_sectors h.difat_sectors;
     told = λ live honest. holds_then (tables_of a) (tables_of b) (tables_same a b h.difat_sectors h.fat_sectors) (h.told live honest);
     beside = λ live honest p n fits apart words taken. h.beside live honest p n (beside_second (version_of a) (difat_sectors_of a) (fat_sectors_of a) p n apart);
   }
 
   -- the same with other entries and sectors, of which the old file's are among these
-  pub grows_but : (t e taken entries : List ℕ) (a b : Allocator F g) → ((n : ℕ) → n < length (fat_of a) → IsNoneOf entries n → IsNoneOf e n)
+  pub grows_but : (t e taken entries : List ℕ) (a b : Allocator F g) → length t ≤ length taken → ((n : ℕ) → n < length (fat_of a) → IsNoneOf entries n → IsNoneOf e n)
       → ((p n : ℕ) → IsBeside (version_of a) taken p n → IsBeside (version_of a) t p n) → GrowsFat t e a b → GrowsFat taken entries a b
-  grows_but t e taken entries a b fewer apart h = record {
+  grows_but t e taken entries a b no_more fewer apart h = record {
     honest = h.honest;
     continues = h.continues;
     version = h.version;
@@ -63,6 +64,7 @@ module _ {F : Type 0} {g : Ghosts F} where
     tables = h.tables;
     still = h.still;
     longer = h.longer;
+    lean = λ live content lean. lean_more (version_of b) (length (fat_of b)) (length (fat_sectors_of b)) (length (difat_sectors_of b)) _ _ (omega (arith, no_more)) (h.lean live content lean);
     told = h.told;
     beside = λ live honest p n fits tables words aside. h.beside live honest p n fits tables words (apart p n aside);
   }
@@ -82,13 +84,14 @@ module _ {F : Type 0} {g : Ghosts F} where
         tables = never (has_failed_here b) failed;
         still = never (has_failed_here b) failed;
         longer = never (has_failed_here b) failed;
+        lean = never (has_failed_here b) failed;
         told = never (has_failed_here b) failed;
         beside = never (has_failed_here b) failed;
       }
 
   -- an entry of a new sector is changed too
   pub grows_marked : (a b c : Allocator F g) (n : ℕ) → length (fat_of a) ≤ n → GrowsFat [] [] a b → ChangesFat (n ∷ []) b c → GrowsFat [] [] a c
-  grows_marked a b c n behind h k = grows_but [] (n ∷ []) [] [] a c (λ m below none. none_behind n m behind below) (λ p m aside. aside) (grows_then [] [] [] (n ∷ []) a b c h (change_grows (n ∷ []) b c k))
+  grows_marked a b c n behind h k = grows_but [] (n ∷ []) [] [] a c (omega arith) (λ m below none. none_behind n m behind below) (λ p m aside. aside) (grows_then [] [] [] (n ∷ []) a b c h (change_grows (n ∷ []) b c k))
     where
       none_behind : (n m : ℕ) → length (fat_of a) ≤ n → m < length (fat_of a) → IsNoneOf (n ∷ []) m
       none_behind n m behind below i inside same = let first : i ≡ 0 = omega (arith, inside) in let value : n ≡ m = sym (ap (λ j. get_or (n ∷ []) j 0) first) ∙ same in omega (arith, value, behind, below)
@@ -142,6 +145,7 @@ module _ {F : Type 0} {g : Ghosts F} where
     tables = λ live p k fits apart. subst (λ l. IsBeside (version_of a) (l ++ fat_sectors_of b) p k) (sym h.difat_sectors) (subst (λ l. IsBeside (version_of a) (difat_sectors_of a ++ l) p k) (sym h.fat_sectors) apart);
     still = λ live m. (subst (λ l. IsNoneOf l m) h.difat_sectors, subst (λ l. IsNoneOf l m) h.fat_sectors);
     longer = λ live honest. subst (λ l. length (bytes_of a) ≤ length l) (sym (h.sectors.0.bytes live honest)) (over_longer (bytes_of a) bytes (sector_start (version_of a) n));
+    lean = λ live. lean_kept (n ∷ []) a b h.sectors.0.version (ap length h.fat) h.fat_sectors h.difat_sectors;
     told = λ live honest. holds_then (tables_of a) (tables_of b) (tables_same a b h.difat_sectors h.fat_sectors) (λ told.
         subst (λ l. Counts (bytes_of b) l (fat_sectors_of b)) (sym h.difat_sectors) (subst (Counts (bytes_of b) (difat_sectors_of a)) (sym h.fat_sectors)
         (told_over (bytes_of a) (bytes_of b) bytes (difat_sectors_of a) (fat_sectors_of a) (sector_start (version_of a) n) (h.sectors.0.bytes live honest) (behind_header (version_of a) n)

@@ -8,6 +8,7 @@ pub mod Grown
 pub mod Growth
 pub mod GrowthSteps
 pub mod Joining
+pub mod Lean
 pub mod Leaving
 pub mod ListedMore
 pub mod ListedStays

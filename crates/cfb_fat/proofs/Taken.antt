@@ -61,7 +61,7 @@ module _ {F : Type 0} {g : Ghosts F} where
   pub takes_extended : (init : SectorInit) (ids : List ℕ) (start last n : ℕ) (a m b : Allocator F g) → IsChain (fat_of a) start (ids ++ last ∷ []) → has_failed_here m ≡ false → TakesOne init a m n
       → ChangesFat (last ∷ []) m b → (has_failed_here b ≡ false → fat_of b ≡ set (fat_of m) last n) → TakesIn (n ∷ []) (last ∷ n ∷ []) a b
   takes_extended init ids start last n a m b was live one changes is = record {
-    grows = grows_but (n ∷ []) (n ∷ last ∷ []) (n ∷ []) (last ∷ n ∷ []) a b
+    grows = grows_but (n ∷ []) (n ∷ last ∷ []) (n ∷ []) (last ∷ n ∷ []) a b (omega arith)
         (λ k below none. none_of_two n last k (none 1 (omega arith)) (none 0 (omega arith))) (λ p k aside. aside)
         (grows_then (n ∷ []) (n ∷ []) [] (last ∷ []) a m b one.occupies.grows (change_grows (last ∷ []) m b changes));
     free = λ now. (one.free, tt);

@@ -10,7 +10,7 @@ use Rattle.cfb_sectors.specs.declared.sectors.Sectors.{Sectors}
 use Rattle.cfb_fat.specs.declared.allocator.Allocator.{Allocator}
 use Rattle.cfb_chains.specs.Behind.{AreWhole, IsMarkedBehind}
 use Rattle.cfb_chains.specs.Changes.{IsBeside, IsFreeIn, IsNoneOf, StayBut}
-use Rattle.cfb_fat.specs.Orderly.{IsBesideWords}
+use Rattle.cfb_fat.specs.Orderly.{AreLean, IsBesideWords}
 use Rattle.cfb_fat.specs.Tables.{bytes_of, capacity_of, difat_sectors_of, fat_of, fat_sectors_of, has_failed_here, is_honest, medium_of, orderly_of, sectors_of, tables_of, version_of, IsTold}
 
 module _ {F : Type 0} {g : Ghosts F} where
@@ -29,9 +29,13 @@ module _ {F : Type 0} {g : Ghosts F} where
   abbrev pub IsBesideDifat : Sectors F g → List ℕ → ℕ → ℕ → Type 0
   IsBesideDifat it difat_sectors place count = IsBeside (held.version_of it) difat_sectors place count × IsBesideWords place count
 
+  -- its tables are no larger than so many other sectors need
+  abbrev pub IsLean : Allocator F g → ℕ → Type 0
+  IsLean it = AreLean (version_of it) (length (fat_of it)) (length (fat_sectors_of it)) (length (difat_sectors_of it))
+
   -- where it has not failed at most these entries of the old FAT are changed, and of the old sectors' bytes at most those of
   -- tables and of these sectors that were taken; tables and file may have become longer, behind the old sectors, and then the
-  -- header's numbers of the tables' sectors are right; nothing was published
+  -- header's numbers of the tables' sectors are right; tables that were lean are lean with the taken sectors; nothing was published
   pub record GrowsFat (taken entries : List ℕ) (old new : Allocator F g) : Type 0 where
     pub honest : g.honest (medium_of new) ≡ g.honest (medium_of old)
     pub continues : Extends g.continues (medium_of old) (medium_of new)
@@ -43,6 +47,7 @@ module _ {F : Type 0} {g : Ghosts F} where
     pub tables : has_failed_here new ≡ false → (place count : ℕ) → place + count ≤ sector_start (version_of old) (held.count_of (sectors_of old)) → IsBeside (version_of old) (tables_of old) place count → IsBeside (version_of old) (tables_of new) place count
     pub still : has_failed_here new ≡ false → (n : ℕ) → (IsNoneOf (difat_sectors_of new) n → IsNoneOf (difat_sectors_of old) n) × (IsNoneOf (fat_sectors_of new) n → IsNoneOf (fat_sectors_of old) n)
     pub longer : has_failed_here new ≡ false → IsTrue (is_honest old) → length (bytes_of old) ≤ length (bytes_of new)
+    pub lean : has_failed_here new ≡ false → (content : ℕ) → IsLean old content → IsLean new (content + length taken)
     pub told : has_failed_here new ≡ false → IsTrue (is_honest old) → IsTold old ⊎ (length (tables_of old) < length (tables_of new)) → IsTold new
     pub beside : has_failed_here new ≡ false → IsTrue (is_honest old) → (place count : ℕ) → place + count ≤ sector_start (version_of old) (held.count_of (sectors_of old))
         → IsBeside (version_of old) (tables_of old) place count → IsBesideWords place count → IsBeside (version_of old) taken place count

@@ -1,7 +1,7 @@
 -- What calls keep behind the FAT, and the causes of errors after them.
 use Rattle.std.specs.Prelude.{◌≡◌, ℕ, ◌+◌, ◌≤◌, ◌||◌, false, true, List, [], ◌++◌, length, IsTrue}
 use Rattle.std.specs.List.{AllByRecursion}
-use Rattle.std.proofs.Common.{◌∙◌, ap, inl, inr, le_of_eq, le_trans, sym, subst, ⊎_elim}
+use Rattle.std.proofs.Common.{◌∙◌, ap, arith, inl, length-append, inr, le_of_eq, le_trans, sym, subst, ⊎_elim}
 use Rattle.cfb_medium.specs.Bytes.{overwritten}
 use Rattle.cfb_medium.specs.Calls.{HasCause}
 use Rattle.cfb_medium.specs.declared.error.Error.{Error}
@@ -15,10 +15,10 @@ use Rattle.cfb_sectors.specs.Sectors.{filled_part, sector_start}
 use Rattle.cfb_fat.specs.declared.allocator.Allocator.{Allocator}
 use Rattle.cfb_chains.proofs.Beside.{beside_both, beside_first, beside_second, free_then, start_later, stay_same, stay_then}
 use Rattle.cfb_fat.specs.Changing.{ChangesFat, MayWrite, WritesBeside}
-use Rattle.cfb_fat.specs.Growing.{GrowsFat, TakesIn}
+use Rattle.cfb_fat.specs.Growing.{GrowsFat, IsLean, TakesIn}
 use Rattle.cfb_chains.proofs.LongerTables.{holds_again, holds_then, marked_none, marked_then, never, whole_then}
 use Rattle.cfb_chains.specs.Changes.{DifferAt, IsBeside, IsFreeIn, IsNoneOf, StayBut}
-use Rattle.cfb_fat.specs.Orderly.{IsBesideWords}
+use Rattle.cfb_fat.specs.Orderly.{AreLean, IsBesideWords}
 use Rattle.cfb_fat.specs.Tables.{bytes_of, difat_sectors_of, fat_of, fat_sectors_of, has_failed_here, is_honest, medium_of, orderly_of, sectors_of, tables_of, version_of, AllFails, AllRests, HasCauseBelow, IsTold}
 
 -- a part of what is beside others is beside them
@@ -29,6 +29,24 @@ beside_part v sectors place count part size beside from within k below =
 words_part : (place count part size : ℕ) → IsBesideWords place count → place ≤ part → part + size ≤ place + count → IsBesideWords part size
 words_part place count part size beside from within =
     ⊎_elim (λ before. inl (le_trans within before)) (λ rest. inr (⊎_elim (λ between. inl (le_trans between.0 from, le_trans within between.1)) (λ behind. inr (le_trans behind from)) rest)) beside
+
+-- lean tables are so for more sectors
+pub lean_more : (v : Version) (count fat_count difat_count content more : ℕ) → content ≤ more → AreLean v count fat_count difat_count content → AreLean v count fat_count difat_count more
+lean_more v count fat_count difat_count content more few h = record {
+  most = omega (arith, few, h.most);
+  fat = λ f d below named. le_trans (h.fat f d below named) (omega (arith, few));
+  difat = h.difat;
+}
+
+-- and so are others of the same lengths
+pub lean_same : (v w : Version) (count fat_count difat_count content later fat_later difat_later more : ℕ) → w ≡ v → later ≡ count → fat_later ≡ fat_count → difat_later ≡ difat_count → content ≤ more
+    → AreLean v count fat_count difat_count content → AreLean w later fat_later difat_later more
+lean_same v w count fat_count difat_count content later fat_later difat_later more version size fat difat few lean =
+    lean_more w later fat_later difat_later content more few
+    (subst (λ u. AreLean u later fat_later difat_later content) (sym version)
+    (subst (λ n. AreLean v n fat_later difat_later content) (sym size)
+    (subst (λ n. AreLean v count n difat_later content) (sym fat)
+    (subst (λ n. AreLean v count fat_count n content) (sym difat) lean))))
 
 module _ {F : Type 0} {g : Ghosts F} where
   pub rests_keep : (a b : Allocator F g) → AllRests a b → (is_honest b ≡ is_honest a) × (has_failed_here b ≡ has_failed_here a) × (IsTrue (is_honest a) → bytes_of b ≡ bytes_of a)
@@ -124,6 +142,11 @@ module _ {F : Type 0} {g : Ghosts F} where
     fat_count = ap fat_sector_count bytes ∙ h.fat_count ∙ ap length (sym fat);
   }
 
+  -- tables that are the same are as lean
+  pub lean_kept : (taken : List ℕ) (a b : Allocator F g) → version_of b ≡ version_of a → length (fat_of b) ≡ length (fat_of a) → fat_sectors_of b ≡ fat_sectors_of a → difat_sectors_of b ≡ difat_sectors_of a
+      → (content : ℕ) → IsLean a content → IsLean b (content + length taken)
+  lean_kept taken a b version size fat difat content lean = lean_same (version_of a) (version_of b) _ _ _ content _ _ _ _ version size (ap length fat) (ap length difat) (omega arith) lean
+
   pub takes_rest : (entries : List ℕ) (a b : Allocator F g) → AllRests a b → TakesIn [] entries a b
   takes_rest entries a b h = record {
     grows = record {
@@ -137,6 +160,7 @@ module _ {F : Type 0} {g : Ghosts F} where
       tables = λ live place count fits apart. subst (λ l. IsBeside (version_of a) l place count) (sym (tables_same a b h.difat_sectors h.fat_sectors)) apart;
       still = λ live n. (subst (λ l. IsNoneOf l n) h.difat_sectors, subst (λ l. IsNoneOf l n) h.fat_sectors);
       longer = λ live honest. le_of_eq (ap length (sym (h.sectors.bytes honest)));
+      lean = λ live. lean_kept [] a b h.sectors.version (ap length h.fat) h.fat_sectors h.difat_sectors;
       told = λ live honest. holds_then (tables_of a) (tables_of b) (tables_same a b h.difat_sectors h.fat_sectors) (λ told. told_same a b (h.sectors.bytes honest) h.difat_sectors h.fat_sectors told);
       beside = λ live honest place count fits apart words aside. subst (λ l. filled_part l place count ≡ filled_part (bytes_of a) place count) (sym (h.sectors.bytes honest)) (λ i. filled_part (bytes_of a) place count);
     };
@@ -163,6 +187,8 @@ module _ {F : Type 0} {g : Ghosts F} where
         fat = λ live. stay_then entries others (fat_of a) (fat_of b) (fat_of c) (h.fat (k.live live)) (k.fat live);
         still = λ live n. ((λ none. (h.still (k.live live) n).0 ((k.still live n).0 none)), (λ none. (h.still (k.live live) n).1 ((k.still live n).1 none)));
         longer = λ live honest. le_trans (h.longer (k.live live) honest) (k.longer live (subst IsTrue (sym h.honest) honest));
+        lean = λ live content lean. lean_more (version_of c) (length (fat_of c)) (length (fat_sectors_of c)) (length (difat_sectors_of c)) _ _ (let both = length-append taken more in omega (arith, both))
+            (k.lean live (content + length taken) (h.lean (k.live live) content lean));
         told = λ live honest. holds_again (tables_of a) (tables_of b) (tables_of c) (h.told (k.live live) honest) (k.told live (subst IsTrue (sym h.honest) honest));
         tables = λ live place count fits apart. subst (λ u. IsBeside u (tables_of c) place count) h.version (k.tables live place count (later live (place + count) fits) (apart_then live place count fits apart));
         beside = λ live honest place count fits apart words aside.
@@ -195,6 +221,7 @@ module _ {F : Type 0} {g : Ghosts F} where
       tables = never (has_failed_here c) is_set;
       still = never (has_failed_here c) is_set;
       longer = never (has_failed_here c) is_set;
+      lean = never (has_failed_here c) is_set;
       told = never (has_failed_here c) is_set;
       beside = never (has_failed_here c) is_set;
     };

@@ -22,6 +22,13 @@ pub record IsOrderly (version : Version) (count : ℕ) (fat fat_sectors difat_se
   pub there : AreBelow count difat_sectors
   pub named : length fat_sectors ≤ named_at_most version (length difat_sectors)
 
+-- THE TABLES ARE LEAN: of so many sectors at most `content` are others than theirs, and they need theirs. A FAT of fewer sectors,
+-- named by any DIFAT, would have no entry left for a sector more, and a DIFAT of fewer couldn't name the FAT's ([MS-CFB] 2.3, 2.5)
+pub record AreLean (version : Version) (count fat_count difat_count content : ℕ) : Type 0 where
+  pub most : count ≤ content + fat_count + difat_count
+  pub fat : (f d : ℕ) → f < fat_count → f ≤ named_at_most version d → f * (sector_len version / 4) ≤ content + f + d
+  pub difat : (d : ℕ) → d < difat_count → named_at_most version d < fat_count
+
 -- the part has no byte of what the header says of the tables: how many FAT sectors there are (byte 44), and from byte 68
 -- on where the DIFAT is ([MS-CFB] 2.2)
 abbrev pub IsBesideWords : ℕ → ℕ → Type 0

@@ -3,3 +3,4 @@ pub mod WrittenParts
 pub mod Owning
 pub mod ReadParts
 pub mod Resizing
+pub mod Leaning

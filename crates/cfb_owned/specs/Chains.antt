@@ -18,7 +18,7 @@ use Rattle.cfb_chains.specs.Grown.{IsLinked}
 use Rattle.cfb_chains.specs.LinkViews.{ids_of, links_version}
 use Rattle.cfb_chains.specs.Owned.{Becomes}
 use Rattle.cfb_chains.specs.declared.links.Links.{Links}
-use Rattle.cfb_fat.specs.Growing.{LacksNumbers}
+use Rattle.cfb_fat.specs.Growing.{IsLean, LacksNumbers, TakesIn}
 use Rattle.cfb_fat.specs.Seeing.{seen_of}
 use Rattle.cfb_fat.specs.Tables.{bytes_of, fat_of, has_failed_here, is_honest, medium_of, orderly_of, tables_of, version_of, IsTold}
 use Rattle.cfb_fat.specs.declared.allocator.Allocator.{Allocator}
@@ -92,3 +92,18 @@ module _ {F : Type 0} {g : Ghosts F} where
   -- numbers are missing for a chain of so many sectors, in the FAT or in a chain
   abbrev pub LacksSectors : Allocator F g → Links → ℕ → Type 0
   LacksSectors it links count = LacksNumbers it (count - length (ids_of links)) ⊎ (greatest_regular + 1 < count)
+
+  -- Why a chain that had so many sectors can't have as many as these: when it had taken in some and the file lived, it was short of
+  -- them, and the FAT had with those that were missing more entries than there are numbers; or these are more.
+  pub record RunsOut (had count : ℕ) (old : Allocator F g) : Type 0 where
+    pub more : List ℕ
+    pub changed : List ℕ
+    pub mid : Allocator F g
+    pub takes : TakesIn more changed old mid
+    pub live : has_failed_here mid ≡ false
+    pub short : had + length more < count
+    pub full : (greatest_regular + 1 < length (fat_of mid) + (count - (had + length more))) ⊎ (greatest_regular + 1 < count)
+
+  -- tables that are lean stay so where a chain that had so many sectors has as many as these, or more
+  abbrev pub StaysLean : ℕ → ℕ → Allocator F g → Allocator F g → Type 0
+  StaysLean had now old new = had ≤ now → (others : ℕ) → IsLean old (others + had) → IsLean new (others + now)

@@ -5,7 +5,7 @@ ghost use Rattle.cfb_chains.specs.Positions.{sectors_for};
 ghost use Rattle.cfb_fat.specs.Calls.{FatAnswers};
 ghost use Rattle.cfb_fat.specs.Tables.{has_failed_here, orderly_of, AllRests};
 ghost use Rattle.cfb_medium.specs.declared.error.Error.TheVariants.{Full, InvalidData};
-ghost use Rattle.cfb_owned.specs.Chains.{GoesOn, HasChain, LacksSectors, Resizes};
+ghost use Rattle.cfb_owned.specs.Chains.{GoesOn, HasChain, LacksSectors, Resizes, RunsOut, StaysLean};
 ghost use Rattle.cfb_sectors.specs.declared.initial.SectorInit.TheVariants.{Zero};
 ghost use Rattle.std.specs.Prelude.{false, length, IsErrOf, IsTrue, OnErr, OnOk, [], ◌≡◌};
 
@@ -36,6 +36,10 @@ pub fn set_chain_len<F: Medium>(
     ensures orderly { IsErrOf result Full → IsTrue (orderly_of allocator.old) }
     ensures full { IsErrOf result Full → has_failed_here allocator.new ≡ false
         → LacksSectors allocator.old links.old (sectors_for (links_version links.old) len) }
+    ensures stopped { IsErrOf result Full → RunsOut (length (ids_of links.old))
+        (sectors_for (links_version links.old) len) allocator.old }
+    ensures lean { OnOk result (StaysLean (length (ids_of links.old)) (length (ids_of links.new))
+        allocator.old allocator.new) }
     ensures version { links_version links.new ≡ links_version links.old }
     ensures kept { OnErr result (has_failed_here allocator.new ≡ false
         → ids_of links.new ≡ ids_of links.old) }

@@ -3,7 +3,7 @@ ghost use Rattle.cfb_chains.specs.ChainCalls.{IsInvalidPlace};
 ghost use Rattle.cfb_chains.specs.LinkViews.{ids_of, links_version};
 ghost use Rattle.cfb_chains.specs.Positions.{sectors_for};
 ghost use Rattle.cfb_fat.specs.Calls.{FatAnswers};
-ghost use Rattle.cfb_fat.specs.Tables.{has_failed_here, orderly_of};
+ghost use Rattle.cfb_fat.specs.Tables.{has_failed_here, orderly_of, KeepsTables};
 ghost use Rattle.cfb_medium.specs.declared.error.Error.TheVariants.{Full, InvalidData, InvalidInput};
 ghost use Rattle.cfb_owned.specs.Chains.{len_of, GoesOn, HasChain, IsInvalidPlaceOrFull, LacksSectors, Overwrites, Writes};
 ghost use Rattle.std.specs.Prelude.{false, length, max, true, IfErr, IsErrOf, IsTrue, OnErr, OnOk, ◌+◌, ◌<◌, ◌≡◌, ◌≤◌, ◌↔◌, ◌⊎◌};
@@ -30,6 +30,7 @@ pub fn overwrite_chain<F: Medium>(
     ensures past { IsErrOf result InvalidInput ↔ ((has_failed_here allocator.old ≡ false)
         × (len_of links.now < at + length bytes.now)) }
     ensures refused { IsErrOf result InvalidData → HasChain allocator.old links.now → ⊥ }
+    ensures tables { OnOk result (KeepsTables allocator.old allocator.new) }
     ensures goes_on { GoesOn allocator.old allocator.new }
     ensures faulted { IfErr result (λ e. (e ≡ InvalidInput)
         ⊎ (has_failed_here allocator.new ≡ true)) }

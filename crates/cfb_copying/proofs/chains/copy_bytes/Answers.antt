@@ -8,6 +8,7 @@ use Rattle.cfb_fat.specs.Resting.{all_rest_refl, all_rest_then}
 use Rattle.cfb_fat.specs.Tables.{bytes_of, version_of}
 use Rattle.cfb_owned.specs.Chains.{content_of, Overwrites}
 use Rattle.cfb_owned.proofs.GoingOn.{goes_cause, goes_then, rests_go_on}
+use Rattle.cfb_owned.proofs.Leaning.{keeps_refl, keeps_then}
 use Rattle.cfb_owned.proofs.WrittenParts.{nothing_over}
 use Rattle.cfb_copying.proofs.Pieces.{content_rests, links_rest, piece_then}
 use Rattle.cfb_copying.proofs.chains.copy_bytes.Goals as goal
@@ -19,6 +20,7 @@ copy-init g c = record {
   live = search rules;
   rests = all_rest_refl c.args.source.now;
   goes = rests_go_on _ _ (all_rest_refl c.args.target.now);
+  tables = keeps_refl c.args.target.now;
   copied = λ has chain. nothing_over 0 c.args.target.now c.args.to.now chain;
 }
 
@@ -59,6 +61,7 @@ copy-preserved g c =
       live = did.answers.live.1;
       rests = all_rest_then s r c.read_chain.new.allocator inv.rests c.in_default.ensures.rests;
       goes = goes_then a m b inv.goes did.goes_on;
+      tables = keeps_then a m b inv.tables did.tables;
       copied = λ has chain.
           let src = content_of s from in
           let long : length src ≡ length (ids_of from) * sector_len (version_of s) = length-joined (version_of s) (bytes_of s) (ids_of from) in

@@ -1,12 +1,17 @@
-use Rattle.std.proofs.Common.{◌≡◌, ◌*◌, length, ap, sym, ◌∙◌, inl, inr, arith, ⊎_elim}
+use Rattle.std.proofs.Common.{◌≡◌, ℕ, ◌+◌, ◌*◌, length, ap, sym, subst, ◌∙◌, inl, inr, arith, ⊎_elim}
+use Rattle.cfb_medium.specs.declared.error.Error.TheVariants.{Full}
+use Rattle.cfb_medium.specs.declared.version.Version.{Version}
 use Rattle.cfb_medium.specs.Versions.{sector_len}
 use Rattle.cfb_chains.specs.LinkViews.{ids_of, links_version}
 use Rattle.cfb_chains.specs.Positions.{sectors_for}
 use Rattle.cfb_chains.proofs.ChainWriting.{length-joined}
 use Rattle.cfb_fat.specs.Tables.{bytes_of, version_of}
-use Rattle.cfb_owned.specs.Chains.{content_of}
+use Rattle.cfb_fat.specs.Growing.{IsLean}
+use Rattle.cfb_owned.specs.Chains.{content_of, RunsOut}
+use Rattle.cfb_owned.proofs.Leaning.{keeps_lean}
 use Rattle.cfb_owned.proofs.GoingOn.{goes_cause, goes_then}
 use Rattle.cfb_copying.proofs.Pieces.{as_long, chain_copied, sectors_again}
+use Rattle.cfb_copying.proofs.PutChains.{not_full}
 use Rattle.cfb_copying.proofs.chains.copy_chain.Goals as goal
 
 pub returns-in-Err-copy_bytes-clause-goes_on : goal.returns-in-Err-copy_bytes-clause-goes_on
@@ -39,3 +44,26 @@ returns-clause-copied g c = λ has chain.
     let other = length-joined (version_of m) (bytes_of m) ids in
     chain_copied _ _ (content_of s c.args.from.now) c.args.target.now m c.copy_bytes.new.target c.args.to.now c.set_chain_len.new.links (omega (arith, c.requires.shorter, many)) c.in_default.ensures.goes_on.version grown did
     (one ∙ ap (λ v. length from * sector_len v) (sym has.version) ∙ long ∙ ap (λ v. length ids * sector_len v) (grown.chain.has.version) ∙ sym other)
+
+-- as many sectors as the other chain has
+wanted : (v w : Version) (len count : ℕ) → len ≡ count * sector_len w → v ≡ w → sectors_for v len ≡ count
+wanted v w len count is same = ap (sectors_for v) is ∙ ap (λ u. sectors_for u (count * sector_len w)) same ∙ sectors_again w count
+
+pub returns-in-Err-clause-stopped : goal.returns-in-Err-clause-stopped
+returns-in-Err-clause-stopped g c = λ full.
+    let many = wanted (links_version c.args.to.now) (links_version c.args.from.now) c.chain_len.result (length (ids_of c.args.from.now)) c.chain_len.ensures.len c.requires.version in
+    subst (λ n. RunsOut {g = g.T.ReadMedium} (length (ids_of c.args.to.now)) n c.args.target.now) many (c.in-Err.ensures.stopped full)
+
+pub returns-in-Err-copy_bytes-clause-stopped : goal.returns-in-Err-copy_bytes-clause-stopped
+returns-in-Err-copy_bytes-clause-stopped g c = λ full. let error : c.in-Err-copy_bytes.error ≡ Full = cc in absurd (not_full c.in-Err-copy_bytes.error c.in-Err-copy_bytes.ensures.fault error)
+
+pub returns-in-Err-copy_bytes-clause-fault : goal.returns-in-Err-copy_bytes-clause-fault
+returns-in-Err-copy_bytes-clause-fault g c = ⊎_elim (λ fault. inl fault) (λ place. inr (inl place)) c.in-Err-copy_bytes.ensures.fault
+
+pub returns-clause-lean : goal.returns-clause-lean
+returns-clause-lean g c = λ some others lean.
+    let m = c.set_chain_len.new.allocator in
+    let many = wanted (links_version c.args.to.now) (links_version c.args.from.now) c.chain_len.result (length (ids_of c.args.from.now)) c.chain_len.ensures.len c.requires.version in
+    let size : length (ids_of c.set_chain_len.new.links) ≡ length (ids_of c.args.from.now) = c.in_default.ensures.size ∙ many in
+    keeps_lean m c.copy_bytes.new.target (others + length (ids_of c.args.from.now)) c.in_default-copy_bytes.ensures.tables
+    (subst (λ n. IsLean {g = g.T.ReadMedium} m (others + n)) size (c.in_default.ensures.lean (omega (arith, some, size)) others lean))

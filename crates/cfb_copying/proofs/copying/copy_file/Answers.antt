@@ -5,6 +5,7 @@ use Rattle.cfb_fat.specs.Resting.{all_rest_then}
 use Rattle.cfb_owned.proofs.GoingOn.{goes_cause, goes_then}
 use Rattle.cfb_copying.specs.Steps.{HasCopy, IsBegun}
 use Rattle.cfb_copying.proofs.MemoryCauses.{read_cause}
+use Rattle.cfb_copying.proofs.Numbers.{can_fill}
 use Rattle.cfb_copying.proofs.Originals.{fills, original_rests}
 use Rattle.cfb_copying.proofs.StepsThen.{cause_then}
 use Rattle.cfb_copying.proofs.copying.copy_file.Goals as goal
@@ -37,7 +38,7 @@ pub returns-in-Err-end_copy-clause-refused : goal.returns-in-Err-end_copy-clause
 returns-in-Err-end_copy-clause-refused g c = λ s who original same at.
     let begun = subst (λ v. IsBegun v c.in-Ok.target) (c.version.ensures ∙ original.version) c.in-Ok.ensures.begun in
     let has = c.in-Ok-copy_minis.ensures.copied s who c.args.ids.now original same at begun in
-    c.in-Err-end_copy.ensures.refused s who c.args.ids.now (fills c.args.source.now s who c.args.ids.now original)
+    c.in-Err-end_copy.ensures.refused s who c.args.ids.now (fills c.args.source.now s who c.args.ids.now original) (can_fill c.args.source.now s who c.args.ids.now original)
     (c.in_default.ensures.copied s who (ids_of c.in-Ok-copy_minis.links) (original_rests c.args.source.now c.copy_minis.new.source s who c.args.ids.now c.copy_minis.ensures.steps.rests original) has)
 
 pub returns-in-Err-end_copy-clause-rests : goal.returns-in-Err-end_copy-clause-rests

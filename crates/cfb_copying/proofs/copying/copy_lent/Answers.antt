@@ -1,7 +1,7 @@
 use Rattle.std.proofs.Common.{◌≡◌, subst}
 use Rattle.std.specs.Prelude.{IfErr, IfOk}
 use Rattle.cfb_directory.specs.Entries.{entries_in}
-use Rattle.cfb_live.specs.Doing.{IsFault}
+use Rattle.cfb_medium.specs.Calls.{IsFaultUnless}
 use Rattle.cfb_owners.specs.LiveFile.{LiveFile}
 use Rattle.cfb_owners.specs.Owners.{first_of, mini_fat_owner, Owners}
 use Rattle.cfb_copying.specs.Steps.{HasCopy, IsOriginal}
@@ -16,5 +16,5 @@ returns-clause-copied g c =
 pub returns-clause-refused : goal.returns-clause-refused
 returns-clause-refused g c =
     subst (λ a. IfErr c.copy_file.result (λ e. (s : LiveFile) (who : Owners) → IsOriginal {g = g.F.ReadMedium} a s who c.args.ids.now → s.entries ≡ entries_in c.args.entries.now
-    → c.args.mini_fat_at ≡ first_of (who.sectors mini_fat_owner) → IsFault e))
+    → c.args.mini_fat_at ≡ first_of (who.sectors mini_fat_owner) → IsFaultUnless ⊥ e))
     c.allocator_mut.ensures.value c.copy_file.ensures.refused

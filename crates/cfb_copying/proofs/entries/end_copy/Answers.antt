@@ -1,18 +1,27 @@
-use Rattle.std.proofs.Common.{subst, sym, ◌∙◌}
+use Rattle.std.proofs.Common.{◌+◌, ap, arith, length, subst, sym, ◌∙◌, Err}
 use Rattle.cfb_sectors.specs.Sectors.{end_of_chain}
 use Rattle.cfb_chains.specs.LinkViews.{ids_of}
 use Rattle.cfb_directory.specs.Entries.{entries_in}
 use Rattle.cfb_owned.proofs.GoingOn.{goes_cause, goes_then}
 use Rattle.cfb_owners.specs.Owners.{directory_owner}
 use Rattle.cfb_copying.specs.Making.{with_list}
-use Rattle.cfb_copying.specs.Steps.{FillSectors}
-use Rattle.cfb_copying.proofs.Ended.{copy_ended, fill_again}
+use Rattle.cfb_copying.specs.Steps.{sectors_among, FillSectors}
+use Rattle.cfb_fat.specs.Tables.{version_of}
+use Rattle.cfb_copying.proofs.Ended.{copy_ended, fill_again, fills_moved}
+use Rattle.cfb_copying.proofs.Numbers.{never_out}
+use Rattle.cfb_copying.proofs.PutChains.{no_full}
 use Rattle.cfb_copying.proofs.entries.end_copy.Goals as goal
 
 pub returns-in-Err-clause-refused : goal.returns-in-Err-clause-refused
-returns-in-Err-clause-refused g c = λ s who ids fills has.
+unfolding fill_again fills_moved
+returns-in-Err-clause-refused g c = λ s who ids fills can has.
+    let a = c.args.target.now in
     let later = entries_in c.args.entries.now in
-    c.in-Err.ensures.refused end_of_chain has.own has.bytes has.made has.directory (subst (λ v. FillSectors v later) (sym has.version) (fill_again s.version s.entries later ids has.own has.restarts fills))
+    let copied = length (sectors_among who ids) in
+    let now = fills_moved s.version (version_of a) later has.version (fill_again s.version s.entries later ids has.own has.restarts fills) in
+    no_full c.in-Err.error
+    (λ full. never_out a s.version 1 now.count copied (now.count + copied) has.version can has.lean (omega arith) (c.in-Err.ensures.stopped (ap Err full) end_of_chain has.own has.bytes has.made has.directory now))
+    (c.in-Err.ensures.refused end_of_chain has.own has.bytes has.made has.directory now)
 
 pub returns-clause-ended : goal.returns-clause-ended
 returns-clause-ended g c = λ s who ids fills has.

@@ -5,6 +5,9 @@ use Rattle.cfb_chains.specs.LinkViews.{ids_of, links_version}
 use Rattle.cfb_chains.specs.Positions.{sectors_for}
 use Rattle.cfb_directory.specs.Entries.{entries_in, SizesFit}
 use Rattle.cfb_fat.specs.Tables.{version_of}
+use Rattle.cfb_medium.specs.declared.error.Error.TheVariants.{Full}
+use Rattle.cfb_owned.specs.Chains.{RunsOut}
+use Rattle.cfb_copying.proofs.PutChains.{not_full}
 use Rattle.cfb_owned.proofs.GoingOn.{goes_cause, goes_then}
 use Rattle.cfb_tree.specs.Directory.{entries_of}
 use Rattle.cfb_copying.proofs.DirectoryBytes.{directory_put}
@@ -85,3 +88,21 @@ returns-clause-put g c = λ mini_fat own bytes made mine fills.
     (subst (λ n. 0 < n) (sym needed) fills.some) did.goes_on did.answers.live.1 grown over.goes_on over.answers.live.1 (over.written grown.chain)
     (as_many v es content fills size b links (did.version ∙ opened.version) did.goes_on.version many)
     (ap (entries_of v) c.deref.ensures.value ∙ ap (λ u. entries_of u c.in-Ok.bytes.items) (sym c.version.ensures) ∙ c.in-Ok.ensures.held)
+
+pub returns-in-Err-set_chain_len-clause-stopped : goal.returns-in-Err-set_chain_len-clause-stopped
+returns-in-Err-set_chain_len-clause-stopped g c = λ full mini_fat own bytes made mine fills.
+    let a = c.args.target.now in
+    let v = version_of a in
+    let es = c.args.entries.now in
+    let content = c.in-Ok.bytes.items in
+    let before = c.in-Ok-open_chain.links in
+    let opened = c.in-Ok-open_chain.ensures in
+    let error : c.in-Err-set_chain_len.error ≡ Full = cc in
+    let size : length content ≡ length es * 128 = c.in-Ok.ensures.size in
+    let len : c.len.result ≡ length content = c.len.ensures ∙ c.in-Ok.bytes.ok.0 in
+    let needed = sectors_needed v es content fills size (links_version before) c.len.result (sectors_for (links_version before) c.len.result) len opened.version refl in
+    let one = ap length (first_sector mini_fat a own bytes made mine before opened.chain) in
+    subst (λ n. RunsOut {g = g.T.ReadMedium} n fills.count a) one (subst (λ n. RunsOut {g = g.T.ReadMedium} (length (ids_of before)) n a) needed (c.in-Err-set_chain_len.ensures.stopped (ap Err error)))
+
+pub returns-in-Err-overwrite_chain-clause-stopped : goal.returns-in-Err-overwrite_chain-clause-stopped
+returns-in-Err-overwrite_chain-clause-stopped g c = λ full. let error : c.in-Err-overwrite_chain.error ≡ Full = cc in absurd (not_full c.in-Err-overwrite_chain.error c.in-Err-overwrite_chain.ensures.answers.fault error)

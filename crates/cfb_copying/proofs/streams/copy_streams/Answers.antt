@@ -7,7 +7,7 @@ use Rattle.cfb_owned.proofs.GoingOn.{goes_then, rests_go_on}
 use Rattle.cfb_copying.specs.Steps.{HasCopied}
 use Rattle.cfb_copying.proofs.Originals.{once_of, original_rests}
 use Rattle.cfb_copying.proofs.StepsThen.{steps_done, steps_fail}
-use Rattle.cfb_copying.proofs.StreamSteps.{next_fresh}
+use Rattle.cfb_copying.proofs.StreamSteps.{next_of}
 use Rattle.cfb_copying.proofs.streams.copy_streams.Goals as goal
 
 pub copy-init : goal.copy-init
@@ -26,7 +26,7 @@ copy-preserved g c =
       copied = λ s who minis original has.
           subst (λ l. HasCopied s who l minis (entries_in c.copy_stream.new.entries) c.copy_stream.new.target) (sym (take_more ids i 0 c.copy-test.true))
           (c.in_default.ensures.copied s who ids (take i ids) minis (original_rests c.args.source.now c.copy.source s who ids inv.rests original)
-          (record { among = (i, c.copy-test.true, refl); fresh = next_fresh ids i (once_of c.args.source.now s who ids original) c.copy-test.true }) (inv.copied s who minis original has));
+          (next_of ids i (once_of c.args.source.now s who ids original) c.copy-test.true) (inv.copied s who minis original has));
     }
 
 pub returns-in-Err-clause-refused : goal.returns-in-Err-clause-refused
@@ -35,7 +35,7 @@ returns-in-Err-clause-refused g c = λ s who minis original has.
     let i = c.copy.id-index in
     let ids = c.args.ids.now in
     c.in-Err.ensures.refused s who ids (take i ids) minis (original_rests c.args.source.now c.copy.source s who ids inv.rests original)
-    (record { among = (i, c.copy-test.true, refl); fresh = next_fresh ids i (once_of c.args.source.now s who ids original) c.copy-test.true }) (inv.copied s who minis original has)
+    (next_of ids i (once_of c.args.source.now s who ids original) c.copy-test.true) (inv.copied s who minis original has)
 
 pub returns-in-Err-clause-steps : goal.returns-in-Err-clause-steps
 returns-in-Err-clause-steps g c =

@@ -1,5 +1,11 @@
-use Rattle.std.proofs.Common.{ap, inl, sym, subst, ◌∙◌, Err, ⊎_elim}
+use Rattle.std.proofs.Common.{◌≡◌, ◌+◌, ap, arith, inl, length, sym, subst, ◌∙◌, Err, ⊎_elim}
 use Rattle.cfb_medium.specs.Calls.{IsFaultUnless}
+use Rattle.cfb_medium.specs.declared.error.Error.TheVariants.{Full}
+use Rattle.cfb_chains.specs.LinkViews.{ids_of}
+use Rattle.cfb_fat.specs.Growing.{IsLean}
+use Rattle.cfb_fat.specs.Tables.{fat_of}
+use Rattle.cfb_live.proofs.Freed.{one_chain}
+use Rattle.cfb_owned.specs.Chains.{RunsOut}
 use Rattle.cfb_copying.proofs.PutChains.{chain_put, fault_of, source_has, target_has}
 use Rattle.cfb_copying.proofs.streams.put_chain.Goals as goal
 
@@ -33,3 +39,24 @@ returns-clause-put g c = λ directory mini_fat key own bytes ids can.
     chain_put a c.args.start c.args.target.now directory mini_fat key own bytes ids can c.copy_chain.new.target from c.in-Ok-new.links c.copy_chain.new.to opened.chain (made.1 ∙ c.new.ensures.items) did.goes_on did.live
     (did.copied (source_has a c.args.start c.args.target.now directory mini_fat key own bytes ids can from opened.chain opened.version)
     (target_has a c.args.start c.args.target.now directory mini_fat key own bytes ids can c.in-Ok-new.links (made.1 ∙ c.new.ensures.items) (made.0 ∙ c.version.ensures ∙ opened.version)))
+
+pub returns-in-Err-copy_chain-clause-stopped : goal.returns-in-Err-copy_chain-clause-stopped
+returns-in-Err-copy_chain-clause-stopped g c = λ full ids chain.
+    let a = c.args.source.now in
+    let b = c.args.target.now in
+    let from = ids_of c.in-Ok.links in
+    let error : c.in-Err-copy_chain.error ≡ Full = cc in
+    let none : length (ids_of c.in-Ok-new.links) ≡ 0 = ap length (c.in-Ok-new.ensures.links.1 ∙ c.new.ensures.items) in
+    let same = one_chain (fat_of a) c.args.start from ids c.in-Ok.ensures.chain chain in
+    subst (λ l. RunsOut {g = g.T.ReadMedium} 0 (length l) b) same (subst (λ n. RunsOut {g = g.T.ReadMedium} n (length from) b) none (c.in-Err-copy_chain.ensures.stopped (ap Err error)))
+
+pub returns-clause-lean : goal.returns-clause-lean
+returns-clause-lean g c = λ ids chain others lean.
+    let a = c.args.source.now in
+    let b = c.args.target.now in
+    let d = c.copy_chain.new.target in
+    let from = ids_of c.in-Ok.links in
+    let none : length (ids_of c.in-Ok-new.links) ≡ 0 = ap length (c.in-Ok-new.ensures.links.1 ∙ c.new.ensures.items) in
+    let same = one_chain (fat_of a) c.args.start from ids c.in-Ok.ensures.chain chain in
+    let zero : others + length (ids_of c.in-Ok-new.links) ≡ others = omega (arith, none) in
+    subst (λ l. IsLean {g = g.T.ReadMedium} d (others + length l)) same (c.in_default.ensures.lean (omega (arith, none)) others (subst (IsLean {g = g.T.ReadMedium} b) (sym zero) lean))

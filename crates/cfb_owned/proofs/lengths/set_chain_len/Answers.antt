@@ -1,4 +1,4 @@
-use Rattle.std.proofs.Common.{◌≡◌, length, sym, ap, subst, ◌∙◌, ⊎_elim}
+use Rattle.std.proofs.Common.{◌≡◌, ◌⊎◌, ◌+◌, ◌-◌, ◌<◌, false, length, refl, sym, ap, subst, ◌∙◌, arith, ⊎_elim, IsTrue}
 use Rattle.std.proofs.lemmas.Bool.Decides.{leb_tells}
 use Rattle.cfb_chains.specs.ChainViews.{holder_of, sectors_of}
 use Rattle.std.specs.Prelude.{OnOk}
@@ -7,8 +7,11 @@ use Rattle.cfb_owned.proofs.Resizing.{on_ok_both, resized_links, resized_longer,
 use Rattle.cfb_chains.specs.LinkViews.{ids_of, links_version}
 use Rattle.cfb_chains.specs.Positions.{sectors_for}
 use Rattle.cfb_chains.proofs.Lending.{told_of_lent}
-use Rattle.cfb_fat.specs.Tables.{AllRests}
-use Rattle.cfb_owned.specs.Chains.{GoesOn}
+use Rattle.cfb_fat.specs.Growing.{LacksNumbers}
+use Rattle.cfb_fat.specs.Tables.{has_failed_here, orderly_of, AllRests}
+use Rattle.cfb_sectors.specs.Sectors.{greatest_regular}
+use Rattle.cfb_owned.specs.Chains.{GoesOn, RunsOut, StaysLean}
+use Rattle.cfb_owned.proofs.Leaning.{longer_lean, shorter_lean, too_many}
 use Rattle.cfb_owned.proofs.GoingOn.{changes_go_on, takes_go_on}
 use Rattle.cfb_owned.proofs.lengths.set_chain_len.Goals as goal
 
@@ -63,3 +66,60 @@ returns-clause-unchanged g c = λ refused.
     let links_is = c.links-1.given.1 (sym (did.same.links ∙ made.same_links)) in
     let rests = (did.refused refused).1 in
     told_of_lent (λ a v s b t. AllRests {g = g.F.ReadMedium} a b × (t ≡ s)) _ c.args.allocator.now _ _ _ _ _ _ _ _ made.holder made.chain.0 made.chain.1 is (ap ids_of links_is) (rests.0, rests.1)
+
+pub returns-clause-lean : goal.returns-clause-lean
+returns-clause-lean g c =
+    let made = c.new-chain.ensures in
+    let did = c.set_len.ensures in
+    let r = c.set_len.result in
+    let a = holder_of c.new-chain.result in
+    let b = holder_of c.set_len.new.self in
+    let s = sectors_of c.new-chain.result in
+    let t = sectors_of c.set_len.new.self in
+    let is = c.allocator-1.given.1 (sym (did.same.holder ∙ made.same_reference)) in
+    let links_is = c.links-1.given.1 (sym (did.same.links ∙ made.same_links)) in
+    let did_so : OnOk r (StaysLean {g = g.F.ReadMedium} (length s) (length t) a b) =
+    ⊎_elim
+    (λ long. let longer = did.longer long.1 in on_ok r _ _ (λ live. longer_lean s t longer.0 longer.1 a b live.1 longer.2 longer.3) did.answers.live)
+    (λ short. on_ok r _ _ (λ size. shorter_lean (length s) (length t) a b (let less = short.1 in omega (arith, size, less))) did.count)
+    (leb_tells (length s) (sectors_for c.new-chain.result.links.now.version c.args.len)) in
+    told_of_lent (λ a v s b t. OnOk r (StaysLean {g = g.F.ReadMedium} (length s) (length t) a b)) a c.args.allocator.now b _ c.new-chain.result.links.now.version c.args.links.now.version s (ids_of c.args.links.now) t _
+    made.holder made.chain.0 made.chain.1 is (ap ids_of links_is) did_so
+
+pub returns-clause-stopped : goal.returns-clause-stopped
+returns-clause-stopped g c = λ full.
+    let made = c.new-chain.ensures in
+    let a = holder_of c.new-chain.result in
+    let v = c.new-chain.result.links.now.version in
+    let s = sectors_of c.new-chain.result in
+    let out = (c.set_len.ensures.full full).ran_out in
+    let count = sectors_for v c.args.len in
+    let ran : RunsOut {g = g.F.ReadMedium} (length s) count a = record {
+      more = out.more;
+      changed = out.changed;
+      mid = out.mid;
+      takes = out.grows;
+      live = out.live;
+      short = out.short;
+      full = too_many out.mid (count - (length s + length out.more)) count (let less = out.short in omega (arith, less)) out.full;
+    } in
+    told_of_lent (λ a v s b t. RunsOut {g = g.F.ReadMedium} (length s) (sectors_for v c.args.len) a) a c.args.allocator.now a a v c.args.links.now.version s (ids_of c.args.links.now) s s made.holder made.chain.0 made.chain.1 refl refl ran
+
+pub returns-clause-orderly : goal.returns-clause-orderly
+returns-clause-orderly g c = λ full.
+    let made = c.new-chain.ensures in
+    let a = holder_of c.new-chain.result in
+    let v = c.new-chain.result.links.now.version in
+    let s = sectors_of c.new-chain.result in
+    told_of_lent (λ a v s b t. IsTrue (orderly_of {g = g.F.ReadMedium} a)) a c.args.allocator.now a a v c.args.links.now.version s (ids_of c.args.links.now) s s made.holder made.chain.0 made.chain.1 refl refl (c.set_len.ensures.full full).orderly
+
+pub returns-clause-full : goal.returns-clause-full
+returns-clause-full g c = λ full.
+    let made = c.new-chain.ensures in
+    let did = c.set_len.ensures in
+    let a = holder_of c.new-chain.result in
+    let v = c.new-chain.result.links.now.version in
+    let s = sectors_of c.new-chain.result in
+    let is = c.allocator-1.given.1 (sym (did.same.holder ∙ made.same_reference)) in
+    told_of_lent (λ a v s b t. has_failed_here b ≡ false → LacksNumbers {g = g.F.ReadMedium} a (sectors_for v c.args.len - length s) ⊎ (greatest_regular + 1 < sectors_for v c.args.len))
+    a c.args.allocator.now (holder_of c.set_len.new.self) _ v c.args.links.now.version s (ids_of c.args.links.now) s s made.holder made.chain.0 made.chain.1 is refl (did.full full).lacks

@@ -8,6 +8,7 @@ use Rattle.cfb_fat.specs.Resting.{all_rest_refl}
 use Rattle.cfb_fat.specs.Tables.{version_of}
 use Rattle.cfb_owned.specs.Chains.{Overwrites}
 use Rattle.cfb_owned.proofs.GoingOn.{fails_go_on, goes_cause, goes_then, rests_go_on, writes_go_on}
+use Rattle.cfb_owned.proofs.Leaning.{keeps_refl, keeps_write}
 use Rattle.cfb_owned.proofs.Owning.{fits_in, part_writable}
 use Rattle.cfb_owned.proofs.WrittenParts.{more_over, nothing_over}
 use Rattle.cfb_owned.proofs.writing.overwrite_chain.Goals as goal
@@ -17,6 +18,7 @@ write-init g c = record {
   most = omega arith;
   live = search rules;
   goes = rests_go_on _ _ (all_rest_refl c.args.allocator.now);
+  tables = keeps_refl c.args.allocator.now;
   written = nothing_over c.args.at c.args.allocator.now c.args.links.now;
 }
 
@@ -43,6 +45,7 @@ write-preserved g c =
       most = enough;
       live = did.live.1;
       goes = goes_then a m b inv.goes (writes_go_on c.spot-sector_id.result.0 c.spot-sector_id.result.1 _ m b did.there.0 did.writes);
+      tables = keeps_write _ _ a m b inv.tables did.writes;
       written = λ chain. more_over c.args.at done n c.spot-sector_id.result.0 c.spot-sector_id.result.1 bytes (take (done + n - done) (drop done bytes)) a m b c.args.links.now chain (inv.written chain) did.live.1 inv.goes.version did.writes did.leaves
           c.spot-sector_id.ensures.sector c.spot-sector_id.ensures.offset (omega (arith, count, left)) whole enough (omega (arith, count, left, rest.1, more)) part (ap (λ k. take k (drop done bytes)) same_n);
     }

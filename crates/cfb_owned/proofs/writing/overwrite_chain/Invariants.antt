@@ -1,5 +1,5 @@
 use Rattle.std.proofs.Common.{◌≡◌, ◌≤◌, ◌-◌, false, length, take}
-use Rattle.cfb_fat.specs.Tables.{has_failed_here}
+use Rattle.cfb_fat.specs.Tables.{has_failed_here, KeepsTables}
 use Rattle.cfb_owned.specs.Chains.{GoesOn, HasChain, Overwrites}
 use Rattle.cfb_owned.proofs.writing.overwrite_chain.Given as goal
 
@@ -8,6 +8,7 @@ invariant-write g l = record {
   most : l.done ≤ length l.bytes;
   live : has_failed_here l.allocator ≡ false;
   goes : GoesOn {g = g.F.ReadMedium} l.fn.allocator l.allocator;
+  tables : KeepsTables {g = g.F.ReadMedium} l.fn.allocator l.allocator;
   written : HasChain {g = g.F.ReadMedium} l.fn.allocator l.fn.links → Overwrites {g = g.F.ReadMedium} l.at (take l.done l.bytes) l.fn.allocator l.allocator l.fn.links;
 }
 

@@ -1,7 +1,9 @@
-use Rattle.std.proofs.Common.{ap, subst, sym, ◌∙◌, IsTrue}
+use Rattle.std.proofs.Common.{◌≡◌, ap, inl, subst, sym, ◌∙◌, IsTrue}
 use Rattle.cfb_copying.specs.Copied.{HoldsCopy}
 use Rattle.cfb_fat.specs.Tables.{version_of}
 use Rattle.cfb_medium.specs.Bytes.{overwritten}
+use Rattle.cfb_medium.specs.Calls.{IsFaultUnless}
+use Rattle.cfb_medium.specs.declared.error.Error.TheVariants.{Full}
 use Rattle.cfb_mini.specs.Views.{allocator_of}
 use Rattle.cfb_tree.specs.Tree.{Tree}
 use Rattle.cfb.specs.Doing.{FileMeans}
@@ -10,7 +12,10 @@ use Rattle.cfb.proofs.Copies.{if_done, over_nothing}
 use Rattle.cfb.proofs.compound_file.CompoundFile.copy_to.Goals as goal
 
 pub returns-in-Err-clause-refused : goal.returns-in-Err-clause-refused
-returns-in-Err-clause-refused g c = λ tree means. c.in-Err.ensures.refused (letters_in c.args.self.now) tree means.live
+returns-in-Err-clause-refused g c = λ tree means. inl (c.in-Err.ensures.refused (letters_in c.args.self.now) tree means.live)
+
+pub returns-in-Err-clause-numbered : goal.returns-in-Err-clause-numbered
+returns-in-Err-clause-numbered g c = λ full tree means. let error : c.in-Err.error ≡ Full = cc in subst (IsFaultUnless ⊥) error (c.in-Err.ensures.refused (letters_in c.args.self.now) tree means.live)
 
 pub returns-clause-copied : goal.returns-clause-copied
 returns-clause-copied g c =

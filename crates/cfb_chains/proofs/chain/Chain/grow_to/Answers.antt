@@ -1,4 +1,6 @@
-use Rattle.std.proofs.Common.{◌≡◌, ◌++◌, ◌-◌, ◌∙◌, [], append_assoc, ap, arith, length, refl, subst, sym, IsTrue}
+use Rattle.std.proofs.Common.{◌≡◌, ◌++◌, ◌-◌, ◌∙◌, [], append_assoc, ap, arith, inl, inr, length, length-append, refl, subst, sym, ⊎_elim, IsTrue}
+use Rattle.std.specs.Prelude.{Err}
+use Rattle.cfb_medium.specs.declared.error.Error.TheVariants.{Full}
 use Rattle.std.proofs.lemmas.List.{append-nil}
 use Rattle.cfb_medium.specs.Versions.{sector_len}
 use Rattle.cfb_sectors.specs.Copies.{copies}
@@ -99,4 +101,21 @@ grow-preserved g c =
           (c.in_default.ensures.filled (subst IsTrue (sym kept.0) honest) (here version) (c.grow.invariant.linked linked) (able version all));
       same = record { holder = then.holder ∙ same.holder; links = then.links ∙ same.links; version = then.version ∙ same.version; init = then.init ∙ same.init };
       position = c.append_sector.ensures.same.position ∙ c.grow.invariant.position;
+    }
+
+pub returns-in-Err-clause-stopped : goal.returns-in-Err-clause-stopped
+returns-in-Err-clause-stopped g c = λ is.
+    let was = c.grow.invariant.grows in
+    let size = ap length was.2 ∙ length-append (sectors_of c.args.self.now) was.0 in
+    let less = c.grow-test.true in
+    let error : c.in-Err.error ≡ Full = cc in
+    let full = (c.in-Err.ensures.full (ap Err error)).1 in
+    record {
+      more = was.0;
+      changed = was.1;
+      mid = holder_of c.grow.self;
+      grows = was.3;
+      live = c.grow.invariant.live;
+      short = omega (arith, size, less, c.num_sectors.ensures);
+      full = ⊎_elim (λ none. inl none) (λ many. inr (inr (omega (arith, many, less, c.num_sectors.ensures)))) full;
     }

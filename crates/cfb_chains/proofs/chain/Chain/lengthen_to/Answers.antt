@@ -1,4 +1,4 @@
-use Rattle.std.proofs.Common.{◌≡◌, ◌-◌, ℕ, List, inr, [], ◌++◌, ◌∙◌, length, sym, ap, arith, subst, ⊎_elim, IsTrue}
+use Rattle.std.proofs.Common.{◌≡◌, ◌+◌, ◌-◌, ◌<◌, ◌⊎◌, ℕ, List, inl, inr, [], ◌++◌, ◌∙◌, length, sym, ap, arith, subst, ⊎_elim, IsTrue}
 use Rattle.std.specs.Prelude.{Err, IsErrOf}
 use Rattle.cfb_medium.specs.Versions.{sector_len}
 use Rattle.cfb_medium.specs.declared.error.Error.{Error}
@@ -6,7 +6,7 @@ use Rattle.cfb_medium.specs.declared.error.Error.TheVariants.{Full, InvalidData,
 use Rattle.cfb_medium.specs.declared.version.Version.{Version}
 use Rattle.cfb_sectors.specs.Copies.{copies}
 use Rattle.cfb_sectors.specs.Initial.{initial}
-use Rattle.cfb_sectors.specs.Sectors.{joined}
+use Rattle.cfb_sectors.specs.Sectors.{greatest_regular, joined}
 use Rattle.cfb_sectors.specs.declared.initial.SectorInit.{SectorInit}
 use Rattle.std.proofs.lemmas.List.{append-nil}
 use Rattle.cfb_chains.specs.ChainViews.{holder_of, init_of, sectors_of, version_of}
@@ -118,3 +118,52 @@ returns-in-Err-grow_to-clause-grows g c =
       g.met.H.GrowsChains.grows_fails grown.0 grown.1 a _ _ (g.met.H.GrowsChains.grows_then [] [] grown.0 grown.1 a m _ (g.met.H.GrowsChains.grows_rest [] a m rests) grown.3) c.fail.ensures,
       λ linked. grown.4 (moved_table _ _ _ _ (g.met.H.FreesChains.rests_keep_tables a m rests).0 same linked),
     )
+
+pub returns-in-Err-clause-stopped : goal.returns-in-Err-clause-stopped
+returns-in-Err-clause-stopped g c = λ is.
+    let it = holder_of c.args.self.now in
+    let error : c.in-Err.error ≡ Full = cc in
+    let some = c.if-wanted-eq0.false in
+    let same : c.args.count - c.num_sectors.result ≡ c.args.count - (length (sectors_of c.args.self.now) + 0) = omega (arith, c.num_sectors.ensures) in
+    record {
+      more = [];
+      changed = [];
+      mid = it;
+      grows = g.met.H.GrowsChains.grows_rest [] it it (g.met.H.HasSectors.rests_refl it);
+      live = c.requires.live;
+      short = omega (arith, some, c.num_sectors.ensures);
+      full = inr (inl (subst (g.H.GrowsChains.lacks it) same (c.in-Err.ensures.full (ap Err error)).1));
+    }
+
+pub returns-in-Err-reserve-clause-stopped : goal.returns-in-Err-reserve-clause-stopped
+returns-in-Err-reserve-clause-stopped g c = λ is.
+    let it = holder_of c.args.self.now in
+    let some = c.if-wanted-eq0.false in
+    let size : length (ids_of c.prepare.new.self.links.now) ≡ length (sectors_of c.args.self.now) = ap (λ l. length (ids_of l)) c.prepare.ensures.links in
+    record {
+      more = [];
+      changed = [];
+      mid = it;
+      grows = g.met.H.GrowsChains.grows_rest [] it it (g.met.H.HasSectors.rests_refl it);
+      live = c.requires.live;
+      short = omega (arith, some, c.num_sectors.ensures);
+      full = ⊎_elim (λ memory. absurd (let both = same_error c.in-Err-reserve.error is in let wrong : Memory ≡ Full = sym memory ∙ both in cc))
+          (λ full. inr (inr (omega (arith, full.1, size, c.num_sectors.ensures, c.requires.more)))) c.in-Err-reserve.ensures.error;
+    }
+
+pub returns-in-Err-grow_to-clause-stopped : goal.returns-in-Err-grow_to-clause-stopped
+returns-in-Err-grow_to-clause-stopped g c = λ is.
+    let a = holder_of c.args.self.now in
+    let m = holder_of c.prepare.new.self in
+    let error : c.in-Err-grow_to.error ≡ Full = cc in
+    let out = c.in-Err-grow_to.ensures.stopped (ap Err error) in
+    let same : length (ids_of c.reserve.new.self) ≡ length (sectors_of c.args.self.now) = ap length (c.reserve.ensures.same.0 ∙ ap ids_of c.prepare.ensures.links) in
+    record {
+      more = out.more;
+      changed = out.changed;
+      mid = out.mid;
+      grows = g.met.H.GrowsChains.grows_then [] [] out.more out.changed a m out.mid (g.met.H.GrowsChains.grows_rest [] a m c.prepare.ensures.rests) out.grows;
+      live = out.live;
+      short = omega (arith, same, out.short);
+      full = subst (λ n. g.H.GrowsChains.is_full out.mid ⊎ g.H.GrowsChains.lacks out.mid (c.args.count - (n + length out.more)) ⊎ (greatest_regular + 1 < c.args.count)) same out.full;
+    }

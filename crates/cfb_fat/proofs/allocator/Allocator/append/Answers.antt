@@ -13,6 +13,8 @@ use Rattle.cfb_fat.specs.Orderly.{IsOrderly}
 use Rattle.cfb_fat.proofs.Appended.{entry_added, listed_before_end, none_behind, whole_before}
 use Rattle.cfb_fat.proofs.Entering.{others_stay, rest_below}
 use Rattle.cfb_fat.proofs.FatEntries.{per, split}
+use Rattle.cfb_fat.proofs.Lean.{lean_one}
+use Rattle.cfb_fat.specs.Keeping.{lean_same}
 use Rattle.cfb_fat.proofs.Growth.{below_more, stays_in_front}
 use Rattle.cfb_chains.proofs.Beside.{beside_second}
 use Rattle.cfb_fat.proofs.ListedStays.{behind_header, entry_aside, listed_still, longer_over, told_in, told_kept}
@@ -118,6 +120,10 @@ returns-clause-occupies g c = record {
             let first = did.appends.longer did.live honest in
             let second = longer_over (bytes_of m) (bytes_of c.write_number.new.sectors) (to_le_bytes w32 end_of_chain) _ (wrote.changes.bytes live (subst IsTrue (sym did.appends.honest) honest)) in
             omega (arith, first, second);
+        lean = λ live content lean.
+            let old = length it.fat.items in
+            lean_same v _ (old + 1) (length fs) (length ds) (content + 1) _ _ _ _ (wrote.changes.version ∙ did.appends.version) (ap length c.push_reserved.ensures.items ∙ length-append it.fat.items (end_of_chain ∷ [])) refl refl (omega arith)
+            (lean_one v old (length fs) (length ds) content (old + 1) refl lean);
         told = λ live honest. holds_then (ds ++ fs) (ds ++ fs) refl (λ told.
             let mid = subst IsTrue (sym did.appends.honest) honest in
             let whole = header_whole v (bytes_of a) (count_of a) (a.counted c.requires.live honest) order.some in

@@ -11,6 +11,9 @@ use Rattle.cfb_fat.specs.Orderly.{AreBelow, IsOrderly}
 use Rattle.cfb_fat.proofs.FatEntries.{per}
 use Rattle.cfb_fat.proofs.Grown.{order_grown, same_grown, there_grown, whole_grown, Lengthens}
 use Rattle.cfb_chains.proofs.Beside.{beside_both, beside_first, beside_second, none_first, start_later}
+use Rattle.std.proofs.lemmas.Bool.Decides.{eqb_tells}
+use Rattle.cfb_fat.proofs.Lean.{lean_longer}
+use Rattle.cfb_fat.specs.Keeping.{lean_same}
 use Rattle.cfb_fat.proofs.Growth.{below_both, below_more, below_one_more, beside_more, fat_same, fat_sectors_stay, once_few, once_front, once_middle, room_more, stays_in_front}
 use Rattle.cfb_fat.proofs.Packed.{behind_two, not_none, packed_more}
 use Rattle.cfb_fat.proofs.Places.{passed_attempts}
@@ -179,6 +182,12 @@ returns-clause-grows g c =
           (beside_more v fs p n (count_of m) (count_of a) (beside_second v ds fs p n apart) fits (omega (arith, more)))));
       still = λ live n. ((λ none. none_first ds (count_of a ∷ []) n (subst (λ l. IsNoneOf l n) (sym is_ds) none)), (λ none. none_first fs (count_of m ∷ []) n (subst (λ l. IsNoneOf l n) (sym is_fs) none)));
       longer = λ live honest. let one = first.longer did.live honest in let two = second.longer live (subst IsTrue (sym first.honest) honest) in omega (arith, one, two);
+      lean = λ live content lean.
+          let old = length it.fat.items in
+          lean_same v _ (old + 2) (length fs + 1) (length ds + 1) content _ _ _ _ (second.version ∙ first.version) (ap length is_fat ∙ length-append it.fat.items (free ∷ free ∷ []))
+          (ap length (sym is_fs) ∙ length-append fs (count_of m ∷ [])) (ap length (sym is_ds) ∙ length-append ds (count_of a ∷ [])) (omega arith)
+          (lean_longer v old (length fs) (length ds) content (old + 2) (length ds + 1) c.requires.full (omega arith)
+          (λ d below. ⊎_elim (λ last. subst (λ n. 109 + n * (per v - 1) < length fs + 1) (sym last.1) (omega (arith, c.requires.crowded))) (λ off. let differ = off.1 in let less = lean.difat d (omega (arith, differ, below)) in omega (arith, less)) (eqb_tells d (length ds))) lean);
       told = λ live honest any.
           let size = ap length is_fs in
           let long = length-append fs (count_of m ∷ []) in

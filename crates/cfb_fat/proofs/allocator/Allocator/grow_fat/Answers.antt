@@ -9,6 +9,8 @@ use Rattle.cfb_fat.specs.Listed.{Lists}
 use Rattle.cfb_chains.specs.Changes.{AreOnce, IsBeside, IsNoneOf}
 use Rattle.cfb_fat.specs.Orderly.{IsOrderly}
 use Rattle.cfb_fat.proofs.Grown.{order_grown, same_grown, there_grown, whole_grown, Lengthens}
+use Rattle.cfb_fat.proofs.Lean.{lean_longer}
+use Rattle.cfb_fat.specs.Keeping.{lean_same}
 use Rattle.cfb_fat.proofs.Growth.{beside_more, once_few, once_front, stays_in_front}
 use Rattle.cfb_fat.proofs.Packed.{behind_one, not_none, packed_more}
 use Rattle.cfb_chains.proofs.Beside.{beside_first, none_first}
@@ -100,6 +102,11 @@ returns-clause-grows g c =
       fat = λ live. stays_in_front [] it.fat.items (free ∷ []) c.push_reserved-2.new.self.items c.push_reserved-2.ensures.items;
       still = λ live n. ((λ none. none), (λ none. none_first fs (count_of it.sectors ∷ []) n (subst (λ l. IsNoneOf l n) (sym has_fs) none)));
       longer = appends.longer;
+      lean = λ live content lean.
+          let old = length it.fat.items in
+          let size = c.push_reserved-2.ensures.items in
+          lean_same v _ (old + 1) (length fs + 1) (length ds) content _ _ _ _ did.appends.version (ap length size ∙ length-append it.fat.items (free ∷ [])) (ap length (sym has_fs) ∙ length-append fs (count_of it.sectors ∷ [])) refl (omega arith)
+          (lean_longer v old (length fs) (length ds) content (old + 1) (length ds) c.requires.full (omega arith) (λ d below. let less = lean.difat d below in omega (arith, less)) lean);
       told = λ live honest any.
           let size = ap length has_fs in
           let long = length-append fs (count_of it.sectors ∷ []) in

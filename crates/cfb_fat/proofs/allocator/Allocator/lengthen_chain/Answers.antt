@@ -1,10 +1,10 @@
-use Rattle.std.proofs.Common.{◌≡◌, ◌-◌, ◌≤◌, ℕ, List, ◌++◌, length, ap, sym, subst, ◌∙◌, IsTrue}
+use Rattle.std.proofs.Common.{◌≡◌, ◌⊎◌, ◌+◌, ◌-◌, ◌<◌, ◌≤◌, ℕ, false, List, ◌++◌, length, ap, sym, subst, ◌∙◌, IsTrue}
 use Rattle.cfb_medium.specs.Versions.{sector_len}
 use Rattle.cfb_medium.specs.declared.medium.ReadMedium.{Ghosts}
 use Rattle.cfb_medium.specs.declared.version.Version.{Version}
 use Rattle.cfb_sectors.specs.Copies.{copies}
 use Rattle.cfb_sectors.specs.Initial.{initial}
-use Rattle.cfb_sectors.specs.Sectors.{joined}
+use Rattle.cfb_sectors.specs.Sectors.{greatest_regular, joined}
 use Rattle.cfb_sectors.specs.declared.initial.SectorInit.{SectorInit}
 use Rattle.cfb_chains.specs.Changes.{AreAmong}
 use Rattle.cfb_chains.specs.Grown.{AreWritable, IsLinked}
@@ -13,8 +13,8 @@ use Rattle.cfb_chains.specs.Positions.{sectors_for}
 use Rattle.cfb_chains.proofs.Lending.{told_of_lent}
 use Rattle.cfb_fat.specs.declared.allocator.Allocator.{Allocator}
 use Rattle.cfb_fat.specs.Changing.{MayWrite}
-use Rattle.cfb_fat.specs.Growing.{TakesIn}
-use Rattle.cfb_fat.specs.Tables.{bytes_of, fat_of, is_honest, version_of}
+use Rattle.cfb_fat.specs.Growing.{LacksNumbers, TakesIn}
+use Rattle.cfb_fat.specs.Tables.{bytes_of, fat_of, has_failed_here, is_honest, orderly_of, version_of}
 use Rattle.std.specs.Prelude.{OnOk}
 use Rattle.cfb_fat.proofs.allocator.Allocator.lengthen_chain.Goals as goal
 
@@ -44,3 +44,13 @@ returns-clause-filled g c =
     made.chain.3 c.set_len.ensures.filled in
     told_of_lent (λ a v s b t. length s ≤ sectors_for v c.args.len → OnOk c.set_len.result (Filled {g = g.F.ReadMedium} c.args.init a v s b t))
     _ it _ _ _ _ _ _ _ _ made.holder made.chain.0 made.chain.1 self_is (ap ids_of links_is) filled c.requires.more
+
+pub returns-clause-full : goal.returns-clause-full
+returns-clause-full g c = λ is.
+    let it = c.args.self.now in
+    let made = c.new-chain.ensures in
+    let self_is = c.self-1.given.1 (sym (c.set_len.ensures.same.holder ∙ made.same_reference)) in
+    let links_is = c.links-1.given.1 (sym (c.set_len.ensures.same.links ∙ made.same_links)) in
+    let short = c.set_len.ensures.full is in
+    told_of_lent (λ a v s b t. IsTrue (orderly_of {g = g.F.ReadMedium} a) × (has_failed_here b ≡ false → LacksNumbers a (sectors_for v c.args.len - length s) ⊎ (greatest_regular + 1 < sectors_for v c.args.len)))
+    _ it _ _ _ _ _ _ _ _ made.holder made.chain.0 made.chain.1 self_is (ap ids_of links_is) (short.orderly, short.lacks)
