@@ -10,10 +10,6 @@ use Rattle.staged.specs.declared.device.Which.TheVariants.{Home, Log}
 use Rattle.file_device.specs.declared.raw.RawFile.{Ghosts}
 use Rattle.file_device.specs.declared.pair.RawDevice.{RawDevice}
 
-abbrev pub raw_of : {F : Type 0} {g : Ghosts F} → RawDevice F g → Which → F
-raw_of d Home = d.home
-raw_of d Log = d.log
-
 abbrev pub raw_content : {F : Type 0} {g : Ghosts F} → RawDevice F g → Files
 raw_content {F} {g} d = record { home = g.shown d.home; log = g.shown d.log }
 

@@ -29,12 +29,3 @@ grouped_more name next_name requests more_requests all more rows request same ta
   taken ∙ ap (λ r. requests ++ r ∷ []) is ∙ ap (λ rs. rs ++ asked.insert name rows ∷ []) so.1 ∙ sym (map-append (λ new. asked.insert name new) so.0 (rows ∷ [])) ∙ ap (λ n. inserts_of n (so.0 ++ rows ∷ [])) (sym same),
   behind ∙ ap (λ l. l ++ rows) so.2 ∙ sym (flat_map-append (λ new. new) so.0 (rows ∷ []) ∙ ap (λ l. joined_rows so.0 ++ l) (append-nil rows)),
 )
-
--- a reply more where all are done
-pub done_more : {X : Type 0} (f : X → Request) (xs : List X) (i : ℕ) → i < length xs → all_done (map f (take (i + 1) xs)) ≡ all_done (map f (take i xs)) ++ told.done ∷ []
-done_more {X} f xs i less = (let one : i + 1 ≡ suc i = omega arith in rw one (on xs i less))
-  where
-    on : (xs : List X) (i : ℕ) → i < length xs → all_done (map f (take (suc i) xs)) ≡ all_done (map f (take i xs)) ++ told.done ∷ []
-    on [] i less = absurd (omega (arith, less))
-    on (x ∷ xs) zero less = refl
-    on (x ∷ xs) (suc i) less = ap (λ l. told.done ∷ l) (on xs i (omega (arith, less)))

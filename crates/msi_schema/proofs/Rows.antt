@@ -35,34 +35,6 @@ ten P all (a ∷ b ∷ c ∷ d ∷ e ∷ f ∷ g ∷ h ∷ i ∷ []) is = absurd
 ten P all (a ∷ b ∷ c ∷ d ∷ e ∷ f ∷ g ∷ h ∷ i ∷ j ∷ []) is = all a b c d e f g h i j
 ten P all (a ∷ b ∷ c ∷ d ∷ e ∷ f ∷ g ∷ h ∷ i ∷ j ∷ k ∷ ds) is = absurd (omega (arith, is))
 
--- rows of another length say nothing
-pub others_say_nothing : (ds : List Datum) → (length ds ≡ 10 → ⊥) → (col : Column) → described ds col ≡ None
-others_say_nothing [] is col = refl
-others_say_nothing (a ∷ []) is col = refl
-others_say_nothing (a ∷ b ∷ []) is col = refl
-others_say_nothing (a ∷ b ∷ null ∷ ds) is col = refl
-others_say_nothing (a ∷ b ∷ number z ∷ ds) is col = refl
-others_say_nothing (a ∷ b ∷ binary ∷ ds) is col = refl
-others_say_nothing (a ∷ b ∷ text t ∷ []) is col = refl
-others_say_nothing (a ∷ b ∷ text t ∷ d ∷ []) is col = refl
-others_say_nothing (a ∷ b ∷ text t ∷ d ∷ e ∷ []) is col = refl
-others_say_nothing (a ∷ b ∷ text t ∷ d ∷ e ∷ f ∷ []) is col = refl
-others_say_nothing (a ∷ b ∷ text t ∷ d ∷ e ∷ f ∷ g ∷ []) is col = refl
-others_say_nothing (a ∷ b ∷ text t ∷ d ∷ e ∷ f ∷ g ∷ h ∷ []) is col = refl
-others_say_nothing (a ∷ b ∷ text t ∷ d ∷ e ∷ f ∷ g ∷ h ∷ i ∷ []) is col = refl
-others_say_nothing (a ∷ b ∷ text t ∷ d ∷ e ∷ f ∷ g ∷ h ∷ i ∷ j ∷ []) is col = absurd (is refl)
-others_say_nothing (a ∷ b ∷ text t ∷ d ∷ e ∷ f ∷ g ∷ h ∷ i ∷ j ∷ k ∷ ds) is col = refl
-
--- nor do those without an answer
-pub unanswered : (ds : List Datum) → length ds ≡ 10 → text_in (get_or ds 2 null) ≡ None → (col : Column) → described ds col ≡ None
-unanswered ds is none col = ten (λ ds. text_in (get_or ds 2 null) ≡ None → described ds col ≡ None) (λ a b c d e f g h i j. on a b c (d ∷ e ∷ f ∷ g ∷ h ∷ i ∷ j ∷ [])) ds is none
-  where
-    on : (a b c : Datum) (ds : List Datum) → text_in c ≡ None → described (a ∷ b ∷ c ∷ ds) col ≡ None
-    on a b null ds none = refl
-    on a b (number z) ds none = refl
-    on a b binary ds none = refl
-    on a b (text t) ds none = absurd (cc)
-
 first_none : {A : Type 0} (o : Option A) → first_some o None ≡ o
 first_none None = refl
 first_none (Some x) = refl
@@ -210,10 +182,6 @@ all_parts ds is answer some name kind low high table n category choices l h t m 
     described_bits ds is answer (sym some) name bits kind b5 (answered ds is answer (sym some) name kind ∙ ap (λ x. Some x) (sym c5))
 
 -- ---- answers
-
-pub nothing_described : (row : List Datum) (o : Option Column) → ((c : Column) → described row c ≡ None) → option_and_then (described row) o ≡ None
-nothing_described row None none = refl
-nothing_described row (Some c) none = none c
 
 -- a column with its bits answers what the rows say
 pub bits_answer : (r : Result HeldColumn Error) (o : Option Column) → MatchResult r (λ column. o ≡ Some (column_of column)) (λ e. (e ≡ InvalidData) × (o ≡ None)) → Answers column_of r (or_refused o InvalidData)

@@ -242,11 +242,6 @@ few_sectors : (count minis : ℕ) → count ≤ 8 → minis ≤ count * 64 → 4
 unfolding parts
 few_sectors count minis few less = omega arith
 
--- it takes less than 128 KiB
-pub short_image_bound : (root : Facts) (streams : List NamedStream) → AreFewShort streams → length (image root streams) < 2 ^ 17
-short_image_bound root streams are =
-    rw (short_image_length root streams are) (few_sectors (length streams) (sum_of (counts 64 streams)) are.few (few_minis streams are.short))
-
 pub short_images_grow : ShortImagesGrow
 short_images_grow root few many few_are many_are streams minis =
     let a = short_image_length root few few_are in
