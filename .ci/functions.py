@@ -1,4 +1,4 @@
-"""The functions of a file in the layout of rt fmt."""
+"""The functions of a file in the layout of rt fmt, and those that an edit changes."""
 import re
 
 
@@ -23,13 +23,39 @@ def functions(text):
     return found
 
 
-def seen_above(name, text):
-    """What a proof in a crate above can see of a file: no comment, and of a function its contract and never its body (but of
-    one whose value may stand in a type)."""
+def heads(text):
+    """What stands before the bodies, which an edit must leave as it is."""
     lines = text.split("\n")
-    if name.endswith(".rt"):
-        for head, opens, closes, _ in functions(text):
-            if "const fn" not in lines[head - 1]:
-                lines[opens : closes - 1] = [""] * (closes - 1 - opens)
-    comment = "//" if name.endswith(".rt") else "--"
-    return "\n".join(it for it in lines if it.strip() and not it.lstrip().startswith(comment))
+    return [lines[head - 1 : opens] for head, opens, _, _ in functions(text)]
+
+
+def pairs(edit):
+    """The file, the old text and the new of each change of an edit that rt can read."""
+    file = old = None
+    for line in open(edit, encoding="utf-8").read().split("\n"):
+        if line.startswith("file: "):
+            file = line[len("file: ") :].strip()
+        elif line.startswith("old: "):
+            old = line[len("old: ") :]
+        elif line.startswith("new:"):
+            yield file, old, re.sub(r"\A ", "", line[len("new:") :])
+
+
+def bodies_of(edit, folder):
+    """The functions whose bodies the edit changes, as file, name and number in it; or None where it changes anything else."""
+    texts, found = {}, set()
+    for file, old, new in pairs(edit):
+        if not file.startswith("src/"):
+            return None
+        if file not in texts:
+            texts[file] = open(f"{folder}/{file}", encoding="utf-8").read()
+        text = texts[file]
+        if old not in text:
+            return None
+        line = text.count("\n", 0, text.index(old)) + 1
+        inside = [(it, name) for it, (_, opens, closes, name) in enumerate(functions(text)) if opens < line < closes]
+        texts[file] = text.replace(old, new)
+        if len(inside) != 1 or heads(texts[file]) != heads(text):
+            return None
+        found.add((file, inside[0][1], inside[0][0]))
+    return found or None

@@ -1,13 +1,16 @@
-"""Which wrong bodies stand as tried. must-fail.tried has a line for each crate that has wrong bodies: its name, and a
-sum over all that decides whether they are refused: its own files, the contracts, types and definitions of the crates below
-it, its line of crates.txt, and the logic of the toolchain. A body or a comment that changes below takes no line away."""
+"""Which wrong bodies stand as tried. must-fail.tried has a line for each: its crate and name, and a sum over all that decides whether
+it is refused: the edit, the text of its function with the answers of its proof, all that this proof sees (sight.py), and the logic of
+the toolchain. So a change takes away the lines of those bodies alone that meet it. Of an edit of anything but one function's body, and
+of functions that are proved together, the crate's whole text is summed, with all that it sees."""
+import functools
 import hashlib
 import pathlib
 import subprocess
 import sys
 
 sys.dont_write_bytecode = True
-from functions import seen_above  # noqa: E402
+from functions import bodies_of  # noqa: E402
+from sight import Sight, imports, uncommented  # noqa: E402
 
 ROOT = pathlib.Path(__file__).resolve().parent.parent
 FILE = ROOT / "must-fail.tried"
@@ -42,25 +45,34 @@ def logic():
     return version.partition(" logic ")[2] or version
 
 
-def sum_of(crate, known, version):
-    """The sum that stands in the crate's line, once its wrong bodies were tried."""
-    parts = [(crate, it) for it in ("src", "specs", "proofs", "must-fail")]
-    parts += [(name, it) for name in below(crate, known) for it in ("src", "specs")]
-    made = hashlib.sha256(f"{version}\n{crate}: {' '.join(known[crate])}\n".encode())
-    for name, part in parts:
-        for file in sorted((ROOT / "crates" / name / part).rglob("*")):
-            if file.is_file():
-                text = file.read_bytes()
-                if name != crate:
-                    text = seen_above(file.name, text.decode()).encode()
-                made.update(f"{file.relative_to(ROOT).as_posix()} {len(text)}\n".encode() + text)
-    return made.hexdigest()
+def whole(sight, crate):
+    """The texts of a crate."""
+    code = sight.texts(crate, "src/**/*.rt")
+    return code, sight.texts(crate, "specs/**/*.antt", "proofs/**/*.antt"), imports(line for it in code for line in it.split("\n") if "ghost use " in line)
 
 
-def sums():
-    """The sum of each crate that has wrong bodies, as its files stand now."""
+def meets(sight, crate, edit):
+    """What decides whether the edit is refused, but for the toolchain."""
+    changed, new = edit.read_text(), [it[len("new:") :] for it in edit.read_text().split("\n") if it.startswith("new:")]
+    touched = bodies_of(edit, ROOT / "crates" / crate) or ()
+    parts = [sight.of_function(crate, file, number) for file, _, number in sorted(touched)]
+    if not parts or None in parts:
+        parts = [whole(sight, crate)]
+    code, answers = [it for own, _, _ in parts for it in own], [it for _, own, _ in parts for it in own]
+    brought = {word: it for _, _, own in parts for word, it in own.items()}
+    own = [*(uncommented(it, "//") for it in code), *(uncommented(it, "--") for it in answers)]
+    return [changed, *own, *sight.of(crate, [*code, *new], answers, brought)]
+
+
+def sums(*named):
+    """The sum of each wrong body of these crates, or of all, as the files stand now."""
     version, known = logic(), crates()
-    return {it: sum_of(it, known, version) for it in sorted(known) if edits_of(it)}
+    sight, found = Sight(ROOT, known, functools.partial(below, known=known)), {}
+    for crate in named or sorted(known):
+        for edit in edits_of(crate):
+            texts = [version, f"{crate}: {' '.join(known[crate])}", *meets(sight, crate, edit)]
+            found[f"{crate}/{edit.name}"] = hashlib.sha256("".join(f"{len(it)}\n{it}" for it in texts).encode()).hexdigest()
+    return found
 
 
 def lines():

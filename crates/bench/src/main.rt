@@ -26,6 +26,7 @@ join ROWS         joins two tables of so many rows by equal numbers
 pool TEXTS        counts a use of each of so many texts, and then another one of each
 pool-insert ROWS  inserts so many rows, an insert each, over a pool of 65535 texts
 store WRITES      writes 4,096 bytes to a store so often, at places far apart, and commits
+commit PAGES      writes so many pages of 512 bytes side by side to a store, and commits
 streams COUNT     makes so many streams in one storage, in shuffled order, and removes them
 streams-up COUNT  the same in rising order
 streams-down COUNT  the same in falling order
@@ -69,6 +70,7 @@ fn run(rt: &HostRuntime, name: &str, size: usize) -> Result<()> {
         "write" => contents::write_and_read(rt, size),
         "large" => contents::write_large(rt, size),
         "store" => stores::write_apart(rt, size),
+        "commit" => stores::commit_pages(rt, size),
         "streams" => streams::make_and_remove(rt, size, Order::Shuffled),
         "streams-up" => streams::make_and_remove(rt, size, Order::Rising),
         "streams-down" => streams::make_and_remove(rt, size, Order::Falling),

@@ -1,4 +1,4 @@
-//! Writes to a store at places far apart.
+//! Writes to a store, at places far apart and side by side, and their commits.
 use crate::print_time;
 use anyhow::Result;
 use cfb_medium::{Error, Medium, ReadMedium};
@@ -58,4 +58,16 @@ fn run(rt: &HostRuntime, store: &mut Staged<MemoryDevice>, count: usize) -> Resu
     let begin = Instant::now(rt)?;
     commit(store)?;
     print_time(rt, "commit of as many writes", count, begin)
+}
+
+/// Writes so many pages of 512 bytes side by side, in one call, and commits them.
+pub fn commit_pages(rt: &HostRuntime, count: usize) -> Result<()> {
+    let bytes = vec![in rt.alloc(); 7u8; count.saturating_mul(512)]?;
+    let mut store = store(rt.alloc(), 0)?;
+    let begin = Instant::now(rt)?;
+    write_at(&mut store, 0, &bytes)?;
+    print_time(rt, "pages written", count, begin)?;
+    let begin = Instant::now(rt)?;
+    commit(&mut store)?;
+    print_time(rt, "commit of as many pages", count, begin)
 }
