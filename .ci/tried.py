@@ -47,8 +47,8 @@ def logic():
 
 def whole(sight, crate):
     """The texts of a crate."""
-    code = sight.texts(crate, "src/**/*.rt")
-    return code, sight.texts(crate, "specs/**/*.antt", "proofs/**/*.antt"), imports(line for it in code for line in it.split("\n") if "ghost use " in line)
+    code, logic = sight.texts(crate, "src/**/*.rt"), sight.texts(crate, "specs/**/*.antt", "proofs/**/*.antt")
+    return code, logic, imports(line for it in code for line in it.split("\n") if "ghost use " in line)
 
 
 def meets(sight, crate, edit):
