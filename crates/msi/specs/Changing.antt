@@ -8,13 +8,14 @@ use Rattle.cfb_live.specs.Doing.{IsFault}
 use Rattle.cfb_live.specs.Removing.{IsRefusedRemoval}
 use Rattle.cfb_medium.specs.Calls.{IsFaultUnless}
 use Rattle.cfb_medium.specs.declared.error.Error.{Error}
-use Rattle.cfb_medium.specs.declared.error.Error.TheVariants.{Failed, InvalidData, InvalidInput}
+use Rattle.cfb_medium.specs.declared.error.Error.TheVariants.{Failed, Full, InvalidData, InvalidInput}
 use Rattle.cfb_medium.specs.declared.medium.ReadMedium.{Ghosts}
 use Rattle.cfb_mini.specs.Views.{allocator_of}
 use Rattle.cfb_tree.specs.Tree.{Tree}
 use Rattle.msi_meaning.specs.Package.{Packed, Packs}
 use Rattle.msi_pool.specs.PoolKept.{IsWritable}
 use Rattle.msi_stored.specs.Changing.{PackageRule}
+use Rattle.msi_stored.specs.Room.{IsFullForRule}
 use Rattle.msi_streams.specs.Parts.{IsTooLong}
 use Rattle.msi_streams.specs.Writing.{most_bytes}
 use Rattle.msi_texts.specs.declared.codepage.CodePage.{CodePage}
@@ -65,6 +66,10 @@ module _ {F : Type 0} {g : Ghosts F} where
     pub refused : IfErr result (λ e. (P : Packed) → PackageHolds old P → IsTrue (sound_in old) → IsFault e ⊎ (rule P P (Err e) × KeepsHeld old new))
     pub rests : OnErr result ((failed_in new ≡ true) ⊎ KeepsHeld old new)
     pub seen : (letters_in (file_in new) ≡ letters_in (file_in old)) × (sound_in new ≡ sound_in old)
+
+  -- `Full` comes only where the file lacks room for the package that the rule gives, or the package has failed
+  abbrev pub PackageFills : PackageRule → Result (Unit {0}) Error → Package F g → Package F g → Type 0
+  PackageFills rule result old new = IsErrOf result Full → failed_in new ≡ false → (P : Packed) → PackageHolds old P → IsTrue (sound_in old) → IsFullForRule rule (file_in old) P
 
   -- it holds the package, and its file means a tree that packs it
   pub record PackageIsWritten (it : Package F g) (P : Packed) : Type 0 where

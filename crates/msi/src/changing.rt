@@ -4,7 +4,7 @@ ghost use Rattle.cfb.specs.Views.{letters_in, mini_of};
 ghost use Rattle.cfb_fat.specs.Tables.{HasCauseBelow};
 ghost use Rattle.cfb_mini.specs.Views.{allocator_of};
 ghost use Rattle.cfb_owned.specs.Chains.{GoesOn};
-ghost use Rattle.msi.specs.Changing.{failed_in, permission, setting_page, IsChangeError, IsRemovalError, PackageChanges};
+ghost use Rattle.msi.specs.Changing.{failed_in, permission, setting_page, IsChangeError, IsRemovalError, PackageChanges, PackageFills};
 ghost use Rattle.msi.specs.Opened.{file_in, sound_in};
 ghost use Rattle.msi_changes.specs.Said.{insert_name, insert_rows};
 ghost use Rattle.msi_meaning.specs.Calls.{Inserts};
@@ -50,6 +50,8 @@ impl<F: Medium> Package<F> {
     /// other errors are faults. After an error nothing is changed, or the package has failed.
     pub fn write_stream(&mut self, name: &str, bytes: &[u8]) -> Result<(), Error>
         ensures changes { PackageChanges (Makes (written_within (letters_in (file_in self.old))
+            (most_bytes (file_in self.old)) name.now bytes.now)) result self.old self.new }
+        ensures full { PackageFills (Makes (written_within (letters_in (file_in self.old))
             (most_bytes (file_in self.old)) name.now bytes.now)) result self.old self.new }
         ensures goes_on { GoesOn (allocator_of (mini_of (file_in self.old)))
             (allocator_of (mini_of (file_in self.new))) }
@@ -100,10 +102,13 @@ impl<F: Medium> Package<F> {
 
     /// Inserts rows into a table. `Failed` after an earlier fault, `InvalidData` where the package isn't sound; then `NotFound` where no
     /// table has the name, and `InvalidInput` or `AlreadyExists` as the rules of inserts say, the three tables that describe others last.
-    /// The other errors are faults. The rows are written to the file; their texts are counted in memory, and written by a flush. After
-    /// an error nothing is changed, or the package has failed.
+    /// The other errors are faults, `Full` among them where the file lacks room for the table with its new rows. The rows are written
+    /// to the file; their texts are counted in memory, and written by a flush. After an error nothing is changed, or the package has
+    /// failed.
     pub fn insert_rows(&mut self, query: &Insert) -> Result<(), Error>
         ensures changes { PackageChanges (λ P Q answer. Inserts P (insert_name query.now)
+            (insert_rows query.now) Q answer) result self.old self.new }
+        ensures full { PackageFills (λ P Q answer. Inserts P (insert_name query.now)
             (insert_rows query.now) Q answer) result self.old self.new }
         ensures goes_on { GoesOn (allocator_of (mini_of (file_in self.old)))
             (allocator_of (mini_of (file_in self.new))) }

@@ -4,7 +4,7 @@ ghost use Rattle.cfb.specs.Views.{mini_of};
 ghost use Rattle.cfb_fat.specs.Tables.{HasCauseBelow};
 ghost use Rattle.cfb_mini.specs.Views.{allocator_of};
 ghost use Rattle.cfb_owned.specs.Chains.{GoesOn};
-ghost use Rattle.msi.specs.Changing.{IsChangeError, PackageChanges};
+ghost use Rattle.msi.specs.Changing.{IsChangeError, PackageChanges, PackageFills};
 ghost use Rattle.msi.specs.Opened.{file_in};
 ghost use Rattle.msi_meaning.specs.Calls.{Drops};
 
@@ -14,10 +14,12 @@ use cfb_medium::{Error, Medium};
 impl<F: Medium> Package<F> {
     /// Drops a table, with all rows that describe it. `Failed` after an earlier fault, `InvalidData` where the package isn't sound; then
     /// `InvalidInput` for one of the three tables that describe others and for a name that no table can have, `NotFound` where no table
-    /// has the name or `_Validation` is none. The other errors are faults. The tables' streams are written to the file; the uses of texts
+    /// has the name or `_Validation` is none. The other errors are faults, as for inserts. The tables' streams are written to the file; the uses of texts
     /// are taken back in memory, and written by a flush. After an error nothing is changed, or the package has failed.
     pub fn drop_table(&mut self, name: &str) -> Result<(), Error>
         ensures changes { PackageChanges (λ P Q answer. Drops P name.now Q answer) result self.old
+            self.new }
+        ensures full { PackageFills (λ P Q answer. Drops P name.now Q answer) result self.old
             self.new }
         ensures goes_on { GoesOn (allocator_of (mini_of (file_in self.old)))
             (allocator_of (mini_of (file_in self.new))) }

@@ -5,7 +5,7 @@ ghost use Rattle.cfb_fat.specs.Tables.{HasCauseBelow};
 ghost use Rattle.cfb_mini.specs.Views.{allocator_of};
 ghost use Rattle.cfb_owned.specs.Chains.{GoesOn};
 ghost use Rattle.msi_columns.specs.Held.{columns_of};
-ghost use Rattle.msi.specs.Changing.{IsChangeError, PackageChanges};
+ghost use Rattle.msi.specs.Changing.{IsChangeError, PackageChanges, PackageFills};
 ghost use Rattle.msi.specs.Opened.{file_in};
 ghost use Rattle.msi_meaning.specs.Calls.{Creates};
 
@@ -18,11 +18,13 @@ impl<F: Medium> Package<F> {
     /// `InvalidInput` for a name or columns that no table can have, `AlreadyExists` where a table has the name, `NotFound` where
     /// `_Validation` is none, `InvalidInput` where the rows that describe it can't be kept, `AlreadyExists` where `_Validation` describes
     /// one of its columns already or a storage stands at its name, `InvalidInput` for more than 65536 rows in one of the three tables
-    /// that describe others, or where the pool is full. The other errors are faults. The rows of the three tables are written to the
+    /// that describe others, or where the pool is full. The other errors are faults, as for inserts. The rows of the three tables are written to the
     /// file; the uses of texts are counted in memory, and written by a flush. After an error nothing is changed, or the package has
     /// failed.
     pub fn create_table(&mut self, name: &str, columns: Vec<Column>) -> Result<(), Error>
         ensures changes { PackageChanges (λ P Q answer. Creates (letters_in (file_in self.old)) P
+            name.now (columns_of columns.items) Q answer) result self.old self.new }
+        ensures full { PackageFills (λ P Q answer. Creates (letters_in (file_in self.old)) P
             name.now (columns_of columns.items) Q answer) result self.old self.new }
         ensures goes_on { GoesOn (allocator_of (mini_of (file_in self.old)))
             (allocator_of (mini_of (file_in self.new))) }

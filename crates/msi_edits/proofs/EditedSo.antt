@@ -1,6 +1,6 @@
 -- What a query on the rows of a table makes of the package that a file stores.
-use Rattle.std.proofs.Common.{◌≡◌, ◌∙◌, ℕ, Bool, true, false, List, [], ◌∷◌, map, Some, None, Option, refl, sym, ap, ap₂, subst, arith, Result, Ok, Err}
-use Rattle.std.specs.Prelude.{not, slice_get, unwrap_or, All, IsTrue, MatchResult}
+use Rattle.std.proofs.Common.{◌≡◌, ◌∙◌, ℕ, Bool, true, false, List, [], ◌∷◌, map, length, Some, None, Option, inl, refl, sym, ap, ap₂, subst, arith, Result, Ok, Err}
+use Rattle.std.specs.Prelude.{not, option_map, slice_get, unwrap_or, All, IsTrue, MatchResult}
 use Rattle.std.specs.List.{list_all, remove}
 use Rattle.std.proofs.lemmas.Option.{get_or_from_slice_get, slice_get-get_or, slice_get_within}
 use Rattle.cfb.specs.Doing.{FileMeans}
@@ -19,7 +19,7 @@ use Rattle.msi_expr.specs.Formula.{Formula}
 use Rattle.msi_pool.specs.Pool.{Pool}
 use Rattle.msi_pool.specs.PoolKept.{AreFreeEmpty}
 use Rattle.msi_pool.specs.PoolState.{PoolState}
-use Rattle.msi_tables.specs.Rows.{has_place, kinds_of, rows_of, AreWritable, IsStored, Row}
+use Rattle.msi_tables.specs.Rows.{has_place, kinds_of, rows_bytes, rows_of, AreWritable, IsStored, Row}
 use Rattle.msi_tables.specs.Table.{table_named, Heading, IsStoredByKeys, Table}
 use Rattle.msi_values.specs.Datum.{Datum}
 use Rattle.msi_texts.specs.Results.{◌>>=◌, or_refused}
@@ -30,8 +30,10 @@ use Rattle.msi_meaning.specs.Package.{Packed}
 use Rattle.msi_meaning.specs.Sound.{is_free_table_name, uses_of}
 use Rattle.msi_meaning.specs.Split.{Stores}
 use Rattle.msi_meaning.specs.Uses.{TextsAreCounted}
+use Rattle.msi_meaning.proofs.SystemRows.{bytes_same}
 use Rattle.msi_parts.specs.Parts.{heading}
 use Rattle.msi_stored.specs.Changing.{StoresSound}
+use Rattle.msi_stored.specs.Room.{IsFullForName, IsFullForRule}
 use Rattle.msi_stored.specs.Stored.{rows_in}
 use Rattle.msi_rewritten.specs.Rewriting.{rewritten, HasPut, IsRewriting}
 use Rattle.msi_rewritten.proofs.Before.{uses_before}
@@ -40,7 +42,7 @@ use Rattle.msi_rewritten.proofs.Edited.{delete_rewrites, deleted_come_back, upda
 use Rattle.msi_rewritten.proofs.Inserted.{insert_rewrites, inserted_come_back}
 use Rattle.msi_rewritten.proofs.Put.{data_beside, pool_beside, summary_beside}
 use Rattle.msi_rewritten.proofs.Stored.{found_at, named_after, stores_after}
-use Rattle.msi_rewritten.proofs.Tables.{columns_kept, name_kept}
+use Rattle.msi_rewritten.proofs.Tables.{columns_kept, found_after, name_kept, one_changed}
 use Rattle.msi_edits.specs.Asked.{deleting, inserting, rows_after, rule_of, updating, IsPrepared, IsStoredFor, RowsAsked}
 use Rattle.msi_edits.specs.Edited.{CanPut, IsEdited, IsTableOf}
 use Rattle.msi_edits.proofs.Prepared.{delete_refused}
@@ -179,36 +181,70 @@ module _ {F : Type 0} {g : Ghosts F} (old new : CompoundFile F g) (tree : Tree) 
     refused_here rows e read is =
         asked_refused P t h.name of_it.named q e (ap₂ (λ p u. rows_after q h.name p u) (sym of_it.pool) (sym (rows_same rows read)) ∙ is)
 
+    module _ (rows : List Row) (bytes : List ℕ) (next : Pool) (read : rows_in letters tree h ≡ Some rows) (prepared : IsPrepared q h.name pool (rows_given h rows) bytes next) where
+      there : table_named P.tables t.name ≡ Some t
+      there = ap (table_named P.tables) (sym named_so) ∙ of_it.named
+
+      -- what is prepared, of the table that is there
+      i : IsPrepared q t.name P.pool t bytes next
+      i =
+          subst (λ name. IsPrepared q name P.pool t bytes next) named_so
+          (subst (λ (u : Table). IsPrepared q h.name P.pool u bytes next) (rows_same rows read)
+          (subst (λ (p : Pool). IsPrepared q h.name p (rows_given h rows) bytes next) of_it.pool prepared))
+
+      order : IsStoredFor q next t.columns i.rows i.stored
+      order = i.order (used_are_counted t.columns (uses_of (remove P.tables place.0)) P.pool t.rows (uses_before letters tree P s.stores s.counted place.0 t place.1))
+
+      abbrev after_it : Packed
+      after_it = rewritten P t.name i.stored next
+
+      answered : rule_of q h.name P after_it (Ok tt)
+      answered = subst (λ name. rule_of q name P after_it (Ok tt)) (sym named_so) (asked_done P t t.name there q i.rows i.stored next i.accepted order)
+
+      rewriting : IsRewriting P place.0 t i.stored next
+      rewriting = asked_rewrites letters tree P s.stores s.counted s.free place.0 t place.1 q (i.rows, next) i.accepted i.stored order
+
+      -- the file lacks room for these rows
+      pub full_here : IsFullForName old (stream_name h.name) (length bytes) → IsFullForRule (rule_of q h.name) old P
+      full_here full = record {
+        next = after_it;
+        answered = answered;
+        lacks = inl (record {
+          name = t.name;
+          table = record t { rows = i.stored };
+          there = found_after t.name i.stored t.name P.tables ∙ ap (option_map (with_rows t.name i.stored)) there ∙ ap (λ (u : Table). Some u) (one_changed t.name i.stored t (bytes_same t.name));
+          bytes = bytes;
+          written = ap (λ long. rows_bytes long (kinds_of t.columns) i.stored) rewriting.long ∙ i.written;
+          lacks = subst (λ name. IsFullForName old (stream_name name) (length bytes)) named_so full;
+        });
+      }
+
     pub edited_here : (rows : List Row) (bytes : List ℕ) (after : PoolState) → rows_in letters tree h ≡ Some rows
         → IsPrepared q h.name pool (rows_given h rows) bytes after.pool → (next : Tree) → FileMeans new next → HasPut letters h.name bytes tree next
         → IsEdited (rule_of q h.name) tree P old new after
     edited_here rows bytes after read prepared next means put =
         let k = place.0 in
         let at : slice_get P.tables k ≡ Some t = place.1 in
-        let there : table_named P.tables t.name ≡ Some t = ap (table_named P.tables) (sym named_so) ∙ of_it.named in
-        let i : IsPrepared q t.name P.pool t bytes after.pool =
-        subst (λ name. IsPrepared q name P.pool t bytes after.pool) named_so
-        (subst (λ (u : Table). IsPrepared q h.name P.pool u bytes after.pool) (rows_same rows read)
-        (subst (λ (p : Pool). IsPrepared q h.name p (rows_given h rows) bytes after.pool) of_it.pool prepared)) in
-        let order = i.order (used_are_counted t.columns (uses_of (remove P.tables k)) P.pool t.rows (uses_before letters tree P s.stores s.counted k t at)) in
-        let rewriting : IsRewriting P k t i.stored after.pool = asked_rewrites letters tree P s.stores s.counted s.free k t at q (i.rows, after.pool) i.accepted i.stored order in
-        let back : ComeBack P.pool.long t.columns i.stored = asked_back letters tree P s.stores s.counted s.free k t at q (i.rows, after.pool) i.accepted i.writable i.places i.stored order in
-        let one : Some back.bytes ≡ Some bytes = sym back.written ∙ i.written in
+        let own = i rows bytes after.pool read prepared in
+        let ordered = order rows bytes after.pool read prepared in
+        let changing : IsRewriting P k t own.stored after.pool = rewriting rows bytes after.pool read prepared in
+        let back : ComeBack P.pool.long t.columns own.stored = asked_back letters tree P s.stores s.counted s.free k t at q (own.rows, after.pool) own.accepted own.writable own.places own.stored ordered in
+        let one : Some back.bytes ≡ Some bytes = sym back.written ∙ own.written in
         let same : back.bytes ≡ bytes = grind (arith, one) in
-        let read_back : rows_of P.pool.long (kinds_of t.columns) bytes ≡ Some i.stored = subst (λ (b : List ℕ). rows_of P.pool.long (kinds_of t.columns) b ≡ Some i.stored) same back.read in
+        let read_back : rows_of P.pool.long (kinds_of t.columns) bytes ≡ Some own.stored = subst (λ (b : List ℕ). rows_of P.pool.long (kinds_of t.columns) b ≡ Some own.stored) same back.read in
         let put_there : HasPut letters t.name bytes tree next = subst (λ name. HasPut letters name bytes tree next) named_so put in
         record {
           changed = record {
-            next = rewritten P t.name i.stored after.pool;
+            next = rewritten P t.name own.stored after.pool;
             after = next;
-            answered = subst (λ name. rule_of q name P (rewritten P t.name i.stored after.pool) (Ok tt)) (sym named_so) (asked_done P t t.name there q i.rows i.stored after.pool i.accepted order);
+            answered = answered rows bytes after.pool read prepared;
             means = means;
             stores = record {
               usable = s.usable;
-              stores = stores_after letters tree next P s.usable s.named s.stores k t i.stored after.pool rewriting bytes put_there read_back;
-              counted = counted_after letters tree P s.stores k t i.stored after.pool rewriting;
-              free = rewriting.empty;
-              named = named_after letters tree next P s.usable s.named s.stores k t i.stored after.pool rewriting;
+              stores = stores_after letters tree next P s.usable s.named s.stores k t own.stored after.pool changing bytes put_there read_back;
+              counted = counted_after letters tree P s.stores k t own.stored after.pool changing;
+              free = changing.empty;
+              named = named_after letters tree next P s.usable s.named s.stores k t own.stored after.pool changing;
             };
             keeps = record {
               pool = pool_beside letters P s.usable s.named k t at tree next bytes put_there;
@@ -217,5 +253,5 @@ module _ {F : Type 0} {g : Ghosts F} (old new : CompoundFile F g) (tree : Tree) 
             };
           };
           pool = refl;
-          tables = headings_stay P.pool.long after.pool.long rewriting.long t.name i.stored P.tables;
+          tables = headings_stay P.pool.long after.pool.long changing.long t.name own.stored P.tables;
         }

@@ -1,7 +1,8 @@
 -- What a query on the rows of a table did, at each of its exits.
-use Rattle.std.proofs.Common.{◌≡◌, ◌∙◌, ◌⊎◌, ℕ, Bool, true, false, cond, List, [], ◌∷◌, map, Option, Some, None, refl, sym, ap, subst, arith, inl, inr, ⊎_elim, Vec, Result, Ok, Err}
+use Rattle.std.proofs.Common.{◌≡◌, ◌∙◌, ◌⊎◌, ℕ, Bool, true, false, cond, List, [], ◌∷◌, map, length, Option, Some, None, refl, sym, ap, subst, arith, inl, inr, ⊎_elim, Vec, Result, Ok, Err}
 use Rattle.std.specs.Prelude.{bytes_eq, option_map, IfErr}
 use Rattle.std.specs.declared.alloc.Global.{Global}
+use Rattle.cfb.specs.Doing.{FileMeans}
 use Rattle.cfb.specs.Putting.{KeepsMeant}
 use Rattle.cfb.specs.Streams.{FileHolds}
 use Rattle.cfb.specs.Views.{letters_in, mini_of, sound_of, FileRests}
@@ -19,23 +20,26 @@ use Rattle.cfb_tree.specs.Names.{Letters}
 use Rattle.cfb_tree.specs.Tree.{Tree}
 use Rattle.msi_changes.specs.Applied.{with_rows}
 use Rattle.msi_changes.specs.Prepared.{pool_after}
+use Rattle.msi_pool.specs.Pool.{Pool}
 use Rattle.msi_pool.specs.PoolState.{PoolState}
 use Rattle.msi_pool.specs.declared.draft.PoolChanges.{PoolChanges}
 use Rattle.msi_tables.specs.Rows.{Row}
 use Rattle.msi_tables.specs.Table.{table_named, Heading, Table}
-use Rattle.msi_meaning.specs.Package.{Packed}
+use Rattle.msi_meaning.specs.Package.{stream_name, Packed}
 use Rattle.msi_meaning.proofs.SystemRows.{same_bytes}
 use Rattle.msi_parts.specs.Judged.{heading_named}
 use Rattle.msi_parts.specs.Parts.{heading}
 use Rattle.msi_store.specs.Stores.{file_in, tables_in}
 use Rattle.msi_store.specs.declared.store.Store.{Store}
-use Rattle.msi_stored.specs.Changing.{PackageRule}
+use Rattle.msi_stored.specs.Changing.{PackageRule, StoresSound}
+use Rattle.msi_stored.specs.Room.{IsFullForName, IsFullForRule}
 use Rattle.msi_stored.specs.Stored.{rows_in}
+use Rattle.msi_stored.proofs.Room.{room_before}
 use Rattle.msi_rewritten.specs.Rewriting.{HasPut}
-use Rattle.msi_edits.specs.Edited.{CanPut, Edits, EditsTable, IsEditError, IsEdited, IsMemoryOf, IsTableOf, PutsTable}
+use Rattle.msi_edits.specs.Edited.{CanPut, Edits, EditsTable, Fills, FillsTable, IsEditError, IsUnputError, IsEdited, IsMemoryOf, IsTableOf, PutsTable}
 use Rattle.msi_edits.specs.Asked.{rows_after, rule_of, IsPrepared, RowsAsked, TellsRows}
-use Rattle.msi_edits.proofs.Refusals.{asked_own, own_kind, own_so, IsOwn}
-use Rattle.msi_edits.proofs.EditedSo.{can_put, edited_here, not_found, refused_here, rows_there, wide_so}
+use Rattle.msi_edits.proofs.Refusals.{asked_own, own_kind, own_so, own_unput, IsOwn}
+use Rattle.msi_edits.proofs.EditedSo.{can_put, edited_here, full_here, not_found, refused_here, rows_there, wide_so}
 
 -- what was told of rows that were read is told of those of the tree
 module _ (q : RowsAsked) (h : Heading) (state : PoolState) where
@@ -54,6 +58,10 @@ own_causes a b (Err e) own = own_so a b e own
 pub own_kinds : {T : Type 0} (r : Result T Error) → IfErr r IsOwn → IfErr r IsEditError
 own_kinds (Ok x) own = tt
 own_kinds (Err e) own = own_kind e own
+
+pub owns_unput : {T : Type 0} (r : Result T Error) → IfErr r IsOwn → IfErr r IsUnputError
+owns_unput (Ok x) own = tt
+owns_unput (Err e) own = own_unput e own
 
 module _ {F : Type 0} {g : Ghosts F} (q : RowsAsked) (h : Heading) where
   read_keeps : (old new : CompoundFile F g) → FileRests old new → KeepsMeant old new
@@ -90,6 +98,15 @@ module _ {F : Type 0} {g : Ghosts F} (q : RowsAsked) (h : Heading) where
       marked = λ flag. refl;
       seen = (p.seen.0 ∙ rests.letters, p.seen.1 ∙ rests.sound, p.seen.2 ∙ rests.validation);
     }
+
+    pub edit_full : (next : Pool) → ((tree : Tree) → FileHolds old tree → pool.pool.long ≡ h.long → (rows : List Row) → rows_in (letters_in old) tree h ≡ Some rows
+        → IsPrepared q h.name pool.pool (with_rows h rows) bytes next)
+        → IsFullForName mid (stream_name h.name) (length bytes) → (tree : Tree) (P : Packed) (t : Table) → FileMeans old tree → StoresSound (letters_in old) tree P → IsTableOf pool.pool h P t
+        → IsFullForRule (rule_of q h.name) old P
+    edit_full next told full tree P t m s of_it =
+        let there = rows_there old new tree P s h t pool.pool of_it in
+        full_here old new tree P s h t pool.pool of_it q t.rows bytes next there (told tree (holds_meant old tree m) (wide_so old new tree P s h t pool.pool of_it) t.rows there)
+        (room_before old mid rests (stream_name h.name) (length bytes) full)
 
     pub edit_done : (after : PoolState) → (after.modified ≡ false → after ≡ pool)
         → ((tree : Tree) → FileHolds old tree → pool.pool.long ≡ h.long → (rows : List Row) → rows_in (letters_in old) tree h ≡ Some rows
@@ -152,6 +169,10 @@ module _ {F : Type 0} {g : Ghosts F} where
   pub first_kind : (it : CompoundFile F g) (e : Error) → IsFirst it e → IsEditError e
   first_kind it e (inl failed) = subst IsEditError (sym failed.0) (inl tt)
   first_kind it e (inr unsound) = own_kind e (subst IsOwn (sym unsound.0) tt)
+
+  pub first_unput : (it : CompoundFile F g) (e : Error) → IsFirst it e → IsUnputError e
+  first_unput it e (inl failed) = subst IsUnputError (sym failed.0) tt
+  first_unput it e (inr unsound) = subst IsUnputError (sym unsound.0) tt
 
   -- the file may be changed
   abbrev pub IsOpen : CompoundFile F g → Type 0
@@ -238,3 +259,6 @@ module _ {F : Type 0} {g : Ghosts F} where
         tables = same;
         seen = e.seen;
       }
+
+      pub table_fills : (r : Result (Unit {0}) Error) → FillsTable (rule_of q h.name) h r (file_in old) (file_in new) before → Fills (rule_of q name) r old new before
+      table_fills r full is live tree P m s memory = let t = table_of P memory in subst (λ n. IsFullForRule (rule_of q n) (file_in old) P) of_name (full is live tree P t.0 m s t.1)

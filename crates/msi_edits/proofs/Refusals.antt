@@ -5,13 +5,14 @@ use Rattle.std.specs.List.{flat_map, list_all}
 use Rattle.cfb_fat.specs.Keeping.{own_cause}
 use Rattle.cfb_fat.specs.Tables.{HasCauseBelow}
 use Rattle.cfb_fat.specs.declared.allocator.Allocator.{Allocator}
+use Rattle.cfb_medium.specs.Calls.{IsFaultUnless}
 use Rattle.cfb_medium.specs.declared.error.Error.{Error}
 use Rattle.cfb_medium.specs.declared.error.Error.TheVariants.{AlreadyExists, Device, Failed, Full, InvalidData, InvalidInput, Memory, NotFound, UnexpectedEof}
 use Rattle.cfb_medium.specs.declared.medium.ReadMedium.{Ghosts}
 use Rattle.msi_changes.specs.Changes.{all_taken_back, cell_set, cells_set, counted, deleted, in_turn, inserted, is_valid_set, keys_after, new_keys, row_counted, row_set, rows_counted, sets_key, taken_back, updated}
 use Rattle.msi_columns.specs.Column.{are_valid, column_place, Column}
 use Rattle.msi_edits.specs.Asked.{deleting, inserting, rows_after, updating, RowsAsked}
-use Rattle.msi_edits.specs.Edited.{IsEditError}
+use Rattle.msi_edits.specs.Edited.{IsEditError, IsUnputError}
 use Rattle.msi_expr.specs.Conditions.{knows_condition, matches}
 use Rattle.msi_expr.specs.Formula.{Formula}
 use Rattle.msi_meaning.specs.Calls.{may_insert, may_update}
@@ -23,7 +24,7 @@ use Rattle.msi_tables.specs.Table.{are_distinct, has_key, key_values, keys_of, T
 use Rattle.msi_texts.specs.Results.{◌>>=◌, or_refused, unless_not}
 use Rattle.msi_values.specs.Datum.{binary, null, number, text, Datum}
 
--- neither a fault of the device nor an earlier one, and no end of bytes
+-- neither a fault of the device nor an earlier one, no end of bytes, and no want of room
 abbrev pub IsOwn : Error → Type 0
 IsOwn Device = ⊥
 IsOwn Failed = ⊥
@@ -33,7 +34,7 @@ IsOwn InvalidInput = Unit {0}
 IsOwn InvalidData = Unit {0}
 IsOwn AlreadyExists = Unit {0}
 IsOwn NotFound = Unit {0}
-IsOwn Full = Unit {0}
+IsOwn Full = ⊥
 
 -- it is of a kind that edits have
 pub own_kind : (e : Error) → IsOwn e → IsEditError e
@@ -44,8 +45,55 @@ own_kind Memory own = inl tt
 own_kind InvalidData own = inr (inl (inl (inl refl)))
 own_kind InvalidInput own = inr (inl (inl (inr (inl refl))))
 own_kind NotFound own = inr (inl (inl (inr (inr refl))))
-own_kind Full own = inr (inl (inr refl))
+own_kind Full own = absurd own
 own_kind AlreadyExists own = inr (inr refl)
+
+pub Err_same : {T : Type 0} {a b : Error} → (◌≡◌ {A = Result T Error} (Err a) (Err b)) → a ≡ b
+Err_same is = (cc (is))
+
+-- ---- before anything is put
+
+pub own_unput : (e : Error) → IsOwn e → IsUnputError e
+own_unput Device own = absurd own
+own_unput Failed own = absurd own
+own_unput UnexpectedEof own = absurd own
+own_unput Memory own = tt
+own_unput InvalidData own = tt
+own_unput InvalidInput own = tt
+own_unput NotFound own = tt
+own_unput Full own = absurd own
+own_unput AlreadyExists own = tt
+
+fault_unput : (e : Error) → IsFaultUnless ⊥ e → IsUnputError e
+fault_unput Device fault = tt
+fault_unput Failed fault = tt
+fault_unput UnexpectedEof fault = absurd fault
+fault_unput Memory fault = tt
+fault_unput InvalidData fault = tt
+fault_unput InvalidInput fault = tt
+fault_unput NotFound fault = tt
+fault_unput Full fault = absurd fault
+fault_unput AlreadyExists fault = tt
+
+-- the rows of a table that were read
+pub read_unput : (e : Error) → IsFaultUnless ⊥ e ⊎ (e ≡ InvalidData) → IsUnputError e
+read_unput e why = elim why [ inl fault ↦ fault_unput e fault | inr broken ↦ subst IsUnputError (sym broken) tt ]
+
+pub unput_kind : (e : Error) → IsUnputError e → IsEditError e
+unput_kind Device kind = inl tt
+unput_kind Failed kind = inl tt
+unput_kind UnexpectedEof kind = absurd kind
+unput_kind Memory kind = inl tt
+unput_kind InvalidData kind = inr (inl (inl (inl refl)))
+unput_kind InvalidInput kind = inr (inl (inl (inr (inl refl))))
+unput_kind NotFound kind = inr (inl (inl (inr (inr refl))))
+unput_kind Full kind = absurd kind
+unput_kind AlreadyExists kind = inr (inr refl)
+
+pub unput_not_full : {A : Type 0} (e : Error) → IsUnputError e → (◌≡◌ {A = Result (Unit {0}) Error} (Err e) (Err Full)) → A
+unput_not_full e kind is = absurd (subst IsUnputError (Err_same is) kind)
+
+-- ---- kinds
 
 then_own : {A B : Type 0} (r : Result A Error) (f : A → Result B Error) → IfErr r IsOwn → ((x : A) → IfErr (f x) IsOwn) → IfErr (r >>= f) IsOwn
 then_own (Ok x) f own rest = rest x

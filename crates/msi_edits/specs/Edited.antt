@@ -8,7 +8,7 @@ use Rattle.cfb_fat.specs.Tables.{has_failed_here}
 use Rattle.cfb_live.specs.Doing.{IsFault}
 use Rattle.cfb_medium.specs.Calls.{IsFaultUnless}
 use Rattle.cfb_medium.specs.declared.error.Error.{Error}
-use Rattle.cfb_medium.specs.declared.error.Error.TheVariants.{Failed, InvalidData}
+use Rattle.cfb_medium.specs.declared.error.Error.TheVariants.{AlreadyExists, Device, Failed, Full, InvalidData, InvalidInput, Memory, NotFound, UnexpectedEof}
 use Rattle.cfb_medium.specs.declared.medium.ReadMedium.{Ghosts}
 use Rattle.cfb_mini.specs.Views.{allocator_of}
 use Rattle.cfb_tree.specs.Names.{Letters}
@@ -23,6 +23,7 @@ use Rattle.msi_rewritten.specs.Rewriting.{HasPut}
 use Rattle.msi_store.specs.Stores.{file_in, tables_in}
 use Rattle.msi_store.specs.declared.store.Store.{Store}
 use Rattle.msi_stored.specs.Changing.{StoreIsChanged, PackageRule, StoresSound}
+use Rattle.msi_stored.specs.Room.{IsFullForRule}
 use Rattle.msi_tables.specs.Table.{table_named, Heading, Table}
 
 -- a table can have the name, and no storage of the tree stands where its stream would
@@ -33,6 +34,18 @@ pub record CanPut (letters : Letters) (name : List ℕ) (tree : Tree) : Type 0 w
 -- which errors there are over any medium: faults, and refusals of the query and of the container
 abbrev pub IsEditError : Error → Type 0
 IsEditError e = IsFaultUnless ⊥ e ⊎ IsRefusedPut e
+
+-- and which before anything is put: no want of room
+abbrev pub IsUnputError : Error → Type 0
+IsUnputError UnexpectedEof = ⊥
+IsUnputError Full = ⊥
+IsUnputError Memory = Unit {0}
+IsUnputError Device = Unit {0}
+IsUnputError Failed = Unit {0}
+IsUnputError InvalidData = Unit {0}
+IsUnputError InvalidInput = Unit {0}
+IsUnputError NotFound = Unit {0}
+IsUnputError AlreadyExists = Unit {0}
 
 -- the pool is the package's, and the table of the heading's name is this one
 pub record IsTableOf (held : Pool) (h : Heading) (P : Packed) (t : Table) : Type 0 where
@@ -65,6 +78,11 @@ module _ {F : Type 0} {g : Ghosts F} where
     pub marked : after.modified ≡ false → after ≡ before
     pub seen : (letters_in new ≡ letters_in old) × (sound_of new ≡ sound_of old) × (validation_of new ≡ validation_of old)
 
+  -- `Full` comes only where the file lacks room for the package that the rule gives, or has failed
+  abbrev pub FillsTable : {T : Type 0} → PackageRule → Heading → Result T Error → CompoundFile F g → CompoundFile F g → PoolState → Type 0
+  FillsTable rule h result old new before = IsErrOf result Full → has_failed_here (allocator_of (mini_of new)) ≡ false
+      → (tree : Tree) (P : Packed) (t : Table) → FileMeans old tree → StoresSound (letters_in old) tree P → IsTableOf before.pool h P t → IsFullForRule rule old P
+
   -- pool and tables in memory are those of the package, the tables without their rows
   pub record IsMemoryOf (it : Store F g) (held : Pool) (P : Packed) : Type 0 where
     pub pool : held ≡ P.pool
@@ -86,3 +104,8 @@ module _ {F : Type 0} {g : Ghosts F} where
     pub marked : after.modified ≡ false → after ≡ before
     pub tables : tables_in new ≡ tables_in old
     pub seen : (letters_in (file_in new) ≡ letters_in (file_in old)) × (sound_of (file_in new) ≡ sound_of (file_in old)) × (validation_of (file_in new) ≡ validation_of (file_in old))
+
+  -- of `Edits`: `Full` comes only where the file lacks room for the package that the rule gives, or has failed
+  abbrev pub Fills : {T : Type 0} → PackageRule → Result T Error → Store F g → Store F g → PoolState → Type 0
+  Fills rule result old new before = IsErrOf result Full → has_failed_here (allocator_of (mini_of (file_in new))) ≡ false
+      → (tree : Tree) (P : Packed) → FileMeans (file_in old) tree → StoresSound (letters_in (file_in old)) tree P → IsMemoryOf old before.pool P → IsFullForRule rule (file_in old) P

@@ -1,20 +1,22 @@
 //! Queries that change tables of a package.
-ghost use Rattle.std.specs.Prelude.{◌≡◌, ◌⊎◌, false, true, IfErr, IfOk, List, OnOk, Some, find, bytes_eq, option_map};
+ghost use Rattle.std.specs.Prelude.{◌≡◌, ◌⊎◌, false, true, length, IfErr, IfOk, IsErrOf, List, OnOk, Some, find, bytes_eq, option_map};
 ghost use Rattle.std.specs.Rc.{rc_value};
 ghost use Rattle.cfb.specs.Streams.{FileHolds};
 ghost use Rattle.cfb.specs.Views.{letters_in, mini_of, sound_of, FileRests};
 ghost use Rattle.cfb_fat.specs.Tables.{has_failed_here, HasCauseBelow};
 ghost use Rattle.cfb_medium.specs.Calls.{IsFaultUnless};
-ghost use Rattle.cfb_medium.specs.declared.error.Error.TheVariants.{Failed, InvalidData};
+ghost use Rattle.cfb_medium.specs.declared.error.Error.TheVariants.{Failed, Full, InvalidData};
 ghost use Rattle.cfb_mini.specs.Views.{allocator_of};
 ghost use Rattle.cfb_owned.specs.Chains.{GoesOn};
 ghost use Rattle.cfb_tree.specs.Tree.{Tree};
 ghost use Rattle.msi_changes.specs.Prepared.{AreChangesFor};
 ghost use Rattle.msi_changes.specs.Said.{delete_condition, delete_name, insert_name, insert_rows, update_condition, update_name, update_sets};
 ghost use Rattle.msi_edits.specs.Asked.{asked, rule_of, TellsRows};
-ghost use Rattle.msi_edits.specs.Edited.{Edits, EditsTable, IsEditError, PutsTable};
+ghost use Rattle.msi_edits.specs.Edited.{Edits, EditsTable, Fills, FillsTable, IsEditError, IsUnputError, PutsTable};
 ghost use Rattle.msi_meaning.specs.Calls.{Deletes, Inserts, Updates};
+ghost use Rattle.msi_meaning.specs.Package.{stream_name};
 ghost use Rattle.msi_store.specs.Stores.{file_in};
+ghost use Rattle.msi_stored.specs.Room.{IsFullForName};
 ghost use Rattle.msi_stored.specs.Stored.{rows_in};
 ghost use Rattle.msi_tables.specs.Held.{heading_of};
 ghost use Rattle.msi_tables.specs.Rows.{Row};
@@ -50,7 +52,7 @@ fn prepared_edit<F: ReadMedium>(
     ensures rests { FileRests file.old file.new }
     ensures cause { IfErr result (HasCauseBelow (allocator_of (mini_of file.old))
         (allocator_of (mini_of file.new))) }
-    ensures kinds { IfErr result IsEditError }
+    ensures kinds { IfErr result IsUnputError }
 {
     let rows = match rows_of_table(alloc, file, table) {
         Err(error) => return Err(error),
@@ -70,6 +72,8 @@ fn put_bytes<F: Medium>(
     bytes: &[u8],
 ) -> Result<(), Error>
     ensures puts { PutsTable (heading_of table.now).name bytes.now result file.old file.new }
+    ensures full { IsErrOf result Full → has_failed_here (allocator_of (mini_of file.new)) ≡ false
+        → IsFullForName file.old (stream_name (heading_of table.now).name) (length bytes.now) }
     ensures cause { IfErr result (HasCauseBelow (allocator_of (mini_of file.old))
         (allocator_of (mini_of file.new))) }
     ensures kinds { IfErr result IsEditError }
@@ -88,6 +92,8 @@ fn edit_table<F: Medium>(
 ) -> (StringPool, Result<(), Error>)
     ensures edits { EditsTable (rule_of (asked query.now) (heading_of (rc_value table.now)).name)
         (heading_of (rc_value table.now)) result.1 file.old file.new pool result.0 }
+    ensures full { FillsTable (rule_of (asked query.now) (heading_of (rc_value table.now)).name)
+        (heading_of (rc_value table.now)) result.1 file.old file.new pool }
     ensures goes_on { GoesOn (allocator_of (mini_of file.old)) (allocator_of (mini_of file.new)) }
     ensures cause { IfErr result.1 (HasCauseBelow (allocator_of (mini_of file.old))
         (allocator_of (mini_of file.new))) }
@@ -125,6 +131,7 @@ fn edit_with<F: Medium>(
 ) -> (StringPool, Result<(), Error>)
     ensures edits { Edits (rule_of (asked query.now) name.now) result.1 store.old store.new pool
         result.0 }
+    ensures full { Fills (rule_of (asked query.now) name.now) result.1 store.old store.new pool }
     ensures goes_on { GoesOn (allocator_of (mini_of (file_in store.old)))
         (allocator_of (mini_of (file_in store.new))) }
     ensures cause { IfErr result.1 (HasCauseBelow (allocator_of (mini_of (file_in store.old)))
@@ -151,6 +158,7 @@ fn edit<F: Medium>(
 ) -> Result<(), Error>
     ensures edits { Edits (rule_of (asked query.now) name.now) result store.old store.new pool.old
         pool.new }
+    ensures full { Fills (rule_of (asked query.now) name.now) result store.old store.new pool.old }
     ensures goes_on { GoesOn (allocator_of (mini_of (file_in store.old)))
         (allocator_of (mini_of (file_in store.new))) }
     ensures cause { IfErr result (HasCauseBelow (allocator_of (mini_of (file_in store.old)))
@@ -167,7 +175,7 @@ fn edit<F: Medium>(
 /// Inserts rows into a table of the package that a file stores, and counts their texts in its pool. `Failed` after an earlier fault,
 /// `InvalidData` where the file isn't sound; then `NotFound` where no table has the name, and what `Insert::prepare` refuses.
 /// `InvalidInput` for one of the three tables that describe others. The other errors are faults, `Full` among them where the
-/// container has no room. The rows are written in one call of the container, so after an error the pool is as it was, and nothing is
+/// container has no room for the table with its new rows. The rows are written in one call of the container, so after an error the pool is as it was, and nothing is
 /// changed, or the file has failed.
 pub fn insert_rows<F: Medium>(
     alloc: Global,
@@ -177,6 +185,8 @@ pub fn insert_rows<F: Medium>(
 ) -> Result<(), Error>
     ensures edits { Edits (λ P Q answer. Inserts P (insert_name insert.now) (insert_rows insert.now)
         Q answer) result store.old store.new pool.old pool.new }
+    ensures full { Fills (λ P Q answer. Inserts P (insert_name insert.now) (insert_rows insert.now)
+        Q answer) result store.old store.new pool.old }
     ensures goes_on { GoesOn (allocator_of (mini_of (file_in store.old)))
         (allocator_of (mini_of (file_in store.new))) }
     ensures cause { IfErr result (HasCauseBelow (allocator_of (mini_of (file_in store.old)))
@@ -199,6 +209,8 @@ pub fn update_rows<F: Medium>(
 ) -> Result<(), Error>
     ensures edits { Edits (λ P Q answer. Updates P (update_name update.now) (update_sets update.now)
         (update_condition update.now) Q answer) result store.old store.new pool.old pool.new }
+    ensures full { Fills (λ P Q answer. Updates P (update_name update.now) (update_sets update.now)
+        (update_condition update.now) Q answer) result store.old store.new pool.old }
     ensures goes_on { GoesOn (allocator_of (mini_of (file_in store.old)))
         (allocator_of (mini_of (file_in store.new))) }
     ensures cause { IfErr result (HasCauseBelow (allocator_of (mini_of (file_in store.old)))
@@ -220,6 +232,8 @@ pub fn delete_rows<F: Medium>(
 ) -> Result<(), Error>
     ensures edits { Edits (λ P Q answer. Deletes P (delete_name delete.now) (delete_condition delete.now)
         Q answer) result store.old store.new pool.old pool.new }
+    ensures full { Fills (λ P Q answer. Deletes P (delete_name delete.now) (delete_condition delete.now)
+        Q answer) result store.old store.new pool.old }
     ensures goes_on { GoesOn (allocator_of (mini_of (file_in store.old)))
         (allocator_of (mini_of (file_in store.new))) }
     ensures cause { IfErr result (HasCauseBelow (allocator_of (mini_of (file_in store.old)))

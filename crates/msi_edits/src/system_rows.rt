@@ -1,13 +1,15 @@
 //! Streams of tables: the bytes of rows listed by their keys, and bytes that are put.
-ghost use Rattle.std.specs.Prelude.{◌≡◌, ◌++◌, false, map, All, IfErr, IfOk, IsTrue, OnOk};
+ghost use Rattle.std.specs.Prelude.{◌≡◌, ◌++◌, false, length, map, All, IfErr, IfOk, IsErrOf, IsTrue, OnOk};
 ghost use Rattle.std.specs.List.{list_all};
 ghost use Rattle.cfb.specs.Views.{mini_of};
 ghost use Rattle.cfb_fat.specs.Tables.{has_failed_here, HasCauseBelow};
-ghost use Rattle.cfb_medium.specs.declared.error.Error.TheVariants.{Memory};
+ghost use Rattle.cfb_medium.specs.declared.error.Error.TheVariants.{Full, Memory};
 ghost use Rattle.cfb_mini.specs.Views.{allocator_of};
 ghost use Rattle.cfb_owned.specs.Chains.{GoesOn};
 ghost use Rattle.msi_edits.specs.Edited.{IsEditError, PutsTable};
 ghost use Rattle.msi_edits.specs.Asked.{IsWrittenByKeys};
+ghost use Rattle.msi_meaning.specs.Package.{stream_name};
+ghost use Rattle.msi_stored.specs.Room.{IsFullForName};
 ghost use Rattle.msi_tables.specs.Held.{heading_of, rows_held};
 ghost use Rattle.msi_pool.specs.Pool.{Pool};
 ghost use Rattle.msi_tables.specs.Rows.{has_place, AreWritable};
@@ -79,8 +81,8 @@ pub fn bytes_with_new_rows(
     }
 }
 
-/// Puts the bytes as the stream of the table of a name. `Full` where a stream of the file can't have so many, or numbers are missing.
-/// The other errors are those of `put_stream`.
+/// Puts the bytes as the stream of the table of a name. `Full` where a stream of the file can't have so many, or numbers of entries or
+/// sectors are missing. The other errors are those of `put_stream`.
 pub fn put_table_bytes<F: Medium>(
     alloc: Global,
     file: &mut CompoundFile<F>,
@@ -88,6 +90,8 @@ pub fn put_table_bytes<F: Medium>(
     bytes: &[u8],
 ) -> Result<(), Error>
     ensures puts { PutsTable name.now bytes.now result file.old file.new }
+    ensures full { IsErrOf result Full → has_failed_here (allocator_of (mini_of file.new)) ≡ false
+        → IsFullForName file.old (stream_name name.now) (length bytes.now) }
     ensures live { OnOk result (has_failed_here (allocator_of (mini_of file.new)) ≡ false) }
     ensures cause { IfErr result (HasCauseBelow (allocator_of (mini_of file.old))
         (allocator_of (mini_of file.new))) }

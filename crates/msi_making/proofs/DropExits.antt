@@ -1,5 +1,5 @@
 -- What a call that drops a table did, at each of its exits.
-use Rattle.std.proofs.Common.{◌≡◌, ◌∙◌, ℕ, Bool, true, false, cond, List, [], ◌∷◌, map, refl, sym, ap, ap₂, subst, inl, inr, ⊎_elim, Result, Ok, Err}
+use Rattle.std.proofs.Common.{◌≡◌, ◌∙◌, ℕ, Bool, true, false, cond, List, [], ◌∷◌, map, length, refl, sym, ap, ap₂, subst, inl, inr, ⊎_elim, Result, Ok, Err}
 use Rattle.std.specs.Prelude.{◌⊎◌, bytes_eq, filter, not}
 use Rattle.std.specs.declared.rc.Rc.{Rc}
 use Rattle.std.specs.Rc.{rc_value}
@@ -18,7 +18,7 @@ use Rattle.cfb_tree.specs.Tree.{Tree}
 use Rattle.msi_edits.specs.Edited.{IsMemoryOf}
 use Rattle.msi_edits.proofs.Exits.{IsFirst, IsOpen}
 use Rattle.msi_meaning.specs.Calls.{dropped, own_columns, rows_beside, rows_put, with_rows, Drops, Ends}
-use Rattle.msi_meaning.specs.Package.{Packed}
+use Rattle.msi_meaning.specs.Package.{stream_name, Packed}
 use Rattle.msi_parts.specs.Parts.{heading}
 use Rattle.msi_pool.specs.Pool.{Pool}
 use Rattle.msi_pool.specs.PoolState.{PoolState}
@@ -27,6 +27,8 @@ use Rattle.msi_schema.specs.Headings.{headings_in}
 use Rattle.msi_store.specs.Stores.{file_in, tables_in}
 use Rattle.msi_store.specs.declared.store.Store.{Store}
 use Rattle.msi_stored.specs.Changing.{StoresSound}
+use Rattle.msi_stored.specs.Room.{IsFullForName, IsFullForRule}
+use Rattle.msi_stored.proofs.Room.{room_before}
 use Rattle.msi_tables.specs.Held.{heading_of}
 use Rattle.msi_tables.specs.Rows.{IsStored, Row}
 use Rattle.msi_tables.specs.Schema.{columns_columns, columns_name, tables_columns, tables_name, validation_name}
@@ -35,7 +37,7 @@ use Rattle.msi_tables.specs.declared.table.Table.{Table as HeldTable}
 use Rattle.msi_making.specs.Dropping.{without_table, HasDropped, IsDropping}
 use Rattle.msi_making.specs.Drops.{CanDrop, DropsTable, ReplacesStreams}
 use Rattle.msi_making.specs.Remains.{AreHeld, AreRemains}
-use Rattle.msi_making.proofs.LeftPackage.{can_drop, keeps, keeps_left, stores_left}
+use Rattle.msi_making.proofs.LeftPackage.{can_drop, columns_written, keeps, keeps_left, now_columns, of_columns, stores_left}
 use Rattle.msi_making.proofs.LeftTables.{other}
 
 -- ---- the rule
@@ -157,6 +159,26 @@ module _ {F : Type 0} {g : Ghosts F} where
         marked = λ flag. refl;
         seen = (w.seen.0 ∙ rests.letters, w.seen.1 ∙ rests.sound, w.seen.2 ∙ rests.validation);
       }
+
+      pub drop_full : IsFullForName mid (stream_name columns_name) (length cb) → (tree : Tree) (P : Packed) → FileMeans (file_in old) tree → StoresSound (letters_in (file_in old)) tree P → IsMemoryOf old before.pool P
+          → IsFullForRule (λ P Q answer. Drops P name Q answer) (file_in old) P
+      drop_full full tree P m s memory =
+          let letters = letters_in (file_in old) in
+          let r = told tree P m s (held_so P memory) in
+          let x : Table × Pool = (r.table, after.pool) in
+          let u = (of_columns letters tree P s name x r.columns r.tables r.validation r.drops).0 in
+          record {
+            next = without_table P name after.pool r.columns r.tables r.validation;
+            answered = drop_done P name x r.columns r.tables r.validation r.drops;
+            lacks = inl (record {
+              name = columns_name;
+              table = record u { rows = r.columns };
+              there = now_columns letters tree P s name x r.columns r.tables r.validation r.drops;
+              bytes = cb;
+              written = columns_written letters tree P s name x r.columns r.tables r.validation r.drops cb r.written;
+              lacks = room_before (file_in old) mid rests (stream_name columns_name) (length cb) full;
+            });
+          }
 
       pub drop_written : (new : Store F g) → (after.modified ≡ false → after ≡ before) → tables_in new ≡ filter (λ h. not (bytes_eq h.name name)) (tables_in old)
           → ReplacesStreams {T = Unit {0}} name cb tb vb (Ok tt) mid (file_in new) → DropsTable {T = Unit {0}} name (Ok tt) old new before after

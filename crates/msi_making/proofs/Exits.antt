@@ -1,5 +1,5 @@
 -- What the making of a table did, at each of its exits.
-use Rattle.std.proofs.Common.{◌≡◌, ◌∙◌, ◌⊎◌, ℕ, Bool, true, false, List, [], ◌∷◌, map, refl, sym, ap, ap₂, subst, inl, inr, ⊎_elim, Ok, Err, Result, None}
+use Rattle.std.proofs.Common.{◌≡◌, ◌∙◌, ◌⊎◌, ℕ, Bool, true, false, List, [], ◌∷◌, map, length, Some, refl, sym, ap, ap₂, subst, inl, inr, ⊎_elim, Ok, Err, Result, None}
 use Rattle.std.specs.Prelude.{is_none}
 use Rattle.cfb.specs.Doing.{FileMeans}
 use Rattle.cfb.specs.Views.{letters_in, mini_of, sound_of, validation_of, FileRests}
@@ -26,14 +26,16 @@ use Rattle.msi_rewritten.proofs.Tables.{columns_kept, name_kept}
 use Rattle.msi_store.specs.Stores.{file_in, tables_in}
 use Rattle.msi_store.specs.declared.store.Store.{Store}
 use Rattle.msi_stored.specs.Changing.{PackageRule, StoresSound}
-use Rattle.msi_tables.specs.Rows.{Row}
+use Rattle.msi_stored.specs.Room.{IsFullForName, IsFullForRule}
+use Rattle.msi_stored.proofs.Room.{room_before}
+use Rattle.msi_tables.specs.Rows.{kinds_of, rows_bytes, Row}
 use Rattle.msi_tables.specs.Schema.{columns_columns, columns_name, tables_columns, tables_name, validation_name}
 use Rattle.msi_tables.specs.Table.{Heading, IsStoredByKeys, Table}
 use Rattle.msi_making.specs.Created.{with_table, AreReadThree, HasPutThree, IsAccepted}
 use Rattle.msi_making.specs.Making.{CanPutThree, Makes, PutsThree}
-use Rattle.msi_making.proofs.Holding.{there_has, IsThere}
+use Rattle.msi_making.proofs.Holding.{holding, there_has, IsThere}
 use Rattle.msi_making.proofs.NewStored.{as_new, parts_kept, stored_after}
-use Rattle.msi_making.proofs.NewTable.{IsNewTable}
+use Rattle.msi_making.proofs.NewTable.{columns_now, IsNewTable}
 
 -- ---- the rule
 
@@ -132,7 +134,7 @@ module _ {F : Type 0} {g : Ghosts F} (name : List ℕ) (columns : List Column) (
     -- what a new table comes to, in the package that is stored
     abbrev Ready : Pool → List Heading → List ℕ → List ℕ → List ℕ → Packed → Type 0
     Ready next headings bc bt bv P = (c : List Row) × (t : List Row) × (v : List Row) × IsAccepted letters P name columns next c t v × AreReadThree P bc bt bv c t v
-        × (headings ≡ map (heading P.pool.long) (table_put (new_table name columns) P.tables))
+        × (headings ≡ map (heading P.pool.long) (table_put (new_table name columns) P.tables)) × (rows_bytes P.pool.long (kinds_of columns_columns) c ≡ Some bc)
 
     module _ (next : Pool) (headings : List Heading) (bc bt bv : List ℕ)
         (told : (tree : Tree) (P : Packed) → FileMeans (file_in old) tree → StoresSound letters tree P → IsMemoryOf old pool.pool P → Ready next headings bc bt bv P) (new : CompoundFile F g) where
@@ -153,6 +155,25 @@ module _ {F : Type 0} {g : Ghosts F} (name : List ℕ) (columns : List Column) (
         marked = λ flag. refl;
         seen = (p.seen.0 ∙ rests.letters, p.seen.1 ∙ rests.sound, p.seen.2 ∙ rests.validation);
       }
+
+      -- a put without room
+      pub unroomed : IsFullForName mid (stream_name columns_name) (length bc) → (tree : Tree) (P : Packed) → FileMeans (file_in old) tree → StoresSound letters tree P → IsMemoryOf old pool.pool P
+          → IsFullForRule rule (file_in old) P
+      unroomed full tree P m s memory =
+          let r = told tree P m s memory in
+          let h = is_new tree P s r in
+          record {
+            next = with_table P name columns next r.0 r.1 r.2;
+            answered = done_rule letters P name columns next r.0 r.1 r.2 r.3;
+            lacks = inl (record {
+              name = columns_name;
+              table = holding columns_name columns_columns r.0;
+              there = (columns_now letters tree P s.stores s.named name columns next r.0 r.1 r.2 h).found;
+              bytes = bc;
+              written = ap (λ long. rows_bytes long (kinds_of columns_columns) r.0) h.kept.long ∙ r.6;
+              lacks = room_before (file_in old) mid rests (stream_name columns_name) (length bc) full;
+            });
+          }
 
       -- all is done
       pub made : (store : Store F g) → file_in store ≡ new → tables_in store ≡ headings → (after : PoolState) → after.pool ≡ next → (after.modified ≡ false → after ≡ pool)

@@ -19,7 +19,7 @@ use Rattle.msi_changes.proofs.RowUses.{cells_left, row_uses}
 use Rattle.msi_changes.proofs.UsesKept.{none_in}
 use Rattle.msi_columns.specs.Column.{Column}
 use Rattle.msi_pool.specs.Pool.{at_place, Pool}
-use Rattle.msi_tables.specs.Rows.{kinds_of, rows_of, IsStored, Row}
+use Rattle.msi_tables.specs.Rows.{kinds_of, rows_bytes, rows_of, IsStored, Row}
 use Rattle.msi_tables.specs.Schema.{begins_with, columns_columns, columns_in, columns_name, is_schema, tables_columns, tables_name, validation_columns, validation_name}
 use Rattle.msi_tables.specs.Table.{data_rows, is_valid_table_name, row_data, table_named, Table}
 use Rattle.msi_texts.specs.Category.{is_identifier}
@@ -119,7 +119,7 @@ module _ (letters : Letters) (old : Tree) (P : Packed) (s : StoresSound letters 
   identifier = (and_parts (is_identifier name) (is_valid_name true (chars name)) is.valid).0
 
   -- the three
-  of_columns : (u : Table) × (table_named P.tables columns_name ≡ Some u)
+  pub of_columns : (u : Table) × (table_named P.tables columns_name ≡ Some u)
   of_columns = named_of columns_name P.tables ((s.stores.names columns_name).0 refl)
 
   of_tables : (u : Table) × (table_named P.tables tables_name ≡ Some u)
@@ -192,8 +192,17 @@ module _ (letters : Letters) (old : Tree) (P : Packed) (s : StoresSound letters 
   name_at : (m : List ℕ) (u : Table) → table_named P.tables m ≡ Some u → u.name ≡ m
   name_at m u at = (found_at P.tables m u at).3
 
-  now_columns : table_named Q.tables columns_name ≡ Some (record of_columns.0 { rows = c })
+  pub now_columns : table_named Q.tables columns_name ≡ Some (record of_columns.0 { rows = c })
   now_columns = found_in_left name c t v columns_name not_columns P.tables ∙ ap (option_map (changed name c t v)) of_columns.1 ∙ ap (λ u. Some u) (at_columns name c t v of_columns.0 (name_at columns_name of_columns.0 of_columns.1))
+
+  -- its columns are fixed, so its rows are written as before
+  pub columns_written : (bytes : List ℕ) → rows_bytes P.pool.long (kinds_of columns_columns) c ≡ Some bytes → rows_bytes x.1.long (kinds_of of_columns.0.columns) c ≡ Some bytes
+  columns_written bytes written =
+      let u = of_columns.0 in
+      let told : List ℕ → Option (List Column) = λ m. columns_in (rows_named P columns_name) (map (row_data P.pool) s.stores.validation) m in
+      let both : Some columns_columns ≡ Some u.columns = ap told (sym (name_at columns_name u of_columns.1)) ∙ held (λ u. told u.name ≡ Some u.columns) P.tables s.stores.columns columns_name u of_columns.1 in
+      let same : u.columns ≡ columns_columns = ap (λ o. unwrap_or o []) (sym both) in
+      ap₂ (λ long cs. rows_bytes long (kinds_of cs) c) keeps.long same ∙ written
 
   now_tables : table_named Q.tables tables_name ≡ Some (record of_tables.0 { rows = t })
   now_tables = found_in_left name c t v tables_name not_tables P.tables ∙ ap (option_map (changed name c t v)) of_tables.1 ∙ ap (λ u. Some u) (at_tables name c t v of_tables.0 (name_at tables_name of_tables.0 of_tables.1))

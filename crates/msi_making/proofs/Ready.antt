@@ -76,6 +76,7 @@ module _ (letters : Letters) (tree : Tree) (P : Packed) (sound : StoresSound let
     pub v : List Row
     pub accepted : IsAccepted letters P name columns next c t v
     pub read : AreReadThree P bc bt bv c t v
+    pub written : rows_bytes P.pool.long (kinds_of columns_columns) c ≡ Some bc
 
   pub written_three : created (is_none (at_name letters P.storages (stream_name name))) P name columns ≡ Ok (rows_after, next) → CanBeStoredThree P rows_after → (bc bt bv : List ℕ)
       → IsWrittenByKeys next P.pool.long columns_columns rows_after.0 bc → IsWrittenByKeys next P.pool.long tables_columns rows_after.1 bt → IsWrittenByKeys next P.pool.long (own_columns P) rows_after.2 bv
@@ -94,4 +95,5 @@ module _ (letters : Letters) (tree : Tree) (P : Packed) (sound : StoresSound let
           tables = read_so P.pool.long tables_columns t.stored bt back.tables t.written;
           validation = read_so P.pool.long (own_columns P) v.stored bv back.validation v.written;
         };
+        written = c.written;
       }

@@ -11,7 +11,7 @@ use Rattle.msi_meaning.specs.Calls.{own_columns, stored_rows, Rows3}
 use Rattle.msi_meaning.specs.Package.{Packed}
 use Rattle.msi_pool.specs.Pool.{Pool}
 use Rattle.msi_stored.specs.Changing.{StoresSound}
-use Rattle.msi_tables.specs.Rows.{has_place, AreWritable, Row}
+use Rattle.msi_tables.specs.Rows.{has_place, kinds_of, rows_bytes, AreWritable, Row}
 use Rattle.msi_tables.specs.Schema.{columns_columns, columns_name, columns_rows, tables_columns, tables_name, validation_name, validation_row}
 use Rattle.msi_tables.specs.Table.{row_data, table_named, Heading, Table}
 use Rattle.msi_texts.specs.Results.{◌>>=◌}
@@ -47,7 +47,7 @@ module _ (letters : Letters) (tree : Tree) (P : Packed) (sound : StoresSound let
       × IsLaidWith P.pool y.1 (headed validation_name (own_columns P)) (stored_rows P validation_name) y.0.2 (map (validation_row name) columns) bv
 
   abbrev Written : Pool → List ℕ → List ℕ → List ℕ → Type 0
-  Written next bc bt bv = (c : List Row) × (t : List Row) × (v : List Row) × IsAccepted letters P name columns next c t v × AreReadThree P bc bt bv c t v
+  Written next bc bt bv = (c : List Row) × (t : List Row) × (v : List Row) × IsAccepted letters P name columns next c t v × AreReadThree P bc bt bv c t v × (rows_bytes P.pool.long (kinds_of columns_columns) c ≡ Some bc)
 
   abbrev joined : Rows3 × Pool → Rows3
   joined y = (stored_rows P columns_name ++ y.0.0, stored_rows P tables_name ++ y.0.1, stored_rows P validation_name ++ y.0.2)
@@ -65,7 +65,7 @@ module _ (letters : Letters) (tree : Tree) (P : Packed) (sound : StoresSound let
       record { columns = laid.0.writable; tables = laid.1.writable; validation = laid.2.writable; columns_places = laid.0.places; tables_places = laid.1.places; validation_places = laid.2.places } in
       let w3 = written_three letters tree P sound name columns w found cells told can bc bt bv
       (laid.0.written (c_data letters tree P sound name columns w found cells)) (laid.1.written (t_data letters tree P sound name columns w found cells)) (laid.2.written (v_data letters tree P sound name columns w found cells)) in
-      (w3.c, w3.t, w3.v, w3.accepted, w3.read) in
+      (w3.c, w3.t, w3.v, w3.accepted, w3.read, w3.written) in
       subst From d.is from (all ∙ ap (λ (r : Result (Rows3 × Pool) Error). r >>= λ x. Ok (joined x, x.1)) is)
 
 pub there_of : (o : Option Table) → IsSome o → (t : Table) × (o ≡ Some t)

@@ -186,6 +186,7 @@ module _ (P : Packed) (name : List ℕ) where
                   tables = laid_back P.pool.long tables_columns (rows_beside P tables_name name) bytes.tables.items (omega arith) t;
                   validation = laid_back P.pool.long (own_columns P) (rows_beside P validation_name name) bytes.validation.items some_columns v;
                 };
+                written = c.written;
               }
 
 -- what the bytes of rows tell is told of the package

@@ -1,5 +1,5 @@
 -- What a new table comes to before anything is written.
-use Rattle.std.specs.Prelude.{◌≡◌, ◌&&◌, ◌++◌, ◌⊎◌, ℕ, Bool, true, not, List, [], ◌∷◌, map, bytes_eq, is_none, Err, IsSome, MatchResult, Ok, Result, Vec}
+use Rattle.std.specs.Prelude.{◌≡◌, ◌&&◌, ◌++◌, ◌⊎◌, ℕ, Bool, true, not, List, [], ◌∷◌, map, bytes_eq, is_none, Err, IsSome, MatchResult, Ok, Result, Some, Vec}
 use Rattle.std.specs.List.{list_all, list_any}
 use Rattle.std.specs.Rc.{rc_value}
 use Rattle.std.specs.declared.alloc.Global.{Global}
@@ -16,7 +16,7 @@ use Rattle.msi_pool.specs.Pool.{Pool}
 use Rattle.msi_pool.specs.PoolState.{PoolState}
 use Rattle.msi_schema.specs.Headings.{headings_in}
 use Rattle.msi_tables.specs.Held.{heading_of, rows_held}
-use Rattle.msi_tables.specs.Rows.{AreWritable, Row}
+use Rattle.msi_tables.specs.Rows.{kinds_of, rows_bytes, AreWritable, Row}
 use Rattle.msi_tables.specs.Schema.{columns_columns, columns_name, columns_rows, tables_columns, tables_name, validation_name, validation_row}
 use Rattle.msi_tables.specs.Table.{has_key, keys_of, table_named, Table}
 use Rattle.msi_texts.specs.Results.{◌>>=◌, unless_not}
@@ -93,6 +93,7 @@ module _ (letters : Letters) (P : Packed) (name : List ℕ) (columns : List Colu
     pub accepted : IsAccepted letters P name columns (pool_after state it.changes) c t v
     pub read : AreReadThree P it.columns_bytes.items it.tables_bytes.items it.validation_bytes.items c t v
     pub tables : headings_in it.tables.items ≡ map (heading P.pool.long) (table_put (new_table name columns) P.tables)
+    pub written : rows_bytes P.pool.long (kinds_of columns_columns) c ≡ Some it.columns_bytes.items
 
   -- it is so, or refused as the definition says, or there was a fault
   abbrev pub TellsNew : PoolState → Result NewTable Error → Type 0

@@ -15,7 +15,7 @@ use Rattle.msi_parts.specs.Parts.{heading}
 use Rattle.msi_pool.specs.Pool.{Pool}
 use Rattle.msi_pool.specs.PoolState.{PoolState}
 use Rattle.msi_tables.specs.Rows.{has_place, kinds_of, max_rows, rows_bytes, AreWritable, IsStored, Row}
-use Rattle.msi_tables.specs.Schema.{validation_name}
+use Rattle.msi_tables.specs.Schema.{columns_columns, validation_name}
 use Rattle.msi_tables.specs.Table.{is_valid_table_name, Heading, Table}
 use Rattle.msi_making.specs.Dropping.{AreRead, IsDropping}
 use Rattle.msi_making.specs.declared.remaining.SystemBytes.{SystemBytes}
@@ -93,6 +93,7 @@ pub record AreRemains (P : Packed) (name columns_bytes tables_bytes validation_b
   pub validation : List Row
   pub drops : IsDropping P name (table, next) columns tables validation
   pub read : AreRead P columns_bytes tables_bytes validation_bytes columns tables validation
+  pub written : rows_bytes P.pool.long (kinds_of columns_columns) columns ≡ Some columns_bytes
 
 -- so it is; or it is refused so, or there is a fault
 abbrev pub TellsRemains : Packed → List ℕ → PoolState → Result (SystemBytes × PoolChanges) Error → Type 0

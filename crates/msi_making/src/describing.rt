@@ -13,7 +13,7 @@ ghost use Rattle.cfb_tree.specs.Tree.{Tree};
 ghost use Rattle.msi_changes.specs.Prepared.{pool_after, AreChangesFor};
 ghost use Rattle.msi_columns.specs.Column.{length_kept};
 ghost use Rattle.msi_columns.specs.Held.{column_of, columns_of};
-ghost use Rattle.msi_edits.specs.Edited.{IsEditError};
+ghost use Rattle.msi_edits.specs.Edited.{IsUnputError};
 ghost use Rattle.msi_making.specs.Describing.{rows_of_values, AreDescribed, AreNewRows, AreSystem, AreWide, Describes, Passes, TellsNew};
 ghost use Rattle.msi_making.specs.Testing.{can_be_kept, three_counted};
 ghost use Rattle.msi_meaning.specs.Package.{at_name, stream_name, Packed};
@@ -100,7 +100,7 @@ pub(crate) fn prepared_table<F: ReadMedium>(
     ensures rests { FileRests file.old file.new }
     ensures cause { IfErr result (HasCauseBelow (allocator_of (mini_of file.old))
         (allocator_of (mini_of file.new))) }
-    ensures kinds { IfErr result IsEditError }
+    ensures kinds { IfErr result IsUnputError }
 {
     if !may_have_columns(name, &columns) {
         return Err(Error::InvalidInput);
@@ -143,7 +143,7 @@ fn system_tables<F: ReadMedium>(
     ensures rests { FileRests file.old file.new }
     ensures cause { IfErr result (HasCauseBelow (allocator_of (mini_of file.old))
         (allocator_of (mini_of file.new))) }
-    ensures kinds { IfErr result IsEditError }
+    ensures kinds { IfErr result IsUnputError }
 {
     let validation = match named_table(tables, "_Validation") {
         None => return Err(Error::NotFound),
@@ -219,7 +219,7 @@ fn check_rows<F: ReadMedium>(
     ensures described { OnOk result (AreDescribed pool.now.pool.long system.now new_rows.now) }
     ensures cause { IfErr result (HasCauseBelow (allocator_of (mini_of file.now))
         (allocator_of (mini_of file.now))) }
-    ensures kinds { IfErr result IsEditError }
+    ensures kinds { IfErr result IsUnputError }
 {
     if !are_rows(system.columns.columns(), &new_rows.columns) {
         return Err(Error::InvalidInput);

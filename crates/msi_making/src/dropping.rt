@@ -4,8 +4,9 @@ ghost use Rattle.cfb.specs.Views.{mini_of};
 ghost use Rattle.cfb_fat.specs.Tables.{HasCauseBelow};
 ghost use Rattle.cfb_mini.specs.Views.{allocator_of};
 ghost use Rattle.cfb_owned.specs.Chains.{GoesOn};
-ghost use Rattle.msi_edits.specs.Edited.{IsEditError};
+ghost use Rattle.msi_edits.specs.Edited.{Fills, IsEditError};
 ghost use Rattle.msi_making.specs.Drops.{DropsTable};
+ghost use Rattle.msi_meaning.specs.Calls.{Drops};
 ghost use Rattle.msi_schema.specs.Headings.{headings_in};
 ghost use Rattle.msi_store.specs.Stores.{file_in};
 
@@ -32,6 +33,8 @@ pub fn drop_table<F: Medium>(
     name: &str,
 ) -> Result<(), Error>
     ensures drops { DropsTable name.now result store.old store.new pool.old pool.new }
+    ensures full { Fills (λ P Q answer. Drops P name.now Q answer) result store.old store.new
+        pool.old }
     ensures goes_on { GoesOn (allocator_of (mini_of (file_in store.old)))
         (allocator_of (mini_of (file_in store.new))) }
     ensures cause { IfErr result (HasCauseBelow (allocator_of (mini_of (file_in store.old)))
@@ -53,6 +56,7 @@ fn drop_with<F: Medium>(
     name: &str,
 ) -> (StringPool, Result<(), Error>)
     ensures drops { DropsTable name.now result.1 store.old store.new pool result.0 }
+    ensures full { Fills (λ P Q answer. Drops P name.now Q answer) result.1 store.old store.new pool }
     ensures goes_on { GoesOn (allocator_of (mini_of (file_in store.old)))
         (allocator_of (mini_of (file_in store.new))) }
     ensures cause { IfErr result.1 (HasCauseBelow (allocator_of (mini_of (file_in store.old)))

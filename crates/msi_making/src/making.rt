@@ -5,7 +5,7 @@ ghost use Rattle.cfb_fat.specs.Tables.{HasCauseBelow};
 ghost use Rattle.cfb_mini.specs.Views.{allocator_of};
 ghost use Rattle.cfb_owned.specs.Chains.{GoesOn};
 ghost use Rattle.msi_columns.specs.Held.{columns_of};
-ghost use Rattle.msi_edits.specs.Edited.{IsEditError};
+ghost use Rattle.msi_edits.specs.Edited.{Fills, IsEditError};
 ghost use Rattle.msi_making.specs.Making.{Makes};
 ghost use Rattle.msi_meaning.specs.Calls.{Creates};
 ghost use Rattle.msi_store.specs.Stores.{file_in};
@@ -36,6 +36,8 @@ pub fn create_table<F: Medium>(
 ) -> Result<(), Error>
     ensures makes { Makes (λ P Q answer. Creates (letters_in (file_in store.old)) P name.now
         (columns_of columns.items) Q answer) result store.old store.new pool.old pool.new }
+    ensures full { Fills (λ P Q answer. Creates (letters_in (file_in store.old)) P name.now
+        (columns_of columns.items) Q answer) result store.old store.new pool.old }
     ensures goes_on { GoesOn (allocator_of (mini_of (file_in store.old)))
         (allocator_of (mini_of (file_in store.new))) }
     ensures cause { IfErr result (HasCauseBelow (allocator_of (mini_of (file_in store.old)))
@@ -59,6 +61,8 @@ fn create_with<F: Medium>(
 ) -> (StringPool, Result<(), Error>)
     ensures makes { Makes (λ P Q answer. Creates (letters_in (file_in store.old)) P name.now
         (columns_of columns.items) Q answer) result.1 store.old store.new pool result.0 }
+    ensures full { Fills (λ P Q answer. Creates (letters_in (file_in store.old)) P name.now
+        (columns_of columns.items) Q answer) result.1 store.old store.new pool }
     ensures goes_on { GoesOn (allocator_of (mini_of (file_in store.old)))
         (allocator_of (mini_of (file_in store.new))) }
     ensures cause { IfErr result.1 (HasCauseBelow (allocator_of (mini_of (file_in store.old)))

@@ -1,11 +1,15 @@
 //! The streams of the three tables that describe others, put one after the other.
-ghost use Rattle.std.specs.Prelude.{IfErr};
+ghost use Rattle.std.specs.Prelude.{◌≡◌, false, length, IfErr, IsErrOf};
 ghost use Rattle.cfb.specs.Views.{mini_of};
-ghost use Rattle.cfb_fat.specs.Tables.{HasCauseBelow};
+ghost use Rattle.cfb_fat.specs.Tables.{has_failed_here, HasCauseBelow};
+ghost use Rattle.cfb_medium.specs.declared.error.Error.TheVariants.{Full};
 ghost use Rattle.cfb_mini.specs.Views.{allocator_of};
 ghost use Rattle.cfb_owned.specs.Chains.{GoesOn};
 ghost use Rattle.msi_edits.specs.Edited.{IsEditError};
 ghost use Rattle.msi_making.specs.Making.{PutsThree};
+ghost use Rattle.msi_meaning.specs.Package.{stream_name};
+ghost use Rattle.msi_stored.specs.Room.{IsFullForName};
+ghost use Rattle.msi_tables.specs.Schema.{columns_name};
 
 use cfb::CompoundFile;
 use cfb_medium::{Error, Medium};
@@ -22,6 +26,8 @@ pub(crate) fn put_three<F: Medium>(
     validation: &[u8],
 ) -> Result<(), Error>
     ensures puts { PutsThree columns.now tables.now validation.now result file.old file.new }
+    ensures full { IsErrOf result Full → has_failed_here (allocator_of (mini_of file.new)) ≡ false
+        → IsFullForName file.old (stream_name columns_name) (length columns.now) }
     ensures goes_on { GoesOn (allocator_of (mini_of file.old)) (allocator_of (mini_of file.new)) }
     ensures cause { IfErr result (HasCauseBelow (allocator_of (mini_of file.old))
         (allocator_of (mini_of file.new))) }

@@ -12,7 +12,7 @@ ghost use Rattle.msi_changes.specs.Applied.{left_of};
 ghost use Rattle.msi_changes.specs.Changes.{all_taken_back};
 ghost use Rattle.msi_changes.specs.Prepared.{AreChangesFor};
 ghost use Rattle.msi_edits.specs.Asked.{IsUnwritten, IsWrittenAs};
-ghost use Rattle.msi_edits.specs.Edited.{IsEditError};
+ghost use Rattle.msi_edits.specs.Edited.{IsUnputError};
 ghost use Rattle.msi_making.specs.Remains.{AreFound, AreHeld, AreMissing, CanLay, IsLaid, LeavesBytes, TakesRows, TellsBytes, TellsRemains};
 ghost use Rattle.msi_meaning.specs.Calls.{is_system, speaks_of};
 ghost use Rattle.msi_meaning.specs.Package.{Packed};
@@ -62,7 +62,7 @@ pub(crate) fn prepared_drop<F: ReadMedium>(
     ensures rests { FileRests file.old file.new }
     ensures cause { IfErr result (HasCauseBelow (allocator_of (mini_of file.old))
         (allocator_of (mini_of file.new))) }
-    ensures kinds { IfErr result IsEditError }
+    ensures kinds { IfErr result IsUnputError }
 {
     let (own, validation) = match tables_to_drop(tables, name) {
         Err(error) => return Err(error),
@@ -98,7 +98,7 @@ fn remaining_bytes<F: ReadMedium>(
     ensures rests { FileRests file.old file.new }
     ensures cause { IfErr result (HasCauseBelow (allocator_of (mini_of file.old))
         (allocator_of (mini_of file.new))) }
-    ensures kinds { IfErr result IsEditError }
+    ensures kinds { IfErr result IsUnputError }
 {
     let mut counted = pool.draft();
     match take_rows_of(alloc, file, own, &mut counted) {
@@ -190,7 +190,7 @@ fn take_rows_of<F: ReadMedium>(
     ensures rests { FileRests file.old file.new }
     ensures cause { IfErr result (HasCauseBelow (allocator_of (mini_of file.old))
         (allocator_of (mini_of file.new))) }
-    ensures kinds { IfErr result IsEditError }
+    ensures kinds { IfErr result IsUnputError }
 {
     let rows = match rows_of_table(alloc, file, table) {
         Err(error) => return Err(error),
@@ -233,7 +233,7 @@ fn left_bytes<F: ReadMedium>(
     ensures rests { FileRests file.old file.new }
     ensures cause { IfErr result (HasCauseBelow (allocator_of (mini_of file.old))
         (allocator_of (mini_of file.new))) }
-    ensures kinds { IfErr result IsEditError }
+    ensures kinds { IfErr result IsUnputError }
 {
     let rows = match rows_of_table(alloc, file, table) {
         Err(error) => return Err(error),

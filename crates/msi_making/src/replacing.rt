@@ -1,12 +1,15 @@
 //! The streams of a package's file where a table is dropped.
-ghost use Rattle.std.specs.Prelude.{◌≡◌, encode_utf8_all, IfErr};
+ghost use Rattle.std.specs.Prelude.{◌≡◌, encode_utf8_all, false, length, IfErr, IsErrOf};
 ghost use Rattle.cfb.specs.Views.{mini_of};
-ghost use Rattle.cfb_fat.specs.Tables.{HasCauseBelow};
+ghost use Rattle.cfb_fat.specs.Tables.{has_failed_here, HasCauseBelow};
+ghost use Rattle.cfb_medium.specs.declared.error.Error.TheVariants.{Full};
 ghost use Rattle.cfb_mini.specs.Views.{allocator_of};
 ghost use Rattle.cfb_owned.specs.Chains.{GoesOn};
 ghost use Rattle.msi_edits.specs.Edited.{IsEditError};
 ghost use Rattle.msi_making.specs.Drops.{RemovesTable, ReplacesRest, ReplacesStreams};
 ghost use Rattle.msi_meaning.specs.Package.{stream_name};
+ghost use Rattle.msi_stored.specs.Room.{IsFullForName};
+ghost use Rattle.msi_tables.specs.Schema.{columns_name};
 
 use crate::remaining::SystemBytes;
 use cfb::CompoundFile;
@@ -25,6 +28,8 @@ pub(crate) fn replace_streams<F: Medium>(
 ) -> Result<(), Error>
     ensures replaces { ReplacesStreams name.now bytes.now.columns.items bytes.now.tables.items
         bytes.now.validation.items result file.old file.new }
+    ensures full { IsErrOf result Full → has_failed_here (allocator_of (mini_of file.new)) ≡ false
+        → IsFullForName file.old (stream_name columns_name) (length bytes.now.columns.items) }
     ensures goes_on { GoesOn (allocator_of (mini_of file.old)) (allocator_of (mini_of file.new)) }
     ensures cause { IfErr result (HasCauseBelow (allocator_of (mini_of file.old))
         (allocator_of (mini_of file.new))) }

@@ -1,4 +1,5 @@
 pub mod Changing
 pub mod Reading
+pub mod Room
 pub mod Shown
 pub mod Stored

@@ -1,26 +1,33 @@
 -- What the rules on trees and those on packages say of a stream that is written or removed.
-use Rattle.std.proofs.Common.{◌≡◌, ◌∙◌, ℕ, ◌<◌, ◌≤◌, Bool, true, false, List, [], ◌∷◌, Some, None, Option, length, arith, refl, sym, ap, subst}
-use Rattle.std.specs.Prelude.{nat_le, not, option_and_then, Err, IsUtf8, Ok, Result, is_none}
+use Rattle.std.proofs.Common.{◌≡◌, ◌∙◌, ℕ, ◌<◌, ◌≤◌, Bool, true, false, cond, List, [], ◌∷◌, Some, None, Option, inr, length, arith, refl, sym, ap, subst}
+use Rattle.std.specs.Prelude.{◌&&◌, filter, nat_le, not, option_and_then, Err, IsUtf8, Ok, Result, is_none}
+use Rattle.std.specs.List.{list_all}
 use Rattle.std.specs.List.Sorted.{IsStrictlySortedBy}
 use Rattle.std.proofs.lemmas.Bool.Decides.{nat_tests}
 use Rattle.cfb.specs.Putting.{putting}
-use Rattle.cfb.specs.Views.{said_at}
+use Rattle.cfb.specs.Views.{letters_in, said_at}
+use Rattle.cfb.specs.declared.compound_file.CompoundFile.{CompoundFile}
 use Rattle.cfb_meaning.specs.TreeRules.{is_storage_found, is_stream_found, remove_stream, tree_step, yes, Answer}
 use Rattle.cfb_meaning.specs.TreeRules.{is_storage as is_storage_there, is_stream as is_stream_there}
 use Rattle.cfb_medium.specs.declared.error.Error.{Error}
 use Rattle.cfb_medium.specs.declared.error.Error.TheVariants.{AlreadyExists, InvalidInput, NotFound}
+use Rattle.cfb_medium.specs.declared.medium.ReadMedium.{Ghosts}
 use Rattle.cfb_tree.specs.Names.{Letters, name_cmp}
-use Rattle.cfb_tree.specs.Objects.{a_storage, a_stream, Object}
+use Rattle.cfb_tree.specs.Objects.{a_storage, a_stream, is_same_name, Object}
 use Rattle.cfb_tree.specs.Tree.{child_names, Tree}
+use Rattle.cfb_tree.proofs.OneContent.{Some_same}
 use Rattle.msi_meaning.specs.Calls.{Ends}
-use Rattle.msi_meaning.specs.Package.{Packed, at_name, is_stream, object_bytes, objects, stream_at}
+use Rattle.msi_meaning.specs.Package.{Packed, at_name, is_own, is_stream, object_bytes, objects, stream_at}
 use Rattle.msi_meaning.specs.Streams.{may_name, plain_stream_name, stream_put, stream_read, stream_removed, without_stream}
+use Rattle.msi_meaning.proofs.Roots.{put_found}
 use Rattle.msi_meaning.proofs.UnderRoot.{at_path}
 use Rattle.msi_stored.specs.Changing.{StoresSound}
+use Rattle.msi_stored.specs.Room.{IsFullForName, IsFullForRule}
 use Rattle.msi_texts.specs.Results.{◌>>=◌, or_refused, unless_not}
 use Rattle.msi_streams.specs.Writing.{written_within, Makes}
 use Rattle.msi_streams.proofs.Changes.{free_storages, stream_found}
 use Rattle.msi_streams.proofs.Exits.{Accepts}
+use Rattle.msi_streams.proofs.Marks.{same_of_key}
 use Rattle.msi_streams.proofs.Objects.{found_kept}
 use Rattle.msi_streams.proofs.Outcomes.{put_accepts, taken_accepts}
 use Rattle.msi_streams.proofs.Stored.{is_kept, kept_streams}
@@ -120,7 +127,7 @@ module _ (letters : Letters) (name : List ℕ) where
 
     module _ (rising : IsStrictlySortedBy (name_cmp letters) (child_names tree.content)) where
       module _ (none : is_storage_found (at_name letters (objects tree.content) plain) ≡ false) (most : ℕ) (bytes : List ℕ) where
-        free : is_none (at_name letters P.storages plain) ≡ true
+        pub free : is_none (at_name letters P.storages plain) ≡ true
         free = ap (λ os. is_none (at_name letters os plain)) s.stores.storages ∙ ap is_none (free_storages letters plain tree rising (streams_there letters tree plain none))
 
         pub long_refused : most < length bytes → written_within letters most name bytes P ≡ Err InvalidInput
@@ -152,3 +159,45 @@ module _ (letters : Letters) (name : List ℕ) where
 
   pub removal_refused : (P : Packed) (e : Error) → may_name letters name ≡ Err e → stream_removed letters P name ≡ Err e
   removal_refused P e may = ap (λ m. (m >>= λ _. or_refused (stream_at letters P.streams plain) NotFound) >>= λ _. Ok (record P { streams = without_stream letters plain P.streams })) may
+
+-- ---- a file without room
+
+pub Err_same : {T : Type 0} {a b : Error} → (◌≡◌ {A = Result T Error} (Err a) (Err b)) → a ≡ b
+Err_same is = (cc (is))
+
+only_streams : (p : Object → Bool) (os : List Object) → list_all is_stream (filter (λ o. is_stream o && p o) os) ≡ true
+only_streams p [] = refl
+only_streams p (a_stream n s b ∷ os) = by (p (a_stream n s b)) (only_streams p os)
+  where
+    by : (k : Bool) → list_all is_stream (filter (λ o. is_stream o && p o) os) ≡ true
+        → list_all is_stream (cond k (a_stream n s b ∷ filter (λ o. is_stream o && p o) os) (filter (λ o. is_stream o && p o) os)) ≡ true
+    by true rest = rest
+    by false rest = rest
+only_streams p (a_storage n f i ∷ os) = only_streams p os
+
+found_stream : (letters : Letters) (name : List ℕ) (os : List Object) → list_all is_stream os ≡ true → (o : Object) → at_name letters os name ≡ Some o → is_stream o ≡ true
+found_stream letters name [] streams o there = absurd (cc)
+found_stream letters name (a_storage n f i ∷ os) streams o there = absurd (cc)
+found_stream letters name (a_stream n s b ∷ os) streams o there = by (is_same_name letters name n) there (found_stream letters name os streams o)
+  where
+    by : (k : Bool) → cond k (Some (a_stream n s b)) (at_name letters os name) ≡ Some o → (at_name letters os name ≡ Some o → is_stream o ≡ true) → is_stream o ≡ true
+    by true is rest = subst (λ (x : Object). is_stream x ≡ true) (Some_same is) refl
+    by false is rest = rest is
+
+module _ {F : Type 0} {g : Ghosts F} (it : CompoundFile F g) (name : List ℕ) (tree : Tree) (P : Packed) (s : StoresSound (letters_in it) tree P) (may : may_name (letters_in it) name ≡ Ok tt)
+    (free : is_none (at_name (letters_in it) P.storages (plain_stream_name name)) ≡ true) (most : ℕ) (bytes : List ℕ) (short : length bytes ≤ most) where
+  pub write_full : IsFullForName it (plain_stream_name name) (length bytes) → IsFullForRule (Makes (written_within (letters_in it) most name bytes)) it P
+  write_full full = record {
+    next = put (letters_in it) name most bytes P;
+    answered = makes_done (written_within (letters_in it) most name bytes) P (put (letters_in it) name most bytes P)
+        (written_by (letters_in it) name most bytes P (Ok tt) true true may free (short_is (length bytes) most short));
+    lacks = inr (record {
+      name = plain_stream_name name;
+      bytes = bytes;
+      there = put_found (letters_in it) (plain_stream_name name) bytes P.streams
+          (found_stream (letters_in it) (plain_stream_name name) P.streams
+          (subst (λ os. list_all is_stream os ≡ true) (sym s.stores.streams) (only_streams (λ o. not (is_own (letters_in it) P o)) (objects tree.content))))
+          (same_of_key (letters_in it) (plain_stream_name name) (plain_stream_name name) refl);
+      lacks = full;
+    });
+  }

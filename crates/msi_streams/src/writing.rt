@@ -12,6 +12,7 @@ ghost use Rattle.cfb_tree.specs.Names.{Letters};
 ghost use Rattle.msi_meaning.specs.Package.{Packed};
 ghost use Rattle.msi_meaning.specs.Streams.{stream_removed, stream_written};
 ghost use Rattle.msi_stored.specs.Changing.{ChangesBy};
+ghost use Rattle.msi_stored.specs.Room.{FillsBy};
 ghost use Rattle.msi_streams.specs.Writing.{most_bytes, written_within, Makes};
 
 use crate::checking::check_changeable;
@@ -30,6 +31,9 @@ pub fn write_stream<F: Medium>(
     bytes: &[u8],
 ) -> Result<(), Error>
     ensures changes { ChangesBy
+        (Makes (written_within (letters_in file.old) (most_bytes file.old) name.now bytes.now))
+        result file.old file.new }
+    ensures full { FillsBy
         (Makes (written_within (letters_in file.old) (most_bytes file.old) name.now bytes.now))
         result file.old file.new }
     ensures goes_on { GoesOn (allocator_of (mini_of file.old)) (allocator_of (mini_of file.new)) }

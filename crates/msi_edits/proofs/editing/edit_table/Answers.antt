@@ -1,4 +1,4 @@
-use Rattle.std.proofs.Common.{◌∙◌, inl, rules, subst, sym, Ok, Err}
+use Rattle.std.proofs.Common.{◌∙◌, ℕ, inl, length, rules, subst, sym, List, Ok, Err}
 use Rattle.cfb.specs.Views.{mini_of}
 use Rattle.cfb_medium.specs.Calls.{IsFaultUnless}
 use Rattle.cfb_mini.specs.Views.{allocator_of}
@@ -9,8 +9,10 @@ use Rattle.msi_edits.specs.Edited.{EditsTable, PutsTable}
 use Rattle.std.specs.Rc.{rc_value}
 use Rattle.msi_edits.specs.Asked.{asked, rule_of}
 use Rattle.cfb_fat.specs.Keeping.{rests_cause}
-use Rattle.msi_edits.proofs.Refusals.{own_kind, own_so, IsOwn}
-use Rattle.msi_edits.proofs.Exits.{edit_done, edit_fault, edit_refused}
+use Rattle.msi_edits.proofs.Refusals.{own_kind, own_so, own_unput, unput_kind, unput_not_full, IsOwn}
+use Rattle.msi_meaning.specs.Package.{stream_name}
+use Rattle.msi_stored.specs.Room.{IsFullForName}
+use Rattle.msi_edits.proofs.Exits.{edit_done, edit_fault, edit_full, edit_refused}
 use Rattle.msi_edits.proofs.editing.edit_table.Goals as goal
 
 pub returns-in-Err-clause-edits : goal.returns-in-Err-clause-edits
@@ -63,3 +65,22 @@ returns-in-Err-put_bytes-clause-cause g c =
 
 pub returns-in-Err-make_room-clause-kinds : goal.returns-in-Err-make_room-clause-kinds
 returns-in-Err-make_room-clause-kinds g c = own_kind c.in-Err-make_room.error (subst IsOwn (sym c.in-Err-make_room.ensures.kinds) tt)
+
+pub returns-in-Err-clause-full : goal.returns-in-Err-clause-full
+returns-in-Err-clause-full g c = λ is live tree P t m s of_it. unput_not_full c.in-Err.error c.in-Err.ensures.kinds is
+
+pub returns-in-Err-make_room-clause-full : goal.returns-in-Err-make_room-clause-full
+returns-in-Err-make_room-clause-full g c = λ is live tree P t m s of_it. unput_not_full c.in-Err-make_room.error (own_unput c.in-Err-make_room.error (subst IsOwn (sym c.in-Err-make_room.ensures.kinds) tt)) is
+
+pub returns-in-Err-put_bytes-clause-full : goal.returns-in-Err-put_bytes-clause-full
+returns-in-Err-put_bytes-clause-full g c = λ is live tree P t m s of_it.
+    let h = heading_of (rc_value c.args.table.now) in
+    let bytes = c.in-Ok.it.0.items in
+    let mid = c.prepared_edit.new.file in
+    let full = c.in-Err-put_bytes.ensures.full is live in
+    let named : IsFullForName mid (stream_name h.name) (length c.deref-2.result.now) = subst (λ t. IsFullForName mid (stream_name (heading_of t).name) (length c.deref-2.result.now)) c.deref.ensures full in
+    edit_full (asked c.args.query.now) h c.args.file.now mid c.put_bytes.new.file c.in-Ok.ensures.rests bytes c.args.pool (adopted c.args.pool.pool.places c.in-Ok.it.1).pool c.in-Ok.ensures.told
+    (subst (λ (b : List ℕ). IsFullForName mid (stream_name h.name) (length b)) c.deref-2.ensures.value named) tree P t m s of_it
+
+pub returns-in-Err-clause-kinds : goal.returns-in-Err-clause-kinds
+returns-in-Err-clause-kinds g c = unput_kind c.in-Err.error c.in-Err.ensures.kinds

@@ -8,8 +8,8 @@ use Rattle.msi_tables.specs.Held.{heading_of}
 use Rattle.cfb.specs.Views.{mini_of}
 use Rattle.cfb_mini.specs.Views.{allocator_of}
 use Rattle.cfb_medium.specs.declared.error.Error.TheVariants.{NotFound}
-use Rattle.msi_edits.proofs.Refusals.{own_kind, own_so}
-use Rattle.msi_edits.proofs.Exits.{first_cause, first_kind, first_refused, none_edits, table_edits}
+use Rattle.msi_edits.proofs.Refusals.{own_kind, own_so, unput_not_full}
+use Rattle.msi_edits.proofs.Exits.{first_cause, first_kind, first_refused, first_unput, none_edits, table_edits, table_fills}
 use Rattle.msi_edits.proofs.editing.edit_with.Goals as goal
 
 pub returns-in-Err-clause-edits : goal.returns-in-Err-clause-edits
@@ -41,3 +41,17 @@ returns-in-None-clause-cause g c = own_so (allocator_of (mini_of (file_in c.args
 
 pub returns-in-None-clause-kinds : goal.returns-in-None-clause-kinds
 returns-in-None-clause-kinds g c = own_kind NotFound tt
+
+pub returns-in-Err-clause-full : goal.returns-in-Err-clause-full
+returns-in-Err-clause-full g c = λ is live tree P m s memory. unput_not_full c.in-Err.error (first_unput (file_in c.args.store.now) c.in-Err.error c.in-Err.ensures.refused) is
+
+pub returns-in-Some-clause-full : goal.returns-in-Some-clause-full
+returns-in-Some-clause-full g c =
+    let old = c.args.store.now in
+    let name = c.args.name.now in
+    let h = heading_of (rc_value c.in-Some.table.now) in
+    let told = sym (found_where old.tables.items name) ∙ ap (option_map (λ t. heading_of (rc_value t))) (ap (λ ts. find (λ t. bytes_eq (heading_of (rc_value t)).name name) ts) (sym c.deref.ensures.value) ∙ sym c.shared_table.ensures ∙ ap (option_map (λ t. t.now)) c.in-Some.is) in
+    table_fills (asked c.args.query.now) name old c.in-Ok.ensures.open (record old { file = c.edit_table.new.file }) h c.args.pool c.edit_table.result.0 told refl c.edit_table.result.1 c.edit_table.ensures.full
+
+pub returns-in-None-clause-full : goal.returns-in-None-clause-full
+returns-in-None-clause-full g c = λ is live tree P m s memory. unput_not_full NotFound tt is

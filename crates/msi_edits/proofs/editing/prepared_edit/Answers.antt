@@ -5,7 +5,8 @@ use Rattle.msi_tables.specs.Held.{heading_of, rows_held}
 use Rattle.cfb.specs.Views.{letters_in, mini_of}
 use Rattle.msi_stored.specs.Stored.{rows_in}
 use Rattle.cfb_mini.specs.Views.{allocator_of}
-use Rattle.msi_edits.proofs.Exits.{own_causes, own_kinds, prepared_own, told_so}
+use Rattle.msi_edits.proofs.Exits.{own_causes, owns_unput, prepared_own, told_so}
+use Rattle.msi_edits.proofs.Refusals.{read_unput}
 use Rattle.msi_edits.proofs.editing.prepared_edit.Goals as goal
 
 pub returns-in-Err-clause-told : goal.returns-in-Err-clause-told
@@ -23,6 +24,9 @@ returns-clause-cause g c =
     own_causes (allocator_of (mini_of c.args.file.now)) (allocator_of (mini_of c.rows_of_table.new.file)) c.edited_rows.result
     (prepared_own (asked c.args.query.now) (heading_of (rc_value c.args.table.now)) c.args.pool.now (rows_held c.in-Ok.rows.items) c.edited_rows.result c.edited_rows.ensures.told)
 
+pub returns-in-Err-clause-kinds : goal.returns-in-Err-clause-kinds
+returns-in-Err-clause-kinds g c = read_unput c.in-Err.error c.in-Err.ensures.error
+
 pub returns-clause-kinds : goal.returns-clause-kinds
 returns-clause-kinds g c =
-    own_kinds c.edited_rows.result (prepared_own (asked c.args.query.now) (heading_of (rc_value c.args.table.now)) c.args.pool.now (rows_held c.in-Ok.rows.items) c.edited_rows.result c.edited_rows.ensures.told)
+    owns_unput c.edited_rows.result (prepared_own (asked c.args.query.now) (heading_of (rc_value c.args.table.now)) c.args.pool.now (rows_held c.in-Ok.rows.items) c.edited_rows.result c.edited_rows.ensures.told)

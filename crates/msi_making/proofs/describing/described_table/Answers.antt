@@ -70,5 +70,6 @@ returns-clause-told c = λ letters tree P s same a memory r all.
       v = it.2;
       accepted = it.3;
       read = it.4;
+      written = it.5;
       tables = c.in_ok-tables.ensures.ok ∙ ap₂ heading_put headed memory ∙ sym (headings_put P.pool.long (new_table name cs) P.tables);
     }

@@ -10,7 +10,7 @@ use Rattle.cfb.specs.Views.{letters_in, mini_of}
 use Rattle.cfb_mini.specs.Views.{allocator_of}
 use Rattle.msi_columns.specs.Column.{length_kept}
 use Rattle.msi_columns.specs.Held.{column_of, columns_of}
-use Rattle.msi_edits.proofs.Exits.{own_causes, own_kinds}
+use Rattle.msi_edits.proofs.Exits.{own_causes, owns_unput}
 use Rattle.msi_schema.specs.Headings.{headings_in}
 use Rattle.msi_stored.proofs.StoredLaws.{file_cause}
 use Rattle.msi_stored.specs.Changing.{StoresSound}
@@ -111,7 +111,7 @@ pub returns-clause-cause : goal.returns-clause-cause
 returns-clause-cause g c = own_causes (allocator_of (mini_of c.args.file.now)) (allocator_of (mini_of c.system_tables.new.file)) c.described_table.result (own_all c.described_table.result c.described_table.ensures.own)
 
 pub returns-clause-kinds : goal.returns-clause-kinds
-returns-clause-kinds g c = own_kinds c.described_table.result (own_all c.described_table.result c.described_table.ensures.own)
+returns-clause-kinds g c = owns_unput c.described_table.result (own_all c.described_table.result c.described_table.ensures.own)
 
 pub new_rows-requires-clause-few : goal.new_rows-requires-clause-few
 new_rows-requires-clause-few g c =

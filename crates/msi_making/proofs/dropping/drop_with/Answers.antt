@@ -4,14 +4,15 @@ use Rattle.cfb_fat.specs.Keeping.{rests_cause}
 use Rattle.cfb_medium.specs.Calls.{IsFaultUnless}
 use Rattle.cfb_mini.specs.Views.{allocator_of}
 use Rattle.cfb_owned.proofs.GoingOn.{goes_then, rests_go_on}
-use Rattle.msi_edits.proofs.Exits.{first_cause, first_kind}
-use Rattle.msi_edits.proofs.Refusals.{own_kind, own_so, IsOwn}
+use Rattle.msi_edits.proofs.Exits.{first_cause, first_kind, first_unput}
+use Rattle.msi_edits.specs.Edited.{IsUnputError}
+use Rattle.msi_edits.proofs.Refusals.{own_kind, own_so, unput_kind, unput_not_full, IsOwn}
 use Rattle.msi_pool.specs.PoolDraft.{adopted}
 use Rattle.msi_schema.specs.Headings.{headings_in}
 use Rattle.msi_store.specs.Stores.{file_in}
 use Rattle.msi_making.specs.Drops.{DropsTable}
 use Rattle.msi_making.specs.Remains.{AreHeld}
-use Rattle.msi_making.proofs.DropExits.{drop_first, drop_unprepared, drop_unwritten, drop_written}
+use Rattle.msi_making.proofs.DropExits.{drop_first, drop_full, drop_unprepared, drop_unwritten, drop_written}
 use Rattle.msi_making.proofs.dropping.drop_with.Goals as goal
 
 pub returns-in-Err-clause-drops : goal.returns-in-Err-clause-drops
@@ -79,3 +80,23 @@ pub returns-clause-goes_on : goal.returns-clause-goes_on
 returns-clause-goes_on g c =
     goes_then (allocator_of (mini_of (file_in c.args.store.now))) (allocator_of (mini_of c.prepared_drop.new.file)) (allocator_of (mini_of c.replace_streams.new.file))
     (rests_go_on (allocator_of (mini_of (file_in c.args.store.now))) (allocator_of (mini_of c.prepared_drop.new.file)) (search (rules, c.in-Ok-prepared_drop.ensures.rests))) c.in-Ok-replace_streams.ensures.goes_on
+
+pub returns-in-Err-clause-full : goal.returns-in-Err-clause-full
+returns-in-Err-clause-full g c = λ is live tree P m s memory. unput_not_full c.in-Err.error (first_unput (file_in c.args.store.now) c.in-Err.error c.in-Err.ensures.refused) is
+
+pub returns-in-Err-prepared_drop-clause-full : goal.returns-in-Err-prepared_drop-clause-full
+returns-in-Err-prepared_drop-clause-full g c = λ is live tree P m s memory. unput_not_full c.in-Err-prepared_drop.error c.in-Err-prepared_drop.ensures.kinds is
+
+pub returns-in-Err-prepared_drop-clause-kinds : goal.returns-in-Err-prepared_drop-clause-kinds
+returns-in-Err-prepared_drop-clause-kinds g c = unput_kind c.in-Err-prepared_drop.error c.in-Err-prepared_drop.ensures.kinds
+
+pub returns-in-Err-make_room-clause-full : goal.returns-in-Err-make_room-clause-full
+returns-in-Err-make_room-clause-full g c = λ is live tree P m s memory. unput_not_full c.in-Err-make_room.error (subst IsUnputError (sym c.in-Err-make_room.ensures.kinds) tt) is
+
+pub returns-in-Err-replace_streams-clause-full : goal.returns-in-Err-replace_streams-clause-full
+returns-in-Err-replace_streams-clause-full g c = λ is live tree P m s memory.
+    let old = c.args.store.now in
+    let b = c.in-Ok-prepared_drop.remains.0 in
+    drop_full c.args.name.now old c.in-Ok.ensures.open c.args.pool c.prepared_drop.new.file c.in-Ok-prepared_drop.ensures.rests b.columns.items b.tables.items b.validation.items (adopted c.args.pool.pool.places c.in-Ok-prepared_drop.remains.1)
+    (λ tree P m s held. c.in-Ok-prepared_drop.ensures.told tree P m s (subst (λ ts. AreHeld (headings_in ts) c.args.pool.pool P) (sym c.deref.ensures.value) held))
+    (c.in-Err-replace_streams.ensures.full is live) tree P m s memory

@@ -1,17 +1,22 @@
-use Rattle.std.proofs.Common.{◌∙◌, ap, inl, refl, rules, subst, sym, Err, Ok}
+use Rattle.std.proofs.Common.{◌∙◌, ℕ, ap, inl, length, refl, rules, subst, sym, Err, List, Ok}
 use Rattle.cfb.specs.Views.{letters_in, mini_of}
 use Rattle.cfb_fat.specs.Keeping.{rests_cause}
 use Rattle.cfb_medium.specs.Calls.{IsFaultUnless}
 use Rattle.cfb_mini.specs.Views.{allocator_of}
 use Rattle.cfb_owned.proofs.GoingOn.{goes_then, rests_go_on}
 use Rattle.msi_columns.specs.Held.{columns_of}
-use Rattle.msi_edits.proofs.Exits.{first_cause, first_kind}
+use Rattle.msi_edits.proofs.Exits.{first_cause, first_kind, first_unput}
+use Rattle.msi_edits.proofs.Refusals.{unput_kind, unput_not_full}
+use Rattle.msi_edits.specs.Edited.{IsUnputError}
 use Rattle.msi_meaning.specs.Calls.{Creates}
+use Rattle.msi_meaning.specs.Package.{stream_name}
 use Rattle.msi_pool.specs.PoolDraft.{adopted}
 use Rattle.msi_schema.specs.Headings.{headings_in}
 use Rattle.msi_store.specs.Stores.{file_in}
+use Rattle.msi_stored.specs.Room.{IsFullForName}
+use Rattle.msi_tables.specs.Schema.{columns_name}
 use Rattle.msi_making.specs.Making.{Makes, PutsThree}
-use Rattle.msi_making.proofs.Exits.{first_unmade, made, unmade, unput}
+use Rattle.msi_making.proofs.Exits.{first_unmade, made, unmade, unput, unroomed}
 use Rattle.msi_making.proofs.making.create_with.Goals as goal
 
 pub returns-in-Err-clause-makes : goal.returns-in-Err-clause-makes
@@ -52,7 +57,7 @@ returns-in-Err-put_three-clause-makes g c =
     (unput name cs old c.args.pool c.in-Ok.ensures.open mid c.in-Ok-prepared_table.ensures.rests (adopted c.args.pool.pool.places it.changes).pool (headings_in it.tables.items) it.columns_bytes.items it.tables_bytes.items it.validation_bytes.items
     (λ tree P m s memory.
     let r = c.in-Ok-prepared_table.ensures.told tree P m s memory.pool (ap headings_in c.deref.ensures.value ∙ memory.tables) in
-    (r.c, r.t, r.v, r.accepted, r.read, r.tables)) new c.in-Err-put_three.error puts)
+    (r.c, r.t, r.v, r.accepted, r.read, r.tables, r.written)) new c.in-Err-put_three.error puts)
 
 pub returns-in-Err-put_three-clause-goes_on : goal.returns-in-Err-put_three-clause-goes_on
 returns-in-Err-put_three-clause-goes_on g c =
@@ -81,9 +86,33 @@ returns-clause-makes g c =
     (made name cs old c.args.pool c.in-Ok.ensures.open mid c.in-Ok-prepared_table.ensures.rests next.pool (headings_in it.tables.items) it.columns_bytes.items it.tables_bytes.items it.validation_bytes.items
     (λ tree P m s memory.
     let r = c.in-Ok-prepared_table.ensures.told tree P m s memory.pool (ap headings_in c.deref.ensures.value ∙ memory.tables) in
-    (r.c, r.t, r.v, r.accepted, r.read, r.tables)) new store refl refl next refl c.in-Ok-prepared_table.ensures.changes.marked puts)
+    (r.c, r.t, r.v, r.accepted, r.read, r.tables, r.written)) new store refl refl next refl c.in-Ok-prepared_table.ensures.changes.marked puts)
 
 pub returns-clause-goes_on : goal.returns-clause-goes_on
 returns-clause-goes_on g c =
     goes_then (allocator_of (mini_of (file_in c.args.store.now))) (allocator_of (mini_of c.prepared_table.new.file)) (allocator_of (mini_of c.put_three.new.file))
     (rests_go_on (allocator_of (mini_of (file_in c.args.store.now))) (allocator_of (mini_of c.prepared_table.new.file)) (search (rules, c.in-Ok-prepared_table.ensures.rests))) c.in-Ok-put_three.ensures.goes_on
+
+pub returns-in-Err-clause-full : goal.returns-in-Err-clause-full
+returns-in-Err-clause-full g c = λ is live tree P m s memory. unput_not_full c.in-Err.error (first_unput (file_in c.args.store.now) c.in-Err.error c.in-Err.ensures.refused) is
+
+pub returns-in-Err-prepared_table-clause-full : goal.returns-in-Err-prepared_table-clause-full
+returns-in-Err-prepared_table-clause-full g c = λ is live tree P m s memory. unput_not_full c.in-Err-prepared_table.error c.in-Err-prepared_table.ensures.kinds is
+
+pub returns-in-Err-prepared_table-clause-kinds : goal.returns-in-Err-prepared_table-clause-kinds
+returns-in-Err-prepared_table-clause-kinds g c = unput_kind c.in-Err-prepared_table.error c.in-Err-prepared_table.ensures.kinds
+
+pub returns-in-Err-make_room-clause-full : goal.returns-in-Err-make_room-clause-full
+returns-in-Err-make_room-clause-full g c = λ is live tree P m s memory. unput_not_full c.in-Err-make_room.error (subst IsUnputError (sym c.in-Err-make_room.ensures.kinds) tt) is
+
+pub returns-in-Err-put_three-clause-full : goal.returns-in-Err-put_three-clause-full
+returns-in-Err-put_three-clause-full g c = λ is live tree P m s memory.
+    let old = c.args.store.now in
+    let mid = c.prepared_table.new.file in
+    let it = c.in-Ok-prepared_table.it in
+    let full = subst (λ (b : List ℕ). IsFullForName mid (stream_name columns_name) (length b)) c.deref-2.ensures.value (c.in-Err-put_three.ensures.full is live) in
+    unroomed c.args.name.now (columns_of c.args.columns.items) old c.args.pool c.in-Ok.ensures.open mid c.in-Ok-prepared_table.ensures.rests (adopted c.args.pool.pool.places it.changes).pool (headings_in it.tables.items)
+    it.columns_bytes.items it.tables_bytes.items it.validation_bytes.items
+    (λ tree P m s memory.
+    let r = c.in-Ok-prepared_table.ensures.told tree P m s memory.pool (ap headings_in c.deref.ensures.value ∙ memory.tables) in
+    (r.c, r.t, r.v, r.accepted, r.read, r.tables, r.written)) c.put_three.new.file full tree P m s memory

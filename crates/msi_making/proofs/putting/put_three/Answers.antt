@@ -1,4 +1,4 @@
-use Rattle.std.proofs.Common.{inr, []}
+use Rattle.std.proofs.Common.{◌≡◌, ◌∙◌, false, inr, sym, true, []}
 use Rattle.cfb.specs.Views.{mini_of}
 use Rattle.cfb_fat.specs.Keeping.{fails_cause}
 use Rattle.cfb_fat.specs.Resting.{all_rest_refl}
@@ -54,3 +54,9 @@ returns-clause-puts g c =
 
 pub returns-clause-goes_on : goal.returns-clause-goes_on
 returns-clause-goes_on g c = goes_then _ _ _ c.put_table_bytes.ensures.goes_on (goes_then _ _ _ c.put_table_bytes-2.ensures.goes_on c.put_table_bytes-3.ensures.goes_on)
+
+pub returns-in-Err-put_table_bytes-clause-full : goal.returns-in-Err-put_table_bytes-clause-full
+returns-in-Err-put_table_bytes-clause-full g c = λ is live. let never : true ≡ false = sym c.fail.ensures.fails.sectors.failed ∙ live in absurd (cc)
+
+pub returns-in-Err-put_table_bytes-2-clause-full : goal.returns-in-Err-put_table_bytes-2-clause-full
+returns-in-Err-put_table_bytes-2-clause-full g c = λ is live. let never : true ≡ false = sym c.fail-in-Err-put_table_bytes-2.ensures.fails.sectors.failed ∙ live in absurd (cc)

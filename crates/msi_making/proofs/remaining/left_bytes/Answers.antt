@@ -4,8 +4,8 @@ use Rattle.std.proofs.lemmas.List.{length-map}
 use Rattle.cfb.specs.Views.{mini_of}
 use Rattle.cfb.proofs.LiveMeaning.{holds_meant}
 use Rattle.cfb_mini.specs.Views.{allocator_of}
-use Rattle.msi_edits.proofs.Exits.{own_causes, own_kinds}
-use Rattle.msi_edits.proofs.Refusals.{own_kind, own_so}
+use Rattle.msi_edits.proofs.Exits.{own_causes, owns_unput}
+use Rattle.msi_edits.proofs.Refusals.{own_so, own_unput, read_unput}
 use Rattle.msi_meaning.specs.Calls.{speaks_of}
 use Rattle.msi_tables.specs.Held.{heading_of, rows_held}
 use Rattle.msi_making.specs.Remains.{CanLay}
@@ -28,7 +28,7 @@ returns-in-Err-left_rows-clause-cause g c =
 
 pub returns-in-Err-left_rows-clause-kinds : goal.returns-in-Err-left_rows-clause-kinds
 returns-in-Err-left_rows-clause-kinds g c =
-    own_kind c.in-Err-left_rows.error
+    own_unput c.in-Err-left_rows.error
     (left_own (speaks_of c.args.pool.now.pool c.args.name.now) c.args.draft.now.state.pool (rows_held c.in-Ok.rows.items) c.in-Err-left_rows.error c.in-Err-left_rows.ensures.left)
 
 pub laid_bytes-requires : goal.laid_bytes-requires
@@ -48,4 +48,7 @@ pub returns-clause-cause : goal.returns-clause-cause
 returns-clause-cause g c = own_causes (allocator_of (mini_of c.args.file.now)) (allocator_of (mini_of c.rows_of_table.new.file)) c.laid_bytes.result (laid_own _ c.laid_bytes.result c.laid_bytes.ensures)
 
 pub returns-clause-kinds : goal.returns-clause-kinds
-returns-clause-kinds g c = own_kinds c.laid_bytes.result (laid_own _ c.laid_bytes.result c.laid_bytes.ensures)
+returns-clause-kinds g c = owns_unput c.laid_bytes.result (laid_own _ c.laid_bytes.result c.laid_bytes.ensures)
+
+pub returns-in-Err-clause-kinds : goal.returns-in-Err-clause-kinds
+returns-in-Err-clause-kinds g c = read_unput c.in-Err.error c.in-Err.ensures.error

@@ -2,7 +2,7 @@ use Rattle.std.proofs.Common.{◌≡◌, ◌∙◌, ap, inl, inr, subst, sym}
 use Rattle.cfb.specs.Views.{letters_in, mini_of}
 use Rattle.cfb_medium.specs.Calls.{IsFaultUnless}
 use Rattle.cfb_mini.specs.Views.{allocator_of}
-use Rattle.msi_edits.proofs.Refusals.{own_kind, own_so, IsOwn}
+use Rattle.msi_edits.proofs.Refusals.{own_so, own_unput, IsOwn}
 use Rattle.msi_schema.specs.Headings.{headings_in}
 use Rattle.msi_tables.specs.Held.{heading_of}
 use Rattle.msi_tables.specs.Schema.{columns_columns, columns_name, tables_columns, tables_name}
@@ -17,7 +17,7 @@ returns-in-Err-clause-cause g c =
     own_so (allocator_of (mini_of c.args.file.now)) (allocator_of (mini_of c.args.file.now)) c.in-Err.error (missing_own (headings_in c.args.tables.now) c.args.name.now c.in-Err.error c.in-Err.ensures)
 
 pub returns-in-Err-clause-kinds : goal.returns-in-Err-clause-kinds
-returns-in-Err-clause-kinds g c = own_kind c.in-Err.error (missing_own (headings_in c.args.tables.now) c.args.name.now c.in-Err.error c.in-Err.ensures)
+returns-in-Err-clause-kinds g c = own_unput c.in-Err.error (missing_own (headings_in c.args.tables.now) c.args.name.now c.in-Err.error c.in-Err.ensures)
 
 pub returns-in-Err-fixed_tables-clause-told : goal.returns-in-Err-fixed_tables-clause-told
 returns-in-Err-fixed_tables-clause-told g c = λ tree P m s memory. inl (subst (IsFaultUnless ⊥) (sym c.in-Err-fixed_tables.ensures.err) tt)
@@ -27,7 +27,7 @@ returns-in-Err-fixed_tables-clause-cause g c =
     own_so (allocator_of (mini_of c.args.file.now)) (allocator_of (mini_of c.args.file.now)) c.in-Err-fixed_tables.error (subst IsOwn (sym c.in-Err-fixed_tables.ensures.err) tt)
 
 pub returns-in-Err-fixed_tables-clause-kinds : goal.returns-in-Err-fixed_tables-clause-kinds
-returns-in-Err-fixed_tables-clause-kinds g c = own_kind c.in-Err-fixed_tables.error (subst IsOwn (sym c.in-Err-fixed_tables.ensures.err) tt)
+returns-in-Err-fixed_tables-clause-kinds g c = own_unput c.in-Err-fixed_tables.error (subst IsOwn (sym c.in-Err-fixed_tables.ensures.err) tt)
 
 pub returns-clause-told : goal.returns-clause-told
 returns-clause-told g c = λ tree P m s memory.

@@ -5,7 +5,8 @@ use Rattle.msi_texts.specs.Results.{Answers}
 use Rattle.cfb.specs.Views.{mini_of}
 use Rattle.cfb.proofs.LiveMeaning.{holds_meant}
 use Rattle.cfb_mini.specs.Views.{allocator_of}
-use Rattle.msi_edits.proofs.Exits.{own_causes, own_kinds}
+use Rattle.msi_edits.proofs.Exits.{own_causes, owns_unput}
+use Rattle.msi_edits.proofs.Refusals.{read_unput}
 use Rattle.msi_tables.specs.Held.{rows_held}
 use Rattle.msi_making.proofs.TakenRows.{takes_own, takes_so}
 use Rattle.msi_making.proofs.remaining.take_rows_of.Goals as goal
@@ -27,4 +28,7 @@ returns-clause-cause g c =
 
 pub returns-clause-kinds : goal.returns-clause-kinds
 returns-clause-kinds g c =
-    own_kinds c.take_rows.result (takes_own c.args.draft.now.state.pool c.take_rows.new.draft.state.pool (rows_held c.deref.result.now) c.take_rows.result c.take_rows.ensures.takes)
+    owns_unput c.take_rows.result (takes_own c.args.draft.now.state.pool c.take_rows.new.draft.state.pool (rows_held c.deref.result.now) c.take_rows.result c.take_rows.ensures.takes)
+
+pub returns-in-Err-clause-kinds : goal.returns-in-Err-clause-kinds
+returns-in-Err-clause-kinds g c = read_unput c.in-Err.error c.in-Err.ensures.error

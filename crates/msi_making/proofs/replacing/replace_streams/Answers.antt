@@ -1,11 +1,14 @@
-use Rattle.std.proofs.Common.{[], inl, inr, Ok, Err, subst, sym}
+use Rattle.std.proofs.Common.{◌≡◌, ◌∙◌, ℕ, [], false, inl, inr, length, List, Ok, Err, subst, sym, true}
 use Rattle.cfb.specs.Views.{mini_of}
 use Rattle.cfb_fat.specs.Keeping.{fails_cause}
 use Rattle.cfb_fat.specs.Resting.{all_rest_refl}
 use Rattle.cfb_medium.specs.Calls.{IsFaultUnless}
 use Rattle.cfb_mini.specs.Views.{allocator_of}
 use Rattle.cfb_owned.proofs.GoingOn.{fails_go_on, goes_cause, goes_then}
-use Rattle.msi_edits.specs.Edited.{PutsTable}
+use Rattle.msi_edits.specs.Edited.{IsUnputError, PutsTable}
+use Rattle.msi_edits.proofs.Refusals.{unput_not_full}
+use Rattle.msi_meaning.specs.Package.{stream_name}
+use Rattle.msi_stored.specs.Room.{IsFullForName}
 use Rattle.msi_tables.specs.Schema.{columns_name}
 use Rattle.msi_making.proofs.ReplacedStreams.{all_replaced, columns_unput, none_replaced, rest_unreplaced}
 use Rattle.msi_making.proofs.replacing.replace_streams.Goals as goal
@@ -49,3 +52,13 @@ returns-clause-replaces g c =
 
 pub returns-clause-goes_on : goal.returns-clause-goes_on
 returns-clause-goes_on g c = goes_then _ _ _ c.put_table_bytes.ensures.goes_on c.replace_rest.ensures.goes_on
+
+pub returns-in-Err-clause-full : goal.returns-in-Err-clause-full
+returns-in-Err-clause-full g c = λ is live. unput_not_full c.in-Err.error (subst IsUnputError (sym c.in-Err.ensures.kinds) tt) is
+
+pub returns-in-Err-put_table_bytes-clause-full : goal.returns-in-Err-put_table_bytes-clause-full
+returns-in-Err-put_table_bytes-clause-full g c = λ is live.
+    subst (λ (b : List ℕ). IsFullForName c.args.file.now (stream_name columns_name) (length b)) c.deref.ensures.value (c.in-Err-put_table_bytes.ensures.full is live)
+
+pub returns-in-Err-replace_rest-clause-full : goal.returns-in-Err-replace_rest-clause-full
+returns-in-Err-replace_rest-clause-full g c = λ is live. let never : true ≡ false = sym c.fail.ensures.fails.sectors.failed ∙ live in absurd (cc)

@@ -4,6 +4,7 @@ use Rattle.msi_columns.specs.Held.{columns_of}
 use Rattle.msi_meaning.specs.Calls.{Creates}
 use Rattle.msi.specs.Changing.{failed_in}
 use Rattle.msi.specs.Opened.{file_in, sound_in}
+use Rattle.msi.proofs.Filled.{not_permitted_fills, rows_fill}
 use Rattle.msi.proofs.Causes.{refused_cause, refused_change}
 use Rattle.msi.proofs.Made.{made_changes, made_keeps}
 use Rattle.msi.proofs.Permitted.{not_permitted, permitted}
@@ -29,3 +30,9 @@ returns-in-Err-clause-cause g c = refused_cause (λ m n from. (g.met.F.ReadMediu
 
 pub returns-in-Err-clause-kinds : goal.returns-in-Err-clause-kinds
 returns-in-Err-clause-kinds g c = refused_change c.args.self.now c.in-Err.error (sym c.may_change.ensures ∙ c.in-Err.is)
+
+pub returns-in-Err-clause-full : goal.returns-in-Err-clause-full
+returns-in-Err-clause-full g c = not_permitted_fills (λ P Q answer. Creates (letters_in (file_in c.args.self.now)) P c.args.name.now (columns_of c.args.columns.items) Q answer) c.args.self.now c.in-Err.error (sym c.may_change.ensures ∙ c.in-Err.is)
+
+pub returns-clause-full : goal.returns-clause-full
+returns-clause-full g c = rows_fill (λ P Q answer. Creates (letters_in (file_in c.args.self.now)) P c.args.name.now (columns_of c.args.columns.items) Q answer) c.args.self.now (record c.args.self.now { store = c.create_table.new.store; pool = c.create_table.new.pool }) c.create_table.result c.create_table.ensures.full

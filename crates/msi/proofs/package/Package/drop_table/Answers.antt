@@ -2,6 +2,7 @@ use Rattle.std.proofs.Common.{◌∙◌, refl, sym}
 use Rattle.msi_meaning.specs.Calls.{Drops}
 use Rattle.msi.specs.Changing.{failed_in}
 use Rattle.msi.specs.Opened.{sound_in}
+use Rattle.msi.proofs.Filled.{not_permitted_fills, rows_fill}
 use Rattle.msi.proofs.Causes.{refused_cause, refused_change}
 use Rattle.msi.proofs.Changed.{tables_changed}
 use Rattle.msi.proofs.Permitted.{not_permitted, permitted}
@@ -22,3 +23,9 @@ returns-in-Err-clause-cause g c = refused_cause (λ m n from. (g.met.F.ReadMediu
 
 pub returns-in-Err-clause-kinds : goal.returns-in-Err-clause-kinds
 returns-in-Err-clause-kinds g c = refused_change c.args.self.now c.in-Err.error (sym c.may_change.ensures ∙ c.in-Err.is)
+
+pub returns-in-Err-clause-full : goal.returns-in-Err-clause-full
+returns-in-Err-clause-full g c = not_permitted_fills (λ P Q answer. Drops P c.args.name.now Q answer) c.args.self.now c.in-Err.error (sym c.may_change.ensures ∙ c.in-Err.is)
+
+pub returns-clause-full : goal.returns-clause-full
+returns-clause-full g c = rows_fill (λ P Q answer. Drops P c.args.name.now Q answer) c.args.self.now (record c.args.self.now { store = c.drop_table.new.store; pool = c.drop_table.new.pool }) c.drop_table.result c.drop_table.ensures.full

@@ -5,6 +5,7 @@ use Rattle.msi.specs.Changing.{failed_in}
 use Rattle.msi.specs.Opened.{file_in, sound_in}
 use Rattle.msi.proofs.Changed.{streams_changed}
 use Rattle.msi.proofs.Leaving.{writing_leaves}
+use Rattle.msi.proofs.Filled.{not_permitted_fills, streams_fill}
 use Rattle.msi.proofs.Causes.{refused_cause, refused_change}
 use Rattle.msi.proofs.Permitted.{not_permitted, permitted}
 use Rattle.msi.proofs.package.Package.write_stream.Goals as goal
@@ -30,3 +31,9 @@ returns-clause-cause g c = c.write_stream.ensures.answers.cause
 
 pub returns-clause-kinds : goal.returns-clause-kinds
 returns-clause-kinds g c = c.write_stream.ensures.answers.fault
+
+pub returns-in-Err-clause-full : goal.returns-in-Err-clause-full
+returns-in-Err-clause-full g c = not_permitted_fills (Makes (written_within (letters_in (file_in c.args.self.now)) (most_bytes (file_in c.args.self.now)) c.args.name.now c.args.bytes.now)) c.args.self.now c.in-Err.error (sym c.may_change.ensures ∙ c.in-Err.is)
+
+pub returns-clause-full : goal.returns-clause-full
+returns-clause-full g c = streams_fill (Makes (written_within (letters_in (file_in c.args.self.now)) (most_bytes (file_in c.args.self.now)) c.args.name.now c.args.bytes.now)) c.args.self.now (record c.args.self.now { store = record c.args.self.now.store { file = c.write_stream.new.file } }) c.write_stream.result c.write_stream.ensures.full
