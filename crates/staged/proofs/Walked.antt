@@ -10,7 +10,7 @@ use Rattle.staged.specs.Walk.{IsRunAt}
 use Rattle.staged.specs.declared.pages.Page.{Page}
 use Rattle.staged.specs.declared.walk.Run.{Run}
 use Rattle.staged.proofs.Found.{at_append}
-use Rattle.staged.proofs.Numbered.{page, Sized, numbered_holds, numbered_sized, sized_both, length-numbered}
+use Rattle.staged.proofs.Numbered.{page, Sized, numbered_holds, numbered_sized, sized_both}
 use Rattle.staged.proofs.Checked.{Checked, checked_more, too_low, one_missing}
 use Rattle.staged.proofs.Leads.{leads_refuted}
 
@@ -139,10 +139,6 @@ low_found counted n place log pages fits seen home len from least run way is som
 pub missing_found : (fits : Bool) (pages : List Page) (home len from least : ℕ) → Checked pages home len from least → home < len → from < pages_for len → (fits && leads pages home len) ≡ false
 missing_found fits pages home len from least checked grows early =
     and_right fits (leads pages home len) (leads_refuted pages home len (λ rises covers. one_missing pages home len from least checked grows early covers))
-
--- the length is too low
-pub short_found : (fits : Bool) (pages : List Page) (home len : ℕ) → len < home → (fits && leads pages home len) ≡ false
-short_found fits pages home len short = and_right fits (leads pages home len) (leads_refuted pages home len (λ rises covers. let e : home ≤ len = covers.no_shorter in omega arith))
 
 -- ---- a run that passes them
 
