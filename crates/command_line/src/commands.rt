@@ -2,19 +2,16 @@
 use crate::failures::{Failure, Paths, failure_of};
 use crate::files::{self, Found};
 use crate::progress::Progress;
-use crate::sessions::{open_session, run_commands};
+use crate::sessions::run_commands;
 use cfb_medium::Error;
-use file_device::FileDevice;
-use installer::{Answer, Command, Session, answer_text};
+use installer::{Answer, Command, answer_text};
+use installer_runs::{Ending as Ended, Listener};
 use package_views::{Trouble, is_sound_at, trouble_of, why_refused};
 use std::alloc::Global;
 use std::fs::File;
 use std::io::Write;
 use std::rt::Files;
 use std::time::Clock;
-
-// How many commands are run before their answers are printed, if they aren't inserts.
-const SLICE: usize = 64;
 
 /// How a run ended that met no fault.
 #[derive(Clone, Copy, Debug)]
@@ -25,7 +22,8 @@ pub(crate) enum Ending {
     Refused,
 }
 
-/// Runs commands on the package of two files, prints their answers, and shows how far it has come.
+/// Runs commands on the package of two files, prints their answers, and shows how far it has come. Where there is no log yet, none is
+/// made before the package was found to be one.
 pub(crate) fn run<R: Files<File = File> + AllocGlobal + Clock, O: Write, E: Write>(
     rt: &R,
     paths: &Paths<'_>,
@@ -33,25 +31,15 @@ pub(crate) fn run<R: Files<File = File> + AllocGlobal + Clock, O: Write, E: Writ
     out: &mut O,
     progress: &mut Progress<'_, R, E>,
 ) -> Result<Ending, Failure> {
-    let mut session = session_on(rt, paths)?;
-    let mut answers = Answers::new(rt.alloc(), out);
-    if let Err(fault) = run_all(&mut session, commands, &mut answers, progress) {
-        answers.meet(failure_of(fault));
-    }
-    answers.ending()
-}
-
-// A session on the package of two files. Where there is no log yet, none is made before the package was found to be one.
-fn session_on<R: Files<File = File> + AllocGlobal>(
-    rt: &R,
-    paths: &Paths<'_>,
-) -> Result<Session<FileDevice>, Failure> {
     check_before_log(rt, paths)?;
     let device = files::open(rt, paths)?;
-    match open_session(rt.alloc(), device) {
-        Ok(session) => Ok(session),
-        Err(error) => Err(why_no_session(rt, paths, error)),
+    let mut answers = Answers::new(rt.alloc(), out, progress);
+    match run_commands(rt.alloc(), device, commands, &mut answers) {
+        Ok(Ended::Whole) => {}
+        Ok(Ended::Unopened(error)) => return Err(why_no_session(rt, paths, error)),
+        Ok(Ended::Cut) | Err(_) => answers.meet(Failure::Memory),
     }
+    answers.ending()
 }
 
 // Refuses files on which no session can be opened, where there is no log yet.
@@ -92,51 +80,12 @@ fn why_no_session<R: Files<File = File> + AllocGlobal>(
     }
 }
 
-// Whether a command inserts rows: its answer takes no room, and a session carries out many of them at once.
-fn is_insert(command: &Command) -> bool {
-    match command {
-        Command::Insert(_) => true,
-        _ => false,
-    }
-}
-
-// Runs commands in slices, whose answers are printed as they come. Inserts that follow one another are one slice.
-fn run_all<O: Write, R: Clock, E: Write>(
-    session: &mut Session<FileDevice>,
-    commands: &[Command],
-    answers: &mut Answers<'_, O>,
-    progress: &mut Progress<'_, R, E>,
-) -> Result<(), Error> {
-    for run in commands.chunk_by(|one, other| is_insert(one) == is_insert(other)) {
-        run_alike(session, run, answers, progress)?;
-    }
-    Ok(())
-}
-
-// The same of commands that are all inserts, or none is.
-fn run_alike<O: Write, R: Clock, E: Write>(
-    session: &mut Session<FileDevice>,
-    commands: &[Command],
-    answers: &mut Answers<'_, O>,
-    progress: &mut Progress<'_, R, E>,
-) -> Result<(), Error> {
-    let size = if commands.iter().any(is_insert) {
-        commands.len()
-    } else {
-        SLICE
-    };
-    for slice in commands.chunks(size.max(1)) {
-        answers.take(&run_commands(session, slice)?);
-        progress.step(slice.len());
-    }
-    Ok(())
-}
-
 // Where answers are printed, and what was met among them.
 #[derive(Drop)]
-struct Answers<'a, O> {
+struct Answers<'a, 'b, O, R, E> {
     alloc: Global,
     out: &'a mut O,
+    progress: &'a mut Progress<'b, R, E>,
     // A command was refused by a rule.
     has_refusal: bool,
     // The first failure.
@@ -145,22 +94,26 @@ struct Answers<'a, O> {
     is_cut: bool,
 }
 
-impl<'a, O: Write> Answers<'a, O> {
-    fn new(alloc: Global, out: &'a mut O) -> Self {
-        Answers {
-            alloc,
-            out,
-            has_refusal: false,
-            failure: None,
-            is_cut: false,
-        }
-    }
-
+impl<'a, 'b, O: Write, R: Clock, E: Write> Listener for Answers<'a, 'b, O, R, E> {
     // Prints the answers of a slice.
-    fn take(&mut self, answers: &[Answer]) {
+    fn hear(&mut self, answers: &[Answer]) {
         for answer in answers {
             self.note(answer);
             self.print(answer);
+        }
+        self.progress.step(answers.len());
+    }
+}
+
+impl<'a, 'b, O: Write, R: Clock, E: Write> Answers<'a, 'b, O, R, E> {
+    fn new(alloc: Global, out: &'a mut O, progress: &'a mut Progress<'b, R, E>) -> Self {
+        Answers {
+            alloc,
+            out,
+            progress,
+            has_refusal: false,
+            failure: None,
+            is_cut: false,
         }
     }
 

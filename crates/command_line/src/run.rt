@@ -6,7 +6,7 @@ use crate::failures::{Failure, Paths, failure_of, tell_failure};
 use crate::files::{self, Found};
 use crate::lists::list;
 use crate::progress::Progress;
-use crate::sessions::{commit, commit_copy, create_session};
+use crate::sessions::{commit_copy, create_package};
 use crate::texts::commands_in;
 use cfb::MemoryMedium;
 use cfb_medium::Error;
@@ -203,11 +203,7 @@ fn create<R: Files<File = File> + AllocGlobal, O: Write>(
     out: &mut O,
 ) -> Result<Ending, Failure> {
     let device = files::create(rt, paths)?;
-    let made = match create_session(rt.alloc(), device) {
-        Ok(mut session) => commit(&mut session),
-        Err(error) => Err(error),
-    };
-    match made {
+    match create_package(rt.alloc(), device) {
         Ok(()) => answer("created", out),
         Err(Error::InvalidData) => Err(Failure::Log(Trouble::UnfitCommit)),
         Err(error) => Err(failure_of(error)),

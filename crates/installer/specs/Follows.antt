@@ -37,7 +37,9 @@ pub record Follows {D : Type 0} {g : device.Ghosts D} {h : Ghosts (Staged D g)} 
   pub survives : (start : Course) → IsAt (package_in old) start → Survives (letters_in old) g (device_below old) (device_below new) (marks_of start request reply)
 
 module _ {D : Type 0} {g : device.Ghosts D} {h : Ghosts (Staged D g)} where
-  -- The same of commands in order, with a reply for each.
+  -- THE COMMANDS WERE RUN in order, with a reply for each: from where the session is in its course it goes along them by their rules, and what
+  -- a stop leaves is told with the commits that they begin; whatever the device and the file, they behave; and where the package isn't sound
+  -- nothing that a recovery gives is changed.
   pub record FollowAll (requests : List Request) (replies : List Reply) (old new : SessionOver (Staged D g) h) : Type 0 where
     pub ran : (start : Course) → IsAt (package_in old) start → (end : Course) × (marks : List Mark) × Runs (letters_in old) start requests replies marks end
         × IsAt (package_in new) end × Survives (letters_in old) g (device_below old) (device_below new) marks

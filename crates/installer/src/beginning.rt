@@ -13,8 +13,9 @@ use cfb_medium::Error;
 use staged::{Device, Staged, recover};
 use std::alloc::Global;
 
-/// The home file of a device, once it was recovered.
-pub(crate) fn recovered_medium<D: Device>(alloc: Global, device: D) -> Result<Staged<D>, (D, Error)>
+/// The home file of a device, once it was recovered. `InvalidData` for a malformed log, which leaves both files; the other errors are
+/// faults of the device. An error hands the device back.
+pub fn recovered_medium<D: Device>(alloc: Global, device: D) -> Result<Staged<D>, (D, Error)>
     ensures bytes { IsTrue (D.honest device)
         → IfOk result (λ medium. recovered (D.content device) ≡ Some (staged_bytes medium)) }
     ensures home { IsTrue (D.honest device)

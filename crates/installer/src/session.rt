@@ -3,9 +3,7 @@ ghost use Rattle.cfb_medium.specs.declared.error.Error.TheVariants as error;
 ghost use Rattle.cfb_tree.specs.LetterViews.{letters_of};
 ghost use Rattle.command_file.specs.Request as asked;
 ghost use Rattle.command_file.specs.Said.{said};
-ghost use Rattle.installer.specs.Behaviour.{Behaves};
-ghost use Rattle.installer.specs.Course.{Course, Mark, Runs};
-ghost use Rattle.installer.specs.Follows.{Follows};
+ghost use Rattle.installer.specs.Follows.{FollowAll, Follows};
 ghost use Rattle.installer.specs.Refusals.{IsCreateRefusal, IsOpenRefusal};
 ghost use Rattle.installer.specs.Said.{told_by};
 ghost use Rattle.installer.specs.Step.{told_of};
@@ -61,7 +59,7 @@ impl<F: Medium> SessionOver<F> {
 }
 
 impl<D: Device> SessionOver<Staged<D>> {
-    ghost use Rattle.installer.specs.Sessions.{beginning, condition_of, device_below, is_failed, is_sound, letters_in, package_in, IsAt};
+    ghost use Rattle.installer.specs.Sessions.{beginning, device_below, is_failed, is_sound, letters_in, package_in, IsAt};
 
     /// Recovers, and begins a new installer package on an empty home file, whose names are compared under the letter table; nothing
     /// is committed. `InvalidData` for a malformed log, which leaves both files; `AlreadyExists` where the home file isn't empty;
@@ -143,18 +141,10 @@ impl<D: Device> SessionOver<Staged<D>> {
     /// Runs commands in order, with an answer for each. Inserts into one table that follow one another are carried out as one, if all of
     /// them are done by that; what is answered, and what is held then, is the same. `Memory` where there is no room for the answers: then
     /// none was run. On every device, also one that lies, and whatever the file holds, answers name faults alone that there were. No
-    /// command of a package that isn't sound changes what a recovery gives.
+    /// command of a package that isn't sound changes what a recovery gives. Letter table and soundness stay.
     pub fn run(&mut self, commands: &[Command]) -> Result<Vec<Answer>, Error>
-        ensures ran { IfOk result (λ answers. (start : Course) → IsAt (package_in self.old) start
-            → (end : Course) × (marks : List Mark)
-            × Runs (letters_in self.old) start (map said commands.now) (map told_by answers.items)
-            marks end × IsAt (package_in self.new) end
-            × Survives (letters_in self.old) D.Device (device_below self.old)
-            (device_below self.new) marks) }
-        ensures behaves { IfOk result (λ answers. Behaves (condition_of self.old)
-            (map said commands.now) (map told_by answers.items) (condition_of self.new)) }
-        ensures still { is_sound self.old ≡ false → Survives (letters_in self.old) D.Device
-            (device_below self.old) (device_below self.new) [] }
+        ensures followed { IfOk result (λ answers. FollowAll (map said commands.now)
+            (map told_by answers.items) self.old self.new) }
         ensures none_ran { IfErr result (λ e. (e ≡ error.Memory) × (self.new ≡ self.old)) }
     {
         let mut answers = Vec::with_capacity(self.alloc, commands.len())?;

@@ -1,0 +1,87 @@
+-- A copy that is committed.
+use Rattle.std.proofs.Common.{◌≡◌, ◌⊎◌, ◌≤◌, ℕ, List, [], ◌∷◌, Ok, Err, Result, Some, Option, arith, false, true, get_or, inl, inr, ⊎_elim, refl, subst, sym}
+use Rattle.std.specs.Prelude.{All, IsTrue, OnOk}
+use Rattle.cfb.specs.Views.{letters_in}
+use Rattle.cfb_medium.specs.Stops.{LeavesOnly}
+use Rattle.cfb_medium.specs.declared.error.Error.{Error}
+use Rattle.cfb_medium.specs.declared.medium.ReadMedium as medium
+use Rattle.cfb_tree.specs.Names.{Letters}
+use Rattle.installer.proofs.Stopping.{survives_commit, survives_rest, survives_then}
+use Rattle.installer.specs.Course.{Mark}
+use Rattle.installer.specs.Survival.{gives, given_since, IsFound, IsGiven, Survives}
+use Rattle.installer_runs.specs.Copying.{IsCopied, SurvivesCopy}
+use Rattle.msi.specs.Changing.{PackageIsFit}
+use Rattle.msi.specs.Committing.{HoldsSound}
+use Rattle.msi.specs.Opened.{PackageHolds, file_in, sound_in}
+use Rattle.msi.specs.declared.package.Package.{Package}
+use Rattle.msi_meaning.specs.Package.{Packed}
+use Rattle.staged.specs.Device.{DeviceRests}
+use Rattle.staged.specs.Files.{Files}
+use Rattle.staged.specs.Staged.{device_of, staged_bytes, staged_may_leave, LeavesOldOrNew, PublishesBytes}
+use Rattle.staged.specs.declared.device.Device.{Ghosts}
+use Rattle.staged.specs.declared.staged.Staged.{Staged}
+
+-- one commit
+pub one_mark : (m : Mark) (Of : Mark → Type 0) → Of m → All Of (m ∷ [])
+one_mark m Of is = λ k d less. let first : k ≡ 0 = omega (arith, less) in subst (λ (j : ℕ). Of (get_or (m ∷ []) j d)) (sym first) is
+
+-- and none
+pub no_mark : (Of : Mark → Type 0) → All Of []
+no_mark Of = λ k d less. absurd (omega (arith, less))
+
+module _ {D : Type 0} (g : Ghosts D) (letters : Letters) (counts_now : (d : D) (t : ℕ) (left : Files) → t ≤ g.moment d → g.may_leave d left → g.left_since d t left)
+    (rests_keeps : (a b : D) → g.rests a b → DeviceRests g.honest g.content g.writes g.failures a b) (rests_leaves : (a b : D) → g.rests a b → LeavesOnly g.moment g.left_since a b (g.may_leave a)) where
+  -- a device that was only read
+  pub rested_survives : (a b : D) → g.rests a b → Survives letters g a b []
+  rested_survives a b rests = let keeps = rests_keeps a b rests in survives_rest letters g counts_now a b (sym keeps.as_honest) keeps.counted (rests_leaves a b rests)
+
+  module _ (start mid new : Staged D g) (P : Packed) (rests : g.rests (device_of start) (device_of mid)) (honest : g.honest (device_of new) ≡ g.honest (device_of mid))
+      (counted : g.failures (device_of mid) ≤ g.failures (device_of new)) (left : LeavesOldOrNew mid new) (found : IsFound letters (staged_bytes mid) P) where
+    either : (given : Option (List ℕ)) → (staged_may_leave mid given ⊎ (given ≡ Some (staged_bytes mid))) → gives g (device_of mid) given ⊎ IsGiven (λ bytes. IsFound letters bytes P) given
+    either given may = ⊎_elim (λ old. inl old) (λ is. inr (staged_bytes mid, is, found)) may
+
+    leaves : LeavesOnly g.moment (given_since g) (device_of mid) (device_of new) (λ given. gives g (device_of mid) given ⊎ IsGiven (λ bytes. IsFound letters bytes P) given)
+    leaves = record {
+      later = left.later;
+      each = λ given since. either given (left.each given since);
+      before = λ t given le since. ⊎_elim (λ past. inl past) (λ now. inr (either given now)) (left.before t given le since);
+    }
+
+    -- bytes that hold the package were written in memory, and then committed
+    pub copied_survives : (result : Result (Unit {0}) Error) → OnOk result (PublishesBytes mid new) → (marks : List Mark) × All (λ (m : Mark). m.held ≡ P) marks × Survives letters g (device_of start) (device_of new) marks
+    copied_survives (Ok u) published = (
+      record { held = P; done = true } ∷ [],
+      one_mark (record { held = P; done = true }) (λ m. m.held ≡ P) refl,
+      survives_then letters g (device_of start) (device_of mid) (device_of new) [] (record { held = P; done = true } ∷ []) (rested_survives (device_of start) (device_of mid) rests)
+          (survives_commit letters g counts_now (device_of mid) (device_of new) (record { held = P; done = true }) honest counted (λ _. leaves) (inr (λ _ x now. (staged_bytes mid, published.left x now, found)))),
+    )
+    copied_survives (Err e) published = (
+      record { held = P; done = false } ∷ [],
+      one_mark (record { held = P; done = false }) (λ m. m.held ≡ P) refl,
+      survives_then letters g (device_of start) (device_of mid) (device_of new) [] (record { held = P; done = false } ∷ []) (rested_survives (device_of start) (device_of mid) rests)
+          (survives_commit letters g counts_now (device_of mid) (device_of new) (record { held = P; done = false }) honest counted (λ _. leaves) (inl refl)),
+    )
+
+module _ {F : Type 0} {k : medium.Ghosts F} (source : Package F k) {D : Type 0} (g : Ghosts D) where
+  -- what was published is the copy
+  pub copied_is : (mid new : Staged D g) (result : Result (Unit {0}) Error) → OnOk result (PublishesBytes mid new)
+      → ((P : Packed) → PackageHolds source P → IsTrue (sound_in source) → PackageIsFit P → HoldsSound (letters_in (file_in source)) (staged_bytes mid) P) → OnOk result (IsCopied source g (device_of new))
+  copied_is mid new (Ok u) published holds = λ P held sound fit. (staged_bytes mid, published, holds P held sound fit)
+  copied_is mid new (Err e) published holds = tt
+
+  -- the device that is given back is that of the medium
+  pub copied_there : (result : Result (Unit {0}) Error) (Empty : Type 0) (a b : D) → b ≡ a → Empty → OnOk result (IsCopied source g a) → OnOk result (Empty × IsCopied source g b)
+  copied_there (Ok u) Empty a b same empty copied = (empty, subst (IsCopied source g) (sym same) copied)
+  copied_there (Err e) Empty a b same empty copied = tt
+
+  pub survives_along : (a b c d : D) → a ≡ b → d ≡ c → SurvivesCopy source g a c → SurvivesCopy source g b d
+  survives_along a b c d first last survives = subst (λ (x : D). SurvivesCopy source g b x) (sym last) (subst (λ (x : D). SurvivesCopy source g x c) first survives)
+
+  -- nothing was copied
+  pub survives_none : (a b : D) → Survives (letters_in (file_in source)) g a b [] → SurvivesCopy source g a b
+  survives_none a b survives = λ P held sound. ([], no_mark (λ m. m.held ≡ P), survives)
+
+  pub survives_behind : (a b c : D) → Survives (letters_in (file_in source)) g a b [] → SurvivesCopy source g b c → SurvivesCopy source g a c
+  survives_behind a b c first then = λ P held sound.
+      let own = then P held sound in
+      (own.0, own.1, survives_then (letters_in (file_in source)) g a b c [] own.0 first own.2)

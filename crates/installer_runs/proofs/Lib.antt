@@ -1,0 +1,4 @@
+pub mod Along
+pub mod Whole
+pub mod Copied
+pub mod Made

@@ -1,0 +1,33 @@
+use Rattle.std.proofs.Common.{◌∙◌, [], Some, ap}
+use Rattle.std.specs.Prelude.{IsTrue}
+use Rattle.cfb.specs.Views.{letters_in}
+use Rattle.installer.proofs.Begun.{began_survives}
+use Rattle.installer.proofs.Stopping.{survives_alike, survives_then}
+use Rattle.installer_runs.proofs.Copied.{survives_behind, survives_none}
+use Rattle.msi.specs.Opened.{file_in}
+use Rattle.staged.specs.Staged.{device_of}
+use Rattle.installer_runs.proofs.copying.copy_on.Goals as goal
+
+pub returns-in-Ok-clause-survives : goal.returns-in-Ok-clause-survives
+returns-in-Ok-clause-survives g c = λ honest.
+    let d = g.met.D.Device in
+    let after : IsTrue (g.D.Device.honest (device_of c.in-Ok.medium)) = rw c.in-Ok.ensures.honest honest in
+    survives_behind c.args.source.now g.D.Device c.args.device (device_of c.in-Ok.medium) c.copy_over.result.0
+    (began_survives g.D.Device d.counts_now d.rests_keeps d.rests_leaves c.args.device (device_of c.in-Ok.medium) (device_of c.in-Ok.medium) c.in-Ok.ensures.honest c.in-Ok.ensures.failures c.in-Ok.ensures.stops (d.rests_refl _) (letters_in (file_in c.args.source.now)))
+    (c.copy_over.ensures.survives after)
+
+pub returns-in-Ok-clause-kept : goal.returns-in-Ok-clause-kept
+returns-in-Ok-clause-kept g c = λ honest other.
+    let d = g.met.D.Device in
+    let after : IsTrue (g.D.Device.honest (device_of c.in-Ok.medium)) = rw c.in-Ok.ensures.honest honest in
+    survives_then (letters_in (file_in c.args.source.now)) g.D.Device c.args.device (device_of c.in-Ok.medium) c.copy_over.result.0 [] []
+    (began_survives g.D.Device d.counts_now d.rests_keeps d.rests_leaves c.args.device (device_of c.in-Ok.medium) (device_of c.in-Ok.medium) c.in-Ok.ensures.honest c.in-Ok.ensures.failures c.in-Ok.ensures.stops (d.rests_refl _) (letters_in (file_in c.args.source.now)))
+    (c.copy_over.ensures.kept after (λ empty. other (c.in-Ok.ensures.bytes honest ∙ ap Some empty)))
+
+pub returns-in-Err-clause-survives : goal.returns-in-Err-clause-survives
+returns-in-Err-clause-survives g c = λ honest.
+    survives_none c.args.source.now g.D.Device _ _ (survives_alike (letters_in (file_in c.args.source.now)) g.D.Device g.met.D.Device.counts_now _ _ c.in-Err.ensures.err_honest c.in-Err.ensures.err_failures c.in-Err.ensures.stops)
+
+pub returns-in-Err-clause-kept : goal.returns-in-Err-clause-kept
+returns-in-Err-clause-kept g c = λ honest other.
+    survives_alike (letters_in (file_in c.args.source.now)) g.D.Device g.met.D.Device.counts_now _ _ c.in-Err.ensures.err_honest c.in-Err.ensures.err_failures c.in-Err.ensures.stops

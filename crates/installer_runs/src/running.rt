@@ -1,0 +1,93 @@
+//! Commands run on the package of a device.
+ghost use Rattle.cfb_tree.specs.LetterViews.{letters_of};
+ghost use Rattle.command_file.specs.Said.{said};
+ghost use Rattle.installer_runs.specs.Runs.{GoesAlong, Leads, RunsOn};
+ghost use Rattle.installer.specs.Survival.{Survives};
+ghost use Rattle.msi.specs.Committing.{HoldsSound};
+ghost use Rattle.msi.specs.Opened.{IsSoundFile};
+ghost use Rattle.msi_meaning.specs.Package.{Packed};
+ghost use Rattle.staged.specs.Log.{recovered};
+ghost use Rattle.std.specs.Prelude.{◌≡◌, ℕ, List, [], Some, map, IsTrue};
+
+use crate::slices::end_of_slice;
+use cfb::CaseMapper;
+use cfb_medium::Error;
+use installer::{Answer, Command, Session, SessionOver};
+use staged::{Device, Staged};
+use std::alloc::Global;
+
+/// What hears the answers of a run, in order, as they come.
+pub trait Listener {
+    /// Takes the next answers.
+    fn hear(&mut self, answers: &[Answer]);
+}
+
+/// How a run ended.
+#[derive(Clone, Copy, Debug, PartialEq, Eq)]
+pub enum Ending {
+    /// Each command was run, and its answer was heard.
+    Whole,
+    /// No session was opened, so no command was run.
+    Unopened(Error),
+    /// There was no memory for more answers: the commands whose answers were heard were run, and no others.
+    Cut,
+}
+
+/// Recovers, opens the package of the home file, whose names are compared under the letter table, runs the commands in order, and gives
+/// the device back. The answers are heard in slices, as they come. Where the home file, once recovered, holds a sound package, the
+/// commands go by its rules from there on, and each commit that they begin is one that a stop may leave: at any moment, and however the
+/// run ended. Of a file that holds none nothing that a recovery gives is changed. `Unopened` as `Session::open` is refused: of a sound
+/// package only by a fault.
+pub fn run_on<D: Device, L: Listener>(
+    alloc: Global,
+    device: D,
+    letters: CaseMapper,
+    commands: &[Command],
+    listener: &mut L,
+) -> (D, Ending)
+    ensures ran { IsTrue (D.honest device) → (bytes : List ℕ) (P : Packed)
+        → recovered (D.content device) ≡ Some bytes → HoldsSound (letters_of letters) bytes P
+        → RunsOn (letters_of letters) D.Device P (map said commands.now) result.1 device result.0 }
+    ensures unsound { IsTrue (D.honest device) → (bytes : List ℕ)
+        → recovered (D.content device) ≡ Some bytes
+        → (IsSoundFile (letters_of letters) bytes → ⊥)
+        → Survives (letters_of letters) D.Device device result.0 [] }
+{
+    match Session::open(alloc, device, letters) {
+        Ok(session) => run_session(session, commands, listener),
+        Err((device, error)) => (device, Ending::Unopened(error)),
+    }
+}
+
+// Runs the commands in a session, and gives its device back.
+fn run_session<D: Device, L: Listener>(
+    session: SessionOver<Staged<D>>,
+    commands: &[Command],
+    listener: &mut L,
+) -> (D, Ending)
+    ensures { Leads (map said commands.now) result.1 session result.0 }
+{
+    let mut session = session;
+    let ending = run_all(&mut session, commands, listener);
+    (session.into_device(), ending)
+}
+
+// Runs the commands in slices, until there is no memory for their answers.
+fn run_all<D: Device, L: Listener>(
+    session: &mut SessionOver<Staged<D>>,
+    commands: &[Command],
+    listener: &mut L,
+) -> Ending
+    ensures { GoesAlong (map said commands.now) result session.old session.new }
+{
+    let mut done = 0;
+    while done < commands.len() {
+        let end = end_of_slice(commands, done);
+        match session.run(&commands[done..end]) {
+            Ok(answers) => listener.hear(&answers),
+            Err(_) => return Ending::Cut,
+        }
+        done = end;
+    }
+    Ending::Whole
+}
