@@ -1,0 +1,4 @@
+pub mod Counted
+pub mod Findings
+pub mod Links
+pub mod Views
