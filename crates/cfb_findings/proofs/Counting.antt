@@ -1,7 +1,7 @@
 -- Uses that are counted: those of parts one by one, and those of whole chains.
-use Rattle.std.proofs.Common.{⊎_elim, ◌≡◌, ◌≢◌, ◌∙◌, ◌⊎◌, ℕ, zero, suc, ◌+◌, ◌-◌, ◌<◌, ◌≤◌, min, true, false, List, [], ◌∷◌, ◌++◌, length, get_or, set, take, inl, inr, refl, sym, ap, subst, append_assoc, length-append, arith}
+use Rattle.std.proofs.Common.{⊎_elim, ◌≡◌, ◌∙◌, ℕ, zero, suc, ◌+◌, ◌<◌, ◌≤◌, min, true, false, List, [], ◌∷◌, ◌++◌, length, get_or, set, take, refl, sym, ap, subst, append_assoc, length-append, arith}
 use Rattle.std.specs.Prelude.{Some, nat_eq, slice_get, slice_index, slice_index_or}
-use Rattle.std.proofs.lemmas.List.{append-nil, take_more}
+use Rattle.std.proofs.lemmas.List.{take_more}
 use Rattle.std.proofs.lemmas.Bool.Decides.{eqb_tells, leb_tells}
 use Rattle.std.proofs.lemmas.Option.{slice_get_within}
 use Rattle.cfb_sectors.specs.Sectors.{end_of_chain, greatest_regular, Chain}
@@ -156,3 +156,7 @@ chain_follows links start (x ∷ xs) chain n m at on = omega (arith, follows_tai
 
 pub follow_both : (links xs ys : List ℕ) → FollowLinks links xs → FollowLinks links ys → FollowLinks links (xs ++ ys)
 follow_both links xs ys first second n m at on = omega (arith, first n m at on, second n m at on, times_append n xs ys, times_append m xs ys)
+
+pub walk_goes_to : (links ids before cs ds : List ℕ) (at next : ℕ) → next ≡ behind links at → Walked links ids before at cs → at ≤ greatest_regular
+    → ((parts : List ℕ) → AreCounts parts cs → AreCounts (at ∷ parts) ds) → Walked links ids before next ds
+walk_goes_to links ids before cs ds at next is w low step = subst (λ n. Walked links ids before n ds) (sym is) (walk_goes links ids before cs ds at w low step)

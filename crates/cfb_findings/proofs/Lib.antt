@@ -1,3 +1,4 @@
 pub mod Counting
 pub mod Found
 pub mod Linking
+pub mod Listed

@@ -1,6 +1,6 @@
 -- Links that are followed, twice as many at each turn.
-use Rattle.std.proofs.Common.{⊎_elim, ◌≡◌, ◌∙◌, ◌⊎◌, ℕ, zero, suc, ◌+◌, ◌*◌, ◌<◌, ◌≤◌, Bool, true, false, List, [], ◌∷◌, map, length, inl, inr, refl, sym, ap, subst, arith}
-use Rattle.std.specs.Prelude.{Some, ◌↔◌, nat_le, slice_get, slice_index_or, if◌then◌else◌}
+use Rattle.std.proofs.Common.{⊎_elim, ◌≡◌, ◌∙◌, ◌⊎◌, ℕ, zero, suc, ◌+◌, ◌*◌, ◌<◌, ◌≤◌, true, false, List, [], ◌∷◌, map, length, inl, inr, refl, sym, ap, subst, arith}
+use Rattle.std.specs.Prelude.{Some, nat_le, slice_get, slice_index_or, if◌then◌else◌}
 use Rattle.std.proofs.lemmas.Bool.Decides.{leb_tells}
 use Rattle.cfb_sectors.specs.Sectors.{end_of_chain, greatest_regular, Chain}
 use Rattle.cfb_sectors.proofs.Chains.{chain_short}

@@ -3,6 +3,9 @@
 
 mod counts;
 mod links;
+mod sharing;
+mod starts;
 mod tables;
 
+pub use sharing::{shared_mini_sectors, shared_sectors};
 pub use tables::{uncovered_sectors, unmarked_tables};

@@ -8,7 +8,7 @@ use cfb_sectors::{END_OF_CHAIN, MAX_REGULAR_SECTOR};
 use std::alloc::Global;
 
 // The number behind a part's: the table's entry for it, where it is regular and has one, else itself.
-fn behind(links: &[u32], part: u32) -> u32
+pub(crate) fn behind(links: &[u32], part: u32) -> u32
     ensures { result ≡ behind links.now part }
 {
     if part > MAX_REGULAR_SECTOR {

@@ -1,0 +1,18 @@
+use Rattle.std.specs.Prelude.{slice_get}
+use Rattle.cfb_directory.specs.Views.{entries_held}
+use Rattle.cfb_tree.specs.EntryViews.{entry_in}
+use Rattle.cfb_findings.specs.Findings.{is_short}
+use Rattle.cfb_findings.proofs.Listed.{start_none, start_not, start_so}
+use Rattle.cfb_findings.proofs.starts.short_start.Goals as goal
+
+pub returns-then-not-has_dir_entry : goal.returns-then-not-has_dir_entry
+returns-then-not-has_dir_entry g c =
+    start_none is_short (entries_held c.args.directory.now) c.args.id (λ below. let wrong = c.if-not-has_dir_entry.ensures.1 below in absurd (cc))
+
+pub returns-then-not-is_short : goal.returns-then-not-is_short
+returns-then-not-is_short g c =
+    start_not is_short (slice_get (entries_held c.args.directory.now) c.args.id) (entry_in c.dir_entry-entry.result.now) c.dir_entry-entry.ensures c.if-not-is_short.ensures
+
+pub returns : goal.returns
+returns g c =
+    start_so is_short (slice_get (entries_held c.args.directory.now) c.args.id) (entry_in c.dir_entry-entry.result.now) c.dir_entry-entry.ensures c.if-not-is_short.ensures
