@@ -60,7 +60,7 @@ twice js n = ⊎_elim
     behind_end (map (behind js) js) n high.1 ∙ sym (ap (behind js) there ∙ there))
     (leb_tells n greatest_regular)
 
-linked_then : (a b : ℕ) (links : List ℕ) (n : ℕ) → linked (a + b) links n ≡ linked b links (linked a links n)
+pub linked_then : (a b : ℕ) (links : List ℕ) (n : ℕ) → linked (a + b) links n ≡ linked b links (linked a links n)
 linked_then zero b links n = let none : 0 + b ≡ b = omega arith in ap (λ k. linked k links n) none
 linked_then (suc a) b links n = let more : suc a + b ≡ suc (a + b) = omega arith in ap (λ k. linked k links n) more ∙ linked_then a b links (behind links n)
 

@@ -1,4 +1,11 @@
+pub mod Avail
+pub mod Broken
 pub mod Counted
 pub mod Findings
+pub mod Held
 pub mod Links
+pub mod Minis
+pub mod Noted
+pub mod Rooms
+pub mod Seen
 pub mod Views

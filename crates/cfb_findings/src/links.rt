@@ -21,7 +21,7 @@ pub(crate) fn behind(links: &[u32], part: u32) -> u32
 }
 
 // The numbers behind twice as many links.
-fn doubled(alloc: Global, links: &[u32]) -> Result<Vec<u32>, Error>
+pub(crate) fn doubled(alloc: Global, links: &[u32]) -> Result<Vec<u32>, Error>
     ensures twice { IfOk result (λ more. more.items ≡ map (behind links.now) links.now) }
     ensures error { IfErr result (λ e. e ≡ Memory) }
 {

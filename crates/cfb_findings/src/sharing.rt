@@ -33,7 +33,10 @@ fn next_of<F: ReadMedium>(allocator: &Allocator<F>, sector_id: u32) -> Option<u3
 
 // The FAT's entries.
 #[tactic(auto, using(crate::proofs::Listed::take_found, crate::proofs::Listed::take_whole))]
-fn fat_entries<F: ReadMedium>(alloc: Global, allocator: &Allocator<F>) -> Result<Vec<u32>, Error>
+pub(crate) fn fat_entries<F: ReadMedium>(
+    alloc: Global,
+    allocator: &Allocator<F>,
+) -> Result<Vec<u32>, Error>
     requires { has_failed_here allocator.now ≡ false }
     ensures entries { IfOk result (λ entries. entries.items ≡ fat_of allocator.now) }
     ensures error { IfErr result (λ e. e ≡ Memory) }

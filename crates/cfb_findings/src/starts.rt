@@ -25,7 +25,7 @@ fn is_stream(entry: &DirEntry) -> bool
 }
 
 // Whether the entry is a stream of at least 4096 bytes.
-fn is_long(entry: &DirEntry) -> bool
+pub(crate) fn is_long(entry: &DirEntry) -> bool
     ensures { result ≡ is_long (entry_in entry.now) }
 {
     if !is_stream(entry) {
@@ -35,7 +35,7 @@ fn is_long(entry: &DirEntry) -> bool
 }
 
 // Whether the entry is a shorter stream.
-fn is_short(entry: &DirEntry) -> bool
+pub(crate) fn is_short(entry: &DirEntry) -> bool
     ensures { result ≡ is_short (entry_in entry.now) }
 {
     if !is_stream(entry) {
