@@ -95,7 +95,8 @@ pub fn shared_sectors<F: ReadMedium>(
 }
 
 /// The mini sectors that serve two uses or more, rising: that stand twice or more in the chains of the streams of fewer than 4096 bytes
-/// that have one in the mini FAT. Of a directory without a tree nothing is said. The one error is `Memory` ([MS-CFB] 2.4).
+/// that have one in the mini FAT. Of a directory without a tree nothing is said. `Failed` where a fault before has left the file in a
+/// state in which every call is refused; the one other error is `Memory` ([MS-CFB] 2.4).
 pub fn shared_mini_sectors<F: ReadMedium>(
     alloc: Global,
     file: &MiniAllocator<F>,
@@ -106,8 +107,12 @@ pub fn shared_mini_sectors<F: ReadMedium>(
         (starts_where is_short (entries_held (directory_of file.now)) ids) streams
         × (found.items ≡ shared (min (length (mini_fat_of file.now)) (greatest_regular + 1))
         streams)) }
-    ensures error { IfErr result (λ e. e ≡ Memory) }
+    ensures failed { has_failed_here (allocator_of file.now) ≡ true → IsErrOf result Failed }
+    ensures error { IfErr result (IsWant (has_failed_here (allocator_of file.now))) }
 {
+    if file.directory().allocator().is_failed() {
+        return Err(Error::Failed);
+    }
     let links = file.mini_fat();
     let starts = short_starts(alloc, file.directory())?;
     let counts = Counts::of_chains(alloc, links.len(), links, &starts)?;

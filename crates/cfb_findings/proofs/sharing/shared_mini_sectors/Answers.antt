@@ -11,7 +11,7 @@ returns-clause-found g c = λ ids tree.
     let file = c.args.file.now in
     let (all, chains, counted) = c.in_ok-counts.ensures.counted in
     let entries = entries_held (directory_of file) in
-    let same : entries_held c.directory.result.now ≡ entries = search rules in
+    let same : entries_held c.directory-2.result.now ≡ entries = search rules in
     let told : c.in_ok-starts.starts.items ≡ starts_where is_short entries ids =
     subst (λ es. c.in_ok-starts.starts.items ≡ starts_where is_short es ids) same (c.in_ok-starts.ensures.starts ids (subst (λ es. HasTree es ids) (sym same) tree)) in
     found_among c.shared.result _ (min (length (mini_fat_of file)) (greatest_regular + 1)) c.mini_fat-links.result.now (mini_fat_of file) c.deref.result.now (starts_where is_short entries ids)
