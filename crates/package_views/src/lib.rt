@@ -1,22 +1,17 @@
-//! Packages of any maker as they are only read: shown, judged, written to a folder; what is wrong with a file that is none.
+//! Packages of any maker as they are only read: shown, written to a folder; what is wrong with a file that is none.
 #![tactic(auto)]
 
-mod adopt;
-mod check;
 mod export;
 mod looks;
 mod packages;
-mod places;
 mod refusals;
 mod show;
 mod tree;
 mod troubles;
 
-pub use adopt::adopted_package;
-pub use check::check_package;
 pub use export::export_package;
 pub use looks::trouble_at;
 pub use packages::{is_sound_at, package_at, streams_of, tables_of};
-pub use refusals::{trouble_of, why_refused};
+pub use refusals::{tell_why_refused, trouble_of, why_refused};
 pub use show::show_package;
-pub use troubles::{Trouble, tell, tell_trouble};
+pub use troubles::{Trouble, tell, tell_error, tell_trouble};

@@ -11,7 +11,7 @@ use std::io::Write;
 use std::rt::Files;
 
 /// Says what is wrong with a file that was refused as a package.
-pub(crate) fn tell_why_refused<R: Files<File = File> + AllocGlobal, E: Write>(
+pub fn tell_why_refused<R: Files<File = File> + AllocGlobal, E: Write>(
     rt: &R,
     path: &str,
     error: Error,

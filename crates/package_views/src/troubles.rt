@@ -112,7 +112,7 @@ pub(crate) fn tell_part<E: Write>(path: &str, kind: &str, name: &str, error: Err
 }
 
 /// Tells of an error that a call on a file had.
-pub(crate) fn tell_error<E: Write>(path: &str, error: Error, err: &mut E) {
+pub fn tell_error<E: Write>(path: &str, error: Error, err: &mut E) {
     let _ = writeln!(err, "msidb: {path}: {error}");
 }
 

@@ -3,11 +3,10 @@ ghost use Rattle.std.specs.Prelude.{◌≤◌, IfErr};
 
 use crate::check::write_defects;
 use crate::packages::{adopted_at, defects_at};
-use crate::refusals::tell_why_refused;
-use crate::troubles::tell_error;
 use cfb::MemoryMedium;
 use cfb_medium::Error;
 use msi::{Defect, Package};
+use package_views::{tell_error, tell_why_refused};
 use std::fs::File;
 use std::io::Write;
 use std::rt::Files;

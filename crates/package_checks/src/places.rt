@@ -1,13 +1,12 @@
 //! Where a package breaks a rule on texts or tables, a line each.
 use crate::packages::{
-    Looked, looked_at, miscounts_of, misnamed_of, text_at, text_of_json, unread_of, unused_of,
+    Looked, looked_at, miscounts_of, misnamed_of, quoted, text_at, unread_of, unused_of,
 };
 use cfb_medium::Error;
 use msi::Defect;
 use msi_findings::Miscount;
 use msi_tables::Table;
-use serde_json::Value as Json;
-use std::alloc::{AllocError, Global};
+use std::alloc::Global;
 use std::fs::File;
 use std::io::Write;
 use std::rc::Rc;
@@ -115,8 +114,3 @@ impl<'a, O: Write> Lines<'a, O> {
 
 // Said where no table is at fault, and the uses of texts can't be counted.
 const UNCOUNTED: &str = "a cell names no place of the string pool, or more than 65535 cells one";
-
-// A text as JSON has it.
-fn quoted(alloc: Global, text: &str) -> Result<String, AllocError> {
-    text_of_json(alloc, &Json::String(String::from_str(alloc, text)?))
-}

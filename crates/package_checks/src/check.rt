@@ -3,10 +3,9 @@ ghost use Rattle.std.specs.Prelude.{◌≤◌};
 
 use crate::packages::defects_at;
 use crate::places::write_places;
-use crate::refusals::tell_why_refused;
-use crate::troubles::tell_error;
 use cfb_medium::Error;
 use msi::Defect;
+use package_views::{tell_error, tell_why_refused};
 use std::fs::File;
 use std::io::Write;
 use std::rt::Files;

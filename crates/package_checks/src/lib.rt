@@ -1,0 +1,10 @@
+//! Packages of any maker that are judged: which rules of a sound package they break, where, and a sound copy with right counts.
+#![tactic(auto)]
+
+mod adopt;
+mod check;
+mod packages;
+mod places;
+
+pub use adopt::adopted_package;
+pub use check::check_package;

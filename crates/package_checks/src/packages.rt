@@ -1,0 +1,127 @@
+//! Packages that are looked through: a function for each call, since what is told of a call costs time wherever it is seen.
+use cfb::{CaseMapper, CompoundFile, FileMedium, MemoryMedium};
+use cfb_medium::Error;
+use msi::{Defect, Package, defects};
+use msi_adopting::adopt;
+use msi_findings::{Miscount, miscounts, misnamed_tables, unread_tables, unused_texts};
+use msi_parts::PackageParts;
+use msi_pool::StringRef;
+use msi_store::read_parts;
+use msi_tables::Table;
+use serde_json::Value as Json;
+use std::alloc::{AllocError, Global};
+use std::fs::File;
+use std::rc::Rc;
+use std::rt::Files;
+
+/// The rules of a sound package that the one at a path breaks.
+pub(crate) fn defects_at<R: Files<File = File> + AllocGlobal>(
+    rt: &R,
+    path: &str,
+) -> Result<Vec<Defect>, Error> {
+    let letters = CaseMapper::ascii(rt.alloc())?;
+    let medium = FileMedium::open(rt, path)?;
+    match defects(rt.alloc(), medium, letters) {
+        Ok((_medium, found)) => Ok(found),
+        Err((_medium, error)) => Err(error),
+    }
+}
+
+/// The file of a package, and its parts that memory has.
+#[derive(Drop)]
+pub(crate) struct Looked {
+    file: CompoundFile<FileMedium>,
+    parts: PackageParts,
+}
+
+/// The package at a path, to be looked through for the places at which it breaks rules.
+pub(crate) fn looked_at<R: Files<File = File> + AllocGlobal>(
+    rt: &R,
+    path: &str,
+) -> Result<Looked, Error> {
+    let mut file = cfb::open(rt, rt.alloc(), path)?;
+    match parts_of(rt.alloc(), &mut file) {
+        Ok(parts) => Ok(Looked { file, parts }),
+        Err(error) => Err(error),
+    }
+}
+
+fn parts_of(alloc: Global, file: &mut CompoundFile<FileMedium>) -> Result<PackageParts, Error> {
+    read_parts(alloc, file)
+}
+
+// The greatest number of a place that a reference can name. A pool with more places is told as one whose cells can't be counted.
+const LAST_PLACE: u32 = 16777215;
+
+pub(crate) fn unused_of(alloc: Global, looked: &Looked) -> Result<Vec<u32>, Error> {
+    if LAST_PLACE < looked.parts.pool.num_strings() {
+        return Ok(Vec::new(alloc));
+    }
+    unused_texts(alloc, &looked.parts.pool)
+}
+
+pub(crate) fn misnamed_of(alloc: Global, looked: &Looked) -> Result<Vec<Rc<Table>>, Error> {
+    misnamed_tables(alloc, &looked.parts.tables)
+}
+
+pub(crate) fn unread_of(alloc: Global, looked: &mut Looked) -> Result<Vec<Rc<Table>>, Error> {
+    unread_tables(alloc, &mut looked.file, &looked.parts.tables)
+}
+
+pub(crate) fn miscounts_of(alloc: Global, looked: &mut Looked) -> Result<Vec<Miscount>, Error> {
+    if LAST_PLACE < looked.parts.pool.num_strings() {
+        return Err(Error::InvalidData);
+    }
+    miscounts(
+        alloc,
+        &mut looked.file,
+        &looked.parts.pool,
+        &looked.parts.tables,
+    )
+}
+
+/// The text at a place of the pool; the empty one where there is no such place.
+pub(crate) fn text_at(looked: &Looked, place: u32) -> &str {
+    if place == 0 || LAST_PLACE < place {
+        return "";
+    }
+    looked.parts.pool.get(StringRef::new(place))
+}
+
+/// A text as JSON has it.
+pub(crate) fn quoted(alloc: Global, text: &str) -> Result<String, AllocError> {
+    Json::String(String::from_str(alloc, text)?).to_string(alloc)
+}
+
+/// A copy in memory of the package at a path, with right counts, which is sound. `InvalidData` where there is none.
+pub(crate) fn adopted_at<R: Files<File = File> + AllocGlobal>(
+    rt: &R,
+    path: &str,
+) -> Result<Package<MemoryMedium>, Error> {
+    let mut file = cfb::open(rt, rt.alloc(), path)?;
+    let target = copy_of(rt.alloc(), &mut file)?;
+    let package = package_in(rt.alloc(), target)?;
+    if package.is_sound() {
+        Ok(package)
+    } else {
+        Err(Error::InvalidData)
+    }
+}
+
+// The bytes of a copy with right counts.
+fn copy_of(alloc: Global, file: &mut CompoundFile<FileMedium>) -> Result<MemoryMedium, Error> {
+    let letters = CaseMapper::ascii(alloc)?;
+    match adopt(alloc, file, MemoryMedium::new(alloc), letters) {
+        Ok(target) => Ok(target),
+        Err((_target, error)) => Err(error),
+    }
+}
+
+// The package of these bytes.
+fn package_in(alloc: Global, medium: MemoryMedium) -> Result<Package<MemoryMedium>, Error> {
+    let letters = CaseMapper::ascii(alloc)?;
+    match Package::open(alloc, medium, letters) {
+        Ok(package) => Ok(package),
+        Err((_medium, error)) => Err(error),
+    }
+}
