@@ -1,0 +1,2 @@
+pub mod CharsLoop
+pub mod Widening

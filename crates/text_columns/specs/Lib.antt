@@ -1,0 +1,4 @@
+-- What a table's lines are.
+pub mod Columns
+pub mod Escapes
+pub mod Raised
