@@ -1,1 +1,3 @@
 pub mod Findings
+pub mod Misplaced
+pub mod Placing

@@ -3,10 +3,13 @@
 
 mod counts;
 mod miscount;
+mod objects;
+mod placing;
 mod tables;
 mod texts;
 
 pub use counts::miscounts;
 pub use miscount::Miscount;
+pub use objects::misplaced_objects;
 pub use tables::{misnamed_tables, unread_tables};
 pub use texts::unused_texts;

@@ -3,11 +3,14 @@ use cfb::{CaseMapper, CompoundFile, FileMedium, MemoryMedium};
 use cfb_medium::Error;
 use msi::{Defect, Package, defects};
 use msi_adopting::adopt;
-use msi_findings::{Miscount, miscounts, misnamed_tables, unread_tables, unused_texts};
+use msi_findings::{
+    Miscount, miscounts, misnamed_tables, misplaced_objects, unread_tables, unused_texts,
+};
 use msi_parts::PackageParts;
 use msi_pool::StringRef;
 use msi_store::read_parts;
 use msi_tables::Table;
+use msi_texts::decode;
 use serde_json::Value as Json;
 use std::alloc::{AllocError, Global};
 use std::fs::File;
@@ -62,6 +65,16 @@ pub(crate) fn unused_of(alloc: Global, looked: &Looked) -> Result<Vec<u32>, Erro
 
 pub(crate) fn misnamed_of(alloc: Global, looked: &Looked) -> Result<Vec<Rc<Table>>, Error> {
     misnamed_tables(alloc, &looked.parts.tables)
+}
+
+pub(crate) fn misplaced_of(alloc: Global, looked: &Looked) -> Result<Vec<String>, Error> {
+    misplaced_objects(alloc, &looked.file, &looked.parts.tables)
+}
+
+/// A name in the container as packages decode it.
+pub(crate) fn decoded(alloc: Global, name: &str) -> Result<String, Error> {
+    let (name, _is_table) = decode(alloc, name)?;
+    Ok(name)
 }
 
 pub(crate) fn unread_of(alloc: Global, looked: &mut Looked) -> Result<Vec<Rc<Table>>, Error> {

@@ -1,6 +1,7 @@
-//! Where a package breaks a rule on texts or tables, a line each.
+//! Where a package breaks a rule on texts, tables or objects, a line each.
 use crate::packages::{
-    Looked, looked_at, miscounts_of, misnamed_of, quoted, text_at, unread_of, unused_of,
+    Looked, decoded, looked_at, miscounts_of, misnamed_of, misplaced_of, quoted, text_at,
+    unread_of, unused_of,
 };
 use cfb_medium::Error;
 use msi::Defect;
@@ -12,7 +13,8 @@ use std::io::Write;
 use std::rc::Rc;
 use std::rt::Files;
 
-/// Writes each place at which the package at a path breaks a rule: of the rules on free places, on the names of tables and on counts.
+/// Writes each place at which the package at a path breaks a rule: of the rules on free places, on the names of tables, on objects and on
+/// counts.
 /// `Device` where nothing can be written.
 pub(crate) fn write_places<R: Files<File = File> + AllocGlobal, O: Write>(
     rt: &R,
@@ -21,7 +23,7 @@ pub(crate) fn write_places<R: Files<File = File> + AllocGlobal, O: Write>(
     out: &mut O,
 ) -> Result<(), Error> {
     match defect {
-        Defect::FreePlaces | Defect::TableNames | Defect::Counts => {
+        Defect::FreePlaces | Defect::TableNames | Defect::Objects | Defect::Counts => {
             let mut looked = looked_at(rt, path)?;
             let mut lines = Lines {
                 alloc: rt.alloc(),
@@ -34,7 +36,6 @@ pub(crate) fn write_places<R: Files<File = File> + AllocGlobal, O: Write>(
         | Defect::SummaryTexts
         | Defect::SummarySections
         | Defect::Validation
-        | Defect::Objects
         | Defect::ListedSystemTables => Ok(()),
     }
 }
@@ -47,11 +48,12 @@ struct Lines<'a, O> {
 }
 
 impl<'a, O: Write> Lines<'a, O> {
-    // The places at which one of the three rules is broken.
+    // The places at which one of the four rules is broken.
     fn places(&mut self, defect: Defect, looked: &mut Looked) -> Result<(), Error> {
         match defect {
             Defect::FreePlaces => self.unused_texts(looked),
             Defect::TableNames => self.misnamed_tables(looked),
+            Defect::Objects => self.misplaced_objects(looked),
             _ => self.counts(looked),
         }
     }
@@ -69,6 +71,15 @@ impl<'a, O: Write> Lines<'a, O> {
     fn misnamed_tables(&mut self, looked: &Looked) -> Result<(), Error> {
         let tables = misnamed_of(self.alloc, looked)?;
         self.tables(&tables, "")
+    }
+
+    // Objects under the root that stand where they may not.
+    fn misplaced_objects(&mut self, looked: &Looked) -> Result<(), Error> {
+        for name in &misplaced_of(self.alloc, looked)? {
+            let name = quoted(self.alloc, &decoded(self.alloc, name)?)?;
+            self.line(&format!(in self.alloc; "object {name}")?)?;
+        }
+        Ok(())
     }
 
     // Tables whose rows can't be read, and texts that aren't counted right.

@@ -2,6 +2,7 @@
 #![tactic(auto)]
 
 mod export;
+mod grids;
 mod looks;
 mod packages;
 mod refusals;

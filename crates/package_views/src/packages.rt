@@ -1,12 +1,15 @@
 //! Packages that are only read: a function for each call, since what is told of a call costs time wherever it is seen.
 use cfb::{CaseMapper, CompoundFile, Entries, Entry, FileMedium};
 use cfb_medium::Error;
+use installer::cell_value;
 use msi::{Package, Streams, Tables, open};
+use msi_columns::Column;
 use msi_export::{StreamFacts, facts_of_stream, row_text, stream_bytes};
 use msi_meaning::PackageType;
 use msi_props::PropertyValue;
 use msi_query::Select;
 use msi_tables::{Row, Rows, Table};
+use msi_values::Value;
 use serde_json::Value as Json;
 use std::alloc::{AllocError, Global};
 use std::fs::File;
@@ -19,6 +22,11 @@ pub fn package_at<R: Files<File = File> + AllocGlobal>(
 ) -> Result<Package<FileMedium>, Error> {
     let letters = CaseMapper::ascii(rt.alloc())?;
     open(rt, rt.alloc(), path, letters)
+}
+
+/// A value as lines of JSON have it.
+pub(crate) fn value_of_cell(alloc: Global, cell: &Value) -> Result<Json, AllocError> {
+    cell_value(alloc, cell)
 }
 
 pub(crate) fn text_of_json(alloc: Global, value: &Json) -> Result<String, AllocError> {
@@ -83,6 +91,14 @@ pub fn streams_of(package: &Package<FileMedium>) -> Result<Streams, Error> {
 
 pub(crate) fn table_named<'a>(package: &'a Package<FileMedium>, name: &str) -> Option<&'a Table> {
     package.get_table(name)
+}
+
+/// The columns of a table; none where there is no such table.
+pub(crate) fn columns_of<'a>(package: &'a Package<FileMedium>, name: &str) -> &'a [Column] {
+    match table_named(package, name) {
+        Some(table) => table.columns(),
+        None => &[],
+    }
 }
 
 /// All rows of a table.

@@ -1,9 +1,10 @@
 //! What a package of any maker holds, a line of JSON each.
 ghost use Rattle.std.specs.Prelude.{◌≤◌};
 
+use crate::grids::grid_lines;
 use crate::packages::{
     facts_of, is_signed, is_sound, kind_of, package_at, page_of, properties_of, rows_of,
-    streams_of, table_named, tables_of, text_of_json,
+    streams_of, table_named, tables_of, text_of_json, value_of_cell,
 };
 use crate::refusals::tell_why_refused;
 use crate::tree::{tree_at, write_tree};
@@ -11,18 +12,18 @@ use crate::troubles::{tell_error, tell_part};
 use cfb::FileMedium;
 use cfb_medium::Error;
 use command_words::Parts;
-use installer::{cell_value, columns_value, property_value};
+use installer::{columns_value, property_value};
 use msi::Package;
 use msi_columns::Column;
 use msi_export::{StreamFacts, property_name};
 use msi_props::PropertyValue;
-use msi_tables::Row;
-use msi_values::Value;
+use msi_tables::{Row, Rows};
 use serde_json::{Value as Json, json};
 use std::alloc::{AllocError, Global};
 use std::fs::File;
 use std::io::Write;
 use std::rt::Files;
+use text_columns::escaped;
 
 // The number of the summary's code page.
 const CODEPAGE: u32 = 1;
@@ -38,13 +39,15 @@ enum Shown {
     NoTable,
 }
 
-/// Shows parts of the package at a path, which is only read; the tree first, for which it need be no package but any compound file. The
-/// status is 0 where all was shown, 1 where no table has the name, 3
-/// where the file is no package or a part of it can't be read, which is told with the file's name, and where nothing can be written.
+/// Shows parts of the package at a path, which is only read; the tree first, for which it need be no package but any compound file. On a
+/// terminal a table stands in aligned columns, elsewhere as lines of JSON. The status is 0 where all was shown, 1 where no table has the
+/// name, 3 where the file is no package or a part of it can't be read, which is told with the file's name, and where nothing can be
+/// written.
 pub fn show_package<'a, R: Files<File = File> + AllocGlobal, O: Write, E: Write>(
     rt: &R,
     path: &'a str,
     parts: Parts<'_>,
+    is_terminal: bool,
     out: &'a mut O,
     err: &'a mut E,
 ) -> u8
@@ -66,6 +69,7 @@ pub fn show_package<'a, R: Files<File = File> + AllocGlobal, O: Write, E: Write>
     let mut page = Page {
         alloc: rt.alloc(),
         path,
+        is_terminal,
         out,
         err,
     };
@@ -134,6 +138,8 @@ fn show_parts<O: Write, E: Write>(
 struct Page<'a, O, E> {
     alloc: Global,
     path: &'a str,
+    // A person reads them.
+    is_terminal: bool,
     out: &'a mut O,
     err: &'a mut E,
 }
@@ -164,10 +170,22 @@ impl<'a, O: Write, E: Write> Page<'a, O, E> {
     fn show_tables(&mut self, package: &mut Package<FileMedium>) -> Result<Shown, Error> {
         let mut shown = Shown::Whole;
         for name in tables_of(package)? {
-            if self.show_table(package, &name)? == Shown::Partly {
+            if self.show_one(package, &name)? == Shown::Partly {
                 shown = Shown::Partly;
             }
         }
+        Ok(shown)
+    }
+
+    // A table among others, for a person between its name and an empty line.
+    fn show_one(&mut self, package: &mut Package<FileMedium>, name: &str) -> Result<Shown, Error> {
+        if !self.is_terminal {
+            return self.show_table(package, name);
+        }
+        let heading = one_line(self.alloc, name)?;
+        self.text(&heading)?;
+        let shown = self.show_table(package, name)?;
+        self.text("")?;
         Ok(shown)
     }
 
@@ -183,14 +201,16 @@ impl<'a, O: Write, E: Write> Page<'a, O, E> {
         Ok(Shown::NoTable)
     }
 
-    // The name and the columns of a table, and its rows, or why they can't be read.
+    // The columns of a table, and its rows, or why they can't be read.
     fn show_table(
         &mut self,
         package: &mut Package<FileMedium>,
         name: &str,
     ) -> Result<Shown, Error> {
-        let heading = heading_value(self.alloc, package, name)?;
-        self.line(&heading)?;
+        if !self.is_terminal {
+            let heading = heading_value(self.alloc, package, name)?;
+            self.line(&heading)?;
+        }
         match self.show_rows(package, name)? {
             None => Ok(Shown::Whole),
             Some(error) => {
@@ -210,11 +230,34 @@ impl<'a, O: Write, E: Write> Page<'a, O, E> {
             Ok(rows) => rows,
             Err(error) => return Ok(Some(error)),
         };
+        if self.is_terminal {
+            self.show_grid(package, name, rows)?;
+        } else {
+            self.show_values(rows)?;
+        }
+        Ok(None)
+    }
+
+    // Rows, a line of JSON each.
+    fn show_values(&mut self, rows: Rows) -> Result<(), Error> {
         for row in rows {
             let line = row_value(self.alloc, &row)?;
             self.line(&line)?;
         }
-        Ok(None)
+        Ok(())
+    }
+
+    // Rows in aligned columns.
+    fn show_grid(
+        &mut self,
+        package: &Package<FileMedium>,
+        name: &str,
+        rows: Rows,
+    ) -> Result<(), Error> {
+        for line in &grid_lines(self.alloc, package, name, rows)? {
+            self.text(line)?;
+        }
+        Ok(())
     }
 
     // Each stream that belongs to no table, in the container's order.
@@ -232,9 +275,14 @@ impl<'a, O: Write, E: Write> Page<'a, O, E> {
         Ok(shown)
     }
 
-    // Writes a line. `Device` where it can't be written.
+    // Writes a value as a line. `Device` where it can't be written.
     fn line(&mut self, value: &Json) -> Result<(), Error> {
         let text = text_of_json(self.alloc, value)?;
+        self.text(&text)
+    }
+
+    // Writes a text as a line. `Device` where it can't be written.
+    fn text(&mut self, text: &str) -> Result<(), Error> {
         match writeln!(self.out, "{text}") {
             Ok(()) => Ok(()),
             Err(_) => Err(Error::Device),
@@ -298,8 +346,8 @@ fn stream_value(alloc: Global, name: &str, facts: &StreamFacts) -> Result<Json, 
 }
 
 // Functions of their own, since what is told of these calls costs time wherever it is seen.
-fn value_of_cell(alloc: Global, cell: &Value) -> Result<Json, AllocError> {
-    cell_value(alloc, cell)
+fn one_line(alloc: Global, text: &str) -> Result<String, AllocError> {
+    escaped(alloc, text)
 }
 
 fn value_of_columns(alloc: Global, columns: &[Column]) -> Result<Json, AllocError> {
