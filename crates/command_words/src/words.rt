@@ -181,7 +181,7 @@ fn with_judged<'a>(alloc: Global) -> Result<Command<'a>, AllocError>
     let command = Command::new(alloc, "check")
         .about("Tells which rules a package of any maker breaks")
         .after_help(
-            "Example: msidb check setup.msi\nPrints a line for each rule of a sound package that this one breaks, and behind it one for each text or table at fault, where these are known; for a sound one, nothing. Nothing is written.\nStatus: 0 sound, 1 not, 3 the file is no package, or can't be read.",
+            "Example: msidb check setup.msi\nPrints a line for each rule of a sound package that this one breaks, and behind it one for each text, table, object, stream or sector at fault, where these are known; for a sound one, nothing. Nothing is written.\nStatus: 0 sound, 1 not, 3 the file is no package, or can't be read.",
         );
     add(command, needed(alloc, "FILE", "The package"))
 }

@@ -1,4 +1,8 @@
-//! Where a package breaks a rule on texts, tables or objects, a line each.
+//! Where a package breaks a rule on its container, on texts, tables or objects, a line each.
+use crate::containers::{
+    Container, broken_in, container_at, name_in, shared_in, shared_minis_in, uncovered_in,
+    unmarked_in,
+};
 use crate::packages::{
     Looked, decoded, looked_at, miscounts_of, misnamed_of, misplaced_of, quoted, text_at,
     unread_of, unused_of,
@@ -13,9 +17,8 @@ use std::io::Write;
 use std::rc::Rc;
 use std::rt::Files;
 
-/// Writes each place at which the package at a path breaks a rule: of the rules on free places, on the names of tables, on objects and on
-/// counts.
-/// `Device` where nothing can be written.
+/// Writes each place at which the package at a path breaks a rule: of the rules on the container, on free places, on the names of tables,
+/// on objects and on counts. `Device` where nothing can be written.
 pub(crate) fn write_places<R: Files<File = File> + AllocGlobal, O: Write>(
     rt: &R,
     path: &str,
@@ -31,8 +34,15 @@ pub(crate) fn write_places<R: Files<File = File> + AllocGlobal, O: Write>(
             };
             lines.places(defect, &mut looked)
         }
-        Defect::Container
-        | Defect::PoolTexts
+        Defect::Container => {
+            let container = container_at(rt, path)?;
+            let mut lines = Lines {
+                alloc: rt.alloc(),
+                out,
+            };
+            lines.container(&container)
+        }
+        Defect::PoolTexts
         | Defect::SummaryTexts
         | Defect::SummarySections
         | Defect::Validation
@@ -56,6 +66,42 @@ impl<'a, O: Write> Lines<'a, O> {
             Defect::Objects => self.misplaced_objects(looked),
             _ => self.counts(looked),
         }
+    }
+
+    // Sectors that the FAT lacks or doesn't have in use, sectors that serve two uses, and streams whose bytes aren't all there.
+    fn container(&mut self, container: &Container) -> Result<(), Error> {
+        if let Some(first) = uncovered_in(container)? {
+            self.line(&format!(in self.alloc; "sectors from {first} on: the FAT lacks them")?)?;
+        }
+        let unmarked = unmarked_in(self.alloc, container)?;
+        self.sectors(
+            "sector",
+            &unmarked,
+            "a table of the file, and free by the FAT, or not in it",
+        )?;
+        let shared = shared_in(self.alloc, container)?;
+        self.sectors("sector", &shared, "it serves two uses")?;
+        let minis = shared_minis_in(self.alloc, container)?;
+        self.sectors("mini sector", &minis, "it serves two uses")?;
+        self.broken_streams(container)
+    }
+
+    // Sectors, and what is said of each.
+    fn sectors(&mut self, kind: &str, found: &[u32], what: &str) -> Result<(), Error> {
+        for sector_id in found {
+            self.line(&format!(in self.alloc; "{kind} {sector_id}: {what}")?)?;
+        }
+        Ok(())
+    }
+
+    // Streams whose bytes aren't all there.
+    fn broken_streams(&mut self, container: &Container) -> Result<(), Error> {
+        for id in &broken_in(self.alloc, container)? {
+            let name = decoded(self.alloc, &name_in(self.alloc, container, *id)?)?;
+            let name = quoted(self.alloc, &name)?;
+            self.line(&format!(in self.alloc; "stream {name}: its bytes aren't all there")?)?;
+        }
+        Ok(())
     }
 
     // Texts that no cell uses.
