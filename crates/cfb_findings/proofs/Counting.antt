@@ -22,7 +22,7 @@ left_less (c ∷ cs) (suc i) v w below is was few = omega (arith, left_less cs i
 times_at : (n m : ℕ) (xs : List ℕ) → n ≡ m → times n (m ∷ xs) ≡ 1 + times n xs
 times_at n m xs same = let test : nat_eq n m ≡ true = grind arith in rw test refl
 
-times_other : (n m : ℕ) (xs : List ℕ) → (n ≡ m → ⊥) → times n (m ∷ xs) ≡ times n xs
+pub times_other : (n m : ℕ) (xs : List ℕ) → (n ≡ m → ⊥) → times n (m ∷ xs) ≡ times n xs
 times_other n m xs other = let test : nat_eq n m ≡ false = grind arith in rw test (omega arith)
 
 times_least : (n m : ℕ) (xs : List ℕ) → times n xs ≤ times n (m ∷ xs)

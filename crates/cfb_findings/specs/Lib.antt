@@ -6,6 +6,7 @@ pub mod Held
 pub mod Links
 pub mod Minis
 pub mod Noted
+pub mod Nothing
 pub mod Rooms
 pub mod Seen
 pub mod Views

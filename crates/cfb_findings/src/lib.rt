@@ -4,6 +4,7 @@
 mod avail;
 mod counts;
 mod held;
+mod law;
 mod links;
 mod rooms;
 mod sharing;
@@ -11,6 +12,7 @@ mod starts;
 mod streams;
 mod tables;
 
+pub use law::is_without_findings;
 pub use sharing::{shared_mini_sectors, shared_sectors};
 pub use streams::broken_streams;
 pub use tables::{uncovered_sectors, unmarked_tables};
