@@ -52,8 +52,8 @@ fn more_rooms(alloc: Global, rooms: &[u64], jumps: &[u32], full: u64) -> Result<
     Ok(more)
 }
 
-// How many bytes of each chain stand in a file, up to the first that doesn't: of each part so many do. It takes as many turns as the
-// length of the table has bits.
+// How many bytes of each chain stand in a file, up to the first that doesn't: of each part so many do. It takes as many turns as
+// the length of the table has bits.
 pub(crate) fn rooms_of(
     alloc: Global,
     links: &[u32],

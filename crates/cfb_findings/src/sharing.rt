@@ -94,9 +94,9 @@ pub fn shared_sectors<F: ReadMedium>(
     counts.shared(alloc, count)
 }
 
-/// The mini sectors that serve two uses or more, rising: that stand twice or more in the chains of the streams of fewer than 4096 bytes
-/// that have one in the mini FAT. Of a directory without a tree nothing is said. `Failed` where a fault before has left the file in a
-/// state in which every call is refused; the one other error is `Memory` ([MS-CFB] 2.4).
+/// The mini sectors that serve two uses or more, rising: that stand twice or more in the chains of the streams of fewer than 4096
+/// bytes that have one in the mini FAT. Of a directory without a tree nothing is said. `Failed` where a fault before has left the
+/// file in a state in which every call is refused; the one other error is `Memory` ([MS-CFB] 2.4).
 pub fn shared_mini_sectors<F: ReadMedium>(
     alloc: Global,
     file: &MiniAllocator<F>,

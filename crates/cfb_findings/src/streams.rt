@@ -132,9 +132,9 @@ fn broken_of<F: ReadMedium>(
 
 /// The entries of the streams whose bytes aren't all there, in the order of the tree: there is no chain from where they start, one
 /// of its mini sectors lies past the mini stream, it has fewer bytes than the stream, or some of the stream's bytes lie past the
-/// file's end. `file_len` is the number of the medium's bytes. Of a directory without a tree nothing is said. It reads nothing, and its
-/// time grows with the tables and the entries, however long the chains are. `Failed` where a fault before has left the file in a state
-/// in which every call is refused; the one other error is `Memory` ([MS-CFB] 2.6.3).
+/// file's end. `file_len` is the number of the medium's bytes. Of a directory without a tree nothing is said. It reads nothing, and
+/// its time grows with the tables and the entries, however long the chains are. `Failed` where a fault before has left the file in
+/// a state in which every call is refused; the one other error is `Memory` ([MS-CFB] 2.6.3).
 pub fn broken_streams<F: ReadMedium>(
     alloc: Global,
     file: &MiniAllocator<F>,

@@ -13,15 +13,16 @@ use cfb_mini::MiniAllocator;
 use cfb_sectors::{FREE_SECTOR, HasSectors};
 use std::alloc::{AllocError, Global};
 
-/// From which of the file's sectors on the FAT has no entry; `None` where it has one for each. `Failed` where a fault before has left
-/// the file in a state in which every call is refused; there is no other error ([MS-CFB] 2.3).
+/// From which of the file's sectors on the FAT has no entry; `None` where it has one for each. `Failed` where a fault before has
+/// left the file in a state in which every call is refused; there is no other error ([MS-CFB] 2.3).
 pub fn uncovered_sectors<F: ReadMedium>(file: &MiniAllocator<F>) -> Result<Option<u32>, Error>
     ensures first { IfOk result (λ first. MatchOption first
         (count_of (sectors_of (allocator_of file.now)) ≤ length (fat_of (allocator_of file.now)))
         (λ n. (n ≡ length (fat_of (allocator_of file.now)))
         × (n < count_of (sectors_of (allocator_of file.now))))) }
     ensures failed { has_failed_here (allocator_of file.now) ≡ true → IsErrOf result Failed }
-    ensures error { IfErr result (λ e. (e ≡ Failed) × (has_failed_here (allocator_of file.now) ≡ true)) }
+    ensures error { IfErr result (λ e. (e ≡ Failed)
+        × (has_failed_here (allocator_of file.now) ≡ true)) }
 {
     let allocator = file.directory().allocator();
     if allocator.is_failed() {
@@ -54,8 +55,8 @@ fn has_entry<F: ReadMedium>(allocator: &Allocator<F>, sector_id: u32) -> bool
 }
 
 /// The sectors of FAT and DIFAT that the FAT doesn't have in use: it has no entry for them, or says "free". Those of the FAT come
-/// first, each list in its order. `Failed` where a fault before has left the file in a state in which every call is refused; the one
-/// other error is `Memory` ([MS-CFB] 2.3).
+/// first, each list in its order. `Failed` where a fault before has left the file in a state in which every call is refused; the
+/// one other error is `Memory` ([MS-CFB] 2.3).
 pub fn unmarked_tables<F: ReadMedium>(
     alloc: Global,
     file: &MiniAllocator<F>,
