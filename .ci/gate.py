@@ -51,6 +51,7 @@ TRIALS = (
     ("random-runs", "msidb"),
     ("trace-commit", "msidb"),
     ("count-uses", "msidb"),
+    ("show-terminal", "msidb"),
     ("refuse-memory", "test_changes", "memory"),
     ("refuse-memory", "test_packages", "memory", "counted_c_empty.msi", "course.json"),
 )

@@ -8,6 +8,8 @@ mod lists;
 mod progress;
 mod run;
 mod sessions;
+mod terminals;
 mod texts;
 
 pub use run::msidb;
+pub use terminals::Terminals;

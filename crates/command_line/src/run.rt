@@ -7,6 +7,7 @@ use crate::files::{self, Found};
 use crate::lists::list;
 use crate::progress::Progress;
 use crate::sessions::{commit_copy, create_package};
+use crate::terminals::Terminals;
 use crate::texts::commands_in;
 use cfb::MemoryMedium;
 use cfb_medium::Error;
@@ -27,19 +28,20 @@ use std::time::Clock;
 /// that is to be shown isn't there; 2 where the words or the command file can't be read, or two logs are named, and then no package
 /// was opened; 3 for a fault, where home file or log were refused, or a file that is to be shown, and where nothing more can be
 /// written. A fault comes before a refusal. A file that is named as the log and is none is refused before anything is written.
-/// Commands are run to the end of their list, also where their answers can't be written. What is shown or listed is only read, but
+/// Commands are run to the end of their list, also where their answers can't be written. Where answers go to a terminal, tables are shown
+/// in aligned columns; where what went wrong does, a long run says how far it has come. What is shown or listed is only read, but
 /// that a list finishes a commit that a stop cut short; and nothing is made by what is refused.
 pub fn msidb<R: Files<File = File> + AllocGlobal + Clock, O: Write, E: Write>(
     rt: &R,
     words: &[String],
     out: &mut O,
     err: &mut E,
-    shows_progress: bool,
+    terminals: Terminals,
 ) -> u8
     ensures { result ≤ 3 }
 {
     match line_of(rt.alloc(), words) {
-        Ok(line) => carry_out(rt, line, out, err, shows_progress),
+        Ok(line) => carry_out(rt, line, out, err, terminals),
         Err(refusal) => tell_refusal(&refusal, out, err),
     }
 }
@@ -73,7 +75,7 @@ fn carry_out<R: Files<File = File> + AllocGlobal + Clock, O: Write, E: Write>(
     line: Line<'_>,
     out: &mut O,
     err: &mut E,
-    shows_progress: bool,
+    terminals: Terminals,
 ) -> u8
     ensures { result ≤ 3 }
 {
@@ -85,10 +87,10 @@ fn carry_out<R: Files<File = File> + AllocGlobal + Clock, O: Write, E: Write>(
         Line::Recover(package, log) => on_files(rt, Word::Recover, package, log, out, err),
         Line::List(package, log) => on_files(rt, Word::List, package, log, out, err),
         Line::Run(package, log, commands) => {
-            let word = Word::Run(commands, shows_progress);
+            let word = Word::Run(commands, terminals.err);
             on_files(rt, word, package, log, out, err)
         }
-        Line::Show(path, parts) => show_package(rt, path, parts, out, err),
+        Line::Show(path, parts) => show_package(rt, path, parts, terminals.out, out, err),
         Line::Check(path) => check_package(rt, path, out, err),
         Line::Export(path, folder) => export_package(rt, path, folder, err),
     }

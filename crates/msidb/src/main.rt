@@ -1,7 +1,7 @@
 //! The program: its words are those of the command line, and its status says how it went.
 #![tactic(auto)]
 
-use command_line::msidb;
+use command_line::{Terminals, msidb};
 use std::io::IsTerminal;
 use std::process::ExitCode;
 use std::{env, io};
@@ -12,7 +12,10 @@ fn main(rt: HostRuntime) -> io::Result<ExitCode> {
         words.push(word)?;
     }
     let mut err = rt.stderr();
-    let shows_progress = err.is_terminal();
-    let status = msidb(&rt, &words, &mut io::writer(&rt), &mut err, shows_progress);
+    let terminals = Terminals {
+        out: rt.stdout().is_terminal(),
+        err: err.is_terminal(),
+    };
+    let status = msidb(&rt, &words, &mut io::writer(&rt), &mut err, terminals);
     Ok(ExitCode::from(status))
 }

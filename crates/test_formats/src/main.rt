@@ -1,12 +1,14 @@
 //! Answers rows of data: a row names a call and what it is given; what is printed beneath it is what the call answers.
 #![tactic(auto)]
 
+mod columns;
 mod commands;
 mod summary;
 mod texts;
 mod values;
 
 use anyhow::{Result, bail};
+use columns::Columns;
 use commands::Commands;
 use std::{env, fs};
 use summary::Properties;
@@ -26,6 +28,7 @@ fn print_file(rt: &HostRuntime, path: &str) -> Result<()> {
     let text = fs::read_to_string(rt, path)?;
     println!(rt; "== {path}")?;
     match path {
+        "columns.rows" => print_rows(rt, text.as_str(), Columns),
         "commands.rows" => print_rows(rt, text.as_str(), Commands),
         "summary.rows" => print_rows(rt, text.as_str(), Properties::new(rt.alloc())?),
         "texts.rows" => print_rows(rt, text.as_str(), Texts),

@@ -1,7 +1,7 @@
 //! The program `msidb` on files of a disk.
 use crate::folder::Folder;
 use cfb_medium::Error;
-use command_line::msidb;
+use command_line::{Terminals, msidb};
 use file_device::FileDevice;
 use msi_texts::decode;
 use plain::{Content, Tree, read_tree};
@@ -76,6 +76,7 @@ impl Subject for Programs<'_> {
             "leave" => self.leave(alloc),
             "run of" => run_of(self.rt, &self.folder, row.text(1)),
             "as it stands" => run_as_it_stands(self.rt, row),
+            "on a terminal" => run_on_terminal(self.rt, row),
             "streams" => streams_in(self.rt, &self.folder, row.text(1)),
             _ => of_files(self.rt, &self.folder, row),
         }
@@ -201,10 +202,27 @@ struct Run {
     err: Vec<u8>,
 }
 
-// Runs the program.
+// Both outputs are files.
+const FILES: Terminals = Terminals {
+    out: false,
+    err: false,
+};
+
+// Its answers go to a terminal.
+const TERMINAL: Terminals = Terminals {
+    out: true,
+    err: false,
+};
+
+// Runs the program, whose outputs are files.
 fn run_words(rt: &HostRuntime, words: &[String]) -> Run {
+    run_before(rt, words, FILES)
+}
+
+// Runs the program.
+fn run_before(rt: &HostRuntime, words: &[String], terminals: Terminals) -> Run {
     let (mut out, mut err) = (Vec::new(rt.alloc()), Vec::new(rt.alloc()));
-    let status = msidb(rt, words, &mut out, &mut err, false);
+    let status = msidb(rt, words, &mut out, &mut err, terminals);
     Run { status, out, err }
 }
 
@@ -257,11 +275,21 @@ fn take_package(rt: &HostRuntime, folder: &Folder) -> Result<(), Error> {
 
 // The program with the words of a row as they stand, on files beside the rows.
 fn run_as_it_stands(rt: &HostRuntime, row: &Row) -> Result<String, Error> {
-    let mut words = Vec::new(rt.alloc());
+    told(rt, &words_in(rt.alloc(), row)?)
+}
+
+// The same, where the answers go to a terminal.
+fn run_on_terminal(rt: &HostRuntime, row: &Row) -> Result<String, Error> {
+    let run = run_before(rt, &words_in(rt.alloc(), row)?, TERMINAL);
+    run_told(rt.alloc(), &run, text_of(&run.err))
+}
+
+fn words_in(alloc: Global, row: &Row) -> Result<Vec<String>, Error> {
+    let mut words = Vec::new(alloc);
     for cell in row.list(1) {
-        push_word(rt.alloc(), &mut words, cell.as_str().unwrap_or(""))?;
+        push_word(alloc, &mut words, cell.as_str().unwrap_or(""))?;
     }
-    told(rt, &words)
+    Ok(words)
 }
 
 // The program on a file beside the rows, and a folder within the folder.
@@ -318,7 +346,7 @@ impl Write for Closed {
 fn run_without_output(rt: &HostRuntime, folder: &Folder, row: &Row) -> Result<String, Error> {
     let words = words_of(rt, folder, row)?;
     let mut err = Vec::new(rt.alloc());
-    let status = msidb(rt, &words, &mut Closed, &mut err, false);
+    let status = msidb(rt, &words, &mut Closed, &mut err, FILES);
     let said = what_went_wrong(rt, folder, &err)?;
     status_told(rt.alloc(), status, &said)
 }
