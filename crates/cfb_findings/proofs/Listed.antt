@@ -1,6 +1,6 @@
 -- Lists of uses: chains from starts, starts of streams, and parts that are shared.
 use Rattle.std.proofs.Common.{⊎_elim, ◌≡◌, ◌∙◌, ℕ, zero, suc, ◌+◌, ◌<◌, ◌≤◌, Bool, true, false, List, [], ◌∷◌, ◌++◌, length, get_or, take, inl, inr, refl, sym, ap, subst, append_assoc, arith}
-use Rattle.std.specs.Prelude.{cond, filter, nat_le, slice_get, slice_index, slice_index_or, if◌then◌else◌, Err, IfOk, None, Ok, Option, Result, Some, Vec}
+use Rattle.std.specs.Prelude.{filter, nat_le, slice_get, slice_index, slice_index_or, if◌then◌else◌, Err, IfOk, None, Ok, Option, Result, Some, Vec}
 use Rattle.std.specs.declared.alloc.Global.{Global}
 use Rattle.std.proofs.lemmas.Bool.Decides.{leb_tells}
 use Rattle.std.proofs.lemmas.Option.{slice_get_past, slice_get_within}
@@ -79,15 +79,6 @@ shared_more uses old new i so found =
     let more : suc i ≡ i + 1 = omega arith in
     found ∙ ap (λ l. l ++ filter (is_shared uses) (i ∷ [])) so ∙ sym (filter_range (is_shared uses) 0 i i (omega arith))
     ∙ ap (λ k. shared k uses) more
-
--- the same uses in another order
-pub same_shared : (count : ℕ) (xs ys : List ℕ) → ((n : ℕ) → times n xs ≡ times n ys) → shared count xs ≡ shared count ys
-same_shared count xs ys same = each (range_with_len 0 count)
-  where
-    each : (ns : List ℕ) → filter (is_shared xs) ns ≡ filter (is_shared ys) ns
-    each [] = refl
-    each (n ∷ ns) = ap (λ k. cond (nat_le 2 k) (n ∷ filter (is_shared xs) ns) (filter (is_shared xs) ns)) (same n)
-        ∙ ap (λ l. cond (is_shared ys n) (n ∷ l) l) (each ns)
 
 pub starts_more : (is : Entry → Bool) (directory : List Entry) (ids old new : List ℕ) (i : ℕ) → i < length ids → old ≡ starts_where is directory (take i ids)
     → new ≡ old ++ start_where is (slice_get directory (get_or ids i 0)) → new ≡ starts_where is directory (take (i + 1) ids)
