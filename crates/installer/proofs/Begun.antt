@@ -1,5 +1,5 @@
 -- Sessions that begin, and why none does.
-use Rattle.std.proofs.Common.{◌≡◌, ◌⊎◌, ◌<◌, ◌≤◌, ◌-◌, ◌^◌, ◌∙◌, ℕ, [], List, Some, ap, false, inl, inr, refl, subst, sym, ⊎_elim}
+use Rattle.std.proofs.Common.{◌≡◌, ◌⊎◌, ◌<◌, ◌≤◌, ◌-◌, ◌^◌, ◌∙◌, ⊥, ℕ, Bool, true, [], List, Some, ap, false, inl, inr, refl, subst, sym, ⊎_elim}
 use Rattle.std.specs.Prelude.{IsTrue}
 use Rattle.cfb.specs.Publishing.{medium_in}
 use Rattle.cfb.specs.Views.{mini_of}
@@ -7,15 +7,18 @@ use Rattle.cfb_fat.specs.Tables.{has_failed_here}
 use Rattle.cfb_medium.specs.Calls.{IsFaultUnless, Keeps}
 use Rattle.cfb_medium.specs.Stops.{LeavesOnly}
 use Rattle.cfb_medium.specs.declared.error.Error.{Error}
-use Rattle.cfb_medium.specs.declared.error.Error.TheVariants.{Device, InvalidData}
+use Rattle.cfb_live.specs.Doing.{IsFault}
+use Rattle.cfb_medium.specs.declared.error.Error.TheVariants.{Device, InvalidData, InvalidInput}
 use Rattle.cfb_medium.specs.declared.medium.ReadMedium.{Ghosts}
 use Rattle.cfb_mini.specs.Views.{allocator_of}
 use Rattle.cfb_tree.specs.Names.{Letters}
 use Rattle.msi.specs.Changing.{failed_in, IsChangeError}
 use Rattle.msi.proofs.OpenAgain.{never_refused}
+use Rattle.msi.specs.Creating.{IsNewRefusal}
 use Rattle.msi.specs.Committing.{HoldsSound}
 use Rattle.msi.specs.Opened.{file_in, IsRefused, PackageHolds}
 use Rattle.msi.specs.declared.package.Package.{Package}
+use Rattle.msi_meaning.specs.Opening.{may_use}
 use Rattle.msi_meaning.specs.Package.{Packed}
 use Rattle.staged.specs.Device.{DeviceRests}
 use Rattle.staged.specs.Files.{Files}
@@ -46,8 +49,14 @@ module _ {D : Type 0} (g : device.Ghosts D) (old : D) where
       → IsCounted g old new e
   counted_later mid new e first count second = λ is less. faults (g.failures old) (g.failures mid) (g.failures new) less first second (count is)
 
-pub device_is_change : (e : Error) → e ≡ Device → IsChangeError e
-device_is_change e is = subst IsChangeError (sym is) (inl tt)
+pub device_is_fault : (e : Error) → e ≡ Device → IsFault e
+device_is_fault e is = subst IsFault (sym is) (inl tt)
+
+-- a new package is refused for a fault, or the device isn't honest
+pub new_refused : (honest : Bool) (letters : Letters) (e : Error) → (IsTrue honest → IsNewRefusal letters e) → IsChangeError e
+    → ((e ≡ InvalidInput) × (may_use letters ≡ false)) ⊎ (IsFault e ⊎ ((IsTrue honest → ⊥) × IsChangeError e))
+new_refused true letters e of_honest any = ⊎_elim (λ used. inl used) (λ fault. inr (inl fault)) (of_honest refl)
+new_refused false letters e of_honest any = inr (inr (λ honest. (let never : false ≡ true = honest in cc), any))
 
 -- a medium that was recovered, and what goes on over it without publishing
 module _ {D : Type 0} (g : device.Ghosts D) (counts_now : (d : D) (t : ℕ) (left : Files) → t ≤ g.moment d → g.may_leave d left → g.left_since d t left)

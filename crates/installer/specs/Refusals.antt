@@ -3,6 +3,7 @@ use Rattle.std.specs.Prelude.{◌≡◌, ◌⊎◌, ◌<◌, ◌-◌, ◌^◌, �
 use Rattle.cfb_medium.specs.Calls.{IsFaultUnless}
 use Rattle.cfb_medium.specs.declared.error.Error.{Error}
 use Rattle.cfb_medium.specs.declared.error.Error.TheVariants.{InvalidData, InvalidInput, AlreadyExists, Device}
+use Rattle.cfb_live.specs.Doing.{IsFault}
 use Rattle.cfb_tree.specs.Names.{Letters}
 use Rattle.msi.specs.Changing.{IsChangeError}
 use Rattle.msi.specs.Opened.{IsRefused}
@@ -19,12 +20,12 @@ module _ {D : Type 0} (g : Ghosts D) (old new : D) (e : Error) where
   abbrev pub IsMalformed : Type 0
   IsMalformed = (e ≡ InvalidData) × (IsTrue (g.honest old) → logged (g.content old) ≡ MalformedLog)
 
--- A malformed log; a home file that isn't empty once recovered; a letter table that touches encoded names; or what a new package is
--- refused for.
+-- A malformed log; a home file that isn't empty once recovered; a letter table that touches encoded names; or a fault. On a device that isn't
+-- honest, what a new package is refused for over any medium.
 pub record IsCreateRefusal (letters : Letters) {D : Type 0} (g : Ghosts D) (old new : D) (e : Error) : Type 0 where
   pub kind : IsMalformed g old new e
       ⊎ (((e ≡ AlreadyExists) × (IsTrue (g.honest old) → ¬ (recovered (g.content old) ≡ Some [])))
-      ⊎ (((e ≡ InvalidInput) × (may_use letters ≡ false)) ⊎ IsChangeError e))
+      ⊎ (((e ≡ InvalidInput) × (may_use letters ≡ false)) ⊎ (IsFault e ⊎ ((IsTrue (g.honest old) → ⊥) × IsChangeError e))))
   pub counted : IsCounted g old new e
 
 -- a malformed log; a fault; or what the package of the home file is refused for, once recovered

@@ -1,17 +1,20 @@
 -- A copy that is committed.
-use Rattle.std.proofs.Common.{◌≡◌, ◌⊎◌, ◌≤◌, ℕ, List, [], ◌∷◌, Ok, Err, Result, Some, Option, arith, false, true, get_or, inl, inr, ⊎_elim, refl, subst, sym}
+use Rattle.std.proofs.Common.{◌≡◌, ◌⊎◌, ◌≤◌, ⊥, ℕ, Bool, List, [], ◌∷◌, Ok, Err, Result, Some, Option, arith, false, true, get_or, inl, inr, ⊎_elim, refl, subst, sym}
 use Rattle.std.specs.Prelude.{All, IsTrue, OnOk}
 use Rattle.cfb.specs.Views.{letters_in}
 use Rattle.cfb_medium.specs.Stops.{LeavesOnly}
+use Rattle.cfb_medium.specs.Calls.{IsFaultUnless}
 use Rattle.cfb_medium.specs.declared.error.Error.{Error}
+use Rattle.cfb_medium.specs.declared.error.Error.TheVariants.{Failed, InvalidData}
 use Rattle.cfb_medium.specs.declared.medium.ReadMedium as medium
 use Rattle.cfb_tree.specs.Names.{Letters}
 use Rattle.installer.proofs.Stopping.{survives_commit, survives_rest, survives_then}
 use Rattle.installer.specs.Course.{Mark}
 use Rattle.installer.specs.Survival.{gives, given_since, IsFound, IsGiven, Survives}
-use Rattle.installer_runs.specs.Copying.{IsCopied, SurvivesCopy}
-use Rattle.msi.specs.Changing.{PackageIsFit}
+use Rattle.installer_runs.specs.Copying.{IsCopied, IsUncopied, SurvivesCopy}
+use Rattle.msi.specs.Changing.{failed_in, PackageIsFit}
 use Rattle.msi.specs.Committing.{HoldsSound}
+use Rattle.msi.specs.Copying.{PackageCopies}
 use Rattle.msi.specs.Opened.{PackageHolds, file_in, sound_in}
 use Rattle.msi.specs.declared.package.Package.{Package}
 use Rattle.msi_meaning.specs.Package.{Packed}
@@ -85,3 +88,17 @@ module _ {F : Type 0} {k : medium.Ghosts F} (source : Package F k) {D : Type 0} 
   survives_behind a b c first then = λ P held sound.
       let own = then P held sound in
       (own.0, own.1, survives_then (letters_in (file_in source)) g a b c [] own.0 first own.2)
+
+module _ {F : Type 0} {k : medium.Ghosts F} (source : Package F k) where
+  -- a package that is held isn't copied, and was: what it is refused for
+  pub uncopied : (honest : Type 0) (bytes : List ℕ) (e : Error) (new : Package F k) (P : Packed) → PackageHolds source P → PackageCopies honest bytes (Err e) source new → IsUncopied source e
+  uncopied honest bytes e new P held c = by (failed_in source) refl (sound_in source) refl
+    where
+      by : (failed : Bool) → failed_in source ≡ failed → (sound : Bool) → sound_in source ≡ sound → IsUncopied source e
+      by true failed sound is = let of : e ≡ Failed = (c.failed failed).0 in inr (inr (inl (subst (IsFaultUnless ⊥) (sym of) tt)))
+      by false live false unsound = let of : e ≡ InvalidData = (c.unsound live unsound).0 in inl (of, unsound)
+      by false live true sound = ⊎_elim (λ fault. inr (inr fault)) (λ long. inr (inl (long.0, long.1))) (c.refused P held sound)
+
+  -- a fault of the commit behind it
+  pub fault_uncopied : (e : Error) → IsFaultUnless ⊥ e → IsUncopied source e
+  fault_uncopied e fault = inr (inr (inl fault))

@@ -1,37 +1,57 @@
 -- A package that is made on a device.
-use Rattle.std.proofs.Common.{◌≡◌, ℕ, Bool, List, [], Ok, Err, Result, Some, false, true, refl, subst, sym}
-use Rattle.std.specs.Prelude.{IsTrue, OnOk}
+use Rattle.std.proofs.Common.{◌≡◌, ◌<◌, ◌-◌, ◌^◌, ◌∙◌, ℕ, Bool, List, [], Ok, Err, Result, Some, false, true, ◌≤◌, ap, inl, inr, refl, subst, sym, ⊎_elim}
+use Rattle.std.specs.Prelude.{IfErr, IsTrue, OnOk}
+use Rattle.cfb_medium.specs.Calls.{IsFaultUnless}
+use Rattle.cfb_medium.specs.Versions.{stream_len_mask}
 use Rattle.cfb_medium.specs.declared.error.Error.{Error}
-use Rattle.cfb_medium.specs.declared.error.Error.TheVariants.{Failed}
+use Rattle.cfb_live.specs.Doing.{IsFault}
+use Rattle.cfb_medium.specs.declared.error.Error.TheVariants.{Device, Failed, Full, Memory}
 use Rattle.cfb_medium.specs.declared.medium.ReadMedium as medium
 use Rattle.cfb_tree.specs.Names.{Letters}
 use Rattle.command_file.specs.Request as asked
 use Rattle.installer.proofs.Stopping.{survives_then}
-use Rattle.installer.specs.Course.{marks_as, Mark}
+use Rattle.installer.specs.Course.{fails, failed, marks_as, refuses, running, stays, steps, Course, Goes, IsFault as IsUndoneFault, IsUndone, Mark, StepAs}
 use Rattle.installer.specs.Reply.{Reply}
 use Rattle.installer.specs.Reply as told
 use Rattle.installer.specs.Sessions.{beginning, device_below, is_sound, letters_in, package_in, IsAt}
 use Rattle.installer.specs.Step.{told_of}
+use Rattle.installer.specs.Refusals.{IsCounted, IsCreateRefusal}
 use Rattle.installer.specs.Survival.{IsFound, Survives}
 use Rattle.installer.specs.declared.session.SessionOver.{SessionOver}
 use Rattle.installer_runs.proofs.Copied.{no_mark, one_mark}
 use Rattle.installer_runs.specs.Making.{AreOfNew, CommitsLast, MakesOn}
+use Rattle.cfb.specs.Publishing.{medium_in}
+use Rattle.installer.proofs.Recovering.{faults}
+use Rattle.msi.proofs.Short.{mask_wide, new_is_short}
 use Rattle.msi.specs.Changing.{PackageIsFit}
 use Rattle.msi.specs.Committing.{HoldsSound}
-use Rattle.msi.specs.Opened.{PackageHolds}
+use Rattle.msi.specs.Opened.{file_in, PackageHolds}
 use Rattle.msi_meaning.specs.Calls.{IsNew}
 use Rattle.msi_meaning.specs.Package.{Packed}
 use Rattle.msi_meaning.specs.declared.kind.PackageType.TheVariants.{Installer}
 use Rattle.staged.specs.Log.{recovered}
 use Rattle.staged.specs.Settled.{HasPublished}
+use Rattle.staged.specs.Staged.{device_of}
 use Rattle.staged.specs.declared.device.Device.{Ghosts}
 use Rattle.staged.specs.declared.staged.Staged.{Staged}
+
+undone_as : (start end : Course) (e f : Error) → told.refused e ≡ told.refused f → IsUndone start asked.commit f end → IsUndone start asked.commit e end
+undone_as start end e f is undone = let same : f ≡ e = cc in subst (λ (x : Error). IsUndone start asked.commit x end) same undone
 
 new_marks : (P : Packed) → IsNew Installer P → (b : Bool) (reply : Reply) → AreOfNew (marks_as b P asked.commit reply)
 new_marks P new false reply = no_mark (λ m. IsNew Installer m.held)
 new_marks P new true told.done = one_mark (record { held = P; done = true }) (λ m. IsNew Installer m.held) new
 new_marks P new true (told.refused Failed) = no_mark (λ m. IsNew Installer m.held)
 new_marks P new true reply = one_mark (record { held = P; done = false }) (λ m. IsNew Installer m.held) new
+
+-- a commit of a sound package that was refused is undone by a fault
+commit_undone : (letters : Letters) (start end : Course) (e : Error) → start.phase ≡ running → start.sound ≡ true → Goes letters start asked.commit (told.refused e) end → IsUndone start asked.commit e end
+commit_undone letters start end e run sound (steps was step committed after same counted) =
+    let done = subst (λ (b : Bool). StepAs b letters start.held asked.commit (told.refused e) end.held) sound step in
+    let never : told.refused e ≡ told.done = done.1 in absurd (cc)
+commit_undone letters start end e run sound (stays f was is undone page same counted) = undone_as start end e f is undone
+commit_undone letters start end e run sound (fails f was is undone read same counted) = undone_as start end e f is undone
+commit_undone letters start end e run sound (refuses was is same) = (let never : running ≡ failed = sym run ∙ was in absurd (cc))
 
 module _ {D : Type 0} {g : Ghosts D} {h : medium.Ghosts (Staged D g)} (letters : Letters) (it : SessionOver (Staged D g) h) (old new : D) (result : Result (Unit {0}) Error) (compared : letters_in it ≡ letters)
     (sound : is_sound it ≡ true) (P : Packed) (is_new : IsNew Installer P) (fit : PackageIsFit P) (at : IsAt (package_in it) (beginning it P)) (leads : CommitsLast result it new) where
@@ -56,3 +76,42 @@ module _ {D : Type 0} {g : Ghosts D} {h : medium.Ghosts (Staged D g)} (letters :
       let own : Survives letters g (device_below it) (device_below leads.last) marks = subst (λ (l : Letters). Survives l g (device_below it) (device_below leads.last) marks) compared (leads.follows.survives (beginning it P) at) in
       let there : Survives letters g (device_below it) new marks = subst (λ (d : D). Survives letters g (device_below it) d marks) (sym leads.given) own in
       (marks, new_marks P is_new (is_sound it) (told_of result), survives_then letters g old (device_below it) new [] marks begun there)
+
+  -- the commit of a new package was refused: by a fault, and a failure of the device was counted
+  pub made_refused : ((m : Staged D g) → h.failures m ≡ g.failures (device_of m)) → Survives letters g old (device_below it) [] → IfErr result (IsCreateRefusal letters g old new)
+  made_refused counts begun = on result leads.follows.by_rule.goes
+    where
+      start : Course
+      start = beginning it P
+
+      fault : (e : Error) (end : Course) → IsUndone start asked.commit e end → IsUndoneFault start e end
+      fault e end undone = ⊎_elim (λ fault. fault) (λ much. absurd (new_is_short Installer P is_new (stream_len_mask much.1.0) (mask_wide much.1.0) much.1.1)) undone
+
+      kind : (e : Error) (end : Course) → IsUndoneFault start e end → IsFault e
+      kind e end (inl is) = inl (subst (IsFaultUnless ⊥) (sym is) tt)
+      kind e end (inr (inl is)) = inr is
+      kind e end (inr (inr device)) = inl (subst (IsFaultUnless ⊥) (sym device.0) tt)
+
+      counted : (e : Error) (end : Course) → end.failures ≡ g.failures (device_below leads.last) → IsUndoneFault start e end → IsCounted g old new e
+      counted e end here undone = λ is less. faults (g.failures old) (g.failures (device_below it)) (g.failures new) less begun.counted later (there is undone)
+        where
+          later : g.failures (device_below it) ≤ g.failures new
+          later = subst (λ (d : D). g.failures (device_below it) ≤ g.failures d) (sym leads.given) (leads.follows.survives start at).counted
+
+          there : e ≡ Device → IsUndoneFault start e end → g.failures (device_below it) < 2 ^ 64 - 1 → g.failures (device_below it) < g.failures new
+          there is (inl memory) few = let never : Device ≡ Memory = sym is ∙ memory in absurd (cc)
+          there is (inr (inl full)) few = let never : Device ≡ Full = sym is ∙ full in absurd (cc)
+          there is (inr (inr device)) few =
+              let first : start.failures ≡ g.failures (device_below it) = counts (medium_in (file_in (package_in it))) in
+              let last : end.failures ≡ g.failures new = here ∙ sym (ap (λ (d : D). g.failures d) leads.given) in
+              subst (λ (n : ℕ). n < g.failures new) first (subst (λ (n : ℕ). start.failures < n) last (device.1 (subst (λ (n : ℕ). n < 2 ^ 64 - 1) (sym first) few)))
+
+      on : (r : Result (Unit {0}) Error) → ((c : Course) → IsAt (package_in it) c → (end : Course) × Goes (letters_in it) c asked.commit (told_of r) end × IsAt (package_in leads.last) end) → IfErr r (IsCreateRefusal letters g old new)
+      on (Ok u) goes = tt
+      on (Err e) goes =
+          let went = goes start at in
+          let undone = fault e went.0 (commit_undone (letters_in it) start went.0 e refl sound went.1) in
+          record {
+            kind = inr (inr (inr (inl (kind e went.0 undone))));
+            counted = counted e went.0 (went.2.failures ∙ counts (medium_in (file_in (package_in leads.last)))) undone;
+          }

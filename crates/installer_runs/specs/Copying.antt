@@ -1,17 +1,36 @@
 -- A copy of a package that is committed to a device.
-use Rattle.std.specs.Prelude.{◌≡◌, ℕ, All, IsTrue, List, [], Some}
-use Rattle.cfb.specs.Views.{letters_in}
+use Rattle.std.specs.Prelude.{◌≡◌, ◌⊎◌, ℕ, All, false, IsTrue, List, [], Some}
+use Rattle.cfb.specs.Views.{letters_in, mini_of}
+use Rattle.cfb_fat.specs.Tables.{HasCauseBelow}
+use Rattle.cfb_live.specs.Doing.{IsFault}
+use Rattle.cfb_medium.specs.declared.error.Error.{Error}
+use Rattle.cfb_medium.specs.declared.error.Error.TheVariants.{AlreadyExists, InvalidData, InvalidInput}
 use Rattle.cfb_medium.specs.declared.medium.ReadMedium as medium
+use Rattle.cfb_mini.specs.Views.{allocator_of}
 use Rattle.installer.specs.Course.{Mark}
+use Rattle.installer.specs.Refusals.{IsCounted, IsMalformed}
 use Rattle.installer.specs.Survival.{Survives}
 use Rattle.msi.specs.Changing.{PackageIsFit}
 use Rattle.msi.specs.Committing.{HoldsSound}
-use Rattle.msi.specs.Opened.{PackageHolds, file_in, sound_in}
+use Rattle.msi.specs.Opened.{PackageHolds, file_in, pool_in, sound_in, summary_in}
 use Rattle.msi.specs.declared.package.Package.{Package}
 use Rattle.msi_meaning.specs.Package.{Packed}
+use Rattle.msi_streams.specs.Parts.{IsTooLong}
+use Rattle.msi_streams.specs.Writing.{most_bytes}
 use Rattle.staged.specs.Log.{recovered}
 use Rattle.staged.specs.Settled.{HasPublished}
 use Rattle.staged.specs.declared.device.Device.{Ghosts}
+
+-- why a package that is held isn't copied: it isn't sound; pool or summary are longer than can be written; or a fault
+abbrev pub IsUncopied : {F : Type 0} {k : medium.Ghosts F} → Package F k → Error → Type 0
+IsUncopied source e = ((e ≡ InvalidData) × (sound_in source ≡ false))
+    ⊎ (((e ≡ InvalidInput) × IsTooLong (most_bytes (file_in source)) (pool_in source).pool (summary_in source).props) ⊎ IsFault e)
+
+-- THE COPY IS REFUSED: for a malformed log; for a home file that isn't empty once recovered; or since the package isn't copied. Where the error
+-- names a device, that of the source failed, or this one, and the failure was counted.
+pub record IsCopyRefusal {F : Type 0} {k : medium.Ghosts F} (before after : Package F k) {D : Type 0} (g : Ghosts D) (old new : D) (e : Error) : Type 0 where
+  pub kind : IsMalformed g old new e ⊎ (((e ≡ AlreadyExists) × ¬ (recovered (g.content old) ≡ Some [])) ⊎ IsUncopied before e)
+  pub cause : HasCauseBelow (allocator_of (mini_of (file_in before))) (allocator_of (mini_of (file_in after))) e ⊎ IsCounted g old new e
 
 module _ {F : Type 0} {k : medium.Ghosts F} (source : Package F k) {D : Type 0} (g : Ghosts D) where
   -- bytes were published that hold the source's package, sound, where it can be written as it is

@@ -1,11 +1,16 @@
 //! A copy of a package, committed to a device.
-ghost use Rattle.cfb.specs.Views.{letters_in};
+ghost use Rattle.cfb.specs.Views.{letters_in, mini_of};
+ghost use Rattle.cfb_fat.specs.Tables.{HasCauseBelow};
+ghost use Rattle.cfb_medium.specs.declared.error.Error.TheVariants.{AlreadyExists};
+ghost use Rattle.cfb_mini.specs.Views.{allocator_of};
+ghost use Rattle.installer.specs.Refusals.{IsCounted};
 ghost use Rattle.installer.specs.Survival.{Survives};
-ghost use Rattle.installer_runs.specs.Copying.{CopiesOn, IsCopied, SurvivesCopy};
-ghost use Rattle.msi.specs.Opened.{file_in};
+ghost use Rattle.installer_runs.specs.Copying.{CopiesOn, IsCopied, IsCopyRefusal, IsUncopied, SurvivesCopy};
+ghost use Rattle.msi.specs.Opened.{file_in, PackageHolds};
+ghost use Rattle.msi_meaning.specs.Package.{Packed};
 ghost use Rattle.staged.specs.Log.{recovered};
 ghost use Rattle.staged.specs.Staged.{device_of, staged_bytes, IsHonest};
-ghost use Rattle.std.specs.Prelude.{◌≡◌, List, [], Some, IsTrue, OnOk};
+ghost use Rattle.std.specs.Prelude.{◌≡◌, ◌⊎◌, ◌≤◌, List, [], Some, IfErr, IsTrue, OnOk};
 
 use cfb_medium::{Error, Medium, ReadMedium};
 use installer::recovered_medium;
@@ -16,8 +21,9 @@ use std::alloc::Global;
 /// Recovers, commits a copy of a sound package to an empty home file, and gives the device back. After `Ok` the home file has bytes that
 /// hold the package, sound, where its texts fit their page, and the log is closed. Whatever is answered, a stop at any moment leaves what
 /// one might have left before, or the copy; and where the home file, once recovered, isn't empty, nothing that a recovery gives is
-/// changed. `AlreadyExists` where the home file isn't empty, `InvalidData` for a malformed log; else refused as `Package::copy_to`, or by
-/// a fault of the device.
+/// changed. `AlreadyExists` where the home file isn't empty, `InvalidData` for a malformed log, and where the package isn't sound;
+/// `InvalidInput` where a part of it is too long to be written; else `Memory`, `Full`, or `Device` and `Failed` by a fault of one of the
+/// two devices.
 pub fn copy_on<D: Device, F: Medium>(
     alloc: Global,
     source: &mut Package<F>,
@@ -29,6 +35,8 @@ pub fn copy_on<D: Device, F: Medium>(
         → SurvivesCopy source.old D.Device device result.0 }
     ensures kept { IsTrue (D.honest device) → (recovered (D.content device) ≡ Some [] → ⊥)
         → Survives (letters_in (file_in source.old)) D.Device device result.0 [] }
+    ensures refused { IsTrue (D.honest device) → (P : Packed) → PackageHolds source.old P
+        → IfErr result.1 (IsCopyRefusal source.old source.new D.Device device result.0) }
 {
     match recovered_medium(alloc, device) {
         Ok(medium) => copy_over(source, medium),
@@ -47,6 +55,12 @@ fn copy_over<D: Device, F: Medium>(
         → SurvivesCopy source.old D.Device (device_of medium) result.0 }
     ensures kept { IsHonest medium → (staged_bytes medium ≡ [] → ⊥)
         → Survives (letters_in (file_in source.old)) D.Device (device_of medium) result.0 [] }
+    ensures refused { IsHonest medium → (P : Packed) → PackageHolds source.old P → IfErr result.1
+        (λ e. ((e ≡ AlreadyExists) × (staged_bytes medium ≡ [] → ⊥)) ⊎ IsUncopied source.old e) }
+    ensures cause { IfErr result.1 (λ e. HasCauseBelow (allocator_of (mini_of (file_in source.old)))
+        (allocator_of (mini_of (file_in source.new))) e
+        ⊎ IsCounted D.Device (device_of medium) result.0 e) }
+    ensures counted { D.failures (device_of medium) ≤ D.failures result.0 }
 {
     let mut medium = medium;
     match medium.len() {
@@ -69,6 +83,12 @@ fn commit_copy<D: Device, F: Medium>(
         → OnOk result (IsCopied source.old D.Device (device_of medium.new)) }
     ensures survives { IsHonest medium.old
         → SurvivesCopy source.old D.Device (device_of medium.old) (device_of medium.new) }
+    ensures refused { (P : Packed) → PackageHolds source.old P
+        → IfErr result (IsUncopied source.old) }
+    ensures cause { IfErr result (λ e. HasCauseBelow (allocator_of (mini_of (file_in source.old)))
+        (allocator_of (mini_of (file_in source.new))) e
+        ⊎ IsCounted D.Device (device_of medium.old) (device_of medium.new) e) }
+    ensures counted { D.failures (device_of medium.old) ≤ D.failures (device_of medium.new) }
 {
     match source.copy_to(medium) {
         Ok(()) => medium.commit(),

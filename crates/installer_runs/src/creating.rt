@@ -1,10 +1,11 @@
 //! A package made on a device.
 ghost use Rattle.cfb_tree.specs.LetterViews.{letters_of};
+ghost use Rattle.installer.specs.Refusals.{IsCreateRefusal};
 ghost use Rattle.installer.specs.Survival.{Survives};
 ghost use Rattle.installer_runs.specs.Making.{AreOfNew, CommitsLast, MakesOn};
 ghost use Rattle.staged.specs.Log.{recovered};
 ghost use Rattle.installer.specs.Course.{Mark};
-ghost use Rattle.std.specs.Prelude.{◌≡◌, List, [], Some, IsTrue, OnOk};
+ghost use Rattle.std.specs.Prelude.{◌≡◌, List, [], Some, IfErr, IsTrue, OnOk};
 
 use cfb::CaseMapper;
 use cfb_medium::Error;
@@ -15,7 +16,9 @@ use std::alloc::Global;
 /// Recovers, makes a new installer package on an empty home file, whose names are compared under the letter table, commits it, and gives
 /// the device back. After `Ok` the home file has bytes that hold the new package, sound, and the log is closed. Whatever is answered, a
 /// stop at any moment leaves what one might have left before, or the new package; and where the home file, once recovered, isn't empty,
-/// nothing that a recovery gives is changed. Refused as `Session::create`, or as `Session::commit`.
+/// nothing that a recovery gives is changed. Refused as `Session::create` is, and where the commit behind it meets a fault: `AlreadyExists`
+/// where the home file isn't empty, `InvalidData` for a malformed log, `InvalidInput` for a letter table that touches encoded names; else
+/// `Memory`, `Full`, or `Device` and `Failed` by a fault of the device.
 pub fn create_on<D: Device>(alloc: Global, device: D, letters: CaseMapper) -> (D, Result<(), Error>)
     ensures made { IsTrue (D.honest device)
         → OnOk result.1 (MakesOn (letters_of letters) D.Device device result.0) }
@@ -23,6 +26,8 @@ pub fn create_on<D: Device>(alloc: Global, device: D, letters: CaseMapper) -> (D
         × Survives (letters_of letters) D.Device device result.0 marks }
     ensures kept { IsTrue (D.honest device) → (recovered (D.content device) ≡ Some [] → ⊥)
         → Survives (letters_of letters) D.Device device result.0 [] }
+    ensures refused { IsTrue (D.honest device) → IfErr result.1
+        (IsCreateRefusal (letters_of letters) D.Device device result.0) }
 {
     match Session::create(alloc, device, letters) {
         Ok(session) => commit_last(session),

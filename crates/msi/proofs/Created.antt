@@ -1,14 +1,17 @@
 -- A new package is held.
-use Rattle.std.proofs.Common.{◌≡◌, ◌∙◌, ⊎_elim, Bool, ap, false, inl, inr, map, refl, subst, sym, true}
+use Rattle.std.proofs.Common.{◌≡◌, ◌∙◌, ◌⊎◌, ⊎_elim, Bool, ap, false, inl, inr, map, refl, subst, sym, true}
 use Rattle.std.specs.Prelude.{[], ◌||◌}
 use Rattle.cfb.specs.Creating.{IsCreated, IsCreateFault}
 use Rattle.cfb.specs.Doing.{FileMeans}
+use Rattle.cfb.specs.Putting.{KeepsMeant}
 use Rattle.cfb.specs.Views.{letters_in, mini_of}
 use Rattle.cfb.specs.declared.compound_file.CompoundFile.{CompoundFile}
 use Rattle.cfb_creating.specs.NewFile.{empty_tree}
-use Rattle.cfb_fat.specs.Tables.{has_failed_here, medium_of, HasCauseBelow}
+use Rattle.cfb_fat.specs.Tables.{has_failed_here, medium_of, version_of, HasCauseBelow}
+use Rattle.cfb_live.specs.Doing.{IsFault}
 use Rattle.cfb_medium.specs.Calls.{Extends, HasCause, HasCauseSince}
 use Rattle.cfb_medium.specs.declared.error.Error.{Error}
+use Rattle.cfb_medium.specs.declared.error.Error.TheVariants.{InvalidInput}
 use Rattle.cfb_medium.specs.declared.medium.ReadMedium.{Ghosts}
 use Rattle.cfb_medium.specs.declared.version.Version.TheVariants.{V4}
 use Rattle.cfb_mini.specs.Views.{allocator_of}
@@ -29,8 +32,10 @@ use Rattle.msi_props.specs.Props.{Props}
 use Rattle.msi_store.specs.Stores.{file_in as file_of}
 use Rattle.msi_store.specs.declared.store.Store.{Store}
 use Rattle.msi_stored.specs.Changing.{StoresSound}
-use Rattle.msi_streams.specs.Parts.{bytes_of_parts, HasParts}
+use Rattle.msi_streams.specs.Parts.{bytes_of_parts, HasParts, IsTooLong, OfPackage}
+use Rattle.msi_streams.specs.Writing.{most_bytes}
 use Rattle.msi.proofs.HeldParts.{held_parts}
+use Rattle.msi.proofs.Short.{mask_wide, new_can, new_is_short}
 use Rattle.msi.specs.Changing.{IsChangeError, PackageIsFit}
 use Rattle.msi.specs.Creating.{IsCreatedPackage}
 use Rattle.msi.specs.Opened.{file_in, kind_in, pool_in, sound_in, store_in, summary_in, tables_in, PackageHolds}
@@ -92,6 +97,16 @@ module _ {F : Type 0} {g : Ghosts F} where
       held_parts it m.next (w.kind ∙ of_kind ∙ sym m.of_kind) (ap (λ (s : SetState). s.props) w.summary ∙ m.tells) (ap (λ (p : PoolState). p.pool) w.pool ∙ m.counts)
           (w.tables ∙ m.tables ∙ ap (λ l. map (heading l) m.next.tables) (sym (ap (λ (p : PoolState). p.pool.long) w.pool ∙ ap (λ (p : Pool). p.long) m.counts))) (ap may_use w.letters ∙ usable) parts,
     )
+
+  -- its pool and summary weren't written: by a fault
+  pub unwritten_fault : (kind : PackageType) (first : Package F g) → IsNewPackage kind (store_in first) (pool_in first) (summary_in first).props → (e : Error) (new : CompoundFile F g)
+      → OfPackage (file_in first) (IsFault e ⊎ ((e ≡ InvalidInput) × IsTooLong (most_bytes (file_in first)) (pool_in first).pool (summary_in first).props × KeepsMeant (file_in first) new)) → IsFault e
+  unwritten_fault kind first m e new told =
+      ⊎_elim (λ fault. fault) (λ long. absurd (new_is_short kind m.next m.new (most_bytes (file_in first)) (mask_wide (version_of (allocator_of (mini_of (file_in first))))) (too_long long.1)))
+      (told m.tree m.next m.means m.stores (new_can kind m.next m.new (letters_in (file_in first)) m.tree m.stores))
+    where
+      too_long : IsTooLong (most_bytes (file_in first)) (pool_in first).pool (summary_in first).props → IsTooLong (most_bytes (file_in first)) m.next.pool m.next.summary
+      too_long long = subst (λ (x : Props). IsTooLong (most_bytes (file_in first)) m.next.pool x) m.tells (subst (λ (x : Pool). IsTooLong (most_bytes (file_in first)) x (summary_in first).props) m.counts long)
 
   module _ (letters : Letters) (medium : F) (a : CompoundFile F g) (made : IsCreated V4 letters medium a) where
     -- a cause since the file was made is one since the medium was given

@@ -21,6 +21,7 @@ use Rattle.msi_meaning.specs.Package.{Packed, Packs}
 use Rattle.msi_parts.specs.Parts.{heading}
 use Rattle.msi_pool.specs.Pool.{Pool}
 use Rattle.msi_props.specs.Props.{Props}
+use Rattle.msi_streams.proofs.PutParts.{can_have}
 use Rattle.msi_streams.specs.Parts.{HasParts, IsTooLong, OfPackage, PartBytes, PutsParts, bytes_of_parts}
 use Rattle.msi_streams.specs.Writing.{most_bytes}
 use Rattle.msi.proofs.Changed.{DifferByFile, failed_too, keeps_held}
@@ -110,7 +111,7 @@ module _ {F : Type 0} {g : Ghosts F} where
     holds = tt;
     done = tt;
     live = tt;
-    refused = λ P h sound. let both = h.sound sound in elim (told h.tree P both.0 both.1 h.three) [
+    refused = λ P h sound. let both = h.sound sound in elim (told h.tree P both.0 both.1 (can_have (letters_in (file_in old)) h.tree h.three)) [
       | inl fault ↦ inl fault
       | inr long ↦ inr (long.0, long.1, keeps_held old new d sound same long.2)
     ];

@@ -1,14 +1,18 @@
 -- A package that was made over a medium.
-use Rattle.std.specs.Prelude.{◌≡◌, ℕ, ◌≤◌, false, length, true, IsTrue}
+use Rattle.std.specs.Prelude.{◌≡◌, ◌⊎◌, ℕ, ◌≤◌, false, length, true, IsTrue}
 use Rattle.cfb.specs.Views.{letters_in, mini_of}
 use Rattle.cfb_fat.specs.Tables.{has_failed_here, is_honest, medium_of}
 use Rattle.cfb_medium.specs.Calls.{Extends}
+use Rattle.cfb_live.specs.Doing.{IsFault}
+use Rattle.cfb_medium.specs.declared.error.Error.{Error}
+use Rattle.cfb_medium.specs.declared.error.Error.TheVariants.{InvalidInput}
 use Rattle.cfb_medium.specs.declared.medium.ReadMedium.{Ghosts}
 use Rattle.cfb_mini.specs.Views.{allocator_of}
 use Rattle.cfb_tree.specs.Names.{Letters}
 use Rattle.file_device.specs.FileMedium.{medium_failures}
 use Rattle.file_device.specs.declared.medium.FileMedium.{FileMedium}
 use Rattle.msi_meaning.specs.Calls.{IsNew}
+use Rattle.msi_meaning.specs.Opening.{may_use}
 use Rattle.msi_meaning.specs.Package.{Packed}
 use Rattle.msi_meaning.specs.declared.kind.PackageType.{PackageType}
 use Rattle.msi.specs.Changing.{PackageIsFit}
@@ -18,6 +22,10 @@ use Rattle.msi.specs.declared.package.Package.{Package}
 -- the bytes of a new container of version 4
 abbrev pub new_file_len : ℕ
 new_file_len = 12288
+
+-- why none is made over an honest medium without more bytes than a new container has: by this letter table, or a fault
+abbrev pub IsNewRefusal : Letters → Error → Type 0
+IsNewRefusal letters e = ((e ≡ InvalidInput) × (may_use letters ≡ false)) ⊎ IsFault e
 
 module _ {F : Type 0} {g : Ghosts F} where
   -- A NEW PACKAGE, which is sound and has not failed; nothing was published. Over an honest medium that held no more bytes than a new container has, it

@@ -1,10 +1,10 @@
 //! Packages that are made.
-ghost use Rattle.std.specs.Prelude.{◌≡◌, false, true, Err, IfErr, IfOk};
+ghost use Rattle.std.specs.Prelude.{◌≡◌, ◌≤◌, false, length, true, Err, IfErr, IfOk, IsTrue};
 ghost use Rattle.cfb_medium.specs.Calls.{Extends, HasCauseSince};
 ghost use Rattle.cfb_medium.specs.declared.error.Error.TheVariants.{InvalidInput};
 ghost use Rattle.cfb_tree.specs.LetterViews.{letters_of};
 ghost use Rattle.msi.specs.Changing.{IsChangeError};
-ghost use Rattle.msi.specs.Creating.{IsCreatedPackage};
+ghost use Rattle.msi.specs.Creating.{new_file_len, IsCreatedPackage, IsNewRefusal};
 ghost use Rattle.msi.specs.Opened.{kind_in, pool_in, sound_in, store_in, summary_in, written_in};
 ghost use Rattle.msi_meaning.specs.Opening.{may_use};
 
@@ -21,9 +21,9 @@ impl<F: Medium> Package<F> {
     /// Makes a new package over what a medium holds, in a container of version 4: it has the three tables that describe others, and a
     /// title that says what it is; names are compared under the letter table. Pool and summary are written too, and nothing is
     /// published before a commit. `InvalidInput` where the letter table has a pair with a character from U+3800 to U+4840, which
-    /// encoded names have. The other errors are `Memory`, `Device` and `Failed`, `InvalidData` where the medium held more bytes than
-    /// a new container has, or doesn't give back what was written, and what `CompoundFile::put_stream` refuses. An error gives the
-    /// medium back, which may then hold a part of the new package.
+    /// encoded names have. The other errors are `Memory`, `Device`, `Failed` and `Full`; where the medium held more bytes than a new
+    /// container has, or doesn't give back what was written, `InvalidData` too, and what `CompoundFile::put_stream` refuses. An error
+    /// gives the medium back, which may then hold a part of the new package.
     pub fn create(
         alloc: Global,
         kind: PackageType,
@@ -33,6 +33,8 @@ impl<F: Medium> Package<F> {
         ensures created { IfOk result (IsCreatedPackage (letters_of letters) kind medium) }
         ensures letters { may_use (letters_of letters) ≡ false
             → result ≡ Err (medium, InvalidInput) }
+        ensures refused { IsTrue (F.honest medium) → length (F.bytes medium) ≤ new_file_len
+            → IfErr result (λ e. IsNewRefusal (letters_of letters) e.1) }
         ensures kinds { IfErr result (λ e. IsChangeError e.1) }
         ensures left { IfErr result (λ e. (F.honest e.0 ≡ F.honest medium)
             × Extends F.continues medium e.0) }

@@ -19,6 +19,7 @@ use Rattle.msi_tables.specs.Rows.{Row, kinds_of, rows_of}
 use Rattle.msi_tables.specs.Schema.{validation_columns, validation_name}
 use Rattle.msi_texts.specs.Category.{is_identifier}
 use Rattle.msi_texts.specs.StreamName.{is_valid_name}
+use Rattle.msi_streams.specs.Parts.{HasNoStorageAt}
 use Rattle.msi_streams.proofs.Marks.{key_of_same, same_of_key}
 use Rattle.msi_streams.proofs.Objects.{put_apart, put_storages}
 use Rattle.msi_streams.proofs.Stored.{is_kept, marked_differs, not_true}
@@ -100,6 +101,10 @@ module _ (letters : Letters) (may : may_use letters ≡ true) where
 
     table_yet : (table : List ℕ) → is_same_name letters (stream_name table) name ≡ false → table_stream letters (objects new.content) table ≡ table_stream letters (objects old.content) table
     table_yet table differs = ap (λ o. cond (has_slash table) None (option_and_then object_bytes o)) (others_yet (stream_name table) differs)
+
+    -- no storage comes to another name
+    pub open_yet : (other : List ℕ) → is_same_name letters other name ≡ false → HasNoStorageAt letters old other → HasNoStorageAt letters new other
+    open_yet other differs none o there = none o (sym (others_yet other differs) ∙ there)
 
     pub stream_yet : (other : List ℕ) → is_same_name letters other name ≡ false → stream_at letters (objects new.content) other ≡ stream_at letters (objects old.content) other
     stream_yet other differs = ap (option_and_then object_bytes) (others_yet other differs)

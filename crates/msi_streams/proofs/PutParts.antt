@@ -1,6 +1,6 @@
 -- The package's own streams that are put one after the other.
 use Rattle.std.proofs.Common.{◌≡◌, ◌∙◌, ℕ, Bool, true, false, cond, List, [], ◌∷◌, Some, None, Option, inl, inr, refl, sym, ap, subst, ⊎_elim}
-use Rattle.std.specs.Prelude.{option_and_then, Err, Ok}
+use Rattle.std.specs.Prelude.{chars, option_and_then, Err, Ok}
 use Rattle.std.specs.List.Sorted.{IsStrictlySortedBy}
 use Rattle.cfb.specs.Doing.{FileMeans}
 use Rattle.cfb.specs.Putting.{answer_by, put_over, putting, FilePuts}
@@ -23,10 +23,10 @@ use Rattle.cfb_tree.specs.Tree.{child_names, Tree}
 use Rattle.cfb_tree.proofs.OneContent.{Some_same}
 use Rattle.msi_meaning.specs.Package.{at_name, data_name, is_stream, object_bytes, objects, pool_name, stream_at, stream_name, summary_name}
 use Rattle.msi_meaning.proofs.UnderRoot.{at_path}
-use Rattle.msi_streams.specs.Parts.{OfPackage, PartBytes, PutsParts}
+use Rattle.msi_streams.specs.Parts.{CanHaveThree, HasNoStorageAt, HasThree, OfPackage, PartBytes, PutsParts}
 use Rattle.msi_streams.proofs.Changes.{put_where_none, put_where_one}
 use Rattle.msi_streams.proofs.Exits.{keeps_meant, IsFirst, IsOpen}
-use Rattle.msi_streams.proofs.Own.{data_not_pool, data_not_summary, data_there, parts_stored, pool_not_summary, pool_there, stream_yet, summary_there, IsPut}
+use Rattle.msi_streams.proofs.Own.{data_not_pool, data_not_summary, data_there, open_yet, parts_stored, pool_not_summary, pool_there, summary_there, IsPut}
 
 some_same : (a b : Object) → Some a ≡ Some b → a ≡ b
 some_same a b e = cc
@@ -68,6 +68,24 @@ module _ (letters : Letters) (tree : Tree) (name bytes : List ℕ) (rising : IsS
           })
       by (Some (a_storage n f inside)) there =
           let never = ap (λ (x : Outcome). x.1) (sym (outcome_is (Some (a_storage n f inside)) there)) ∙ accepted in absurd (cc)
+
+-- the three's names are names
+names : (is_name summary_name ≡ true) × (is_name (stream_name pool_name) ≡ true) × (is_name (stream_name data_name) ≡ true)
+unfolding chars
+names = (refl, refl, refl)
+
+-- where a stream stands there is no storage
+no_storage : (letters : Letters) (tree : Tree) (name bytes : List ℕ) → stream_at letters (objects tree.content) name ≡ Some bytes → HasNoStorageAt letters tree name
+no_storage letters tree name bytes there (a_stream n s b) is = refl
+no_storage letters tree name bytes there (a_storage n f inside) is =
+    let never : None ≡ Some bytes = sym (ap (option_and_then object_bytes) is) ∙ there in absurd (cc)
+
+pub can_have : (letters : Letters) (tree : Tree) → HasThree letters tree → CanHaveThree letters tree
+can_have letters tree three = record {
+  summary = no_storage letters tree summary_name three.summary three.summary_at;
+  pool = no_storage letters tree (stream_name pool_name) three.pool three.pool_at;
+  pool_data = no_storage letters tree (stream_name data_name) three.pool_data three.data_at;
+}
 
 module _ {F : Type 0} {g : Ghosts F} where
   -- the file means a tree with these bytes at the name
@@ -163,11 +181,11 @@ module _ {F : Type 0} {g : Ghosts F} where
           seen = (three.seen.0 ∙ two.seen.0 ∙ one.seen.0, three.seen.1 ∙ two.seen.1 ∙ one.seen.1, three.seen.2 ∙ two.seen.2 ∙ one.seen.2);
         }
 
-  -- ---- where the streams stand nothing is refused by rule
+  -- ---- where no storage stands in the streams' places nothing is refused by rule
 
-  pub there_fault : (name bytes : List ℕ) (path : Option Path) → path ≡ Some (name ∷ []) → (old new : CompoundFile F g) (e : Error) → FilePuts {T = Unit {0}} (putting bytes) path (Err e) old new
-      → (tree : Tree) → FileMeans old tree → (b : List ℕ) → stream_at (letters_in old) (objects tree.content) name ≡ Some b → IsFault e
-  there_fault name bytes path at old new e p tree m b there = ⊎_elim (λ fault. fault) (λ told. refuted (at_name letters (objects tree.content) name) refl (answer told.0)) (p.refused tree m)
+  pub open_fault : (name bytes : List ℕ) (path : Option Path) → path ≡ Some (name ∷ []) → is_name name ≡ true → (old new : CompoundFile F g) (e : Error) → FilePuts {T = Unit {0}} (putting bytes) path (Err e) old new
+      → (tree : Tree) → FileMeans old tree → HasNoStorageAt (letters_in old) tree name → IsFault e
+  open_fault name bytes path at named old new e p tree m none = ⊎_elim (λ fault. fault) (λ told. refuted (at_name letters (objects tree.content) name) refl (answer told.0)) (p.refused tree m)
     where
       letters : Letters
       letters = letters_in old
@@ -175,11 +193,17 @@ module _ {F : Type 0} {g : Ghosts F} where
       answer : answer_by (putting bytes) letters tree path ≡ refused e → (putting bytes letters tree (name ∷ [])).1 ≡ refused e
       answer told = sym (ap (answer_by (putting bytes) letters tree) at) ∙ told
 
+      put : (o : Option Object) → at_name letters (objects tree.content) name ≡ o → putting bytes letters tree (name ∷ []) ≡ put_over bytes letters tree (name ∷ []) o
+      put o is = ap (put_over bytes letters tree (name ∷ [])) (at_path letters tree name ∙ is)
+
       refuted : (o : Option Object) → at_name letters (objects tree.content) name ≡ o → (putting bytes letters tree (name ∷ [])).1 ≡ refused e → IsFault e
-      refuted None is told = let never : None ≡ Some b = sym (ap (option_and_then object_bytes) is) ∙ there in absurd (cc)
-      refuted (Some (a_storage n f inside)) is told = let never : None ≡ Some b = sym (ap (option_and_then object_bytes) is) ∙ there in absurd (cc)
+      refuted None is told =
+          let made : put_over bytes letters tree (name ∷ []) None ≡ (added letters (a_stream name 0 bytes) (name ∷ []) tree, done) =
+          ap (λ b. cond b (added letters (a_stream name 0 bytes) (name ∷ []) tree, done) (tree, refused InvalidInput)) named in
+          let never : done ≡ refused e = sym (ap (λ (x : Outcome). x.1) (put None is ∙ made)) ∙ told in absurd (cc)
+      refuted (Some (a_storage n f inside)) is told = let never : false ≡ true = none (a_storage n f inside) is in absurd (cc)
       refuted (Some (a_stream n s content)) is told =
-          let never : done ≡ refused e = sym (ap (λ (x : Outcome). x.1) (ap (put_over bytes letters tree (name ∷ [])) (at_path letters tree name ∙ is))) ∙ told in absurd (cc)
+          let never : done ≡ refused e = sym (ap (λ (x : Outcome). x.1) (put (Some (a_stream n s content)) is)) ∙ told in absurd (cc)
 
   pub first_fault : (it : CompoundFile F g) (e : Error) → IsFirst it e → (tree : Tree) → FileMeans it tree → IsFault e
   first_fault it e (inl failed) tree m = let never : true ≡ false = sym failed.1 ∙ m.live.live in absurd (cc)
@@ -188,25 +212,24 @@ module _ {F : Type 0} {g : Ghosts F} where
   module _ (parts : PartBytes) (path pool_path data_path : Option Path) (at : path ≡ Some (summary_name ∷ [])) (pool_at : pool_path ≡ Some (stream_name pool_name ∷ [])) (data_at : data_path ≡ Some (stream_name data_name ∷ []))
       (old : CompoundFile F g) where
     pub summary_fault : (new : CompoundFile F g) (e : Error) → FilePuts {T = Unit {0}} (putting parts.summary) path (Err e) old new → OfPackage old (IsFault e)
-    summary_fault new e p tree P m s three = there_fault summary_name parts.summary path at old new e p tree m three.summary three.summary_at
+    summary_fault new e p tree P m s can = open_fault summary_name parts.summary path at names.0 old new e p tree m can.summary
 
     module _ (a : CompoundFile F g) (x : Unit {0}) (one : FilePuts {T = Unit {0}} (putting parts.summary) path (Ok x) old a) where
       pub pool_fault : (new : CompoundFile F g) (e : Error) → FilePuts {T = Unit {0}} (putting parts.pool) pool_path (Err e) a new → OfPackage old (IsFault e)
-      pool_fault new e p tree P m s three =
+      pool_fault new e p tree P m s can =
           let q = put_to summary_name parts.summary path at old a x one tree m in
-          let there = stream_yet (letters_in old) s.usable summary_name parts.summary tree q.after q.is (stream_name pool_name) (pool_not_summary (letters_in old) s.usable) ∙ three.pool_at in
-          there_fault (stream_name pool_name) parts.pool pool_path pool_at a new e p q.after q.means three.pool
-          (subst (λ (l : Letters). stream_at l (objects q.after.content) (stream_name pool_name) ≡ Some three.pool) (sym one.seen.0) there)
+          let none = open_yet (letters_in old) s.usable summary_name parts.summary tree q.after q.is (stream_name pool_name) (pool_not_summary (letters_in old) s.usable) can.pool in
+          open_fault (stream_name pool_name) parts.pool pool_path pool_at names.1 a new e p q.after q.means
+          (subst (λ (l : Letters). HasNoStorageAt l q.after (stream_name pool_name)) (sym one.seen.0) none)
 
       pub data_fault : (b : CompoundFile F g) (y : Unit {0}) → FilePuts {T = Unit {0}} (putting parts.pool) pool_path (Ok y) a b → (new : CompoundFile F g) (e : Error)
           → FilePuts {T = Unit {0}} (putting parts.pool_data) data_path (Err e) b new → OfPackage old (IsFault e)
-      data_fault b y two new e p tree P m s three =
+      data_fault b y two new e p tree P m s can =
           let letters = letters_in old in
           let q = put_to summary_name parts.summary path at old a x one tree m in
           let r = put_to (stream_name pool_name) parts.pool pool_path pool_at a b y two q.after q.means in
           let second = subst (λ (l : Letters). IsPut l (stream_name pool_name) parts.pool q.after r.after) one.seen.0 r.is in
-          let there =
-          stream_yet letters s.usable (stream_name pool_name) parts.pool q.after r.after second (stream_name data_name) (data_not_pool letters s.usable)
-          ∙ stream_yet letters s.usable summary_name parts.summary tree q.after q.is (stream_name data_name) (data_not_summary letters s.usable) ∙ three.data_at in
-          there_fault (stream_name data_name) parts.pool_data data_path data_at b new e p r.after r.means three.pool_data
-          (subst (λ (l : Letters). stream_at l (objects r.after.content) (stream_name data_name) ≡ Some three.pool_data) (sym (two.seen.0 ∙ one.seen.0)) there)
+          let first = open_yet letters s.usable summary_name parts.summary tree q.after q.is (stream_name data_name) (data_not_summary letters s.usable) can.pool_data in
+          let none = open_yet letters s.usable (stream_name pool_name) parts.pool q.after r.after second (stream_name data_name) (data_not_pool letters s.usable) first in
+          open_fault (stream_name data_name) parts.pool_data data_path data_at names.2 b new e p r.after r.means
+          (subst (λ (l : Letters). HasNoStorageAt l r.after (stream_name data_name)) (sym (two.seen.0 ∙ one.seen.0)) none)

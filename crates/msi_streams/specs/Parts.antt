@@ -10,6 +10,7 @@ use Rattle.cfb_medium.specs.declared.error.Error.TheVariants.{Failed, InvalidDat
 use Rattle.cfb_medium.specs.declared.medium.ReadMedium.{Ghosts}
 use Rattle.cfb_mini.specs.Views.{allocator_of}
 use Rattle.cfb_tree.specs.Names.{Letters}
+use Rattle.cfb_tree.specs.Objects.{Object}
 use Rattle.cfb_tree.specs.Tree.{Tree}
 use Rattle.msi_meaning.specs.Package.{Packed}
 use Rattle.msi_pool.specs.Pool.{Pool, data_stream, pool_stream}
@@ -17,7 +18,7 @@ use Rattle.msi_pool.specs.PoolState.{is_in_size}
 use Rattle.msi_props.specs.Props.{Props, props_bytes}
 use Rattle.msi_props.specs.Props.{is_in_size as set_is_in_size}
 use Rattle.msi_stored.specs.Changing.{StoresSound}
-use Rattle.msi_meaning.specs.Package.{data_name, objects, pool_name, stream_at, summary_name, table_stream}
+use Rattle.msi_meaning.specs.Package.{at_name, data_name, is_stream, objects, pool_name, stream_at, stream_name, summary_name, table_stream}
 use Rattle.std.specs.Prelude.{Some}
 
 -- the three streams that the parts have
@@ -44,6 +45,16 @@ pub record HasThree (letters : Letters) (tree : Tree) : Type 0 where
   pub pool_data : List ℕ
   pub data_at : table_stream letters (objects tree.content) data_name ≡ Some pool_data
 
+-- no storage stands at the name
+abbrev pub HasNoStorageAt : Letters → Tree → List ℕ → Type 0
+HasNoStorageAt letters tree name = (o : Object) → at_name letters (objects tree.content) name ≡ Some o → is_stream o ≡ true
+
+-- nor at any of the three's
+pub record CanHaveThree (letters : Letters) (tree : Tree) : Type 0 where
+  pub summary : HasNoStorageAt letters tree summary_name
+  pub pool : HasNoStorageAt letters tree (stream_name pool_name)
+  pub pool_data : HasNoStorageAt letters tree (stream_name data_name)
+
 module _ {F : Type 0} {g : Ghosts F} where
   -- the file means a tree that stores the package still, and has these three streams
   pub record HasParts (letters : Letters) (P : Packed) (parts : PartBytes) (new : CompoundFile F g) : Type 0 where
@@ -63,6 +74,6 @@ module _ {F : Type 0} {g : Ghosts F} where
     pub rests : OnErr result ((has_failed_here (allocator_of (mini_of new)) ≡ true) ⊎ KeepsMeant old new)
     pub seen : (letters_in new ≡ letters_in old) × (sound_of new ≡ sound_of old) × (validation_of new ≡ validation_of old)
 
-  -- of a file that has the three streams this is so
+  -- of a file that can have the three streams this is so
   abbrev pub OfPackage : CompoundFile F g → Type 0 → Type 0
-  OfPackage it A = (tree : Tree) (P : Packed) → FileMeans it tree → StoresSound (letters_in it) tree P → HasThree (letters_in it) tree → A
+  OfPackage it A = (tree : Tree) (P : Packed) → FileMeans it tree → StoresSound (letters_in it) tree P → CanHaveThree (letters_in it) tree → A

@@ -1,21 +1,18 @@
 //! A file without objects, and what it was before a call.
+use cfb::CompoundFile;
 use cfb_medium::{Error, MemoryMedium};
 use cfb_mini::MiniAllocator;
 use cfb_opening::open_file;
 use cfb_sectors::Validation;
 use cfb_tree::CaseMapper;
-use plain::{Facts, write_image};
 use std::alloc::Global;
 
-/// The bytes of a file without objects.
+/// The bytes of a new file, which has no objects.
 pub fn image(alloc: Global) -> Result<Vec<u8>, Error> {
-    let root = Facts {
-        clsid: [0; 16],
-        state_bits: 0,
-        created: 0,
-        modified: 0,
-    };
-    write_image(alloc, &root, &[])
+    let letters = CaseMapper::ascii(alloc)?;
+    let file = CompoundFile::create(alloc, MemoryMedium::new(alloc), letters)
+        .map_err(|refused| refused.1)?;
+    Ok(file.into_inner().into_bytes())
 }
 
 /// That file, open.

@@ -1,9 +1,16 @@
-use Rattle.std.proofs.Common.{refl}
+use Rattle.std.proofs.Common.{◌⊎◌, ◌≤◌, ⊥, arith, inl, inr, refl, ⊎_elim}
+use Rattle.std.proofs.lemmas.Result.{IfErr-weaker}
 use Rattle.std.specs.Prelude.{IsTrue}
-use Rattle.cfb.specs.Views.{letters_in}
-use Rattle.installer_runs.proofs.Copied.{copied_is, copied_survives, rested_survives, survives_none}
+use Rattle.cfb.specs.Views.{letters_in, mini_of}
+use Rattle.cfb_fat.specs.Tables.{HasCauseBelow}
+use Rattle.cfb_medium.specs.Calls.{IsFaultUnless}
+use Rattle.cfb_mini.specs.Views.{allocator_of}
+use Rattle.installer.proofs.Begun.{counted_later}
+use Rattle.installer.specs.Refusals.{IsCounted}
+use Rattle.installer_runs.proofs.Copied.{copied_is, copied_survives, fault_uncopied, rested_survives, survives_none, uncopied}
+use Rattle.installer_runs.specs.Copying.{IsUncopied}
 use Rattle.msi.specs.Opened.{file_in}
-use Rattle.staged.specs.Staged.{device_of}
+use Rattle.staged.specs.Staged.{device_of, HasStagedCause}
 use Rattle.installer_runs.proofs.copying.commit_copy.Goals as goal
 
 pub returns-in-Ok-clause-copied : goal.returns-in-Ok-clause-copied
@@ -24,3 +31,37 @@ returns-in-Err-clause-survives g c = λ honest.
     let d = g.met.D.Device in
     survives_none c.args.source.now g.D.Device _ _ (rested_survives g.D.Device (letters_in (file_in c.args.source.now)) d.counts_now d.rests_keeps d.rests_leaves (device_of c.args.medium.now) (device_of c.copy_to.new.target)
     (c.in-Err.ensures.continues c.args.medium.now (record { device = d.rests_refl _; failed = refl })).device)
+
+pub returns-in-Ok-clause-refused : goal.returns-in-Ok-clause-refused
+returns-in-Ok-clause-refused g c = λ P held. IfErr-weaker c.commit.result (IsFaultUnless ⊥) (IsUncopied c.args.source.now) (λ e fault. fault_uncopied c.args.source.now e fault) c.commit.ensures.refusal
+
+pub returns-in-Err-clause-refused : goal.returns-in-Err-clause-refused
+returns-in-Err-clause-refused g c = λ P held. uncopied c.args.source.now _ _ c.in-Err.error c.copy_to.new.self P held c.in-Err.ensures.copies
+
+pub returns-in-Ok-clause-counted : goal.returns-in-Ok-clause-counted
+returns-in-Ok-clause-counted g c =
+    let d = g.met.D.Device in
+    let read = (c.in-Ok.ensures.continues c.args.medium.now (record { device = d.rests_refl _; failed = refl })).device in
+    let first = (d.rests_keeps _ _ read).counted in
+    let second = c.commit.ensures.failures in
+    omega (arith, first, second)
+
+pub returns-in-Err-clause-counted : goal.returns-in-Err-clause-counted
+returns-in-Err-clause-counted g c =
+    let d = g.met.D.Device in
+    (d.rests_keeps _ _ (c.in-Err.ensures.continues c.args.medium.now (record { device = d.rests_refl _; failed = refl })).device).counted
+
+pub returns-in-Ok-clause-cause : goal.returns-in-Ok-clause-cause
+returns-in-Ok-clause-cause g c =
+    let d = g.met.D.Device in
+    let mid = c.copy_to.new.target in
+    let read = (c.in-Ok.ensures.continues c.args.medium.now (record { device = d.rests_refl _; failed = refl })).device in
+    IfErr-weaker c.commit.result (HasStagedCause mid c.commit.new.self)
+    (λ e. HasCauseBelow (allocator_of (mini_of (file_in c.args.source.now))) (allocator_of (mini_of (file_in c.copy_to.new.self))) e ⊎ IsCounted g.D.Device (device_of c.args.medium.now) (device_of c.commit.new.self) e)
+    (λ e cause. inr (counted_later g.D.Device (device_of c.args.medium.now) (device_of mid) (device_of c.commit.new.self) e (d.rests_keeps _ _ read).counted (cause mid (record { device = d.rests_refl _; failed = refl })).device c.commit.ensures.failures))
+    c.commit.ensures.cause
+
+pub returns-in-Err-clause-cause : goal.returns-in-Err-clause-cause
+returns-in-Err-clause-cause g c =
+    let d = g.met.D.Device in
+    ⊎_elim (λ below. inl below) (λ since. inr (since c.args.medium.now (record { device = d.rests_refl _; failed = refl })).device) c.in-Err.ensures.cause

@@ -1,10 +1,12 @@
-use Rattle.std.proofs.Common.{◌∙◌, refl, sym}
+use Rattle.std.proofs.Common.{◌∙◌, ap, inl, inr, refl, sym, ⊎_elim}
 use Rattle.cfb.specs.Views.{mini_of}
+use Rattle.cfb_creating.specs.NewFile.{empty_tree}
 use Rattle.cfb_mini.specs.Views.{allocator_of}
 use Rattle.cfb_owned.proofs.GoingOn.{goes_cause, goes_then}
 use Rattle.cfb_tree.specs.LetterViews.{letters_of}
-use Rattle.msi_parts.proofs.Touching.{may_be_used}
-use Rattle.msi.proofs.Created.{create_fault, created_package, goes_first, left_made, letters_first, live_first, new_of, not_both, since_made}
+use Rattle.msi_meaning.specs.Opening.{may_use}
+use Rattle.msi_parts.proofs.Touching.{may_be_used, may_not_be_used}
+use Rattle.msi.proofs.Created.{create_fault, created_package, goes_first, left_made, letters_first, live_first, new_of, not_both, since_made, unwritten_fault}
 use Rattle.msi.specs.Opened.{file_in}
 use Rattle.msi.proofs.package.Package.create.Goals as goal
 
@@ -71,3 +73,24 @@ returns-clause-created g c =
     (goes_then (allocator_of (mini_of a)) (allocator_of (mini_of (file_in first))) (allocator_of (mini_of c.write_parts.new.file)) goes c.write_parts.ensures.goes_on)
     (record { letters = did.changes.seen.0; tables = refl; kind = refl; pool = refl; summary = refl; parts = λ tree P m s. did.changes.done tree P m s })
     (λ tree means none may. new_of c.args.kind made.store made.pool made.summary first is c.from_new-it.ensures.parts.1 c.from_new-it.ensures.parts.2 (c.in-Ok-create_package.ensures.made tree means none may))
+
+pub returns-then-touches-clause-refused : goal.returns-then-touches-clause-refused
+returns-then-touches-clause-refused g c = λ honest few. inl (refl, may_not_be_used (letters_of c.args.letters) (sym c.touches.ensures ∙ c.if-touches.true))
+
+pub returns-in-Err-clause-refused : goal.returns-in-Err-clause-refused
+returns-in-Err-clause-refused g c = λ honest few. inr (⊎_elim (λ fault. inl fault) (λ broken. absurd (broken.1 honest)) c.in-Err.ensures.fault)
+
+pub returns-in-Err-create_package-clause-refused : goal.returns-in-Err-create_package-clause-refused
+returns-in-Err-create_package-clause-refused g c = λ honest few. inr (c.in-Err-create_package.ensures.fault empty_tree (c.in-Ok.ensures.created.means honest few) refl)
+
+pub returns-in-Err-write_parts-clause-refused : goal.returns-in-Err-write_parts-clause-refused
+returns-in-Err-write_parts-clause-refused g c = λ honest few.
+    let made = c.in-Ok-create_package.made in
+    let created = c.in-Ok.ensures.created in
+    let may = ap may_use created.compared ∙ may_be_used (letters_of c.args.letters) (sym c.touches.ensures ∙ c.if-touches.false) in
+    let is_new = c.in-Ok-create_package.ensures.made empty_tree (created.means honest few) refl may in
+    inr (
+    unwritten_fault c.args.kind c.from_new-it.result
+    (new_of c.args.kind made.store made.pool made.summary c.from_new-it.result c.from_new-it.ensures.store c.from_new-it.ensures.parts.1 c.from_new-it.ensures.parts.2 is_new) c.in-Err-write_parts.error c.write_parts.new.file
+    c.in-Err-write_parts.ensures.refused
+    )
