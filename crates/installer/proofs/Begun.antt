@@ -1,5 +1,5 @@
 -- Sessions that begin, and why none does.
-use Rattle.std.proofs.Common.{◌≡◌, ◌⊎◌, ◌<◌, ◌≤◌, ◌-◌, ◌^◌, ◌∙◌, ⊥, ℕ, Bool, true, [], List, Some, ap, false, inl, inr, refl, subst, sym, ⊎_elim}
+use Rattle.std.proofs.Common.{◌≡◌, ◌⊎◌, ◌<◌, ◌≤◌, ◌-◌, ◌^◌, ◌∙◌, ℕ, Bool, true, [], List, Some, ap, false, inl, inr, refl, subst, sym, ⊎_elim}
 use Rattle.std.specs.Prelude.{IsTrue}
 use Rattle.cfb.specs.Publishing.{medium_in}
 use Rattle.cfb.specs.Views.{mini_of}

@@ -1,17 +1,21 @@
 -- A copy that is committed.
-use Rattle.std.proofs.Common.{◌≡◌, ◌⊎◌, ◌≤◌, ⊥, ℕ, Bool, List, [], ◌∷◌, Ok, Err, Result, Some, Option, arith, false, true, get_or, inl, inr, ⊎_elim, refl, subst, sym}
-use Rattle.std.specs.Prelude.{All, IsTrue, OnOk}
-use Rattle.cfb.specs.Views.{letters_in}
+use Rattle.std.proofs.Common.{◌≡◌, ◌∙◌, ◌⊎◌, ◌≤◌, ℕ, Bool, List, [], ◌∷◌, Ok, Err, Result, Some, Option, ap, arith, false, true, get_or, inl, inr, ⊎_elim, refl, subst, sym}
+use Rattle.std.specs.Prelude.{All, IfErr, IsTrue, OnOk}
+use Rattle.cfb.specs.Views.{letters_in, mini_of}
+use Rattle.cfb_fat.specs.Tables.{HasCauseBelow}
+use Rattle.cfb_mini.specs.Views.{allocator_of}
 use Rattle.cfb_medium.specs.Stops.{LeavesOnly}
 use Rattle.cfb_medium.specs.Calls.{IsFaultUnless}
 use Rattle.cfb_medium.specs.declared.error.Error.{Error}
-use Rattle.cfb_medium.specs.declared.error.Error.TheVariants.{Failed, InvalidData}
+use Rattle.cfb_medium.specs.declared.error.Error.TheVariants.{AlreadyExists, Device, Failed, InvalidData}
 use Rattle.cfb_medium.specs.declared.medium.ReadMedium as medium
 use Rattle.cfb_tree.specs.Names.{Letters}
 use Rattle.installer.proofs.Stopping.{survives_commit, survives_rest, survives_then}
+use Rattle.installer.proofs.Begun.{counted_later}
 use Rattle.installer.specs.Course.{Mark}
+use Rattle.installer.specs.Refusals.{IsCounted}
 use Rattle.installer.specs.Survival.{gives, given_since, IsFound, IsGiven, Survives}
-use Rattle.installer_runs.specs.Copying.{IsCopied, IsUncopied, SurvivesCopy}
+use Rattle.installer_runs.specs.Copying.{CopiesOn, IsCopied, IsCopyRefusal, IsUncopied, SurvivesCopy}
 use Rattle.msi.specs.Changing.{failed_in, PackageIsFit}
 use Rattle.msi.specs.Committing.{HoldsSound}
 use Rattle.msi.specs.Copying.{PackageCopies}
@@ -20,9 +24,13 @@ use Rattle.msi.specs.declared.package.Package.{Package}
 use Rattle.msi_meaning.specs.Package.{Packed}
 use Rattle.staged.specs.Device.{DeviceRests}
 use Rattle.staged.specs.Files.{Files}
+use Rattle.staged.specs.Log.{recovered}
 use Rattle.staged.specs.Staged.{device_of, staged_bytes, staged_may_leave, LeavesOldOrNew, PublishesBytes}
 use Rattle.staged.specs.declared.device.Device.{Ghosts}
 use Rattle.staged.specs.declared.staged.Staged.{Staged}
+
+same_error : (e f : Error) → ◌≡◌ {A = Result (Unit {0}) Error} (Err e) (Err f) → e ≡ f
+same_error e f is = cc
 
 -- one commit
 pub one_mark : (m : Mark) (Of : Mark → Type 0) → Of m → All Of (m ∷ [])
@@ -72,6 +80,11 @@ module _ {F : Type 0} {k : medium.Ghosts F} (source : Package F k) {D : Type 0} 
   copied_is mid new (Ok u) published holds = λ P held sound fit. (staged_bytes mid, published, holds P held sound fit)
   copied_is mid new (Err e) published holds = tt
 
+  -- over a home file that was empty
+  pub copies_on : (old new : D) (bytes : List ℕ) → recovered (g.content old) ≡ Some bytes → (result : Result (Unit {0}) Error) → OnOk result ((bytes ≡ []) × IsCopied source g new) → OnOk result (CopiesOn source g old new)
+  copies_on old new bytes given (Ok u) told = record { empty = given ∙ ap Some told.0; copied = told.1 }
+  copies_on old new bytes given (Err e) told = tt
+
   -- the device that is given back is that of the medium
   pub copied_there : (result : Result (Unit {0}) Error) (Empty : Type 0) (a b : D) → b ≡ a → Empty → OnOk result (IsCopied source g a) → OnOk result (Empty × IsCopied source g b)
   copied_there (Ok u) Empty a b same empty copied = (empty, subst (IsCopied source g) (sym same) copied)
@@ -95,10 +108,37 @@ module _ {F : Type 0} {k : medium.Ghosts F} (source : Package F k) where
   uncopied honest bytes e new P held c = by (failed_in source) refl (sound_in source) refl
     where
       by : (failed : Bool) → failed_in source ≡ failed → (sound : Bool) → sound_in source ≡ sound → IsUncopied source e
-      by true failed sound is = let of : e ≡ Failed = (c.failed failed).0 in inr (inr (inl (subst (IsFaultUnless ⊥) (sym of) tt)))
-      by false live false unsound = let of : e ≡ InvalidData = (c.unsound live unsound).0 in inl (of, unsound)
+      by true failed sound is = let of : e ≡ Failed = same_error e Failed (c.failed failed).0 in inr (inr (inl (subst (IsFaultUnless ⊥) (sym of) tt)))
+      by false live false unsound = let of : e ≡ InvalidData = same_error e InvalidData (c.unsound live unsound).0 in inl (of, unsound)
       by false live true sound = ⊎_elim (λ fault. inr (inr fault)) (λ long. inr (inl (long.0, long.1))) (c.refused P held sound)
 
   -- a fault of the commit behind it
   pub fault_uncopied : (e : Error) → IsFaultUnless ⊥ e → IsUncopied source e
   fault_uncopied e fault = inr (inr (inl fault))
+
+-- the same cause between equal devices
+pub cause_along : {D : Type 0} (g : Ghosts D) (Below : Error → Type 0) (result : Result (Unit {0}) Error) (a b c d : D) → a ≡ b → d ≡ c → IfErr result (λ e. Below e ⊎ IsCounted g a c e)
+    → IfErr result (λ e. Below e ⊎ IsCounted g b d e)
+cause_along {D} g Below result a b c d first last cause =
+    subst (λ (x : D). IfErr result (λ e. Below e ⊎ IsCounted g x d e)) first (subst (λ (x : D). IfErr result (λ e. Below e ⊎ IsCounted g a x e)) (sym last) cause)
+
+pub count_along : {D : Type 0} (g : Ghosts D) (a b c d : D) → a ≡ b → d ≡ c → g.failures a ≤ g.failures c → g.failures b ≤ g.failures d
+count_along {D} g a b c d first last counted = subst (λ (x : D). g.failures x ≤ g.failures d) first (subst (λ (x : D). g.failures a ≤ g.failures x) (sym last) counted)
+
+-- no other error names the device
+pub not_device : {D : Type 0} (g : Ghosts D) (old new : D) (e : Error) → (e ≡ Device → ⊥) → IsCounted g old new e
+not_device g old new e never = λ is. absurd (never is)
+
+-- a copy that is refused, of a device that was recovered
+module _ {F : Type 0} {k : medium.Ghosts F} (before after : Package F k) {D : Type 0} (g : Ghosts D) (old mid new : D) where
+  pub copy_refused : (bytes : List ℕ) → recovered (g.content old) ≡ Some bytes → g.failures old ≤ g.failures mid → g.failures mid ≤ g.failures new → (result : Result (Unit {0}) Error)
+      → IfErr result (λ e. ((e ≡ AlreadyExists) × (bytes ≡ [] → ⊥)) ⊎ IsUncopied before e)
+      → IfErr result (λ e. HasCauseBelow (allocator_of (mini_of (file_in before))) (allocator_of (mini_of (file_in after))) e ⊎ IsCounted g mid new e) → IfErr result (IsCopyRefusal before after g old new)
+  copy_refused bytes given first second (Ok u) kind cause = tt
+  copy_refused bytes given first second (Err e) kind cause = record {
+    kind = ⊎_elim (λ there. inr (inl (there.0, λ empty. there.1 (same empty)))) (λ un. inr (inr un)) kind;
+    cause = ⊎_elim (λ below. inl below) (λ count. inr (counted_later g old mid new e first count second)) cause;
+  }
+    where
+      same : recovered (g.content old) ≡ Some [] → bytes ≡ []
+      same empty = let is : Some bytes ≡ Some [] = sym given ∙ empty in cc

@@ -1,5 +1,5 @@
 -- Pool and summary of a new package are short, and nothing stands in the way of their streams.
-use Rattle.std.proofs.Common.{◌≡◌, ◌∙◌, ◌<◌, ◌≤◌, ⊥, ℕ, Bool, true, false, List, [], length, ap, arith, refl, sym, subst, Some, None, ⊎_elim}
+use Rattle.std.proofs.Common.{◌≡◌, ◌∙◌, ◌<◌, ◌≤◌, ℕ, Bool, true, false, List, [], length, ap, arith, refl, sym, subst, Some, None, ⊎_elim}
 use Rattle.std.specs.Prelude.{nat_le, not, filter}
 use Rattle.std.specs.Str.{chars, is_utf8}
 use Rattle.std.specs.Str.Lossy.{utf8_valid_len}

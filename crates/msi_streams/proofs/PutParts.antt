@@ -1,6 +1,7 @@
 -- The package's own streams that are put one after the other.
 use Rattle.std.proofs.Common.{◌≡◌, ◌∙◌, ℕ, Bool, true, false, cond, List, [], ◌∷◌, Some, None, Option, inl, inr, refl, sym, ap, subst, ⊎_elim}
-use Rattle.std.specs.Prelude.{chars, option_and_then, Err, Ok}
+use Rattle.std.specs.Prelude.{option_and_then, Err, Ok}
+use Rattle.std.specs.Str.{chars}
 use Rattle.std.specs.List.Sorted.{IsStrictlySortedBy}
 use Rattle.cfb.specs.Doing.{FileMeans}
 use Rattle.cfb.specs.Putting.{answer_by, put_over, putting, FilePuts}

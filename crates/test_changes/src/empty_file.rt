@@ -10,8 +10,9 @@ use std::alloc::Global;
 /// The bytes of a new file, which has no objects.
 pub fn image(alloc: Global) -> Result<Vec<u8>, Error> {
     let letters = CaseMapper::ascii(alloc)?;
-    let file = CompoundFile::create(alloc, MemoryMedium::new(alloc), letters)
-        .map_err(|refused| refused.1)?;
+    let file = CompoundFile::create(alloc, MemoryMedium::new(alloc), letters).map_err(
+        |refused| refused.1,
+    )?;
     Ok(file.into_inner().into_bytes())
 }
 

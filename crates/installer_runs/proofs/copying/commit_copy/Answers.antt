@@ -1,4 +1,4 @@
-use Rattle.std.proofs.Common.{◌⊎◌, ◌≤◌, ⊥, arith, inl, inr, refl, ⊎_elim}
+use Rattle.std.proofs.Common.{◌⊎◌, ◌≤◌, arith, inl, inr, refl, ⊎_elim}
 use Rattle.std.proofs.lemmas.Result.{IfErr-weaker}
 use Rattle.std.specs.Prelude.{IsTrue}
 use Rattle.cfb.specs.Views.{letters_in, mini_of}

@@ -1,8 +1,13 @@
-use Rattle.std.proofs.Common.{◌≡◌, ◌∙◌, [], length, refl, sym}
+use Rattle.std.proofs.Common.{◌≡◌, ◌∙◌, ◌⊎◌, [], ap, inl, inr, length, refl, sym}
 use Rattle.std.proofs.lemmas.List.{nil_from_length}
+use Rattle.std.proofs.lemmas.Result.{IfErr-weaker}
 use Rattle.std.specs.Prelude.{IsTrue}
-use Rattle.cfb.specs.Views.{letters_in}
-use Rattle.installer_runs.proofs.Copied.{copied_there, rested_survives, survives_along, survives_none}
+use Rattle.cfb.specs.Views.{letters_in, mini_of}
+use Rattle.cfb_fat.specs.Tables.{HasCauseBelow}
+use Rattle.cfb_medium.specs.declared.error.Error.TheVariants.{AlreadyExists, Device, Failed}
+use Rattle.cfb_mini.specs.Views.{allocator_of}
+use Rattle.installer_runs.proofs.Copied.{cause_along, copied_there, count_along, rested_survives, survives_along, survives_none}
+use Rattle.installer_runs.specs.Copying.{IsUncopied}
 use Rattle.msi.specs.Opened.{file_in}
 use Rattle.staged.specs.Staged.{device_of, staged_bytes}
 use Rattle.installer_runs.proofs.copying.copy_over.Goals as goal
@@ -43,3 +48,29 @@ returns-in-Err-clause-kept g c = λ honest other.
     let d = g.met.D.Device in
     rw c.into_device-in-Err.ensures.device (rested_survives g.D.Device (letters_in (file_in c.args.source.now)) d.counts_now d.rests_keeps d.rests_leaves (device_of c.args.medium) (device_of c.len.new.self)
     (c.len.ensures.continues c.args.medium (record { device = d.rests_refl _; failed = refl })).device)
+
+pub returns-in-Ok-eq0-clause-refused : goal.returns-in-Ok-eq0-clause-refused
+returns-in-Ok-eq0-clause-refused g c = λ honest P held.
+    IfErr-weaker c.commit_copy-copied.result (IsUncopied c.args.source.now) (λ e. ((e ≡ AlreadyExists) × (staged_bytes c.args.medium ≡ [] → ⊥)) ⊎ IsUncopied c.args.source.now e) (λ e un. inr un)
+    (c.commit_copy-copied.ensures.refused P held)
+
+pub returns-in-Ok-eq0-clause-cause : goal.returns-in-Ok-eq0-clause-cause
+returns-in-Ok-eq0-clause-cause g c =
+    cause_along g.D.Device (HasCauseBelow (allocator_of (mini_of (file_in c.args.source.now))) (allocator_of (mini_of (file_in c.commit_copy-copied.new.source)))) c.commit_copy-copied.result (device_of c.len.new.self)
+    (device_of c.args.medium) (device_of c.commit_copy-copied.new.medium) c.into_device.result c.len.ensures.quiet c.into_device.ensures.device c.commit_copy-copied.ensures.cause
+
+pub returns-in-Ok-eq0-clause-counted : goal.returns-in-Ok-eq0-clause-counted
+returns-in-Ok-eq0-clause-counted g c =
+    count_along g.D.Device (device_of c.len.new.self) (device_of c.args.medium) (device_of c.commit_copy-copied.new.medium) c.into_device.result c.len.ensures.quiet c.into_device.ensures.device c.commit_copy-copied.ensures.counted
+
+pub returns-in-Err-clause-refused : goal.returns-in-Err-clause-refused
+returns-in-Err-clause-refused g c = λ honest P held. inr (inr (inr (inl c.in-Err.ensures.refusal)))
+
+pub returns-in-Err-clause-cause : goal.returns-in-Err-clause-cause
+returns-in-Err-clause-cause g c = inr (λ is. (let never : Failed ≡ Device = sym c.in-Err.ensures.failed ∙ is in absurd (cc)))
+
+pub returns-in-Ok-clause-cause : goal.returns-in-Ok-clause-cause
+returns-in-Ok-clause-cause g c = inr (λ is. (let never : AlreadyExists ≡ Device = is in absurd (cc)))
+
+pub returns-in-Ok-clause-refused : goal.returns-in-Ok-clause-refused
+returns-in-Ok-clause-refused g c = λ honest P held. inl (refl, λ empty. c.in-Ok.field-0-test.1 (c.in-Ok.ensures.length honest ∙ ap length empty))
