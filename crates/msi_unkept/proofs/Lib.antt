@@ -1,0 +1,4 @@
+pub mod Kept
+pub mod ReadParts
+pub mod SetParts
+pub mod Shapes

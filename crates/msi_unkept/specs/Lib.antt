@@ -1,0 +1,2 @@
+pub mod Unkept
+pub mod Misshapen
