@@ -21,7 +21,7 @@ unkept_from page n (s ∷ ss) = (if gives_back page s.0 then [] else (n ∷ []))
 abbrev pub heads_in : List ℕ → Result (CodePage × Heads) Error
 heads_in bytes = begun bytes >>= λ b. Ok (b.page, b.heads)
 
--- the same of the pool's second stream, whose texts have these lengths
+-- the places of the texts of the pool's second stream, which have these lengths, that the page doesn't give back
 abbrev pub unkept_at : CodePage → Heads → List ℕ → Result (List ℕ) Error
 unkept_at page heads bytes = texts_at heads bytes >>= λ stored. Ok (unkept_from page 1 stored)
 

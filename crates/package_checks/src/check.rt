@@ -49,9 +49,10 @@ pub(crate) fn write_defects<R: Files<File = File> + AllocGlobal, O: Write>(
 }
 
 /// Tells which rules the package at a path breaks, which is only read: a line for each, none where it is sound. Behind the line stand, with
-/// two blanks in front, texts that no cell uses, tables with a wrong name, objects that are out of place, tables whose rows can't be read,
-/// and texts that aren't counted right, where it is the rule on these. The status is 0 where it is sound, 1 where it isn't, 3 where the file
-/// is no package or can't be read, which is told with the file's name, and where nothing can be written.
+/// two blanks in front, texts of pool and summary that their code page doesn't give back, texts that no cell uses, tables with a wrong name,
+/// columns of `_Validation` that aren't as they must be, objects that are out of place, tables whose rows can't be read, and texts that
+/// aren't counted right, where it is the rule on these. The status is 0 where it is sound, 1 where it isn't, 3 where the file is no package
+/// or can't be read, which is told with the file's name, and where nothing can be written.
 pub fn check_package<'a, R: Files<File = File> + AllocGlobal, O: Write, E: Write>(
     rt: &R,
     path: &'a str,

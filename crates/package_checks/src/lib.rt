@@ -3,6 +3,7 @@
 
 mod adopt;
 mod check;
+mod columns;
 mod containers;
 mod packages;
 mod places;

@@ -3,14 +3,18 @@ use cfb::{CaseMapper, CompoundFile, FileMedium, MemoryMedium};
 use cfb_medium::Error;
 use msi::{Defect, Package, defects};
 use msi_adopting::adopt;
+use msi_columns::Column;
 use msi_findings::{
     Miscount, miscounts, misnamed_tables, misplaced_objects, unread_tables, unused_texts,
 };
-use msi_parts::PackageParts;
+use msi_parts::{PackageParts, table_named};
 use msi_pool::StringRef;
+use msi_props::PropertyValue;
+use msi_schema::validation_columns;
 use msi_store::read_parts;
 use msi_tables::Table;
 use msi_texts::decode;
+use msi_unkept::{misshapen_validation, unkept_properties, unkept_texts};
 use serde_json::Value as Json;
 use std::alloc::{AllocError, Global};
 use std::fs::File;
@@ -91,6 +95,45 @@ pub(crate) fn miscounts_of(alloc: Global, looked: &mut Looked) -> Result<Vec<Mis
         &looked.parts.pool,
         &looked.parts.tables,
     )
+}
+
+pub(crate) fn unkept_texts_of(alloc: Global, looked: &mut Looked) -> Result<Vec<u32>, Error> {
+    unkept_texts(alloc, &mut looked.file)
+}
+
+pub(crate) fn unkept_properties_of(alloc: Global, looked: &mut Looked) -> Result<Vec<u32>, Error> {
+    unkept_properties(alloc, &mut looked.file)
+}
+
+pub(crate) fn misshapen_of(alloc: Global, looked: &Looked) -> Result<Vec<usize>, Error> {
+    misshapen_validation(alloc, &looked.parts.tables)
+}
+
+/// The table `_Validation`, where it is one.
+pub(crate) fn validation_of(looked: &Looked) -> Option<&Table> {
+    table_named(&looked.parts.tables, "_Validation")
+}
+
+/// The columns that `_Validation` must have.
+pub(crate) fn columns_wanted(alloc: Global) -> Result<Vec<Column>, Error> {
+    validation_columns(alloc)
+}
+
+/// The text of a property of the summary; the empty one where it has none.
+pub(crate) fn property_text(looked: &Looked, number: u32) -> &str {
+    for (at, value) in looked.parts.summary.properties() {
+        if *at == number {
+            return text_of(value);
+        }
+    }
+    ""
+}
+
+fn text_of(value: &PropertyValue) -> &str {
+    match value {
+        PropertyValue::LpStr(text) => text.as_str(),
+        _ => "",
+    }
 }
 
 /// The text at a place of the pool; the empty one where there is no such place.

@@ -1,14 +1,17 @@
 //! Where a package breaks a rule on its container, on texts, tables or objects, a line each.
+use crate::columns::{name_at, shape_at};
 use crate::containers::{
     Container, broken_in, container_at, name_in, shared_in, shared_minis_in, uncovered_in,
     unmarked_in,
 };
 use crate::packages::{
-    Looked, decoded, looked_at, miscounts_of, misnamed_of, misplaced_of, quoted, text_at,
-    unread_of, unused_of,
+    Looked, columns_wanted, decoded, looked_at, miscounts_of, misnamed_of, misplaced_of,
+    misshapen_of, property_text, quoted, text_at, unkept_properties_of, unkept_texts_of, unread_of,
+    unused_of, validation_of,
 };
 use cfb_medium::Error;
 use msi::Defect;
+use msi_export::property_name;
 use msi_findings::Miscount;
 use msi_tables::Table;
 use std::alloc::Global;
@@ -17,8 +20,8 @@ use std::io::Write;
 use std::rc::Rc;
 use std::rt::Files;
 
-/// Writes each place at which the package at a path breaks a rule: of the rules on the container, on free places, on the names of tables,
-/// on objects and on counts. `Device` where nothing can be written.
+/// Writes each place at which the package at a path breaks a rule, but that on the summary's sections and that on the rows of `_Tables`.
+/// `Device` where nothing can be written.
 pub(crate) fn write_places<R: Files<File = File> + AllocGlobal, O: Write>(
     rt: &R,
     path: &str,
@@ -26,7 +29,13 @@ pub(crate) fn write_places<R: Files<File = File> + AllocGlobal, O: Write>(
     out: &mut O,
 ) -> Result<(), Error> {
     match defect {
-        Defect::FreePlaces | Defect::TableNames | Defect::Objects | Defect::Counts => {
+        Defect::PoolTexts
+        | Defect::SummaryTexts
+        | Defect::FreePlaces
+        | Defect::TableNames
+        | Defect::Validation
+        | Defect::Objects
+        | Defect::Counts => {
             let mut looked = looked_at(rt, path)?;
             let mut lines = Lines {
                 alloc: rt.alloc(),
@@ -42,11 +51,7 @@ pub(crate) fn write_places<R: Files<File = File> + AllocGlobal, O: Write>(
             };
             lines.container(&container)
         }
-        Defect::PoolTexts
-        | Defect::SummaryTexts
-        | Defect::SummarySections
-        | Defect::Validation
-        | Defect::ListedSystemTables => Ok(()),
+        Defect::SummarySections | Defect::ListedSystemTables => Ok(()),
     }
 }
 
@@ -58,11 +63,14 @@ struct Lines<'a, O> {
 }
 
 impl<'a, O: Write> Lines<'a, O> {
-    // The places at which one of the four rules is broken.
+    // The places at which one of the seven rules is broken.
     fn places(&mut self, defect: Defect, looked: &mut Looked) -> Result<(), Error> {
         match defect {
+            Defect::PoolTexts => self.unkept_texts(looked),
+            Defect::SummaryTexts => self.unkept_properties(looked),
             Defect::FreePlaces => self.unused_texts(looked),
             Defect::TableNames => self.misnamed_tables(looked),
+            Defect::Validation => self.misshapen_validation(looked),
             Defect::Objects => self.misplaced_objects(looked),
             _ => self.counts(looked),
         }
@@ -100,6 +108,43 @@ impl<'a, O: Write> Lines<'a, O> {
             let name = decoded(self.alloc, &name_in(self.alloc, container, *id)?)?;
             let name = quoted(self.alloc, &name)?;
             self.line(&format!(in self.alloc; "stream {name}: its bytes aren't all there")?)?;
+        }
+        Ok(())
+    }
+
+    // Texts that the code page of the database doesn't give back, as they read under it.
+    fn unkept_texts(&mut self, looked: &mut Looked) -> Result<(), Error> {
+        for place in unkept_texts_of(self.alloc, looked)? {
+            let text = quoted(self.alloc, text_at(looked, place))?;
+            self.line(&format!(in self.alloc; "place {place}, {text}")?)?;
+        }
+        Ok(())
+    }
+
+    // So of properties of the summary.
+    fn unkept_properties(&mut self, looked: &mut Looked) -> Result<(), Error> {
+        for number in unkept_properties_of(self.alloc, looked)? {
+            let text = quoted(self.alloc, property_text(looked, number))?;
+            let name = property_name(number).unwrap_or("unknown");
+            self.line(&format!(in self.alloc; "property {number}, {name}: {text}")?)?;
+        }
+        Ok(())
+    }
+
+    // Columns of _Validation that aren't as they must be.
+    fn misshapen_validation(&mut self, looked: &Looked) -> Result<(), Error> {
+        let columns = match validation_of(looked) {
+            Some(table) => table.columns(),
+            None => return Ok(()),
+        };
+        let wanted = columns_wanted(self.alloc)?;
+        for position in misshapen_of(self.alloc, looked)? {
+            let name = name_at(&wanted, columns, position);
+            let must_be = shape_at(self.alloc, &wanted, position)?;
+            let is = shape_at(self.alloc, columns, position)?;
+            self.line(&format!(in self.alloc;
+                "column {position}, {name}: {is} in place of {must_be}"
+            )?)?;
         }
         Ok(())
     }
