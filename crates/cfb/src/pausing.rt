@@ -9,7 +9,7 @@ use cfb_medium::ReadMedium;
 
 impl<'a, F: ReadMedium> Stream<'a, F> {
     /// Puts the stream aside, so that its file can be used; the file is as the stream leaves it, and keeps the stream's sectors at
-    /// hand until another stream is opened.
+    /// hand until another stream is opened or read.
     pub fn pause(self) -> PausedStream
         ensures left { self.exit.0.now ≡ file_under self.entry }
         ensures paused { IsPaused self.entry result }
@@ -26,8 +26,8 @@ impl<'a, F: ReadMedium> Stream<'a, F> {
 }
 
 impl<F: ReadMedium> CompoundFile<F> {
-    /// Takes up a stream of this file that was put aside, at its place, without a search. It stands as it stood then where the file
-    /// was only read since, and no other stream was opened; else nothing is told of it.
+    /// Takes up a stream of this file that was put aside, at its place, without a search. It stands as it stood then where nothing was
+    /// changed since, and no other stream was opened or read; else nothing is told of it, and what it writes may harm the file.
     pub fn resume_stream(&mut self, paused: &PausedStream) -> Stream<'_, F>
         requires { IsPlace paused.now }
         ensures same_reference { result.file.ghost_name ≡ self.entry.ghost_name }
