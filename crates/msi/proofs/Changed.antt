@@ -52,7 +52,7 @@ pub record DifferByStore {F : Type 0} {g : Ghosts F} (old new : Package F g) : T
   pub sound : sound_in new ≡ sound_in old
   pub written : written_in new ≡ written_in old
 
-by_store : {F : Type 0} {g : Ghosts F} (old new : Package F g) → DifferByFile old new → DifferByStore old new
+pub by_store : {F : Type 0} {g : Ghosts F} (old new : Package F g) → DifferByFile old new → DifferByStore old new
 by_store old new d = record { letters = d.letters; kind = d.kind; summary = d.summary; sound = d.sound; written = d.written }
 
 -- a fault in the file is one of the package
@@ -123,6 +123,16 @@ pub record LeavesTables (rule : PackageRule) : Type 0 where
   pub pool : (P Q : Packed) → rule P Q (Ok tt) → Q.pool ≡ P.pool
   pub tables : (P Q : Packed) → rule P Q (Ok tt) → Q.tables ≡ P.tables
 
+-- what a rule on the streams gives is held
+module _ {F : Type 0} {g : Ghosts F} (rule : PackageRule) (old new : Package F g) (d : DifferByFile old new) (same : pool_in new ≡ pool_in old) where
+  pub stream_next : (P : Packed) (h : PackageHolds old P) (c : StoreIsChanged rule h.tree P (file_in old) (file_in new)) → c.next.kind ≡ P.kind → c.next.summary ≡ P.summary → c.next.pool ≡ P.pool → c.next.tables ≡ P.tables
+      → PackageHolds new c.next
+  stream_next P h c kind summary pool tables =
+      next_held old new (by_store old new d) rule P h c kind summary
+      (ap (λ (p : PoolState). p.pool) same ∙ h.memory.pool ∙ sym pool)
+      (d.tables ∙ h.memory.tables ∙ ap (λ l. map (heading l) P.tables) (sym (ap (λ (p : PoolState). p.pool.long) same)) ∙ ap (λ ts. map (heading (pool_in new).pool.long) ts) (sym tables))
+      (λ unmodified writable. subst (λ p. HasPool (letters_in (file_in old)) c.after p) (sym pool) (pool_kept (letters_in (file_in old)) h.tree c.after c.keeps P.pool (h.pool (sym (ap (λ (p : PoolState). p.modified) same) ∙ unmodified) (subst IsWritable pool writable))))
+
 module _ {F : Type 0} {g : Ghosts F} (rule : PackageRule) (leaves : LeavesTables rule) (old new : Package F g) (d : DifferByFile old new) (same : pool_in new ≡ pool_in old)
     (live : failed_in old ≡ false) (sound : sound_in old ≡ true) where
   -- a call on the file's streams is one of the package
@@ -143,14 +153,10 @@ module _ {F : Type 0} {g : Ghosts F} (rule : PackageRule) (leaves : LeavesTables
           → OnOk r ((P : Packed) → PackageHolds old P → (Q : Packed) × rule P Q (Ok tt) × PackageHolds new Q)
       done (Ok u) told = λ P h.
           let both = h.sound yes in
-          let c = told h.tree P both.0 both.1 in
-          let pool : c.next.pool ≡ P.pool = leaves.pool P c.next c.answered in (
+          let c = told h.tree P both.0 both.1 in (
             c.next,
             c.answered,
-            next_held old new (by_store old new d) rule P h c (leaves.kind P c.next c.answered) (leaves.summary P c.next c.answered)
-                (ap (λ (p : PoolState). p.pool) same ∙ h.memory.pool ∙ sym pool)
-                (d.tables ∙ h.memory.tables ∙ ap (λ l. map (heading l) P.tables) (sym (ap (λ (p : PoolState). p.pool.long) same)) ∙ ap (λ ts. map (heading (pool_in new).pool.long) ts) (sym (leaves.tables P c.next c.answered)))
-                (λ unmodified writable. subst (λ p. HasPool (letters_in (file_in old)) c.after p) (sym pool) (pool_kept (letters_in (file_in old)) h.tree c.after c.keeps P.pool (h.pool (sym (ap (λ (p : PoolState). p.modified) same) ∙ unmodified) (subst IsWritable pool writable)))),
+            stream_next rule old new d same P h c (leaves.kind P c.next c.answered) (leaves.summary P c.next c.answered) (leaves.pool P c.next c.answered) (leaves.tables P c.next c.answered),
           )
       done (Err e) told = tt
 

@@ -17,11 +17,11 @@ use Rattle.msi_values.specs.Datum.{Datum}
 use Rattle.msi.proofs.Changed.{LeavesTables}
 
 -- all but the streams is as it was
-record KeepsButStreams (P Q : Packed) : Type 0 where
-  kind : Q.kind ≡ P.kind
-  summary : Q.summary ≡ P.summary
-  pool : Q.pool ≡ P.pool
-  tables : Q.tables ≡ P.tables
+pub record KeepsButStreams (P Q : Packed) : Type 0 where
+  pub kind : Q.kind ≡ P.kind
+  pub summary : Q.summary ≡ P.summary
+  pub pool : Q.pool ≡ P.pool
+  pub tables : Q.tables ≡ P.tables
 
 abbrev Stays : Packed → Result Packed Error → Type 0
 Stays P (Ok Q) = KeepsButStreams P Q
@@ -40,6 +40,10 @@ written_stays letters name content P =
     let free : Result (Unit {0}) Error = unless_not (is_none (at_name letters P.storages (plain_stream_name name))) AlreadyExists in
     let last : Unit {0} → Result Packed Error = λ _. Ok (record P { streams = stream_put letters (plain_stream_name name) content P.streams }) in
     stays_then P (may_name letters name) (λ _. free >>= last) (λ u. stays_then P free last (λ v. record { kind = refl; summary = refl; pool = refl; tables = refl }))
+
+-- so it is of a package in which a stream was written
+pub written_keeps : (letters : Letters) (name content : List ℕ) (P Q : Packed) → stream_written letters P name content ≡ Ok Q → KeepsButStreams P Q
+written_keeps letters name content P Q is = subst (λ r. Stays P r) is (written_stays letters name content P)
 
 within_stays : (letters : Letters) (most : ℕ) (name content : List ℕ) (P : Packed) → Stays P (written_within letters most name content P)
 within_stays letters most name content P =

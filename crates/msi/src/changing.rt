@@ -48,7 +48,7 @@ impl<F: Medium> Package<F> {
     /// where the package isn't sound; then `InvalidInput` where no stream can have the name, `AlreadyExists` where a storage has it,
     /// `InvalidInput` where a stream of the file's version has fewer bytes. `Full` where numbers of entries or sectors are missing. The
     /// other errors are faults. After an error nothing is changed, or the package has failed.
-    pub fn write_stream(&mut self, name: &str, bytes: &[u8]) -> Result<(), Error>
+    pub fn put_stream(&mut self, name: &str, bytes: &[u8]) -> Result<(), Error>
         ensures changes { PackageChanges (Makes (written_within (letters_in (file_in self.old))
             (most_bytes (file_in self.old)) name.now bytes.now)) result self.old self.new }
         ensures full { PackageFills (Makes (written_within (letters_in (file_in self.old))

@@ -10,3 +10,5 @@ pub mod Stored
 pub mod Streams
 pub mod Taken
 pub mod Unsigned
+pub mod OpenStreams
+pub mod Emptied

@@ -140,7 +140,7 @@ module _ (letters : Letters) (name : List ℕ) where
             (makes_done (written_within letters most name bytes) P (put most bytes P) (written_by most bytes P (Ok tt) true true may free (short_is (length bytes) most short)))
 
       -- what is read of the package is what stands in the tree
-      read_is : stream_read letters P name ≡ or_refused (stream_at letters (objects tree.content) plain) NotFound
+      pub read_is : stream_read letters P name ≡ or_refused (stream_at letters (objects tree.content) plain) NotFound
       read_is =
           ap (λ m. m >>= λ _. or_refused (stream_at letters P.streams plain) NotFound) may
           ∙ ap (λ os. or_refused (stream_at letters os plain) NotFound) s.stores.streams
@@ -165,7 +165,7 @@ module _ (letters : Letters) (name : List ℕ) where
 pub Err_same : {T : Type 0} {a b : Error} → (◌≡◌ {A = Result T Error} (Err a) (Err b)) → a ≡ b
 Err_same is = (cc (is))
 
-only_streams : (p : Object → Bool) (os : List Object) → list_all is_stream (filter (λ o. is_stream o && p o) os) ≡ true
+pub only_streams : (p : Object → Bool) (os : List Object) → list_all is_stream (filter (λ o. is_stream o && p o) os) ≡ true
 only_streams p [] = refl
 only_streams p (a_stream n s b ∷ os) = by (p (a_stream n s b)) (only_streams p os)
   where

@@ -2,13 +2,17 @@
 #![tactic(auto)]
 
 mod checking;
+mod emptying;
 mod names;
 mod parts;
+mod pieces;
 mod signature;
 mod writing;
 
 pub use checking::check_changeable;
+pub use emptying::empty_stream;
 pub use names::{encoded_stream_name, is_same_name, is_special};
 pub use parts::{write_parts, written_parts_are_held};
+pub use pieces::{flush_piece, seek_piece, set_piece_len, write_piece};
 pub use signature::remove_digital_signature;
 pub use writing::{remove_stream, streams_are_written_within, write_stream};
