@@ -18,6 +18,7 @@ use Rattle.cfb_fat.specs.Changing.{ChangesFat}
 use Rattle.cfb_chains.specs.Changes.{DifferAt, IsBeside, IsNoneOf}
 use Rattle.cfb_fat.specs.Orderly.{AreBelow}
 use Rattle.cfb_fat.specs.Keeping.{told_same}
+use Rattle.cfb_runs.specs.Tables.{entries_of}
 use Rattle.cfb_fat.specs.Tables.{fat_sectors_of, version_of, AllRests}
 
 one_is : (n m j : ℕ) → j < 1 → get_or (n ∷ []) j 0 ≡ m → n ≡ m
@@ -65,7 +66,7 @@ module _ {F : Type 0} {g : Ghosts F} where
     difat_sectors = refl;
     orderly = refl;
     live = λ live. live;
-    fat = λ live. differ_none ids a.fat.items;
+    fat = λ live. differ_none ids (entries_of a.fat);
     longer = λ live honest. omega arith;
     told = λ live honest told. told;
     beside = λ live honest place count apart. refl;

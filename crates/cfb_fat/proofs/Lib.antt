@@ -16,6 +16,7 @@ pub mod Listing
 pub mod ListsNow
 pub mod Packed
 pub mod Places
+pub mod Readied
 pub mod Sparing
 pub mod TableWords
 pub mod Taken

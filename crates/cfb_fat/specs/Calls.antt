@@ -1,5 +1,5 @@
 -- What calls that change the file say of its state and of errors.
-use Rattle.std.specs.Prelude.{◌≡◌, ℕ, ◌-◌, ◌*◌, ◌/◌, ◌<◌, ◌≤◌, ◌⊎◌, false, true, [], ◌∷◌, ◌++◌, length, slice_get, slice_index, Some, IfErr, IsErrOf, IsTrue, OnErr, OnOk, Result}
+use Rattle.std.specs.Prelude.{◌≡◌, ℕ, ◌+◌, ◌-◌, ◌*◌, ◌/◌, ◌<◌, ◌≤◌, ◌⊎◌, false, true, [], ◌∷◌, ◌++◌, length, slice_get, slice_index, Some, IfErr, IsErrOf, IsTrue, OnErr, OnOk, Result}
 use Rattle.cfb_medium.specs.Calls.{IsFaultUnless}
 use Rattle.cfb_medium.specs.Versions.{sector_len}
 use Rattle.cfb_medium.specs.declared.error.Error.{Error}
@@ -15,9 +15,10 @@ use Rattle.cfb_chains.specs.Changes.{IsFreeIn, IsNoneOf}
 use Rattle.cfb_chains.specs.Grown.{AreWritable, IsLinked}
 use Rattle.cfb_chains.specs.LinkViews.{ids_of, links_version}
 use Rattle.cfb_chains.specs.declared.links.Links.{Links}
+use Rattle.cfb_runs.specs.Tables.{IsEasy}
 use Rattle.cfb_fat.specs.Changing.{MayWrite}
 use Rattle.cfb_fat.specs.Growing.{GrowsFat, HasWhole, MarksBehind}
-use Rattle.cfb_fat.specs.Tables.{bytes_of, capacity_of, difat_sectors_of, fat_of, fat_sectors_of, has_failed_here, is_honest, orderly_of, tables_of, version_of, AllRests, HasCauseBelow}
+use Rattle.cfb_fat.specs.Tables.{bytes_of, capacity_of, difat_sectors_of, fat_of, fat_sectors_of, has_failed_here, is_honest, orderly_of, runs_of, tables_of, version_of, AllRests, HasCauseBelow}
 use Rattle.cfb_fat.specs.declared.allocator.Allocator.{Allocator}
 
 -- a refusal since no sector's number is left
@@ -77,10 +78,14 @@ module _ {F : Type 0} {g : Ghosts F} where
   abbrev pub places_of : Allocator F g → ℕ
   places_of it = length (fat_sectors_of it) * (sector_len (version_of it) / 4)
 
+  -- there is memory to set the entry of a sector
+  abbrev pub HasRun : Allocator F g → ℕ → ℕ → Type 0
+  HasRun it index entry = IsEasy (fat_of it) index entry ⊎ (runs_of it + 2 ≤ capacity_of it)
+
   -- the FAT has a place, memory and a number for one sector more
   pub record HasPlace (it : Allocator F g) : Type 0 where
     pub room : length (fat_of it) < places_of it
-    pub memory : length (fat_of it) < capacity_of it
+    pub memory : runs_of it < capacity_of it
     pub few : length (fat_of it) ≤ greatest_regular
 
   -- the FAT has the end of a chain behind its entries, for this sector, and the same sectors as the DIFAT had

@@ -1,8 +1,9 @@
 -- What growing calls do: a sector is appended, or taken from the free ones, and tables become longer.
-use Rattle.std.specs.Prelude.{◌≡◌, ℕ, ◌+◌, ◌*◌, ◌<◌, ◌≤◌, ◌⊎◌, false, true, List, length, nat_eq, vec_capacity, IfErr, IsTrue, OnOk, Result}
+use Rattle.std.specs.Prelude.{◌≡◌, ℕ, ◌+◌, ◌-◌, ◌*◌, ◌/◌, ◌<◌, ◌≤◌, ◌⊎◌, false, true, List, length, nat_eq, vec_capacity, IfErr, IsTrue, OnOk, Result}
 use Rattle.cfb_medium.specs.declared.error.Error.{Error}
 use Rattle.std.specs.List.{count_by, AllByRecursion}
 use Rattle.cfb_medium.specs.Calls.{Extends}
+use Rattle.cfb_medium.specs.Versions.{sector_len}
 use Rattle.cfb_medium.specs.declared.medium.ReadMedium.{Ghosts}
 use Rattle.cfb_sectors.specs.Held as held
 use Rattle.cfb_sectors.specs.Sectors.{filled_part, free, greatest_regular, sector_start}
@@ -11,7 +12,7 @@ use Rattle.cfb_fat.specs.declared.allocator.Allocator.{Allocator}
 use Rattle.cfb_chains.specs.Behind.{AreWhole, IsMarkedBehind}
 use Rattle.cfb_chains.specs.Changes.{IsBeside, IsFreeIn, IsNoneOf, StayBut}
 use Rattle.cfb_fat.specs.Orderly.{AreLean, IsBesideWords}
-use Rattle.cfb_fat.specs.Tables.{bytes_of, capacity_of, difat_sectors_of, fat_of, fat_sectors_of, has_failed_here, is_honest, medium_of, orderly_of, sectors_of, tables_of, version_of, IsTold}
+use Rattle.cfb_fat.specs.Tables.{bytes_of, capacity_of, difat_sectors_of, fat_of, fat_sectors_of, has_failed_here, is_honest, medium_of, orderly_of, runs_of, sectors_of, tables_of, version_of, IsTold}
 
 module _ {F : Type 0} {g : Ghosts F} where
   -- where it has not failed one sector was appended, and what lies before it stays but where this says so; nothing was published
@@ -69,14 +70,19 @@ module _ {F : Type 0} {g : Ghosts F} where
     pub behind : has_failed_here new ≡ false → MarksBehind taken entries old new
     pub whole : has_failed_here new ≡ false → IsTrue (is_honest old) → HasWhole taken new
 
-  -- there is memory for so many entries of the FAT, and then for so many sectors more: with each the tables may need a sector of
-  -- the FAT and one of the DIFAT
+  -- so many entries more the FAT's sectors have places for
+  abbrev pub places_left : Allocator F g → ℕ
+  places_left it = length (fat_sectors_of it) * (sector_len (version_of it) / 4) - length (fat_of it)
+
+  -- there is memory for so many entries of the FAT to be set or added, and then for so many sectors more. Each may be cut out of a
+  -- run, which makes two runs more; where the FAT is full, a sector of it and one of the DIFAT are added with their marks, which
+  -- makes six, and then there are places for long
   pub record HasMemory (it : Allocator F g) (entries sectors : ℕ) : Type 0 where
-    pub fat : length (fat_of it) + (entries + 3 * sectors) ≤ capacity_of it
+    pub fat : runs_of it + (2 * entries + 2 * sectors + (6 - places_left it)) ≤ capacity_of it
     pub fat_sectors : length (fat_sectors_of it) + sectors ≤ vec_capacity it.fat_sectors
     pub difat_sectors : length (difat_sectors_of it) + sectors ≤ vec_capacity it.difat_sectors
 
-  -- it takes so many entries from what there is memory for; then an error is one of these, or a write has failed
+  -- it takes a sector from what there is memory for, and leaves so many entries; then an error is one of these, or a write has failed
   abbrev pub Spends : {T : Type 0} → ℕ → (Error → Type 0) → Result T Error → Allocator F g → Allocator F g → Type 0
   Spends left refuses result old new = (n : ℕ) → HasMemory old 0 (n + 1) → OnOk result (HasMemory new left n) × IfErr result (λ e. (has_failed_here new ≡ true) ⊎ refuses e)
 

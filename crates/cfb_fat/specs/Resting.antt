@@ -3,11 +3,12 @@ use Rattle.std.proofs.Common.{◌∙◌}
 use Rattle.cfb_medium.specs.declared.medium.ReadMedium.{Ghosts}
 use Rattle.cfb_sectors.specs.Resting.{rests_refl, rests_then}
 use Rattle.cfb_fat.specs.declared.allocator.Allocator.{Allocator}
+use Rattle.cfb_runs.specs.Tables.{entries_of}
 use Rattle.cfb_fat.specs.Tables.{AllRests}
 
 module _ {F : Type 0} {g : Ghosts F} where
   pub all_rest_refl : (a : Allocator F g) → AllRests a a
-  all_rest_refl a = record { sectors = rests_refl a.sectors; fat = λ i. a.fat.items; fat_sectors = λ i. a.fat_sectors.items; difat_sectors = λ i. a.difat_sectors.items; orderly = λ i. a.is_orderly }
+  all_rest_refl a = record { sectors = rests_refl a.sectors; fat = λ i. entries_of a.fat; fat_sectors = λ i. a.fat_sectors.items; difat_sectors = λ i. a.difat_sectors.items; orderly = λ i. a.is_orderly }
 
   pub all_rest_then : (a b c : Allocator F g) → AllRests a b → AllRests b c → AllRests a c
   all_rest_then a b c h k = record {

@@ -1,11 +1,12 @@
 -- What an `Allocator` shows: its sectors, the FAT, and which sectors hold the FAT and the DIFAT.
-use Rattle.std.specs.Prelude.{◌≡◌, ℕ, ◌++◌, Bool, List, vec_capacity}
+use Rattle.std.specs.Prelude.{◌≡◌, ℕ, ◌++◌, Bool, List}
 use Rattle.cfb_medium.specs.declared.error.Error.{Error}
 use Rattle.cfb_medium.specs.declared.medium.ReadMedium.{Ghosts}
 use Rattle.cfb_medium.specs.declared.version.Version.{Version}
 use Rattle.cfb_fat.specs.declared.allocator.Allocator.{Allocator}
 use Rattle.cfb_fat.specs.Listed.{Counts}
 use Rattle.cfb_sectors.specs.declared.sectors.Sectors.{Sectors}
+use Rattle.cfb_runs.specs.Tables.{entries_of, run_capacity, run_count}
 use Rattle.cfb_sectors.specs.Held as held
 
 module _ {F : Type 0} {g : Ghosts F} where
@@ -26,11 +27,15 @@ module _ {F : Type 0} {g : Ghosts F} where
 
   -- the FAT, an entry for each sector ([MS-CFB] 2.3)
   abbrev pub fat_of : Allocator F g → List ℕ
-  fat_of it = it.fat.items
+  fat_of it = entries_of it.fat
 
-  -- so many entries of the FAT have memory
+  -- so many runs the FAT is kept as
+  abbrev pub runs_of : Allocator F g → ℕ
+  runs_of it = run_count it.fat
+
+  -- so many runs of the FAT have memory
   abbrev pub capacity_of : Allocator F g → ℕ
-  capacity_of it = vec_capacity it.fat
+  capacity_of it = run_capacity it.fat
 
   abbrev pub bytes_of : Allocator F g → List ℕ
   bytes_of it = held.bytes_of it.sectors

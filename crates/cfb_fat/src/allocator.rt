@@ -5,14 +5,16 @@ ghost use Rattle.cfb_medium.specs.declared.error.Error.TheVariants.{Failed, Inva
 ghost use Rattle.cfb_chains.specs.Changes.{IsNoneOf};
 ghost use Rattle.cfb_fat.specs.Listed.{Lists};
 ghost use Rattle.cfb_fat.specs.Orderly.{AreBelow, IsOrderly};
+ghost use Rattle.cfb_runs.specs.Tables.{entries_of};
 ghost use Rattle.cfb_sectors.specs.Held.{bytes_of as sectors_bytes, count_of as sectors_count, has_failed_here as sectors_failed, medium_of as sectors_medium, version_of as sectors_version, AreCounted, IsHonest as AreHonest, IsRefused, LeavesOldOrBytes, Rests};
 ghost use Rattle.cfb_sectors.specs.RollingBack.{RollsBack};
 ghost use Rattle.cfb_sectors.specs.Sectors.{fat_in, free, Chain as IsChain};
 ghost use Rattle.std.specs.Prelude.{false, length, slice_get, slice_index, take, true, IfErr, IfOk, IsErrOf, IsTrue, List, None, OnErr, OnOk, Some, ℕ, ◌*◌, ◌++◌, ◌/◌, ◌<◌, ◌≡◌, ◌≤◌, ◌↔◌, ◌⊎◌, ◌||◌};
 
 use crate::fat::{both, read_parts};
-use cfb_chains::{Links, chain_in};
+use cfb_chains::Links;
 use cfb_medium::{Error, Medium, ReadMedium, Version};
+use cfb_runs::Table;
 use cfb_sectors::{HasSectors, Sectors};
 use std::alloc::Global;
 
@@ -23,18 +25,18 @@ pub struct Allocator<F: ReadMedium> {
     pub(crate) sectors: Sectors<F>,
     pub(crate) difat_sectors: Vec<u32>,
     pub(crate) fat_sectors: Vec<u32>,
-    pub(crate) fat: Vec<u32>,
+    pub(crate) fat: Table,
     pub(crate) is_orderly: bool,
     // No sector below this number can be taken into use.
     pub(crate) first_free: usize,
-    ghost same: { sectors_failed sectors ≡ false → AreHonest sectors → fat.items ≡ take (sectors_count sectors) (fat_in (sectors_version sectors) (sectors_bytes sectors) fat_sectors.items) },
+    ghost same: { sectors_failed sectors ≡ false → AreHonest sectors → entries_of fat ≡ take (sectors_count sectors) (fat_in (sectors_version sectors) (sectors_bytes sectors) fat_sectors.items) },
     ghost there: { sectors_failed sectors ≡ false → AreBelow (sectors_count sectors) fat_sectors.items },
-    ghost inside: { sectors_failed sectors ≡ false → length fat.items ≤ sectors_count sectors },
-    ghost whole: { length fat.items ≤ length fat_sectors.items * (sector_len (sectors_version sectors) / 4) },
-    ghost orderly: { IsTrue is_orderly → IsOrderly (sectors_version sectors) (sectors_count sectors) fat.items fat_sectors.items difat_sectors.items },
-    ghost packed: { (k : ℕ) → k < first_free → slice_index fat.items k ≡ free → IsNoneOf difat_sectors.items k → IsNoneOf fat_sectors.items k → ⊥ },
+    ghost inside: { sectors_failed sectors ≡ false → length (entries_of fat) ≤ sectors_count sectors },
+    ghost whole: { length (entries_of fat) ≤ length fat_sectors.items * (sector_len (sectors_version sectors) / 4) },
+    ghost orderly: { IsTrue is_orderly → IsOrderly (sectors_version sectors) (sectors_count sectors) (entries_of fat) fat_sectors.items difat_sectors.items },
+    ghost packed: { (k : ℕ) → k < first_free → slice_index (entries_of fat) k ≡ free → IsNoneOf difat_sectors.items k → IsNoneOf fat_sectors.items k → ⊥ },
     ghost listed: { sectors_failed sectors ≡ false → AreHonest sectors → IsTrue is_orderly
-        ↔ (IsOrderly (sectors_version sectors) (sectors_count sectors) fat.items fat_sectors.items difat_sectors.items × ∥ Lists (sectors_version sectors) (sectors_bytes sectors) difat_sectors.items fat_sectors.items ∥₁) },
+        ↔ (IsOrderly (sectors_version sectors) (sectors_count sectors) (entries_of fat) fat_sectors.items difat_sectors.items × ∥ Lists (sectors_version sectors) (sectors_bytes sectors) difat_sectors.items fat_sectors.items ∥₁) },
 }
 
 impl<F: ReadMedium> Allocator<F> {
@@ -91,7 +93,7 @@ impl<F: ReadMedium> Allocator<F> {
             sectors: Sectors::husk(version, medium),
             difat_sectors: Vec::new(alloc),
             fat_sectors: Vec::new(alloc),
-            fat: Vec::new(alloc),
+            fat: Table::new(alloc),
             is_orderly: false,
             first_free: 0,
         }
@@ -205,7 +207,7 @@ impl<F: ReadMedium> Allocator<F> {
             return Err(Error::Failed);
         }
         match self.fat.get(sector_id as usize) {
-            Some(next) => Ok(*next),
+            Some(next) => Ok(next),
             None => Err(Error::InvalidData),
         }
     }
@@ -224,7 +226,7 @@ impl<F: ReadMedium> Allocator<F> {
         if self.sectors.is_failed() {
             return Err(Error::Failed);
         }
-        let sector_ids = chain_in(self.alloc, &self.fat, start)?;
+        let sector_ids = self.fat.chain(self.alloc, start)?;
         Links::new(self.version(), sector_ids)
     }
 }

@@ -1,16 +1,17 @@
 //! Entries of the FAT that change, and chains that are freed ([MS-CFB] 2.3).
-ghost use Rattle.cfb_fat.specs.Calls.{ChangesTables};
+ghost use Rattle.cfb_fat.specs.Calls.{ChangesTables, HasRun};
 ghost use Rattle.cfb_chains.specs.ChainCalls.{IsInvalid};
 ghost use Rattle.cfb_chains.specs.Changes.{HaveEntry};
 ghost use Rattle.cfb_chains.specs.Owned.{Leaves};
 ghost use Rattle.cfb_fat.specs.Changing.{ChangesFat};
-ghost use Rattle.cfb_fat.specs.Growing.{KeepsMemory};
+ghost use Rattle.cfb_fat.specs.Growing.{HasMemory, KeepsMemory};
 ghost use Rattle.cfb_fat.specs.Keeping.{changes_keep, rests_keep_tables, writes_keep_tables};
 ghost use Rattle.cfb_fat.specs.Orderly.{AreBelow};
 ghost use Rattle.cfb_medium.specs.Calls.{IsFaultUnless};
+ghost use Rattle.cfb_runs.specs.Tables.{IsEasy};
 ghost use Rattle.cfb_medium.specs.declared.error.Error.TheVariants.{InvalidData};
 ghost use Rattle.cfb_sectors.specs.Sectors.{end_of_chain, free, sector, Chain as IsChain};
-ghost use Rattle.std.specs.Prelude.{false, length, slice_index, slice_set, true, IfErr, IsErrOf, IsTrue, List, OnErr, OnOk, [], ℕ, ◌<◌, ◌∷◌, ◌≡◌, ◌≤◌};
+ghost use Rattle.std.specs.Prelude.{false, length, slice_index, slice_set, true, IfErr, IsErrOf, IsTrue, List, OnErr, OnOk, [], ℕ, ◌*◌, ◌+◌, ◌<◌, ◌∷◌, ◌≡◌, ◌≤◌};
 
 use crate::Allocator;
 use crate::fat::{ENTRY_LEN, write_number};
@@ -32,18 +33,22 @@ fn first_free_after(first_free: usize, index: usize, entry: u32) -> usize
 
 impl<F: Medium> Allocator<F> {
     ghost use Rattle.cfb_fat.specs.Seeing.{seen_of};
-    ghost use Rattle.cfb_fat.specs.Tables.{capacity_of, fat_of, has_failed_here, is_honest, orderly_of, version_of, AllRests, HasCauseBelow};
+    ghost use Rattle.cfb_fat.specs.Tables.{capacity_of, fat_of, has_failed_here, is_honest, orderly_of, runs_of, version_of, AllRests, HasCauseBelow};
 
     // Writes an entry of the FAT, and sets it in memory. After a fault it has failed.
     pub(crate) fn set_entry(&mut self, sector_id: u32, entry: u32) -> Result<(), Error>
         requires live { has_failed_here self.old ≡ false }
         requires orderly { IsTrue (orderly_of self.old) }
         requires there { sector_id < length (fat_of self.old) }
+        requires room { HasRun self.old sector_id entry }
         ensures changes { ChangesFat (sector_id ∷ []) self.old self.new }
         ensures entry { has_failed_here self.new ≡ false
             → fat_of self.new ≡ slice_set (fat_of self.old) sector_id entry }
-        ensures capacity { capacity_of self.new ≡ capacity_of self.old }
-        ensures memory { KeepsMemory self.old self.new }
+        ensures runs { (runs_of self.new ≤ runs_of self.old + 2)
+            × (capacity_of self.new ≡ capacity_of self.old) }
+        ensures memory { (entries n : ℕ) → HasMemory self.old (entries + 1) n
+            → HasMemory self.new entries n }
+        ensures keeps { IsEasy (fat_of self.old) sector_id entry → KeepsMemory self.old self.new }
         ensures live { OnOk result (has_failed_here self.new ≡ false) }
         ensures err { OnErr result (has_failed_here self.new ≡ true) }
         ensures cause { IfErr result (HasCauseBelow self.old self.new) }
@@ -54,7 +59,7 @@ impl<F: Medium> Allocator<F> {
         let holder = self.fat_sectors[index / each];
         write_number(&mut self.sectors, holder, index % each, entry)?;
         self.first_free = first_free_after(self.first_free, index, entry);
-        self.fat[index] = entry;
+        self.fat.set(index, entry);
         Ok(())
     }
 
@@ -63,6 +68,7 @@ impl<F: Medium> Allocator<F> {
         requires live { has_failed_here self.old ≡ false }
         requires orderly { IsTrue (orderly_of self.old) }
         requires there { AreBelow (length (fat_of self.old)) sector_ids.now }
+        requires room { runs_of self.old + 2 * length sector_ids.now ≤ capacity_of self.old }
         ensures changes { ChangesFat sector_ids.now self.old self.new }
         ensures entries { has_failed_here self.new ≡ false
             → HaveEntry entry (fat_of self.new) sector_ids.now }
@@ -95,7 +101,9 @@ impl<F: Medium> Allocator<F> {
         if !self.is_orderly {
             return Err(Error::InvalidData);
         }
-        self.set_entries(links.sector_ids(), FREE_SECTOR)
+        let ids = links.sector_ids();
+        self.reserve_runs(2 * ids.len())?;
+        self.set_entries(ids, FREE_SECTOR)
     }
 
     /// Ends a chain with this sector, and frees those behind it. `InvalidData` where the FAT has no chain from it or the tables
@@ -122,8 +130,10 @@ impl<F: Medium> Allocator<F> {
         if !self.is_orderly {
             return Err(Error::InvalidData);
         }
+        let behind = rest.sector_ids();
+        self.reserve_runs(2 * behind.len() + 2)?;
         self.set_entry(sector_id, END_OF_CHAIN)?;
-        self.set_entries(rest.sector_ids(), FREE_SECTOR)
+        self.set_entries(behind, FREE_SECTOR)
     }
 }
 

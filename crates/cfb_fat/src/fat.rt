@@ -6,6 +6,7 @@ ghost use Rattle.cfb_medium.specs.Bytes.{overwritten};
 ghost use Rattle.cfb_medium.specs.Calls.{IsFaultUnless};
 ghost use Rattle.cfb_medium.specs.Versions.{sector_len};
 ghost use Rattle.cfb_medium.specs.declared.error.Error.TheVariants.{InvalidData};
+ghost use Rattle.cfb_runs.specs.Tables.{entries_of};
 ghost use Rattle.cfb_sectors.specs.Held.{bytes_of, count_of, has_failed_here, version_of, AreCounted, Changes, HasItsCause, IsHonest, Rests};
 ghost use Rattle.cfb_sectors.specs.Sectors.{fat_in, joined, sector_start};
 ghost use Rattle.std.specs.Int.{to_le_bytes, w32};
@@ -13,6 +14,7 @@ ghost use Rattle.std.specs.Prelude.{false, length, take, true, IfErr, IfOk, IsEr
 
 use crate::difat::{are_listed, can_name, write_word};
 use cfb_medium::{Error, Medium, ReadMedium, Version};
+use cfb_runs::Table;
 use cfb_sectors::{Sectors, numbers_in};
 use std::alloc::{AllocError, Global};
 
@@ -152,13 +154,13 @@ fn are_orderly(
     alloc: Global,
     version: Version,
     count: u32,
-    fat: &[u32],
+    fat: &Table,
     fat_sectors: &[u32],
     difat_sectors: &[u32],
 ) -> Result<bool, AllocError>
     requires { AreBelow count fat_sectors.now }
     ensures { IfOk result (λ orderly. IsTrue orderly
-        ↔ IsOrderly version count fat.now fat_sectors.now difat_sectors.now) }
+        ↔ IsOrderly version count (entries_of fat.now) fat_sectors.now difat_sectors.now) }
 {
     if count == 0 || fat.len() != count as usize {
         return Ok(false);
@@ -173,25 +175,49 @@ fn are_orderly(
     are_once(alloc, count, &ids)
 }
 
+// The FAT in some sectors, for as many sectors as the file has.
+fn read_fat<F: ReadMedium>(
+    alloc: Global,
+    sectors: &mut Sectors<F>,
+    fat_sectors: &[u32],
+) -> Result<Table, Error>
+    ensures read { IfOk result (λ it. IsHonest sectors.old
+        → entries_of it ≡ take (count_of sectors.old)
+        (fat_in (version_of sectors.old) (bytes_of sectors.old) fat_sectors.now)) }
+    ensures inside { IfOk result (λ it. length (entries_of it) ≤ count_of sectors.old) }
+    ensures whole { IfOk result (λ it. length (entries_of it)
+        ≤ length fat_sectors.now * (sector_len (version_of sectors.old) / 4)) }
+    ensures there { IfOk result (λ _. AreCounted sectors.old fat_sectors.now) }
+    ensures below { IfOk result (λ _. AreBelow (count_of sectors.old) fat_sectors.now) }
+    ensures missing { IsErrOf result InvalidData → AreCounted sectors.old fat_sectors.now → ⊥ }
+    ensures rests { Rests sectors.old sectors.new }
+    ensures cause { IfErr result (HasItsCause sectors.old sectors.new) }
+    ensures fault { IfErr result (λ e. IsFaultUnless ⊥ e ⊎ (e ≡ InvalidData)) }
+{
+    let mut fat = read_table(alloc, sectors, fat_sectors)?;
+    fat.truncate(sectors.num_sectors() as usize);
+    Ok(Table::from_entries(alloc, &fat)?)
+}
+
 // The FAT in some sectors, for as many sectors as the file has, and whether it can be changed.
 pub(crate) fn read_parts<F: ReadMedium>(
     alloc: Global,
     sectors: &mut Sectors<F>,
     difat_sectors: &[u32],
     fat_sectors: &[u32],
-) -> Result<(Vec<u32>, bool), Error>
+) -> Result<(Table, bool), Error>
     ensures read { IfOk result (λ it. IsHonest sectors.old
-        → it.0.items ≡ take (count_of sectors.old)
+        → entries_of it.0 ≡ take (count_of sectors.old)
         (fat_in (version_of sectors.old) (bytes_of sectors.old) fat_sectors.now)) }
-    ensures inside { IfOk result (λ it. length it.0.items ≤ count_of sectors.old) }
-    ensures whole { IfOk result (λ it. length it.0.items
+    ensures inside { IfOk result (λ it. length (entries_of it.0) ≤ count_of sectors.old) }
+    ensures whole { IfOk result (λ it. length (entries_of it.0)
         ≤ length fat_sectors.now * (sector_len (version_of sectors.old) / 4)) }
     ensures orderly { IfOk result (λ it. IsTrue it.1
-        → IsOrderly (version_of sectors.old) (count_of sectors.old) it.0.items fat_sectors.now
+        → IsOrderly (version_of sectors.old) (count_of sectors.old) (entries_of it.0) fat_sectors.now
         difat_sectors.now) }
     ensures listed { IfOk result (λ it. has_failed_here sectors.old ≡ false → IsHonest sectors.old
         → IsTrue it.1
-        ↔ (IsOrderly (version_of sectors.old) (count_of sectors.old) it.0.items fat_sectors.now
+        ↔ (IsOrderly (version_of sectors.old) (count_of sectors.old) (entries_of it.0) fat_sectors.now
         difat_sectors.now × Lists (version_of sectors.old)
         (bytes_of sectors.old) difat_sectors.now fat_sectors.now)) }
     ensures there { IfOk result (λ _. AreCounted sectors.old fat_sectors.now) }
@@ -201,9 +227,8 @@ pub(crate) fn read_parts<F: ReadMedium>(
     ensures cause { IfErr result (HasItsCause sectors.old sectors.new) }
     ensures fault { IfErr result (λ e. IsFaultUnless ⊥ e ⊎ (e ≡ InvalidData)) }
 {
-    let mut fat = read_table(alloc, sectors, fat_sectors)?;
     let count = sectors.num_sectors();
-    fat.truncate(count as usize);
+    let fat = read_fat(alloc, sectors, fat_sectors)?;
     let version = sectors.version();
     if !are_orderly(alloc, version, count, &fat, fat_sectors, difat_sectors)? {
         return Ok((fat, false));

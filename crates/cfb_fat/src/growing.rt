@@ -7,7 +7,7 @@ ghost use Rattle.cfb_medium.specs.Versions.{sector_len};
 ghost use Rattle.cfb_medium.specs.declared.error.Error.TheVariants.{Full};
 ghost use Rattle.cfb_sectors.specs.Held.{count_of};
 ghost use Rattle.cfb_sectors.specs.Sectors.{free, greatest_regular};
-ghost use Rattle.std.specs.Prelude.{false, length, true, IfErr, IfOk, IsErrOf, IsTrue, OnErr, OnOk, ℕ, [], ◌*◌, ◌++◌, ◌+◌, ◌/◌, ◌<◌, ◌∷◌, ◌≡◌, ◌≤◌, ◌⊎◌};
+ghost use Rattle.std.specs.Prelude.{false, length, true, IfErr, IfOk, IsErrOf, IsTrue, OnErr, OnOk, ℕ, [], ◌*◌, ◌++◌, ◌+◌, ◌-◌, ◌/◌, ◌^◌, min, ◌<◌, ◌∷◌, ◌≡◌, ◌≤◌, ◌⊎◌};
 
 use crate::Allocator;
 use crate::difat::{add_difat_sector, add_fat_sector, append_sector, can_name};
@@ -18,8 +18,32 @@ use cfb_sectors::{
 };
 use std::alloc::AllocError;
 
+// The tables' own sectors, one of each, with their marks may make so many runs of the FAT more: two are added, and each is set.
+const RUNS_OF_MARKS: usize = 6;
+
+// How many runs more so many sectors may make of the FAT, where there are so many places for entries.
+fn runs_for(count: usize, each: usize, num_fat_sectors: usize, len: usize) -> usize
+    requires { len < 2 ^ 32 }
+    ensures { result ≡ min (2 * count + (6 - (num_fat_sectors * each - len))) (2 ^ 64 - 1) }
+{
+    let places = num_fat_sectors.saturating_mul(each);
+    let marks = RUNS_OF_MARKS.saturating_sub(places.saturating_sub(len));
+    count.saturating_mul(2).saturating_add(marks)
+}
+
 impl<F: Medium> Allocator<F> {
-    ghost use Rattle.cfb_fat.specs.Tables.{capacity_of, difat_sectors_of, fat_of, fat_sectors_of, has_failed_here, is_honest, orderly_of, sectors_of, version_of, AllRests, HasCauseBelow};
+    ghost use Rattle.cfb_fat.specs.Tables.{capacity_of, difat_sectors_of, fat_of, fat_sectors_of, has_failed_here, is_honest, orderly_of, runs_of, sectors_of, version_of, AllRests, HasCauseBelow};
+
+    // Asks for the memory of so many runs of the FAT more. Nothing is changed.
+    pub(crate) fn reserve_runs(&mut self, count: usize) -> Result<(), AllocError>
+        ensures room { OnOk result (runs_of self.new + count ≤ capacity_of self.new) }
+        ensures most { OnOk result (count < 2 ^ 63) }
+        ensures keeps { KeepsMemory self.old self.new }
+        ensures enough { runs_of self.old + count ≤ capacity_of self.old → OnErr result ⊥ }
+        ensures rests { AllRests self.old self.new }
+    {
+        self.fat.reserve(count)
+    }
 
     // Asks for the memory that the tables may need for so many sectors more. Nothing is changed.
     pub(crate) fn reserve_growth(&mut self, count: usize) -> Result<(), AllocError>
@@ -28,7 +52,9 @@ impl<F: Medium> Allocator<F> {
         ensures enough { HasMemory self.old 0 count → OnErr result ⊥ }
         ensures rests { AllRests self.old self.new }
     {
-        self.fat.reserve(count.saturating_mul(3))?;
+        let each = self.sectors.sector_len() / ENTRY_LEN;
+        let runs = runs_for(count, each, self.fat_sectors.len(), self.fat.len());
+        self.reserve_runs(runs)?;
         self.fat_sectors.reserve(count)?;
         self.difat_sectors.reserve(count)?;
         Ok(())
@@ -49,7 +75,7 @@ impl<F: Medium> Allocator<F> {
             × (difat_sectors_of self.new ≡ difat_sectors_of self.old)
             × (fat_sectors_of self.new ≡ fat_sectors_of self.old
             ++ length (fat_of self.old) ∷ [])) }
-        ensures spends { SpendsOne 1 result self.old self.new }
+        ensures spends { SpendsOne 3 result self.old self.new }
         ensures attempts { Attempts result (sectors_of self.old) (sectors_of self.new) }
     {
         self.is_orderly = false;
@@ -80,7 +106,7 @@ impl<F: Medium> Allocator<F> {
             ++ length (fat_of self.old) ∷ [])
             × (fat_sectors_of self.new ≡ fat_sectors_of self.old
             ++ (length (fat_of self.old) + 1) ∷ [])) }
-        ensures spends { SpendsOne 1 result self.old self.new }
+        ensures spends { SpendsOne 3 result self.old self.new }
         ensures attempts { Attempts result (sectors_of self.old) (sectors_of self.new) }
     {
         self.is_orderly = false;

@@ -17,8 +17,7 @@ ghost use Rattle.cfb_sectors.specs.Copies.{copies};
 ghost use Rattle.cfb_sectors.specs.Held.{count_of};
 ghost use Rattle.cfb_sectors.specs.Initial.{initial};
 ghost use Rattle.cfb_sectors.specs.Sectors.{end_of_chain, free, greatest_regular, joined, sector, sector_start, Chain as IsChain};
-ghost use Rattle.std.specs.List.{count_by};
-ghost use Rattle.std.specs.Prelude.{false, length, nat_eq, slice_get, slice_index, slice_set, true, IfErr, IfOk, IsErrOf, IsTrue, List, MatchOption, OnErr, OnOk, Some, [], ℕ, ◌++◌, ◌+◌, ◌-◌, ◌<◌, ◌↔◌, ◌∷◌, ◌≡◌, ◌≤◌, ◌⊎◌};
+ghost use Rattle.std.specs.Prelude.{false, length, slice_get, slice_index, slice_set, true, IfErr, IfOk, IsErrOf, IsTrue, List, MatchOption, OnErr, OnOk, Some, [], ℕ, ◌++◌, ◌+◌, ◌-◌, ◌<◌, ◌↔◌, ◌∷◌, ◌≡◌, ◌≤◌, ◌⊎◌};
 
 use crate::Allocator;
 use crate::fat::is_none_of;
@@ -26,21 +25,8 @@ use cfb_chains::{Chain, GrowsChains, Links};
 use cfb_medium::{Error, Medium};
 use cfb_sectors::{END_OF_CHAIN, FREE_SECTOR, MAX_REGULAR_SECTOR, SectorInit};
 
-// How many entries of a table are "free".
-fn count_free(table: &[u32]) -> usize
-    ensures { result ≡ count_by (λ entry. nat_eq entry free) table.now }
-{
-    let mut count = 0;
-    for entry in table {
-        if *entry == FREE_SECTOR {
-            count += 1;
-        }
-    }
-    count
-}
-
 impl<F: Medium> Allocator<F> {
-    ghost use Rattle.cfb_fat.specs.Tables.{bytes_of, difat_sectors_of, fat_of, fat_sectors_of, has_failed_here, is_honest, orderly_of, sectors_of, tables_of, version_of, AllRests, HasCauseBelow};
+    ghost use Rattle.cfb_fat.specs.Tables.{bytes_of, capacity_of, difat_sectors_of, fat_of, fat_sectors_of, has_failed_here, is_honest, orderly_of, runs_of, sectors_of, tables_of, version_of, AllRests, HasCauseBelow};
 
     /// Readies the chain from a start to take in so many sectors: the memory that the tables may need for them is asked for.
     /// `InvalidData` where the FAT has no such chain or the tables can't be changed, and then `Full` where fewer numbers are
@@ -81,7 +67,7 @@ impl<F: Medium> Allocator<F> {
             return Err(Error::InvalidData);
         }
         let behind = MAX_REGULAR_SECTOR as usize + 1 - self.fat.len();
-        if count > behind && count - behind > count_free(&self.fat) {
+        if count > behind && count - behind > self.fat.count_free() {
             return Err(Error::Full);
         }
         Ok(())
@@ -94,7 +80,7 @@ impl<F: Medium> Allocator<F> {
             × IsNoneOf (difat_sectors_of self.now) sector_id
             × IsNoneOf (fat_sectors_of self.now) sector_id) }
     {
-        if self.fat[sector_id as usize] != FREE_SECTOR {
+        if self.fat.entry(sector_id as usize) != FREE_SECTOR {
             return false;
         }
         if !is_none_of(&self.difat_sectors, sector_id) {
@@ -131,6 +117,8 @@ impl<F: Medium> Allocator<F> {
             → IsNoneOf (difat_sectors_of self.old) k → IsNoneOf (fat_sectors_of self.old) k → ⊥ }
         ensures writes { WritesBeside (sector_start (version_of self.old) sector_id)
             (initial init (sector_len (version_of self.old))) self.old self.new }
+        ensures runs { (runs_of self.new ≡ runs_of self.old)
+            × (capacity_of self.new ≡ capacity_of self.old) }
         ensures memory { KeepsMemory self.old self.new }
         ensures live { OnOk result (has_failed_here self.new ≡ false) }
         ensures err { OnErr result (has_failed_here self.new ≡ true) }
@@ -149,11 +137,13 @@ impl<F: Medium> Allocator<F> {
         requires no_difat { IsNoneOf (difat_sectors_of self.old) sector_id }
         requires no_fat { IsNoneOf (fat_sectors_of self.old) sector_id }
         requires lowest { HasNoneBelow self.old sector_id }
+        requires room { runs_of self.old + 2 ≤ capacity_of self.old }
         ensures occupies { OnOk result (Occupies init self.old self.new sector_id) }
         ensures fat { OnOk result (fat_of self.new
             ≡ slice_set (fat_of self.old) sector_id end_of_chain) }
         ensures none { OnErr result (GrowsFat [] [] self.old self.new) }
-        ensures memory { OnOk result (KeepsMemory self.old self.new) }
+        ensures spends { (entries n : ℕ) → HasMemory self.old (entries + 1) n
+            → OnOk result (HasMemory self.new entries n) }
         ensures attempts { Attempts result (sectors_of self.old) (sectors_of self.new) }
     {
         self.init_beside(sector_id, init)?;
@@ -166,6 +156,21 @@ impl<F: Medium> Allocator<F> {
     fn take(&mut self, init: SectorInit) -> Result<u32, Error>
         requires live { has_failed_here self.old ≡ false }
         requires orderly { IsTrue (orderly_of self.old) }
+        ensures takes { IfOk result (TakesOne init self.old self.new) }
+        ensures full { IsErrOf result Full → IsFull self.old × AllRests self.old self.new }
+        ensures none { OnErr result (GrowsFat [] [] self.old self.new) }
+        ensures spends { Spends 0 (λ e. e ≡ Full) result self.old self.new }
+        ensures tries { Tries IsTheLast result self.old self.new }
+    {
+        self.reserve_growth(1)?;
+        self.take_reserved(init)
+    }
+
+    // The same, where there is memory for it.
+    fn take_reserved(&mut self, init: SectorInit) -> Result<u32, Error>
+        requires live { has_failed_here self.old ≡ false }
+        requires orderly { IsTrue (orderly_of self.old) }
+        requires memory { HasMemory self.old 0 1 }
         ensures takes { IfOk result (TakesOne init self.old self.new) }
         ensures full { IsErrOf result Full → IsFull self.old × AllRests self.old self.new }
         ensures none { OnErr result (GrowsFat [] [] self.old self.new) }

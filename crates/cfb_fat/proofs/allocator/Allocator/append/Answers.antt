@@ -24,6 +24,7 @@ use Rattle.cfb_chains.proofs.LongerTables.{holds_then}
 use Rattle.cfb_fat.proofs.Places.{passed_attempts}
 use Rattle.cfb_fat.proofs.Packed.{behind_one, packed_more}
 use Rattle.cfb_fat.proofs.Taken.{whole_writable}
+use Rattle.cfb_runs.specs.Tables.{entries_of}
 use Rattle.cfb_fat.proofs.allocator.Allocator.append.Goals as goal
 
 pub invariant_of-self-2 : goal.invariant_of-self-2
@@ -43,15 +44,15 @@ invariant_of-self-2 g c =
     let counted : count_of b ≡ count_of a + 1 = wrote.count ∙ more in
     let version : version_of b ≡ v = wrote.changes.version ∙ did.appends.version in
     let index = c.len-index.result in
-    let at : index ≡ count_of a = omega (arith, c.len-index.ensures, it.fat.ok.0, order.covered) in
+    let at : index ≡ count_of a = omega (arith, c.len-index.ensures.value, order.covered) in
     let each : c.sector_len-each.result / 4 ≡ per v = ap (λ n. n / 4) c.sector_len-each.ensures in
     let fits : index < length fs * per v = omega (arith, at, order.covered, c.requires.place.room) in
     let parts = split v (length fs) index fits in
     let below : index / (c.sector_len-each.result / 4) < length fs = subst (λ e. index / e < length fs) (sym each) parts.0 in
     let holder = get_or_read fs _ _ below c.index-holder.ensures 0 in
-    let fat : it.fat.items ++ end_of_chain ∷ [] ≡ c.push_reserved.new.self.items = sym c.push_reserved.ensures.items in
-    let size : length c.push_reserved.new.self.items ≡ length it.fat.items + 1 = ap length (sym fat) ∙ length-append it.fat.items (end_of_chain ∷ []) in
-    let now : IsOrderly (version_of b) (count_of b) c.push_reserved.new.self.items fs ds = record {
+    let fat : (entries_of it.fat) ++ end_of_chain ∷ [] ≡ (entries_of c.push_reserved.new.self) = sym c.push_reserved.ensures.entries in
+    let size : length (entries_of c.push_reserved.new.self) ≡ length (entries_of it.fat) + 1 = ap length (sym fat) ∙ length-append (entries_of it.fat) (end_of_chain ∷ []) in
+    let now : IsOrderly (version_of b) (count_of b) (entries_of c.push_reserved.new.self) fs ds = record {
       once = order.once;
       covered = omega (arith, size, order.covered, counted);
       some = omega (arith, counted);
@@ -63,15 +64,15 @@ invariant_of-self-2 g c =
           let mid = subst IsTrue wrote.changes.honest honest in
           let was = subst IsTrue did.appends.honest mid in
           let written = wrote.changes.bytes live mid ∙ ap (λ u. overwritten (bytes_of m) (sector_start u c.index-holder.result.now + 4 * (index % (c.sector_len-each.result / 4))) (to_le_bytes w32 end_of_chain)) did.appends.version in
-          sym fat ∙ entry_added v (bytes_of a) (bytes_of m) (bytes_of b) fs ds it.fat.items (count_of a) index end_of_chain _ _ each holder written order.once
+          sym fat ∙ entry_added v (bytes_of a) (bytes_of m) (bytes_of b) fs ds (entries_of it.fat) (count_of a) index end_of_chain _ _ each holder written order.once
           (λ k inside. did.appends.before did.live was (sector_start v (slice_index fs k)) (sector_len v) (whole_before v (slice_index fs k) (count_of a) (below_fs k inside)) tt)
           at fits (omega arith) (it.same c.requires.live was)
           ∙ ap (λ n. take n (fat_in v (bytes_of b) fs)) (sym counted) ∙ ap (λ u. take (count_of b) (fat_in u (bytes_of b) fs)) (sym version);
       there = λ live k inside. let less = below_fs k inside in omega (arith, less, counted);
       inside = λ live. omega (arith, now.covered);
-      whole = subst (λ u. length c.push_reserved.new.self.items ≤ length fs * (sector_len u / 4)) (sym version) (omega (arith, size, c.requires.place.room));
-      packed = packed_more it.fat.items (end_of_chain ∷ []) c.push_reserved.new.self.items ds fs ds fs index (sym fat) (λ k below. c.requires.crowded k (omega (arith, below, at, order.covered))) (λ n none. none) (λ n none. none)
-          (λ k past is no_ds no_fs. let both = behind_one it.fat.items c.push_reserved.new.self.items end_of_chain k (sym fat) past is in omega (arith, both.1));
+      whole = subst (λ u. length (entries_of c.push_reserved.new.self) ≤ length fs * (sector_len u / 4)) (sym version) (omega (arith, size, c.requires.place.room));
+      packed = packed_more (entries_of it.fat) (end_of_chain ∷ []) (entries_of c.push_reserved.new.self) ds fs ds fs index (sym fat) (λ k below. c.requires.crowded k (omega (arith, below, at, order.covered))) (λ n none. none) (λ n none. none)
+          (λ k past is no_ds no_fs. let both = behind_one (entries_of it.fat) (entries_of c.push_reserved.new.self) end_of_chain k (sym fat) past is in omega (arith, both.1));
       orderly = λ holds. now;
       listed = λ live honest.
           let mid = subst IsTrue wrote.changes.honest honest in
@@ -101,7 +102,7 @@ returns-clause-occupies g c = record {
       let order = it.orderly c.requires.orderly in
       let more = did.appends.count did.live in
       let index = c.len-index.result in
-      let at : index ≡ count_of a = omega (arith, c.len-index.ensures, it.fat.ok.0, order.covered) in
+      let at : index ≡ count_of a = omega (arith, c.len-index.ensures.value, order.covered) in
       let each : c.sector_len-each.result / 4 ≡ per v = ap (λ n. n / 4) c.sector_len-each.ensures in
       let parts = split v (length fs) index (omega (arith, at, order.covered, c.requires.place.room)) in
       let below : index / (c.sector_len-each.result / 4) < length fs = subst (λ e. index / e < length fs) (sym each) parts.0 in
@@ -113,7 +114,7 @@ returns-clause-occupies g c = record {
         live = λ live. c.requires.live;
         count = λ live. omega (arith, wrote.count, more);
         orderly = λ live. sym c.requires.orderly;
-        fat = λ live. stays_in_front (c.in_ok-sector_id.sector_id ∷ []) it.fat.items (end_of_chain ∷ []) c.push_reserved.new.self.items c.push_reserved.ensures.items;
+        fat = λ live. stays_in_front (c.in_ok-sector_id.sector_id ∷ []) (entries_of it.fat) (end_of_chain ∷ []) (entries_of c.push_reserved.new.self) c.push_reserved.ensures.entries;
         tables = λ live p n fits beside. beside;
         still = λ live n. ((λ none. none), (λ none. none));
         longer = λ live honest.
@@ -121,8 +122,8 @@ returns-clause-occupies g c = record {
             let second = longer_over (bytes_of m) (bytes_of c.write_number.new.sectors) (to_le_bytes w32 end_of_chain) _ (wrote.changes.bytes live (subst IsTrue (sym did.appends.honest) honest)) in
             omega (arith, first, second);
         lean = λ live content lean.
-            let old = length it.fat.items in
-            lean_same v _ (old + 1) (length fs) (length ds) (content + 1) _ _ _ _ (wrote.changes.version ∙ did.appends.version) (ap length c.push_reserved.ensures.items ∙ length-append it.fat.items (end_of_chain ∷ [])) refl refl (omega arith)
+            let old = length (entries_of it.fat) in
+            lean_same v _ (old + 1) (length fs) (length ds) (content + 1) _ _ _ _ (wrote.changes.version ∙ did.appends.version) (ap length c.push_reserved.ensures.entries ∙ length-append (entries_of it.fat) (end_of_chain ∷ [])) refl refl (omega arith)
             (lean_one v old (length fs) (length ds) content (old + 1) refl lean);
         told = λ live honest. holds_then (ds ++ fs) (ds ++ fs) refl (λ told.
             let mid = subst IsTrue (sym did.appends.honest) honest in
@@ -149,7 +150,7 @@ returns-clause-occupies g c = record {
         let wrote = c.in_ok-write_number.ensures in
         let order = it.orderly c.requires.orderly in
         let index = c.len-index.result in
-        let at : index ≡ count_of a = omega (arith, c.len-index.ensures, it.fat.ok.0, order.covered) in
+        let at : index ≡ count_of a = omega (arith, c.len-index.ensures.value, order.covered) in
         let each : c.sector_len-each.result / 4 ≡ per v = ap (λ n. n / 4) c.sector_len-each.ensures in
         let parts = split v (length fs) index (omega (arith, at, order.covered, c.requires.place.room)) in
         let below : index / (c.sector_len-each.result / 4) < length fs = subst (λ e. index / e < length fs) (sym each) parts.0 in
@@ -185,7 +186,7 @@ returns-clause-occupies g c = record {
 pub returns-clause-ends : goal.returns-clause-ends
 returns-clause-ends g c = record {
   number = omega (arith, c.in_ok-sector_id.ensures.number, (c.args.self.now.orderly c.requires.orderly).covered);
-  fat = c.push_reserved.ensures.items;
+  fat = c.push_reserved.ensures.entries;
   tables = (refl, refl);
 }
 
@@ -203,7 +204,7 @@ index-holder-requires g c =
     let v = version_of it.sectors in
     let n = length it.fat_sectors.items in
     let each : c.sector_len-each.result / 4 ≡ per v = ap (λ n. n / 4) c.sector_len-each.ensures in
-    let below = subst (λ e. c.len-index.result / e < n) (sym each) (split v n c.len-index.result (omega (arith, c.len-index.ensures, it.fat.ok.0, c.requires.place.room))).0 in
+    let below = subst (λ e. c.len-index.result / e < n) (sym each) (split v n c.len-index.result (omega (arith, c.len-index.ensures.value, c.requires.place.room))).0 in
     omega (arith, below, it.fat_sectors.ok.0)
 
 pub write_number-requires-clause-there : goal.write_number-requires-clause-there
@@ -212,7 +213,7 @@ write_number-requires-clause-there g c =
     let v = version_of it.sectors in
     let n = length it.fat_sectors.items in
     let each : c.sector_len-each.result / 4 ≡ per v = ap (λ n. n / 4) c.sector_len-each.ensures in
-    let below = subst (λ e. c.len-index.result / e < n) (sym each) (split v n c.len-index.result (omega (arith, c.len-index.ensures, it.fat.ok.0, c.requires.place.room))).0 in
+    let below = subst (λ e. c.len-index.result / e < n) (sym each) (split v n c.len-index.result (omega (arith, c.len-index.ensures.value, c.requires.place.room))).0 in
     let holder = get_or_read it.fat_sectors.items _ _ below c.index-holder.ensures 0 in
     let did = c.in_ok-sector_id.ensures in
     omega (arith, holder, it.there c.requires.live (c.len-index.result / (c.sector_len-each.result / 4)) below, did.appends.count did.live)
@@ -223,3 +224,17 @@ write_number-requires-clause-inside g c =
     let did = c.in_ok-sector_id.ensures.appends.version in
     let each : c.sector_len-each.result / 4 ≡ per (version_of it.sectors) = ap (λ n. n / 4) c.sector_len-each.ensures in
     subst (λ v. c.len-index.result % (c.sector_len-each.result / 4) < sector_len v / 4) (sym did) (subst (λ e. c.len-index.result % e < per (version_of it.sectors)) (sym each) (rest_below (version_of it.sectors) c.len-index.result))
+
+pub returns-clause-spends : goal.returns-clause-spends
+returns-clause-spends g c = λ n had.
+    let it = c.args.self.now in
+    let did = c.in_ok-sector_id.ensures in
+    let wrote = c.in_ok-write_number.ensures in
+    let fs = it.fat_sectors.items in
+    let long : length (entries_of c.push_reserved.new.self) ≡ length (entries_of it.fat) + 1 = ap length c.push_reserved.ensures.entries ∙ length-append (entries_of it.fat) (end_of_chain ∷ []) in
+    let places : length fs * (sector_len (version_of c.write_number.new.sectors) / 4) ≡ length fs * (sector_len (version_of it.sectors) / 4) = ap (λ v. length fs * (sector_len v / 4)) (wrote.changes.version ∙ did.appends.version) in
+    record {
+      fat = let p = had.fat in omega (arith, p, long, places, c.push_reserved.ensures.runs, c.push_reserved.ensures.capacity);
+      fat_sectors = let p = had.fat_sectors in omega (arith, p);
+      difat_sectors = let p = had.difat_sectors in omega (arith, p);
+    }

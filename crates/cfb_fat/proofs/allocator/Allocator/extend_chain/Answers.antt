@@ -10,16 +10,25 @@ use Rattle.cfb_fat.specs.Growing.{TakesIn}
 use Rattle.cfb_fat.specs.Keeping.{may_still, takes_rest}
 use Rattle.cfb_fat.specs.Resting.{all_rest_refl}
 use Rattle.cfb_fat.proofs.GrowthSteps.{on_err}
+use Rattle.cfb_fat.proofs.Readied.{easy_link}
 use Rattle.cfb_fat.proofs.Leaving.{takes_leave}
 use Rattle.cfb_fat.proofs.Taken.{takes_extended, takes_failed}
+use Rattle.cfb_runs.specs.Tables.{entries_of}
 use Rattle.cfb_fat.proofs.allocator.Allocator.extend_chain.Goals as goal
+
+pub set_entry-requires-clause-room : goal.set_entry-requires-clause-room
+set_entry-requires-clause-room g c =
+    let it = c.args.self.now in
+    let was = c.in_ok-last.ensures.chain in
+    let took = c.in_ok-sector_id.ensures in
+    inl (easy_link (entries_of it.fat) (entries_of c.take.new.self.fat) was.0 c.args.start c.in_ok-last.last c.in_ok-sector_id.sector_id was.1 took.takes.free (took.takes.occupies.grows.fat took.tries.live) took.takes.chain)
 
 pub set_entry-requires-clause-there : goal.set_entry-requires-clause-there
 set_entry-requires-clause-there g c =
     let it = c.args.self.now in
     let was = c.in_ok-last.ensures.chain in
     let took = c.in_ok-sector_id.ensures in
-    last_below it.fat.items c.take.new.self.fat.items _ was.0 c.args.start c.in_ok-last.last c.in_ok-sector_id.sector_id was.1 took.takes.free (took.takes.occupies.grows.fat took.tries.live) took.takes.chain refl
+    last_below (entries_of it.fat) (entries_of c.take.new.self.fat) _ was.0 c.args.start c.in_ok-last.last c.in_ok-sector_id.sector_id was.1 took.takes.free (took.takes.occupies.grows.fat took.tries.live) took.takes.chain refl
 
 pub returns-in_err-set_entry-clause-none : goal.returns-in_err-set_entry-clause-none
 returns-in_err-set_entry-clause-none g c =
@@ -43,7 +52,7 @@ returns-clause-extends g c =
       front,
       last,
       was,
-      chain_extended it.fat.items mid.fat.items now.fat.items front c.args.start last n was took.takes.free (took.takes.occupies.grows.fat took.tries.live) took.takes.chain (set.entry set.live),
+      chain_extended (entries_of it.fat) (entries_of mid.fat) (entries_of now.fat) front c.args.start last n was took.takes.free (took.takes.occupies.grows.fat took.tries.live) took.takes.chain (set.entry set.live),
       takes_extended c.args.init front c.args.start last n it mid now was took.tries.live took.takes set.changes set.entry,
     )
 
@@ -87,4 +96,9 @@ returns-in_err-sector_id-clause-spends g c = λ ends n memory.
     exit_spends c.from_residual-in_err-sector_id.result c.in_err-sector_id.field-0.0 _ _ c.from_residual-in_err-sector_id.ensures.1 (⊎_elim (λ failed. inl failed) (λ full. inr (inr full)) (c.in_err-sector_id.ensures.spends n memory).1)
 
 pub returns-clause-spends : goal.returns-clause-spends
-returns-clause-spends g c = λ ends n memory. (c.in_ok-set_entry.ensures.memory 0 n (c.in_ok-sector_id.ensures.spends n memory).0, tt)
+returns-clause-spends g c = λ ends n memory.
+    let it = c.args.self.now in
+    let was = c.in_ok-last.ensures.chain in
+    let took = c.in_ok-sector_id.ensures in
+    let easy = easy_link (entries_of it.fat) (entries_of c.take.new.self.fat) was.0 c.args.start c.in_ok-last.last c.in_ok-sector_id.sector_id was.1 took.takes.free (took.takes.occupies.grows.fat took.tries.live) took.takes.chain in
+    (c.in_ok-set_entry.ensures.keeps easy 0 n (took.spends n memory).0, tt)

@@ -13,6 +13,7 @@ use Rattle.cfb_fat.specs.Tables.{bytes_of}
 use Rattle.cfb_fat.specs.Keeping.{takes_rest}
 use Rattle.cfb_fat.specs.Resting.{all_rest_refl}
 use Rattle.cfb_fat.proofs.GrowthSteps.{on_err, on_ok_all}
+use Rattle.cfb_runs.specs.Tables.{entries_of}
 use Rattle.cfb_fat.proofs.allocator.Allocator.extend_chain_by.Goals as goal
 
 pub returns-in_err-links-clause-some : goal.returns-in_err-links-clause-some
@@ -22,7 +23,7 @@ pub returns-then-old-eq0-clause-refused : goal.returns-then-old-eq0-clause-refus
 returns-then-old-eq0-clause-refused g c = λ refused. (
   λ orderly ids last chain.
       let ours = c.in_ok-links.links.sector_ids.items in
-      let one = chain_unique c.args.self.now.fat.items c.args.start ours (ids ++ last ∷ []) c.in_ok-links.ensures.chain chain in
+      let one = chain_unique (entries_of c.args.self.now.fat) c.args.start ours (ids ++ last ∷ []) c.in_ok-links.ensures.chain chain in
       omega (arith, ap length one, length-append ids (last ∷ []), ap length c.sector_ids-old.ensures, c.if-old-eq0.true),
   all_rest_refl c.args.self.now,
 )
@@ -38,7 +39,7 @@ returns-clause-refused g c = λ refused.
     let ours = c.in_ok-links.links.sector_ids.items in
     let some : 0 < length ours = omega (arith, ap length c.sector_ids-old.ensures, c.if-old-eq0.false) in
     let did = c.lengthen_chain.ensures.refused refused in
-    (λ orderly ids last chain. did.0 orderly (linked_from c.args.self.now.fat.items c.args.start ours some c.in_ok-links.ensures.chain), did.1)
+    (λ orderly ids last chain. did.0 orderly (linked_from (entries_of c.args.self.now.fat) c.args.start ours some c.in_ok-links.ensures.chain), did.1)
 
 pub returns-clause-extends : goal.returns-clause-extends
 returns-clause-extends g c =
@@ -56,7 +57,7 @@ returns-clause-extends g c =
     ap (λ u. sectors_for u c.in-Some-checked_mul.len) opened.version ∙ ap (sectors_for v) len ∙ whole_sectors v (length ids + c.args.count) in
     let longer = did.longer in
     let more = longer.0 in
-    let linked = linked_from it.fat.items c.args.start ids some opened.chain in
+    let linked = linked_from (entries_of it.fat) c.args.start ids some opened.chain in
     on_ok_all c.lengthen_chain.result _ _ _ _ did.count did.linked did.filled
     (λ count goes filled.
     let size : length all ≡ length ids + c.args.count = count ∙ wanted in
@@ -65,7 +66,7 @@ returns-clause-extends g c =
       more,
       longer.1,
       opened.chain,
-      longer_from it.fat.items now.fat.items c.args.start ids more all some opened.chain longer.2 (goes linked),
+      longer_from (entries_of it.fat) (entries_of now.fat) c.args.start ids more all some opened.chain longer.2 (goes linked),
       added,
       longer.3,
       subst (λ l. AreAmong l longer.1) longer.2 (longer.4 linked),

@@ -15,9 +15,11 @@ use Rattle.std.proofs.lemmas.Bool.Decides.{eqb_tells}
 use Rattle.cfb_fat.proofs.Lean.{lean_longer}
 use Rattle.cfb_fat.specs.Keeping.{lean_same}
 use Rattle.cfb_fat.proofs.Growth.{below_both, below_more, below_one_more, beside_more, fat_same, fat_sectors_stay, once_few, once_front, once_middle, room_more, stays_in_front}
+use Rattle.cfb_fat.proofs.Sparing.{places_after}
 use Rattle.cfb_fat.proofs.Packed.{behind_two, not_none, packed_more}
 use Rattle.cfb_fat.proofs.Places.{passed_attempts}
 use Rattle.cfb_fat.proofs.allocator.Allocator.grow_both.Given.{Over}
+use Rattle.cfb_runs.specs.Tables.{entries_of}
 use Rattle.cfb_fat.proofs.allocator.Allocator.grow_both.Goals as goal
 
 pub add_fat_sector-requires-clause-fewer : goal.add_fat_sector-requires-clause-fewer
@@ -53,9 +55,9 @@ returns-in_err-fat_sector-clause-attempts g c =
 pub record Both (g : Over) (c : goal.After-push_reserved-4 g) : Type 0 where
   pub is_ds : c.args.self.now.difat_sectors.items ++ count_of c.args.self.now.sectors ∷ [] ≡ c.push_reserved.new.self.items
   pub is_fs : c.args.self.now.fat_sectors.items ++ count_of c.add_difat_sector.new.sectors ∷ [] ≡ c.push_reserved-2.new.self.items
-  pub is_fat : c.args.self.now.fat.items ++ replicate 2 free ≡ c.push_reserved-4.new.self.items
+  pub is_fat : (entries_of c.args.self.now.fat) ++ replicate 2 free ≡ (entries_of c.push_reserved-4.new.self)
   pub first : Appends (IsBesideDifat {g = g.F.ReadMedium} c.args.self.now.sectors c.args.self.now.difat_sectors.items) c.args.self.now.sectors c.add_difat_sector.new.sectors
-  pub second : Lengthens {g = g.F.ReadMedium} c.add_difat_sector.new.sectors c.add_fat_sector.new.sectors c.args.self.now.fat.items c.args.self.now.fat_sectors.items (c.args.self.now.difat_sectors.items ++ count_of c.args.self.now.sectors ∷ []) 2
+  pub second : Lengthens {g = g.F.ReadMedium} c.add_difat_sector.new.sectors c.add_fat_sector.new.sectors (entries_of c.args.self.now.fat) c.args.self.now.fat_sectors.items (c.args.self.now.difat_sectors.items ++ count_of c.args.self.now.sectors ∷ []) 2
 
 both : (g : Over) (c : goal.After-push_reserved-4 g) → Both g c
 both g c =
@@ -76,7 +78,7 @@ both g c =
     record {
       is_ds = is_ds;
       is_fs = sym (c.push_reserved-2.ensures.items ∙ ap (λ n. fs ++ n ∷ []) then.number);
-      is_fat = sym (c.push_reserved-4.ensures.items ∙ ap (λ l. l ++ free ∷ []) c.push_reserved-3.ensures.items ∙ append_assoc it.fat.items (free ∷ []) (free ∷ []));
+      is_fat = sym (c.push_reserved-4.ensures.entries ∙ ap (λ l. l ++ free ∷ []) c.push_reserved-3.ensures.entries ∙ append_assoc (entries_of it.fat) (free ∷ []) (free ∷ []));
       first = first;
       second = record {
         appends = subst (λ l. Appends (IsBesideDifat m l) m b) (c.deref-2.ensures.value ∙ sym is_ds) then.appends;
@@ -84,7 +86,7 @@ both g c =
         once = once_middle ds fs (count_of a) order.once (below_both (count_of a) ds fs order.there below_fs);
         below_ds = below_one_more (count_of a) (count_of m) ds (omega (arith, more)) order.there;
         below_fs = below_more (count_of a) (count_of m) fs (omega (arith, more)) below_fs;
-        full = subst (λ u. length it.fat.items ≡ length fs * per u) (sym first.version) c.requires.full;
+        full = subst (λ u. length (entries_of it.fat) ≡ length fs * per u) (sym first.version) c.requires.full;
         before = λ honest.
             let was = subst IsTrue first.honest honest in
             let kept = fat_sectors_stay v (bytes_of a) (bytes_of m) ds fs (count_of a) order.once below_fs (λ p n fits aside. first.before did.live was p n fits aside) in
@@ -106,22 +108,22 @@ invariant_of-self-2 g c =
     let then = c.in_ok-fat_sector.ensures in
     let all = both g c in
     let h = all.second in
-    let fat = it.fat.items ++ replicate 2 free in
+    let fat = (entries_of it.fat) ++ replicate 2 free in
     let ds = it.difat_sectors.items ++ count_of a ∷ [] in
     let fs = it.fat_sectors.items ++ count_of m ∷ [] in
     let new_ds = c.push_reserved.new.self.items in
     let new_fs = c.push_reserved-2.new.self.items in
-    let order : IsOrderly (version_of b) (count_of b) c.push_reserved-4.new.self.items new_fs new_ds =
-    subst (λ l. IsOrderly (version_of b) (count_of b) c.push_reserved-4.new.self.items new_fs l) all.is_ds (subst (λ l. IsOrderly (version_of b) (count_of b) l new_fs ds) all.is_fat
-    (subst (λ l. IsOrderly (version_of b) (count_of b) fat l ds) all.is_fs (order_grown m b it.fat.items it.fat_sectors.items ds 2 h then.attempts.live))) in
+    let order : IsOrderly (version_of b) (count_of b) (entries_of c.push_reserved-4.new.self) new_fs new_ds =
+    subst (λ l. IsOrderly (version_of b) (count_of b) (entries_of c.push_reserved-4.new.self) new_fs l) all.is_ds (subst (λ l. IsOrderly (version_of b) (count_of b) l new_fs ds) all.is_fat
+    (subst (λ l. IsOrderly (version_of b) (count_of b) fat l ds) all.is_fs (order_grown m b (entries_of it.fat) it.fat_sectors.items ds 2 h then.attempts.live))) in
     record {
-      same = λ live honest. sym all.is_fat ∙ same_grown m b it.fat.items it.fat_sectors.items ds 2 h live (subst IsTrue h.appends.honest honest)
+      same = λ live honest. sym all.is_fat ∙ same_grown m b (entries_of it.fat) it.fat_sectors.items ds 2 h live (subst IsTrue h.appends.honest honest)
           ∙ ap (λ l. take (count_of b) (fat_in (version_of b) (bytes_of b) l)) all.is_fs;
-      there = λ live. subst (λ l. (k : ℕ) → k < length l → slice_index l k < count_of b) all.is_fs (there_grown m b it.fat.items it.fat_sectors.items ds 2 h live);
+      there = λ live. subst (λ l. (k : ℕ) → k < length l → slice_index l k < count_of b) all.is_fs (there_grown m b (entries_of it.fat) it.fat_sectors.items ds 2 h live);
       inside = λ live. omega (arith, order.covered);
       whole = subst (λ l. length l ≤ length new_fs * (sector_len (version_of b) / 4)) all.is_fat
-          (subst (λ l. length fat ≤ length l * (sector_len (version_of b) / 4)) all.is_fs (whole_grown m b it.fat.items it.fat_sectors.items ds 2 h then.attempts.live));
-      packed = packed_more it.fat.items (free ∷ free ∷ []) c.push_reserved-4.new.self.items it.difat_sectors.items it.fat_sectors.items new_ds new_fs it.first_free (sym all.is_fat) it.packed
+          (subst (λ l. length fat ≤ length l * (sector_len (version_of b) / 4)) all.is_fs (whole_grown m b (entries_of it.fat) it.fat_sectors.items ds 2 h then.attempts.live));
+      packed = packed_more (entries_of it.fat) (free ∷ free ∷ []) (entries_of c.push_reserved-4.new.self) it.difat_sectors.items it.fat_sectors.items new_ds new_fs it.first_free (sym all.is_fat) it.packed
           (λ n none. none_first it.difat_sectors.items (count_of a ∷ []) n (subst (λ l. IsNoneOf l n) (sym all.is_ds) none))
           (λ n none. none_first it.fat_sectors.items (count_of m ∷ []) n (subst (λ l. IsNoneOf l n) (sym all.is_fs) none))
           (λ k past is no_ds no_fs.
@@ -130,7 +132,7 @@ invariant_of-self-2 g c =
           ⊎_elim
           (λ here. not_none it.difat_sectors.items (count_of a) (subst (IsNoneOf ds) (here ∙ covered) (subst (λ l. IsNoneOf l k) (sym all.is_ds) no_ds)))
           (λ there. let at : k ≡ count_of m = omega (arith, there, covered, more) in not_none it.fat_sectors.items (count_of m) (subst (IsNoneOf fs) at (subst (λ l. IsNoneOf l k) (sym all.is_fs) no_fs)))
-          (behind_two it.fat.items c.push_reserved-4.new.self.items free free k (sym all.is_fat) past is));
+          (behind_two (entries_of it.fat) (entries_of c.push_reserved-4.new.self) free free k (sym all.is_fat) past is));
       orderly = λ now. order;
       listed = λ live honest.
           let mid = subst IsTrue h.appends.honest honest in
@@ -162,7 +164,7 @@ returns-clause-grows g c =
     let fs = it.fat_sectors.items in
     let is_ds : ds ++ count_of a ∷ [] ≡ c.push_reserved.new.self.items = sym (c.push_reserved.ensures.items ∙ ap (λ n. ds ++ n ∷ []) did.number) in
     let is_fs : fs ++ count_of m ∷ [] ≡ c.push_reserved-2.new.self.items = sym (c.push_reserved-2.ensures.items ∙ ap (λ n. fs ++ n ∷ []) then.number) in
-    let is_fat : c.push_reserved-4.new.self.items ≡ it.fat.items ++ free ∷ free ∷ [] = c.push_reserved-4.ensures.items ∙ ap (λ l. l ++ free ∷ []) c.push_reserved-3.ensures.items ∙ append_assoc it.fat.items (free ∷ []) (free ∷ []) in
+    let is_fat : (entries_of c.push_reserved-4.new.self) ≡ (entries_of it.fat) ++ free ∷ free ∷ [] = c.push_reserved-4.ensures.entries ∙ ap (λ l. l ++ free ∷ []) c.push_reserved-3.ensures.entries ∙ append_assoc (entries_of it.fat) (free ∷ []) (free ∷ []) in
     let first = subst (λ l. Appends (IsBesideDifat a l) a m) c.deref.ensures.value did.appends in
     let second = subst (λ l. Appends (IsBesideDifat m l) m c.add_fat_sector.new.sectors) (c.deref-2.ensures.value ∙ sym is_ds) then.appends in
     let more = first.count did.live in
@@ -174,7 +176,7 @@ returns-clause-grows g c =
       live = λ live. c.requires.live;
       count = λ live. let most = second.count live in omega (arith, more, most);
       orderly = λ live. sym c.requires.orderly;
-      fat = λ live. stays_in_front [] it.fat.items (free ∷ free ∷ []) c.push_reserved-4.new.self.items is_fat;
+      fat = λ live. stays_in_front [] (entries_of it.fat) (free ∷ free ∷ []) (entries_of c.push_reserved-4.new.self) is_fat;
       tables = λ live p n fits apart.
           subst (λ l. IsBeside v (l ++ c.push_reserved-2.new.self.items) p n) is_ds (subst (λ l. IsBeside v ((ds ++ count_of a ∷ []) ++ l) p n) is_fs
           (beside_both v (ds ++ count_of a ∷ []) (fs ++ count_of m ∷ []) p n
@@ -183,8 +185,8 @@ returns-clause-grows g c =
       still = λ live n. ((λ none. none_first ds (count_of a ∷ []) n (subst (λ l. IsNoneOf l n) (sym is_ds) none)), (λ none. none_first fs (count_of m ∷ []) n (subst (λ l. IsNoneOf l n) (sym is_fs) none)));
       longer = λ live honest. let one = first.longer did.live honest in let two = second.longer live (subst IsTrue (sym first.honest) honest) in omega (arith, one, two);
       lean = λ live content lean.
-          let old = length it.fat.items in
-          lean_same v _ (old + 2) (length fs + 1) (length ds + 1) content _ _ _ _ (second.version ∙ first.version) (ap length is_fat ∙ length-append it.fat.items (free ∷ free ∷ []))
+          let old = length (entries_of it.fat) in
+          lean_same v _ (old + 2) (length fs + 1) (length ds + 1) content _ _ _ _ (second.version ∙ first.version) (ap length is_fat ∙ length-append (entries_of it.fat) (free ∷ free ∷ []))
           (ap length (sym is_fs) ∙ length-append fs (count_of m ∷ [])) (ap length (sym is_ds) ∙ length-append ds (count_of a ∷ [])) (omega arith)
           (lean_longer v old (length fs) (length ds) content (old + 2) (length ds + 1) c.requires.full (omega arith)
           (λ d below. ⊎_elim (λ last. subst (λ n. 109 + n * (per v - 1) < length fs + 1) (sym last.1) (omega (arith, c.requires.crowded))) (λ off. let differ = off.1 in let less = lean.difat d (omega (arith, differ, below)) in omega (arith, less)) (eqb_tells d (length ds))) lean);
@@ -198,4 +200,25 @@ returns-clause-grows g c =
           let beside_ds = beside_more v ds p n (count_of a) (count_of a) (beside_first v ds fs p n apart) fits (omega arith) in
           second.before live (subst IsTrue (sym first.honest) honest) p n (subst (λ u. p + n ≤ sector_start u (count_of m)) (sym first.version) (later (p + n) fits)) (subst (λ u. IsBeside u (ds ++ count_of a ∷ []) p n) (sym first.version) beside_ds, words)
           ∙ first.before did.live honest p n fits (beside_first v ds fs p n apart, words);
+    }
+
+pub returns-clause-spends : goal.returns-clause-spends
+returns-clause-spends g c = λ n had.
+    let it = c.args.self.now in
+    let first = c.in_ok-difat_sector.ensures in
+    let second = c.in_ok-fat_sector.ensures in
+    let v = version_of it.sectors in
+    let fs = it.fat_sectors.items in
+    let ds = it.difat_sectors.items in
+    let long_ds : length c.push_reserved.new.self.items ≡ length ds + 1 = ap length c.push_reserved.ensures.items ∙ length-append ds (c.in_ok-difat_sector.difat_sector ∷ []) in
+    let long_fs : length c.push_reserved-2.new.self.items ≡ length fs + 1 = ap length c.push_reserved-2.ensures.items ∙ length-append fs (c.in_ok-fat_sector.fat_sector ∷ []) in
+    let one : length (entries_of c.push_reserved-3.new.self) ≡ length (entries_of it.fat) + 1 = ap length c.push_reserved-3.ensures.entries ∙ length-append (entries_of it.fat) (free ∷ []) in
+    let two = ap length c.push_reserved-4.ensures.entries ∙ length-append (entries_of c.push_reserved-3.new.self) (free ∷ []) in
+    let long : length (entries_of c.push_reserved-4.new.self) ≡ length (entries_of it.fat) + 2 = omega (arith, one, two) in
+    let none = places_after v (version_of c.add_fat_sector.new.sectors) (length fs) (length (entries_of it.fat)) 2 (length c.push_reserved-2.new.self.items) (length (entries_of c.push_reserved-4.new.self)) (second.appends.version ∙ first.appends.version) c.requires.full long_fs long (omega arith) in
+    let before : length (entries_of it.fat) ≡ length fs * (sector_len v / 4) = c.requires.full in
+    record {
+      fat = let p = had.fat in omega (arith, p, none, before, c.push_reserved-3.ensures.runs, c.push_reserved-3.ensures.capacity, c.push_reserved-4.ensures.runs, c.push_reserved-4.ensures.capacity);
+      fat_sectors = let p = had.fat_sectors in omega (arith, p, long_fs, c.push_reserved-2.ensures.capacity);
+      difat_sectors = let p = had.difat_sectors in omega (arith, p, long_ds, c.push_reserved.ensures.capacity);
     }

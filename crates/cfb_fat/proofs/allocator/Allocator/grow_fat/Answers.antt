@@ -12,12 +12,14 @@ use Rattle.cfb_fat.proofs.Grown.{order_grown, same_grown, there_grown, whole_gro
 use Rattle.cfb_fat.proofs.Lean.{lean_longer}
 use Rattle.cfb_fat.specs.Keeping.{lean_same}
 use Rattle.cfb_fat.proofs.Growth.{beside_more, once_few, once_front, stays_in_front}
+use Rattle.cfb_fat.proofs.Sparing.{places_after}
 use Rattle.cfb_fat.proofs.Packed.{behind_one, not_none, packed_more}
 use Rattle.cfb_chains.proofs.Beside.{beside_first, none_first}
 use Rattle.cfb_fat.proofs.allocator.Allocator.grow_fat.Given.{Over}
+use Rattle.cfb_runs.specs.Tables.{entries_of}
 use Rattle.cfb_fat.proofs.allocator.Allocator.grow_fat.Goals as goal
 
-lengthens : (g : Over) (c : goal.After-push_reserved-2 g) → Lengthens {g = g.F.ReadMedium} c.args.self.now.sectors c.add_fat_sector.new.sectors c.args.self.now.fat.items c.args.self.now.fat_sectors.items c.args.self.now.difat_sectors.items 1
+lengthens : (g : Over) (c : goal.After-push_reserved-2 g) → Lengthens {g = g.F.ReadMedium} c.args.self.now.sectors c.add_fat_sector.new.sectors (entries_of c.args.self.now.fat) c.args.self.now.fat_sectors.items c.args.self.now.difat_sectors.items 1
 lengthens g c =
     let it = c.args.self.now in
     let did = c.in_ok-sector_id.ensures in
@@ -39,8 +41,8 @@ lengthens g c =
 is_fs : (g : Over) (c : goal.After-push_reserved-2 g) → c.args.self.now.fat_sectors.items ++ count_of c.args.self.now.sectors ∷ [] ≡ c.push_reserved.new.self.items
 is_fs g c = sym (c.push_reserved.ensures.items ∙ ap (λ n. c.args.self.now.fat_sectors.items ++ n ∷ []) c.in_ok-sector_id.ensures.number)
 
-is_fat : (g : Over) (c : goal.After-push_reserved-2 g) → c.args.self.now.fat.items ++ free ∷ [] ≡ c.push_reserved-2.new.self.items
-is_fat g c = sym c.push_reserved-2.ensures.items
+is_fat : (g : Over) (c : goal.After-push_reserved-2 g) → (entries_of c.args.self.now.fat) ++ free ∷ [] ≡ (entries_of c.push_reserved-2.new.self)
+is_fat g c = sym c.push_reserved-2.ensures.entries
 
 pub invariant_of-self-2 : goal.invariant_of-self-2
 invariant_of-self-2 g c =
@@ -49,25 +51,25 @@ invariant_of-self-2 g c =
     let b = c.add_fat_sector.new.sectors in
     let did = c.in_ok-sector_id.ensures in
     let h = lengthens g c in
-    let fat = it.fat.items ++ free ∷ [] in
+    let fat = (entries_of it.fat) ++ free ∷ [] in
     let fs = it.fat_sectors.items ++ count_of a ∷ [] in
     let ds = it.difat_sectors.items in
     let has_fs : fs ≡ c.push_reserved.new.self.items = is_fs g c in
-    let has_fat : fat ≡ c.push_reserved-2.new.self.items = is_fat g c in
-    let order : IsOrderly (version_of b) (count_of b) c.push_reserved-2.new.self.items c.push_reserved.new.self.items ds =
+    let has_fat : fat ≡ (entries_of c.push_reserved-2.new.self) = is_fat g c in
+    let order : IsOrderly (version_of b) (count_of b) (entries_of c.push_reserved-2.new.self) c.push_reserved.new.self.items ds =
     subst (λ l. IsOrderly (version_of b) (count_of b) l c.push_reserved.new.self.items ds) has_fat
-    (subst (λ l. IsOrderly (version_of b) (count_of b) fat l ds) has_fs (order_grown a b it.fat.items it.fat_sectors.items ds 1 h did.attempts.live)) in
+    (subst (λ l. IsOrderly (version_of b) (count_of b) fat l ds) has_fs (order_grown a b (entries_of it.fat) it.fat_sectors.items ds 1 h did.attempts.live)) in
     record {
-      same = λ live honest. sym has_fat ∙ same_grown a b it.fat.items it.fat_sectors.items ds 1 h live (subst IsTrue did.appends.honest honest)
+      same = λ live honest. sym has_fat ∙ same_grown a b (entries_of it.fat) it.fat_sectors.items ds 1 h live (subst IsTrue did.appends.honest honest)
           ∙ ap (λ l. take (count_of b) (fat_in (version_of b) (bytes_of b) l)) has_fs;
-      there = λ live. subst (λ l. (k : ℕ) → k < length l → slice_index l k < count_of b) has_fs (there_grown a b it.fat.items it.fat_sectors.items ds 1 h live);
+      there = λ live. subst (λ l. (k : ℕ) → k < length l → slice_index l k < count_of b) has_fs (there_grown a b (entries_of it.fat) it.fat_sectors.items ds 1 h live);
       inside = λ live. omega (arith, order.covered);
       whole = subst (λ l. length l ≤ length c.push_reserved.new.self.items * (sector_len (version_of b) / 4)) has_fat
-          (subst (λ l. length fat ≤ length l * (sector_len (version_of b) / 4)) has_fs (whole_grown a b it.fat.items it.fat_sectors.items ds 1 h did.attempts.live));
-      packed = packed_more it.fat.items (free ∷ []) c.push_reserved-2.new.self.items ds it.fat_sectors.items ds c.push_reserved.new.self.items it.first_free (sym has_fat) it.packed (λ n none. none)
+          (subst (λ l. length fat ≤ length l * (sector_len (version_of b) / 4)) has_fs (whole_grown a b (entries_of it.fat) it.fat_sectors.items ds 1 h did.attempts.live));
+      packed = packed_more (entries_of it.fat) (free ∷ []) (entries_of c.push_reserved-2.new.self) ds it.fat_sectors.items ds c.push_reserved.new.self.items it.first_free (sym has_fat) it.packed (λ n none. none)
           (λ n none. none_first it.fat_sectors.items (count_of a ∷ []) n (subst (λ l. IsNoneOf l n) (sym has_fs) none))
           (λ k past is no_ds no_fs.
-          let here = (behind_one it.fat.items c.push_reserved-2.new.self.items free k (sym has_fat) past is).0 ∙ (it.orderly c.requires.orderly).covered in
+          let here = (behind_one (entries_of it.fat) (entries_of c.push_reserved-2.new.self) free k (sym has_fat) past is).0 ∙ (it.orderly c.requires.orderly).covered in
           not_none it.fat_sectors.items (count_of a) (subst (IsNoneOf (it.fat_sectors.items ++ count_of a ∷ [])) here (subst (λ l. IsNoneOf l k) (sym has_fs) no_fs)));
       orderly = λ now. order;
       listed = λ live honest.
@@ -99,13 +101,13 @@ returns-clause-grows g c =
       live = λ live. c.requires.live;
       count = λ live. let more = did.appends.count live in omega (arith, more);
       orderly = λ live. sym c.requires.orderly;
-      fat = λ live. stays_in_front [] it.fat.items (free ∷ []) c.push_reserved-2.new.self.items c.push_reserved-2.ensures.items;
+      fat = λ live. stays_in_front [] (entries_of it.fat) (free ∷ []) (entries_of c.push_reserved-2.new.self) c.push_reserved-2.ensures.entries;
       still = λ live n. ((λ none. none), (λ none. none_first fs (count_of it.sectors ∷ []) n (subst (λ l. IsNoneOf l n) (sym has_fs) none)));
       longer = appends.longer;
       lean = λ live content lean.
-          let old = length it.fat.items in
-          let size = c.push_reserved-2.ensures.items in
-          lean_same v _ (old + 1) (length fs + 1) (length ds) content _ _ _ _ did.appends.version (ap length size ∙ length-append it.fat.items (free ∷ [])) (ap length (sym has_fs) ∙ length-append fs (count_of it.sectors ∷ [])) refl (omega arith)
+          let old = length (entries_of it.fat) in
+          let size = c.push_reserved-2.ensures.entries in
+          lean_same v _ (old + 1) (length fs + 1) (length ds) content _ _ _ _ did.appends.version (ap length size ∙ length-append (entries_of it.fat) (free ∷ [])) (ap length (sym has_fs) ∙ length-append fs (count_of it.sectors ∷ [])) refl (omega arith)
           (lean_longer v old (length fs) (length ds) content (old + 1) (length ds) c.requires.full (omega arith) (λ d below. let less = lean.difat d below in omega (arith, less)) lean);
       told = λ live honest any.
           let size = ap length has_fs in
@@ -123,3 +125,19 @@ add_fat_sector-requires-clause-fewer g c =
     let it = c.args.self.now in
     let order = it.orderly c.requires.orderly in
     subst (λ l. length l ≤ count_of it.sectors) (sym c.deref.ensures.value) (once_few (count_of it.sectors) it.difat_sectors.items (once_front it.difat_sectors.items it.fat_sectors.items order.once) order.there)
+
+pub returns-clause-spends : goal.returns-clause-spends
+returns-clause-spends g c = λ n had.
+    let it = c.args.self.now in
+    let did = c.in_ok-sector_id.ensures in
+    let v = version_of it.sectors in
+    let fs = it.fat_sectors.items in
+    let long_fs : length c.push_reserved.new.self.items ≡ length fs + 1 = ap length c.push_reserved.ensures.items ∙ length-append fs (c.in_ok-sector_id.sector_id ∷ []) in
+    let long : length (entries_of c.push_reserved-2.new.self) ≡ length (entries_of it.fat) + 1 = ap length c.push_reserved-2.ensures.entries ∙ length-append (entries_of it.fat) (free ∷ []) in
+    let none = places_after v (version_of c.add_fat_sector.new.sectors) (length fs) (length (entries_of it.fat)) 1 (length c.push_reserved.new.self.items) (length (entries_of c.push_reserved-2.new.self)) did.appends.version c.requires.full long_fs long (omega arith) in
+    let before : length (entries_of it.fat) ≡ length fs * (sector_len v / 4) = c.requires.full in
+    record {
+      fat = let p = had.fat in omega (arith, p, none, before, c.push_reserved-2.ensures.runs, c.push_reserved-2.ensures.capacity);
+      fat_sectors = let p = had.fat_sectors in omega (arith, p, long_fs, c.push_reserved.ensures.capacity);
+      difat_sectors = let p = had.difat_sectors in omega (arith, p);
+    }

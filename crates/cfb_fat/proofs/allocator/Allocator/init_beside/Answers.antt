@@ -14,6 +14,7 @@ use Rattle.cfb_fat.specs.Listed.{Lists}
 use Rattle.cfb_fat.proofs.ListedStays.{listed_still}
 use Rattle.cfb_fat.proofs.Entering.{order_stays, still_same}
 use Rattle.cfb_fat.proofs.FatEntries.{per}
+use Rattle.cfb_runs.specs.Tables.{entries_of}
 use Rattle.cfb_fat.proofs.allocator.Allocator.init_beside.Goals as goal
 
 pub invariant_of-self : goal.invariant_of-self
@@ -31,12 +32,12 @@ invariant_of-self g c =
     let no_difat : IsBeside it.sectors.version it.difat_sectors.items place (length xs) = subst (IsBeside it.sectors.version it.difat_sectors.items place) (sym long) (apart it.sectors.version it.difat_sectors.items c.args.sector_id c.requires.no_difat) in
     record {
       same = λ live honest. let was = subst IsTrue changes.honest honest in
-          still_same it.sectors.version c.init_sector.new.self.version _ _ fs it.fat.items xs _ _ place changes.version count (changes.bytes live was) no_fat (it.same (changes.live live) was);
+          still_same it.sectors.version c.init_sector.new.self.version _ _ fs (entries_of it.fat) xs _ _ place changes.version count (changes.bytes live was) no_fat (it.same (changes.live live) was);
       there = λ live k inside. subst (λ n. slice_index fs k < n) (sym count) (it.there (changes.live live) k inside);
-      inside = λ live. subst (λ n. length it.fat.items ≤ n) (sym count) (it.inside (changes.live live));
-      whole = subst (λ v. length it.fat.items ≤ length fs * per v) (sym changes.version) it.whole;
+      inside = λ live. subst (λ n. length (entries_of it.fat) ≤ n) (sym count) (it.inside (changes.live live));
+      whole = subst (λ v. length (entries_of it.fat) ≤ length fs * per v) (sym changes.version) it.whole;
       packed = c.requires.lowest;
-      orderly = λ now. order_stays _ _ _ _ it.fat.items it.fat.items fs it.difat_sectors.items changes.version count refl (it.orderly now);
+      orderly = λ now. order_stays _ _ _ _ (entries_of it.fat) (entries_of it.fat) fs it.difat_sectors.items changes.version count refl (it.orderly now);
       listed = λ live honest.
           let was = subst IsTrue changes.honest honest in
           let before = it.listed (changes.live live) was in
@@ -45,8 +46,8 @@ invariant_of-self g c =
           λ some. listed_still it.sectors.version c.init_sector.new.self.version (bytes_of it.sectors) (bytes_of c.init_sector.new.self) xs it.difat_sectors.items fs place it.sectors.num_sectors c.init_sector.new.self.num_sectors
           changes.version count (changes.bytes live was) (it.sectors.counted (changes.live live) was) (c.init_sector.new.self.counted live honest) some words no_difat in (
             λ now. let had = before.0 now in
-                (order_stays _ _ _ _ it.fat.items it.fat.items fs it.difat_sectors.items changes.version count refl had.0, ∥∥₁_map had.1 (both had.0.some).0),
-            λ has. let order = order_stays _ _ _ _ it.fat.items it.fat.items fs it.difat_sectors.items (sym changes.version) (sym count) refl has.0 in
+                (order_stays _ _ _ _ (entries_of it.fat) (entries_of it.fat) fs it.difat_sectors.items changes.version count refl had.0, ∥∥₁_map had.1 (both had.0.some).0),
+            λ has. let order = order_stays _ _ _ _ (entries_of it.fat) (entries_of it.fat) fs it.difat_sectors.items (sym changes.version) (sym count) refl has.0 in
                 before.1 (order, ∥∥₁_map has.1 (both order.some).1),
           );
     }

@@ -6,6 +6,7 @@ use Rattle.cfb_sectors.specs.Sectors.{fat_in}
 use Rattle.cfb_fat.specs.Listed.{Lists}
 use Rattle.cfb_fat.specs.Orderly.{IsOrderly}
 use Rattle.cfb_fat.proofs.Listing.{listed_still_read, order_after}
+use Rattle.cfb_runs.specs.Tables.{entries_of}
 use Rattle.cfb_fat.proofs.allocator.Allocator.new.Goals as goal
 
 pub invariant_of-result : goal.invariant_of-result
@@ -14,7 +15,7 @@ invariant_of-result g c =
     let now = c.read_parts.new.sectors in
     let did = c.in-Ok.ensures in
     let rests = did.rests in
-    let fat = c.in-Ok.fat.items in
+    let fat = (entries_of c.in-Ok.fat) in
     let is = c.in-Ok.is_orderly in
     let has_fs = c.deref-2.ensures.value in
     let has_ds = c.deref.ensures.value in

@@ -1,4 +1,4 @@
-use Rattle.std.proofs.Common.{◌+◌, ◌<◌, ◌≤◌, [], ◌∷◌, length, ap, sym, subst, ◌∙◌, arith, IsTrue}
+use Rattle.std.proofs.Common.{inr, ◌+◌, ◌<◌, ◌≤◌, [], ◌∷◌, length, ap, sym, subst, ◌∙◌, arith, IsTrue}
 use Rattle.cfb_medium.specs.Versions.{sector_len}
 use Rattle.cfb_sectors.specs.Held.{bytes_of, version_of}
 use Rattle.cfb_sectors.specs.Initial.{initial}
@@ -22,8 +22,11 @@ returns-in_err-set_entry-clause-none g c =
     on_err c.from_residual-in_err-set_entry.result (GrowsFat [] [] it c.set_entry.new.self)
     (grows_failed [] [] it c.set_entry.new.self (set.changes.honest ∙ first.honest) (λ start from. set.changes.continues start (first.continues start from)) (set.changes.version ∙ first.version) set.err)
 
-pub returns-clause-memory : goal.returns-clause-memory
-returns-clause-memory g c = λ entries n memory. c.in_ok-set_entry.ensures.memory entries n (c.in_ok-init_beside.ensures.memory entries n memory)
+pub returns-clause-spends : goal.returns-clause-spends
+returns-clause-spends g c = λ entries n memory. c.in_ok-set_entry.ensures.memory entries n (c.in_ok-init_beside.ensures.memory (entries + 1) n memory)
+
+pub set_entry-requires-clause-room : goal.set_entry-requires-clause-room
+set_entry-requires-clause-room g c = let same = c.in_ok-init_beside.ensures.runs in inr (omega (arith, c.requires.room, same.0, same.1))
 
 pub returns-clause-occupies : goal.returns-clause-occupies
 returns-clause-occupies g c = record {
