@@ -1,0 +1,3 @@
+pub mod Edited
+pub mod Splicing
+pub mod Views

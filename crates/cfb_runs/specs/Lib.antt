@@ -1,1 +1,3 @@
+pub mod Props
+pub mod Runs
 pub mod Tables
