@@ -21,7 +21,7 @@ use Rattle.cfb_fat.specs.Keeping.{told_same}
 use Rattle.cfb_runs.specs.Tables.{entries_of}
 use Rattle.cfb_fat.specs.Tables.{fat_sectors_of, version_of, AllRests}
 
-one_is : (n m j : ℕ) → j < 1 → get_or (n ∷ []) j 0 ≡ m → n ≡ m
+pub one_is : (n m j : ℕ) → j < 1 → get_or (n ∷ []) j 0 ≡ m → n ≡ m
 one_is n m zero below is = is
 one_is n m (suc j) below is = absurd (omega arith)
 

@@ -2,6 +2,7 @@ pub mod Appended
 pub mod DifatChains
 pub mod Entering
 pub mod EntryChanges
+pub mod EntryWrites
 pub mod FatEntries
 pub mod Fresh
 pub mod Grown

@@ -1,23 +1,27 @@
 //! Entries of the FAT that change, and chains that are freed ([MS-CFB] 2.3).
-ghost use Rattle.cfb_fat.specs.Calls.{ChangesTables, HasRun};
+ghost use Rattle.cfb_fat.specs.Calls.{Attempts, ChangesTables, HasRun};
 ghost use Rattle.cfb_chains.specs.ChainCalls.{IsInvalid};
-ghost use Rattle.cfb_chains.specs.Changes.{HaveEntry};
+ghost use Rattle.cfb_chains.specs.Changes.{AreOnce, HaveEntry};
 ghost use Rattle.cfb_chains.specs.Owned.{Leaves};
-ghost use Rattle.cfb_fat.specs.Changing.{ChangesFat};
+ghost use Rattle.cfb_fat.specs.Changing.{fat_here, ChangesFat, WritesEntries};
 ghost use Rattle.cfb_fat.specs.Growing.{HasMemory, KeepsMemory};
 ghost use Rattle.cfb_fat.specs.Keeping.{changes_keep, rests_keep_tables, writes_keep_tables};
 ghost use Rattle.cfb_fat.specs.Orderly.{AreBelow};
 ghost use Rattle.cfb_medium.specs.Calls.{IsFaultUnless};
+ghost use Rattle.cfb_medium.specs.Versions.{sector_len};
+ghost use Rattle.cfb_runs.specs.Freeing.{stretches};
 ghost use Rattle.cfb_runs.specs.Tables.{IsEasy};
+ghost use Rattle.cfb_sectors.specs.Held.{count_of as sectors_count, has_failed_here as sectors_failed, version_of as sectors_version, IsHonest};
 ghost use Rattle.cfb_medium.specs.declared.error.Error.TheVariants.{InvalidData};
 ghost use Rattle.cfb_sectors.specs.Sectors.{end_of_chain, free, sector, Chain as IsChain};
-ghost use Rattle.std.specs.Prelude.{false, length, slice_index, slice_set, true, IfErr, IsErrOf, IsTrue, List, OnErr, OnOk, [], ℕ, ◌*◌, ◌+◌, ◌<◌, ◌∷◌, ◌≡◌, ◌≤◌};
+ghost use Rattle.std.specs.Prelude.{false, length, slice_index, slice_set, true, IfErr, IsErrOf, IsTrue, List, OnErr, OnOk, [], ℕ, ◌*◌, ◌+◌, ◌/◌, ◌<◌, ◌∷◌, ◌≡◌, ◌≤◌};
 
 use crate::Allocator;
 use crate::fat::{ENTRY_LEN, write_number};
 use cfb_chains::FreesChains;
 use cfb_medium::{Error, Medium};
-use cfb_sectors::{END_OF_CHAIN, FREE_SECTOR};
+use cfb_runs::count_stretches;
+use cfb_sectors::{END_OF_CHAIN, FREE_SECTOR, Sectors};
 
 // Where to look first for a sector in no use, after this one got an entry.
 fn first_free_after(first_free: usize, index: usize, entry: u32) -> usize
@@ -29,6 +33,46 @@ fn first_free_after(first_free: usize, index: usize, entry: u32) -> usize
     } else {
         first_free
     }
+}
+
+// The lowest of these numbers.
+fn lowest_of(first: usize, sector_ids: &[u32]) -> usize
+    ensures before { result ≤ first }
+    ensures each { (k : ℕ) → k < length sector_ids.now → result ≤ slice_index sector_ids.now k }
+{
+    let mut lowest = first;
+    for sector_id in sector_ids {
+        lowest = lowest.min(*sector_id as usize);
+    }
+    lowest
+}
+
+// Writes an entry of the FAT for each of these sectors, in the sectors that hold it. After a fault it has failed.
+fn write_entries<F: Medium>(
+    sectors: &mut Sectors<F>,
+    fat_sectors: &[u32],
+    sector_ids: &[u32],
+    entry: u32,
+) -> Result<(), Error>
+    requires live { sectors_failed sectors.old ≡ false }
+    requires some { 0 < sectors_count sectors.old }
+    requires there { AreBelow (sectors_count sectors.old) fat_sectors.now }
+    requires inside { AreBelow (sectors_count sectors.old) sector_ids.now }
+    requires places { sectors_count sectors.old
+        ≤ length fat_sectors.now * (sector_len (sectors_version sectors.old) / 4) }
+    ensures writes { WritesEntries sector_ids.now fat_sectors.now sectors.old sectors.new }
+    ensures entries { sectors_failed sectors.new ≡ false → IsHonest sectors.old
+        → AreOnce fat_sectors.now
+        → HaveEntry entry (fat_here fat_sectors.now sectors.new) sector_ids.now }
+    ensures attempts { Attempts result sectors.old sectors.new }
+{
+    let each = sectors.sector_len() / ENTRY_LEN;
+    for sector_id in sector_ids {
+        let index = *sector_id as usize;
+        let holder = fat_sectors[index / each];
+        write_number(sectors, holder, index % each, entry)?;
+    }
+    Ok(())
 }
 
 impl<F: Medium> Allocator<F> {
@@ -63,23 +107,29 @@ impl<F: Medium> Allocator<F> {
         Ok(())
     }
 
-    // Writes an entry of the FAT for each of these sectors. After a fault it has failed.
-    fn set_entries(&mut self, sector_ids: &[u32], entry: u32) -> Result<(), Error>
+    // Frees these sectors: their entries are written, and in memory each stretch of consecutive ones is set at once. After a
+    // fault it has failed.
+    fn free_entries(&mut self, sector_ids: &[u32]) -> Result<(), Error>
         requires live { has_failed_here self.old ≡ false }
         requires orderly { IsTrue (orderly_of self.old) }
         requires there { AreBelow (length (fat_of self.old)) sector_ids.now }
-        requires room { runs_of self.old + 2 * length sector_ids.now ≤ capacity_of self.old }
+        requires room { runs_of self.old + 2 * stretches sector_ids.now ≤ capacity_of self.old }
         ensures changes { ChangesFat sector_ids.now self.old self.new }
         ensures entries { has_failed_here self.new ≡ false
-            → HaveEntry entry (fat_of self.new) sector_ids.now }
+            → HaveEntry free (fat_of self.new) sector_ids.now }
         ensures live { OnOk result (has_failed_here self.new ≡ false) }
         ensures err { OnErr result (has_failed_here self.new ≡ true) }
         ensures cause { IfErr result (HasCauseBelow self.old self.new) }
         ensures fault { IfErr result (IsFaultUnless ⊥) }
     {
-        for sector_id in sector_ids {
-            self.set_entry(*sector_id, entry)?;
-        }
+        write_entries(
+            &mut self.sectors,
+            &self.fat_sectors,
+            sector_ids,
+            FREE_SECTOR,
+        )?;
+        self.first_free = lowest_of(self.first_free, sector_ids);
+        self.fat.free_all(sector_ids);
         Ok(())
     }
 
@@ -102,8 +152,8 @@ impl<F: Medium> Allocator<F> {
             return Err(Error::InvalidData);
         }
         let ids = links.sector_ids();
-        self.reserve_runs(2 * ids.len())?;
-        self.set_entries(ids, FREE_SECTOR)
+        self.reserve_runs(2 * count_stretches(ids))?;
+        self.free_entries(ids)
     }
 
     /// Ends a chain with this sector, and frees those behind it. `InvalidData` where the FAT has no chain from it or the tables
@@ -131,9 +181,9 @@ impl<F: Medium> Allocator<F> {
             return Err(Error::InvalidData);
         }
         let behind = rest.sector_ids();
-        self.reserve_runs(2 * behind.len() + 2)?;
+        self.reserve_runs(2 * count_stretches(behind) + 2)?;
         self.set_entry(sector_id, END_OF_CHAIN)?;
-        self.set_entries(behind, FREE_SECTOR)
+        self.free_entries(behind)
     }
 }
 

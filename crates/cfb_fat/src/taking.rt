@@ -98,11 +98,13 @@ impl<F: Medium> Allocator<F> {
             × IsNoneOf (difat_sectors_of self.now) n
             × IsNoneOf (fat_sectors_of self.now) n × HasNoneBelow self.now n) }
     {
-        for i in self.first_free..self.fat.len() {
-            let sector_id = i as u32;
+        let mut from = self.first_free;
+        while let Some(index) = self.fat.next_free(from) {
+            let sector_id = index as u32;
             if self.is_spare(sector_id) {
                 return Some(sector_id);
             }
+            from = index + 1;
         }
         None
     }

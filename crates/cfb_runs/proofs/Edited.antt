@@ -1,8 +1,8 @@
 -- Lists of runs that are edited, and the entries that they stand for.
-use Rattle.std.proofs.Common.{◌≡◌, ◌≢◌, ◌+◌, ◌<◌, ◌≤◌, ℕ, zero, suc, List, [], ◌∷◌, ◌++◌, length, map, take, drop, get_or, refl, sym, ap, subst, ◌∙◌, arith, ⊎_elim, append_assoc, cond, eqb, eq-eqb, length-take}
+use Rattle.std.proofs.Common.{◌≡◌, ◌≢◌, ◌+◌, ◌<◌, ◌≤◌, ℕ, zero, suc, List, [], ◌∷◌, ◌++◌, length, map, take, drop, get_or, refl, sym, ap, subst, ◌∙◌, arith, ⊎_elim, append_assoc, cond, eq-eqb, length-take}
 use Rattle.std.proofs.Math.ListN.{set}
 use Rattle.std.proofs.Math.Seq.{drop-append-add, get_or-append_seam, split_at}
-use Rattle.std.specs.List.{insert, range_with_len, remove}
+use Rattle.std.specs.List.{insert, range_with_len}
 use Rattle.std.proofs.lemmas.Bool.Decides.{eqb_tells}
 use Rattle.std.proofs.lemmas.List.{at_drop_all, at_drop_more, drop-set-lt, get_or-set_other, get_or-set_same, length-set, set_split, take_more_set}
 use Rattle.std.proofs.lemmas.List.FromFn.{fill_by_all, get_or-map-range_with_len, length-map-range_with_len, map-range_with_len_more}
@@ -11,7 +11,7 @@ use Rattle.cfb_runs.specs.Runs.{entry_at, entry_in, head_of, leading_to, tail_of
 use Rattle.cfb_runs.specs.declared.runs.Kind.{Kind}
 use Rattle.cfb_runs.specs.declared.runs.Kind.TheVariants.{Special, Linked}
 use Rattle.cfb_runs.specs.declared.runs.Run.{Run}
-use Rattle.cfb_runs.proofs.Splicing.{above, back_tiled, below, cut_entry, cut_tiled, entry_in_place, found, pushed, pushed_last, pushed_tiled, relabelled, relinked, tiled_in, tiled_least}
+use Rattle.cfb_runs.proofs.Splicing.{above, back_tiled, below, cut_entry, cut_tiled, entry_in_place, found, relabelled, relinked, tiled_in, tiled_least}
 
 -- where the runs behind some begin
 pub start_some : (stop i : ℕ) (runs : List Run) (d : Run) → i < length runs → start_of stop (drop i runs) ≡ (get_or runs i d).first
@@ -39,7 +39,7 @@ more_entries n v f h is e = map-range_with_len_more h 0 n n (omega arith) ∙ ap
 pub split_one : (xs : List Run) (p : ℕ) (r : Run) → p < length xs → r ≡ get_or xs p r → xs ≡ take p xs ++ r ∷ drop (p + 1) xs
 split_one xs p r h is = split_at xs p r h ∙ ap (λ x. take p xs ++ x ∷ drop (suc p) xs) (sym is) ∙ ap (λ n. take p xs ++ r ∷ drop n xs) (let e : suc p ≡ p + 1 = omega arith in e)
 
-front_set : (xs : List Run) (p : ℕ) (x : Run) → p < length xs → take (p + 1) (set xs p x) ≡ take p xs ++ x ∷ []
+pub front_set : (xs : List Run) (p : ℕ) (x : Run) → p < length xs → take (p + 1) (set xs p x) ≡ take p xs ++ x ∷ []
 front_set xs p x h = take_more_set xs p x h
 
 pub insert_behind : (xs : List Run) (p : ℕ) (x y : Run) → p < length xs → insert (set xs p x) (p + 1) y ≡ take p xs ++ x ∷ y ∷ drop (p + 1) xs

@@ -1,3 +1,5 @@
 pub mod Edited
+pub mod Marking
 pub mod Splicing
 pub mod Views
+pub mod Walked

@@ -1,7 +1,11 @@
 //! A table of sectors in memory, as runs: consecutive sectors with one kind of entry ([MS-CFB] 2.3).
 #![tactic(auto)]
 
+mod freeing;
+mod joining;
 mod runs;
 mod table;
+mod walking;
 
+pub use freeing::count_stretches;
 pub use table::Table;

@@ -1,8 +1,10 @@
 //! Runs of consecutive sectors with one kind of entry.
 ghost use Rattle.cfb_runs.specs.Runs.{entry_in, leading_to, IsLink, IsRight};
+ghost use Rattle.cfb_runs.specs.declared.runs.Kind.TheVariants.{Special};
+ghost use Rattle.cfb_sectors.specs.Sectors.{free};
 ghost use Rattle.std.specs.Prelude.{IsTrue, ℕ, ◌+◌, ◌↔◌, ◌≡◌};
 
-use cfb_sectors::{END_OF_CHAIN, MAX_REGULAR_SECTOR};
+use cfb_sectors::{END_OF_CHAIN, FREE_SECTOR, MAX_REGULAR_SECTOR};
 
 /// What the entries of a run are.
 #[derive(Clone, Copy)]
@@ -52,6 +54,16 @@ pub(crate) fn leads_on(kind: Kind, next: u32, then: Kind) -> bool
         (Kind::Special(number), Kind::Special(other)) => number == other,
         (Kind::Linked(to), Kind::Linked(_)) => to == next,
         _ => false,
+    }
+}
+
+// Whether all sectors of a run are free.
+pub(crate) fn is_free(kind: Kind) -> bool
+    ensures { IsTrue result ↔ (kind ≡ Special free) }
+{
+    match kind {
+        Kind::Special(number) => number == FREE_SECTOR,
+        Kind::Linked(_) => false,
     }
 }
 

@@ -15,8 +15,8 @@ use std::alloc::{AllocError, Global};
 /// A table of sectors: an entry for each sector.
 #[derive(Drop)]
 pub struct Table {
-    runs: Vec<Run>,
-    len: u32,
+    pub(crate) runs: Vec<Run>,
+    pub(crate) len: u32,
     ghost tiled: { AreTiled 0 len runs.items } by { are_tiled_prop 0 len runs.items },
     ghost few: { len ≤ greatest_regular + 1 },
 }
@@ -26,7 +26,7 @@ impl Table {
     ghost use Rattle.cfb_runs.specs.Tables.{entries_of, run_capacity, run_count, IsEasy};
 
     // Where the run at a position ends.
-    fn end(&self, position: usize) -> u32
+    pub(crate) fn end(&self, position: usize) -> u32
         requires { position < length self.now.runs.items }
         ensures { result ≡ start_of self.now.len (drop (position + 1) self.now.runs.items) }
     {
@@ -37,7 +37,7 @@ impl Table {
     }
 
     // The position of the run that a sector stands in.
-    fn find(&self, index: u32) -> usize
+    pub(crate) fn find(&self, index: u32) -> usize
         requires { index < self.now.len }
         ensures inside { result < length self.now.runs.items }
         ensures from { (d : IsRun) → (slice_index_or self.now.runs.items result d).first ≤ index }
@@ -71,7 +71,7 @@ impl Table {
     }
 
     // Cuts a run in two in front of a sector. The entries stay.
-    fn cut(&mut self, position: usize, at: u32)
+    pub(crate) fn cut(&mut self, position: usize, at: u32)
         requires inside { position < length self.old.runs.items }
         requires from { (d : IsRun) → (slice_index_or self.old.runs.items position d).first < at }
         requires to { at < start_of self.old.len (drop (position + 1) self.old.runs.items) }
@@ -198,41 +198,6 @@ impl Table {
         self.runs.reserve(count)
     }
 
-    /// How many entries are "free".
-    pub fn count_free(&self) -> usize
-        ensures { result ≡ count_by (λ entry. nat_eq entry free) (entries_of self.now) }
-    {
-        let mut count = 0;
-        for index in 0..self.len() {
-            if self.entry(index) == FREE_SECTOR {
-                count += 1;
-            }
-        }
-        count
-    }
-
-    /// The sectors of the chain from a start in the table. `InvalidData` where there is none.
-    #[tactic(auto)]
-    pub fn chain(&self, alloc: Global, start: u32) -> Result<Vec<u32>, Error>
-        ensures chain { IfOk result (λ sectors. IsChain (entries_of self.now) start sectors.items) }
-        ensures few { IfOk result (λ sectors. vec_len sectors ≤ greatest_regular + 1) }
-        ensures none { IsErrOf result InvalidData → (sectors : List ℕ)
-            → IsChain (entries_of self.now) start sectors → ⊥ }
-        ensures error { IfErr result (λ e. (e ≡ InvalidData) ⊎ (e ≡ Memory)) }
-    {
-        let mut sectors = Vec::new(alloc);
-        let mut at = start;
-        while at != END_OF_CHAIN {
-            let count = self.len();
-            if at > MAX_REGULAR_SECTOR || at as usize >= count || sectors.len() >= count {
-                return Err(Error::InvalidData);
-            }
-            sectors.push(at)?;
-            at = self.entry(at as usize);
-        }
-        Ok(sectors)
-    }
-
     /// Sets a sector's entry, for which there is memory, or no run more is needed.
     pub fn set(&mut self, index: usize, entry: u32)
         requires inside { index < length (entries_of self.old) }
@@ -309,7 +274,7 @@ impl Table {
 
     // Cuts the run at a position in front of a sector, where this isn't its first one, and gives the position of that which
     // begins at it.
-    fn begin(&mut self, position: usize, at: u32) -> usize
+    pub(crate) fn begin(&mut self, position: usize, at: u32) -> usize
         requires inside { position < length self.old.runs.items }
         requires from { (d : IsRun) → (slice_index_or self.old.runs.items position d).first ≤ at }
         requires to { at < start_of self.old.len (drop (position + 1) self.old.runs.items) }

@@ -32,11 +32,11 @@ set_entry-requires-clause-there g c = subst (λ l. c.args.sector_id < length l) 
 pub set_entry-requires-clause-room : goal.set_entry-requires-clause-room
 set_entry-requires-clause-room g c = let room = c.in_ok-reserve_runs.ensures.room in inr (omega (arith, room))
 
-pub set_entries-requires-clause-room : goal.set_entries-requires-clause-room
-set_entries-requires-clause-room g c = let room = c.in_ok-reserve_runs.ensures.room in let runs = c.in_ok-set_entry.ensures.runs in omega (arith, room, runs.0, runs.1)
+pub free_entries-requires-clause-room : goal.free_entries-requires-clause-room
+free_entries-requires-clause-room g c = let room = c.in_ok-reserve_runs.ensures.room in let runs = c.in_ok-set_entry.ensures.runs in omega (arith, room, runs.0, runs.1)
 
-pub set_entries-requires-clause-there : goal.set_entries-requires-clause-there
-set_entries-requires-clause-there g c =
+pub free_entries-requires-clause-there : goal.free_entries-requires-clause-there
+free_entries-requires-clause-there g c =
     let fat = (entries_of c.args.self.now.fat) in
     let did = c.in_ok-set_entry.ensures in
     subst (AreBelow (length (entries_of c.set_entry.new.self.fat))) (sym c.sector_ids-behind.ensures)
@@ -56,12 +56,12 @@ returns-clause-frees g c =
     let rest : IsChain (entries_of it.fat) next ids = subst (IsChain (entries_of it.fat) next) (sym c.sector_ids-behind.ensures) c.in_ok-rest.ensures.chain in
     let chain : IsChain (entries_of it.fat) id (id ∷ ids) = (refl, regular, next, found, rest) in
     let did = c.in_ok-set_entry.ensures in
-    let then = c.set_entries.ensures in
+    let then = c.free_entries.ensures in
     let ended : slice_index (entries_of c.set_entry.new.self.fat) id ≡ end_of_chain = ap (λ l. slice_index l id) (did.entry did.live) ∙ get_or-set_same (entries_of mid.fat) id end_of_chain 0 (subst (λ l. id < length l) (sym rests.fat) below) in (
       ids,
-      on_ok c.set_entries.result _ _ (λ live. (chain, (then.changes.fat live).others id (not_again (entries_of it.fat) id ids chain) ∙ ended, then.entries live)) then.live,
-      changes_then (id ∷ ids) (id ∷ ids) (id ∷ ids) it mid c.set_entries.new.self (λ n none. none) (λ n none. none) (changes_rest (id ∷ ids) it mid rests)
-          (changes_then (id ∷ []) ids (id ∷ ids) mid c.set_entry.new.self c.set_entries.new.self (none_first (id ∷ []) ids) (none_later id ids) did.changes then.changes),
+      on_ok c.free_entries.result _ _ (λ live. (chain, (then.changes.fat live).others id (not_again (entries_of it.fat) id ids chain) ∙ ended, then.entries live)) then.live,
+      changes_then (id ∷ ids) (id ∷ ids) (id ∷ ids) it mid c.free_entries.new.self (λ n none. none) (λ n none. none) (changes_rest (id ∷ ids) it mid rests)
+          (changes_then (id ∷ []) ids (id ∷ ids) mid c.set_entry.new.self c.free_entries.new.self (none_first (id ∷ []) ids) (none_later id ids) did.changes then.changes),
     )
 
 pub returns-clause-leaves : goal.returns-clause-leaves
@@ -77,21 +77,21 @@ returns-clause-leaves g c =
     let regular : id ≤ greatest_regular = let most = it.inside c.in_ok-next.ensures.entry.0 in omega (arith, below, most, it.sectors.few) in
     let rest : IsChain (entries_of it.fat) next ids = subst (IsChain (entries_of it.fat) next) (sym c.sector_ids-behind.ensures) c.in_ok-rest.ensures.chain in
     let chain : IsChain (entries_of it.fat) id (id ∷ ids) = (refl, regular, next, found, rest) in
-    let changes = changes_then (id ∷ ids) (id ∷ ids) (id ∷ ids) it mid c.set_entries.new.self (λ n none. none) (λ n none. none) (changes_rest (id ∷ ids) it mid rests)
-    (changes_then (id ∷ []) ids (id ∷ ids) mid c.set_entry.new.self c.set_entries.new.self (none_first (id ∷ []) ids) (none_later id ids) c.in_ok-set_entry.ensures.changes c.set_entries.ensures.changes) in
-    on_ok_map c.set_entries.result _ _ c.set_entries.ensures.live (λ live. (ids, chain, λ honest. changes_leave (id ∷ ids) it c.set_entries.new.self changes live honest))
+    let changes = changes_then (id ∷ ids) (id ∷ ids) (id ∷ ids) it mid c.free_entries.new.self (λ n none. none) (λ n none. none) (changes_rest (id ∷ ids) it mid rests)
+    (changes_then (id ∷ []) ids (id ∷ ids) mid c.set_entry.new.self c.free_entries.new.self (none_first (id ∷ []) ids) (none_later id ids) c.in_ok-set_entry.ensures.changes c.free_entries.ensures.changes) in
+    on_ok_map c.free_entries.result _ _ c.free_entries.ensures.live (λ live. (ids, chain, λ honest. changes_leave (id ∷ ids) it c.free_entries.new.self changes live honest))
 
 pub returns-clause-changes : goal.returns-clause-changes
 returns-clause-changes g c =
     let it = c.args.self.now in
     let mid = c.set_entry.new.self in
-    let now = c.set_entries.new.self in
+    let now = c.free_entries.new.self in
     let first = c.in_ok-set_entry.ensures in
-    let did = c.set_entries.ensures in
+    let did = c.free_entries.ensures in
     record {
       live = search rules;
       failed = search rules;
-      cause = err_map c.set_entries.result (HasItsCause mid.sectors now.sectors) (HasItsCause it.sectors now.sectors) did.cause
+      cause = err_map c.free_entries.result (HasItsCause mid.sectors now.sectors) (HasItsCause it.sectors now.sectors) did.cause
           (λ e cause. cause_since it.sectors mid.sectors now.sectors e (λ start from. first.changes.continues start (c.in_ok-reserve_runs.ensures.rests.sectors.continues start from)) (first.live ∙ sym c.in_ok-next.ensures.entry.0) cause);
-      fault = err_both c.set_entries.result _ _ _ did.fault did.err (λ e is failed. inl (is, inl failed));
+      fault = err_both c.free_entries.result _ _ _ did.fault did.err (λ e is failed. inl (is, inl failed));
     }

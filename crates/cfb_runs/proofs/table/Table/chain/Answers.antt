@@ -1,8 +1,8 @@
-use Rattle.std.proofs.Common.{◌<◌, length, arith, subst, sym}
-use Rattle.std.specs.Prelude.{slice_index}
-use Rattle.std.proofs.lemmas.Option.{slice_get-get_or}
-use Rattle.cfb_sectors.proofs.Chains.{chain_few, leads_more, leads_end, leads_nowhere, Leads}
+use Rattle.std.proofs.Common.{arith, subst}
+use Rattle.cfb_sectors.proofs.Chains.{chain_few, leads_end, leads_nowhere, Leads}
 use Rattle.cfb_runs.specs.Tables.{entries_of}
+use Rattle.cfb_runs.proofs.Views.{size_of}
+use Rattle.cfb_runs.proofs.Walked.{leads_follow}
 use Rattle.cfb_runs.proofs.table.Table.chain.Goals as goal
 use Rattle.cfb_runs.proofs.table.Table.chain.Goals.{then-at-gt-MAX_REGULAR_SECTOR-via-then-at-gt-MAX_REGULAR_SECTOR, then-at-gt-MAX_REGULAR_SECTOR-via-else-at-gt-MAX_REGULAR_SECTOR+then-at-count, then-at-gt-MAX_REGULAR_SECTOR-via-else-at-gt-MAX_REGULAR_SECTOR+else-at-count+then-len-count}
 
@@ -18,15 +18,17 @@ returns-then-at-gt-MAX_REGULAR_SECTOR-clause-none c = λ refused list chain.
     ])
     list chain
 
+pub follow-requires : goal.follow-requires
+follow-requires c =
+    let size = size_of c.args.self.now in
+    let long = c.len-count.ensures.value in
+    omega (arith, size, long)
+
 pub loop-at-preserved : goal.loop-at-preserved
 loop-at-preserved c =
-    let table = entries_of c.args.self.now in
-    let long = c.len-count.ensures.value in
-    let here : c.loop-at.at < length table = omega arith in
-    let more = leads_more table c.args.start c.loop-at.sectors.items c.loop-at.at (slice_index table c.loop-at.at)
-    c.loop-at.invariant (omega arith) (slice_get-get_or table c.loop-at.at 0 here) in
-    let now = subst (λ xs. Leads table c.args.start xs (slice_index table c.loop-at.at)) (sym c.in_ok-push.ensures.items) more in
-    subst (λ n. Leads table c.args.start c.push.new.self.items n) (sym c.entry-at.ensures) now
+    let it = c.args.self.now in
+    let size = size_of it in
+    leads_follow (entries_of it) c.args.start c.loop-at.at _ c.loop-at.sectors.items c.follow.new.sectors.items (omega (arith, size, it.few)) c.loop-at.invariant c.in_ok-at.ensures
 
 pub returns-clause-chain : goal.returns-clause-chain
 returns-clause-chain c =

@@ -1,12 +1,13 @@
-use Rattle.std.proofs.Common.{◌≡◌, ◌≤◌, take}
+use Rattle.std.proofs.Common.{◌≡◌, ◌≤◌, drop, take, length}
 use Rattle.std.specs.Prelude.{nat_eq}
 use Rattle.std.specs.List.{count_by}
 use Rattle.cfb_sectors.specs.Sectors.{free}
+use Rattle.cfb_runs.specs.Runs.{start_of}
 use Rattle.cfb_runs.specs.Tables.{entries_of}
 use Rattle.cfb_runs.proofs.table.Table.count_free.Given as goal
 
-abbrev pub invariant-loop-index : goal.invariant-loop-index
-invariant-loop-index l = record {
-  counted : l.count ≡ count_by (λ entry. nat_eq entry free) (take l.index (entries_of l.self));
-  few : l.count ≤ l.index;
+abbrev pub invariant-loop-position : goal.invariant-loop-position
+invariant-loop-position l = record {
+  inside : l.position ≤ length l.self.runs.items;
+  counted : l.count ≡ count_by (λ entry. nat_eq entry free) (take (start_of l.self.len (drop l.position l.self.runs.items)) (entries_of l.self));
 }

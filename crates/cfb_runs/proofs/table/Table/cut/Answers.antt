@@ -1,4 +1,4 @@
-use Rattle.std.proofs.Common.{◌<◌, sym, ◌∙◌, arith}
+use Rattle.std.proofs.Common.{sym, ◌∙◌, arith}
 use Rattle.std.proofs.lemmas.Bool.{cond-true}
 use Rattle.cfb_runs.specs.Runs.{entry_at}
 use Rattle.cfb_runs.specs.Tables.{entries_of, run_capacity, run_count}

@@ -1,4 +1,4 @@
-use Rattle.std.proofs.Common.{◌≡◌, ◌+◌, ◌<◌, drop, ap, sym, ◌∙◌, arith}
+use Rattle.std.proofs.Common.{◌+◌, drop, ap, sym, ◌∙◌, arith}
 use Rattle.cfb_runs.specs.Runs.{entry_in, start_of}
 use Rattle.cfb_runs.specs.declared.runs.Kind.{Kind}
 use Rattle.cfb_runs.specs.declared.runs.Run.{Run}

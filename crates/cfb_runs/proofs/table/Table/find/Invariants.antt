@@ -1,4 +1,4 @@
-use Rattle.std.proofs.Common.{ℕ, ◌-◌, ◌<◌, ◌≤◌, length, get_or}
+use Rattle.std.proofs.Common.{◌-◌, ◌<◌, ◌≤◌, length, get_or}
 use Rattle.cfb_runs.specs.declared.runs.Run.{Run}
 use Rattle.cfb_runs.proofs.table.Table.find.Given as goal
 

@@ -1,9 +1,7 @@
-use Rattle.std.proofs.Common.{◌+◌, sym, ◌∙◌, arith}
-use Rattle.std.proofs.Math.ListN.{set}
+use Rattle.std.proofs.Common.{sym, ◌∙◌, arith}
 use Rattle.cfb_runs.specs.Runs.{entry_at}
 use Rattle.cfb_runs.specs.Tables.{entries_of}
-use Rattle.cfb_runs.specs.declared.runs.Kind.TheVariants.{Linked}
-use Rattle.cfb_runs.proofs.Edited.{relabel_made, set_entries, stop_least, EditsRuns}
+use Rattle.cfb_runs.proofs.Edited.{relabel_made, set_entries, stop_least}
 use Rattle.cfb_runs.proofs.table.Table.relabel.Goals as goal
 
 pub invariant_of-self : goal.invariant_of-self

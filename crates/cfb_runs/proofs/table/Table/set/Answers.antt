@@ -1,6 +1,4 @@
-use Rattle.std.proofs.Common.{◌≡◌, ◌+◌, ◌<◌, ◌≤◌, drop, get_or, inr, ap, sym, ◌∙◌, arith, ⊎_elim}
-use Rattle.cfb_sectors.specs.Sectors.{end_of_chain}
-use Rattle.cfb_runs.specs.Tables.{entries_of, IsEasy}
+use Rattle.std.proofs.Common.{sym, ◌∙◌, arith, ⊎_elim}
 use Rattle.cfb_runs.specs.declared.runs.Kind.TheVariants.{Linked}
 use Rattle.cfb_runs.specs.declared.runs.Run.{Run}
 use Rattle.cfb_runs.proofs.Edited.{found_at}

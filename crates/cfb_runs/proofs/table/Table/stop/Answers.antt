@@ -1,4 +1,4 @@
-use Rattle.std.proofs.Common.{◌≡◌, ◌+◌, ◌∷◌, drop, ap, ◌∙◌}
+use Rattle.std.proofs.Common.{◌+◌, ◌∷◌, drop, ap, ◌∙◌}
 use Rattle.std.specs.Prelude.{slice_index_or}
 use Rattle.cfb_runs.specs.Runs.{head_of, start_of, tail_of}
 use Rattle.cfb_runs.specs.declared.runs.Kind.TheVariants.{Linked}
