@@ -5,11 +5,12 @@ ghost use Rattle.cfb_medium.specs.declared.error.Error.TheVariants.{Failed, Inva
 ghost use Rattle.cfb_chains.specs.Changes.{IsNoneOf};
 ghost use Rattle.cfb_fat.specs.Listed.{Lists};
 ghost use Rattle.cfb_fat.specs.Orderly.{AreBelow, IsOrderly};
+ghost use Rattle.cfb_runs.specs.Longest.{runs_in, IsRunOf};
 ghost use Rattle.cfb_runs.specs.Tables.{entries_of};
 ghost use Rattle.cfb_sectors.specs.Held.{bytes_of as sectors_bytes, count_of as sectors_count, has_failed_here as sectors_failed, medium_of as sectors_medium, version_of as sectors_version, AreCounted, IsHonest as AreHonest, IsRefused, LeavesOldOrBytes, Rests};
 ghost use Rattle.cfb_sectors.specs.RollingBack.{RollsBack};
 ghost use Rattle.cfb_sectors.specs.Sectors.{fat_in, free, Chain as IsChain};
-ghost use Rattle.std.specs.Prelude.{false, length, slice_get, slice_index, take, true, IfErr, IfOk, IsErrOf, IsTrue, List, None, OnErr, OnOk, Some, ℕ, ◌*◌, ◌++◌, ◌/◌, ◌<◌, ◌≡◌, ◌≤◌, ◌↔◌, ◌⊎◌, ◌||◌};
+ghost use Rattle.std.specs.Prelude.{false, length, slice_get, slice_index, take, true, IfErr, IfOk, IsErrOf, IsTrue, List, MatchOption, None, OnErr, OnOk, Some, ℕ, ◌*◌, ◌++◌, ◌/◌, ◌<◌, ◌≡◌, ◌≤◌, ◌↔◌, ◌⊎◌, ◌||◌};
 
 use crate::fat::{both, read_parts};
 use cfb_chains::Links;
@@ -210,6 +211,23 @@ impl<F: ReadMedium> Allocator<F> {
             Some(next) => Ok(next),
             None => Err(Error::InvalidData),
         }
+    }
+
+    /// How many runs the FAT has: longest stretches of sectors of which each is linked to the next one, or all have the same
+    /// entry, as "free". Of one that has failed it is what memory has ([MS-CFB] 2.3).
+    pub fn runs(&self) -> usize
+        ensures { result ≡ runs_in (fat_of self.now) }
+    {
+        self.fat.runs()
+    }
+
+    /// Of the FAT's run that a sector stands in its first sector, how many sectors it has, and the entry of its last one; `None`
+    /// where the FAT has no entry for the sector.
+    pub fn run_at(&self, sector_id: u32) -> Option<(u32, u32, u32)>
+        ensures { MatchOption result (length (fat_of self.now) ≤ sector_id)
+            (λ it. IsRunOf (fat_of self.now) sector_id it.0 it.1 it.2) }
+    {
+        self.fat.run_at(sector_id)
     }
 
     /// The sectors of the chain from a start in the FAT. `InvalidData` where there is none.

@@ -1,5 +1,6 @@
 pub mod Edited
 pub mod Marking
+pub mod RunStarts
 pub mod Splicing
 pub mod Views
 pub mod Walked

@@ -5,6 +5,7 @@ mod freeing;
 mod joining;
 mod runs;
 mod table;
+mod telling;
 mod walking;
 
 pub use freeing::count_stretches;

@@ -48,7 +48,7 @@ pub(crate) fn leading(kind: Kind, next: u32) -> Kind
 
 // Whether a run leads on to the one that begins at this sector, so that both are one.
 pub(crate) fn leads_on(kind: Kind, next: u32, then: Kind) -> bool
-    ensures { IsTrue result → kind ≡ leading_to next then }
+    ensures { IsTrue result ↔ (kind ≡ leading_to next then) }
 {
     match (kind, then) {
         (Kind::Special(number), Kind::Special(other)) => number == other,

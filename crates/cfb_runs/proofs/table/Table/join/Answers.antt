@@ -11,7 +11,7 @@ invariant_of-self c =
     let p = c.args.position in
     let inside : p + 1 < length xs = omega (arith, c.if-position-len-2.false, c.len-2.ensures, it.runs.ok.0) in
     let same : SameRuns it.len xs c.remove.new.self.items = join_made it.len p xs c.remove.new.self.items c.index.result.now c.index-then.result.now c.index_mut.result.now it.tiled inside c.index.ensures c.index-then.ensures c.index_mut.ensures.value
-    (c.leads_on.ensures c.if-leads_on.true) c.remove.ensures.by_index.2 in
+    (c.leads_on.ensures.0 c.if-leads_on.true) c.remove.ensures.by_index.2 in
     record { tiled = same.tiled; few = it.few }
 
 pub returns-then-leads_on-clause-entries : goal.returns-then-leads_on-clause-entries
@@ -22,5 +22,5 @@ returns-then-leads_on-clause-entries c =
     let p = c.args.position in
     let inside : p + 1 < length xs = omega (arith, c.if-position-len-2.false, c.len-2.ensures, it.runs.ok.0) in
     let same : SameRuns it.len xs c.remove.new.self.items = join_made it.len p xs c.remove.new.self.items c.index.result.now c.index-then.result.now c.index_mut.result.now it.tiled inside c.index.ensures c.index-then.ensures c.index_mut.ensures.value
-    (c.leads_on.ensures c.if-leads_on.true) c.remove.ensures.by_index.2 in
+    (c.leads_on.ensures.0 c.if-leads_on.true) c.remove.ensures.by_index.2 in
     same_entries it.len (entry_at it.len c.remove.new.self.items) (entry_at it.len it.runs.items) (λ k less. sym (same.entries k less))
