@@ -87,7 +87,7 @@ impl<F: Medium> SessionOver<F> {
         ensures { AnswersQuietly (asked.write_stream name.now bytes.now) (told_by result) self.old
             self.new }
     {
-        answer_of(self.package.write_stream(name, bytes))
+        answer_of(self.package.put_stream(name, bytes))
     }
 
     pub(crate) fn remove_stream(&mut self, name: &str) -> Answer

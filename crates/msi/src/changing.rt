@@ -1,17 +1,21 @@
 //! Packages that are changed.
-ghost use Rattle.std.specs.Prelude.{◌≡◌, IfErr, Ok};
+ghost use Rattle.std.specs.Borrow.{sem, RestsIfErr};
+ghost use Rattle.std.specs.Prelude.{◌≡◌, [], Err, IfErr, IfOk, Ok};
 ghost use Rattle.cfb.specs.Views.{letters_in, mini_of};
 ghost use Rattle.cfb_fat.specs.Tables.{HasCauseBelow};
 ghost use Rattle.cfb_mini.specs.Views.{allocator_of};
 ghost use Rattle.cfb_owned.specs.Chains.{GoesOn};
 ghost use Rattle.msi.specs.Changing.{failed_in, permission, setting_page, IsChangeError, IsRemovalError, PackageChanges, PackageFills};
 ghost use Rattle.msi.specs.Opened.{file_in, sound_in};
+ghost use Rattle.msi.specs.Writers.{lender_of, BeginsWriting, Puts};
+ghost use Rattle.msi.specs.contracts.package.Package.{the_row};
 ghost use Rattle.msi_changes.specs.Said.{insert_name, insert_rows};
 ghost use Rattle.msi_meaning.specs.Calls.{Inserts};
 ghost use Rattle.msi_meaning.specs.Streams.{stream_removed, unsigned};
 ghost use Rattle.msi_streams.specs.Writing.{most_bytes, written_within, Makes};
 
 use crate::package::Package;
+use crate::writer::StreamWriter;
 use cfb_medium::{Error, Medium};
 use msi_changes::Insert;
 use msi_texts::CodePage;
@@ -48,7 +52,7 @@ impl<F: Medium> Package<F> {
     /// where the package isn't sound; then `InvalidInput` where no stream can have the name, `AlreadyExists` where a storage has it,
     /// `InvalidInput` where a stream of the file's version has fewer bytes. `Full` where numbers of entries or sectors are missing. The
     /// other errors are faults. After an error nothing is changed, or the package has failed.
-    pub fn write_stream(&mut self, name: &str, bytes: &[u8]) -> Result<(), Error>
+    pub fn put_stream(&mut self, name: &str, bytes: &[u8]) -> Result<(), Error>
         ensures changes { PackageChanges (Makes (written_within (letters_in (file_in self.old))
             (most_bytes (file_in self.old)) name.now bytes.now)) result self.old self.new }
         ensures full { PackageFills (Makes (written_within (letters_in (file_in self.old))
@@ -63,6 +67,23 @@ impl<F: Medium> Package<F> {
             return Err(error);
         }
         msi_streams::write_stream(&mut self.store.file, name, bytes)
+    }
+
+    /// A writer of the stream of this name, at its first byte: the stream is made without bytes, or has none of its own any more. What
+    /// is written comes into the package by the writer's `flush` and `close`. It is refused as `put_stream` of no bytes is: `Failed`
+    /// after an earlier fault, `InvalidData` where the package isn't sound; then `InvalidInput` where no stream can have the name,
+    /// `AlreadyExists` where a storage has it. `Full` where numbers of entries or sectors are missing. The other errors are faults.
+    /// After an error nothing is changed, or the package has failed.
+    pub fn write_stream<'a>(&'a mut self, name: &'a str) -> Result<StreamWriter<'a, F>, Error>
+        ensures* lends { sem 𝓛 (RestsIfErr (the_row F.row F.ReadMedium) self.entry lender_of result
+            (λ n. IfErr result (λ e. Puts name.entry.now [] (Err e) self.old n))) }
+        ensures same_reference { IfOk result (λ w. lender_of w ≡ self.entry.ghost_name) }
+        ensures begun { IfOk result (BeginsWriting name.entry.now self.old) }
+    {
+        match self.put_stream(name, &[]) {
+            Ok(()) => Ok(StreamWriter::new(self, name)),
+            Err(error) => Err(error),
+        }
     }
 
     /// Removes the stream of this name. `Failed` after an earlier fault, `InvalidData` where the package isn't sound; then `InvalidInput`

@@ -88,7 +88,7 @@ fn id_at(row: &Row, place: usize) -> u32 {
 
 fn of_file(alloc: Global, file: &mut Allocator<MemoryMedium>, row: &Row) -> Result<String, Error> {
     match row.call() {
-        "file" | "lists" | "next" | "open" => of_tables(alloc, file, row),
+        "file" | "lists" | "next" | "open" | "runs" | "run at" => of_tables(alloc, file, row),
         "bytes" => part_of(alloc, file.inner().bytes(), row),
         "chain" => of_chain(alloc, file, row),
         "owned" => of_owned(alloc, file, row),
@@ -115,6 +115,13 @@ fn of_tables(alloc: Global, file: &Allocator<MemoryMedium>, row: &Row) -> Result
             let links = file.open_chain(id_at(row, 1))?;
             Ok(format!(in alloc; "{:?}", links.sector_ids())?)
         }
+        "runs" => Ok(format!(in alloc; "{}", file.runs())?),
+        "run at" => match file.run_at(id_at(row, 1)) {
+            Some((first, count, last)) => {
+                Ok(format!(in alloc; "{count} from {first}, at its end {last:x}")?)
+            }
+            None => copy_of(alloc, "none"),
+        },
         _ => {
             let (count, orderly) = (file.num_sectors(), file.is_orderly());
             let (fat, difat) = (file.fat_sectors().len(), file.difat_sectors());

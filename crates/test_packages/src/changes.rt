@@ -1,6 +1,7 @@
 //! Packages over a store in memory that are changed, committed and opened again.
 use crate::commands::change;
 use crate::faults::change_fails;
+use crate::pieces::write_pieces;
 use crate::replies::reply;
 use cfb::CaseMapper;
 use cfb_medium::{Error, MemoryMedium};
@@ -41,6 +42,14 @@ impl<'a> Changes<'a> {
     fn copied_bytes(&mut self, alloc: Global) -> Result<Vec<u8>, Error> {
         match &mut self.package {
             Some(package) => copy_of_package(alloc, package),
+            None => Err(Error::NotFound),
+        }
+    }
+
+    // Writes a stream piece by piece.
+    fn write(&mut self, alloc: Global, row: &Row) -> Result<String, Error> {
+        match &mut self.package {
+            Some(package) => pieces_told(alloc, package, row),
             None => Err(Error::NotFound),
         }
     }
@@ -108,6 +117,7 @@ impl Subject for Changes<'_> {
             "again" => self.open_again(alloc),
             "copy" => self.copy(alloc),
             "fails" => self.fault(alloc, row),
+            "pieces" => self.write(alloc, row),
             _ => match &mut self.package {
                 Some(package) => answers_of(alloc, package, row),
                 None => Err(Error::NotFound),
@@ -200,6 +210,12 @@ fn changes_of(alloc: Global, package: &mut Stored, commands: &[Command]) -> Resu
     for command in commands {
         push_answer(alloc, &mut told, done(change(alloc, package, command)))?;
     }
+    Ok(told)
+}
+
+fn pieces_told(alloc: Global, package: &mut Stored, row: &Row) -> Result<String, Error> {
+    let mut told = String::new(alloc);
+    push_answer(alloc, &mut told, done(write_pieces(alloc, package, row)))?;
     Ok(told)
 }
 

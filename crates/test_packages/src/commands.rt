@@ -66,7 +66,7 @@ fn write_stream<F: Medium>(
     name: &str,
     bytes: &[u8],
 ) -> Result<(), Error> {
-    package.write_stream(name, bytes)
+    package.put_stream(name, bytes)
 }
 
 fn remove_stream<F: Medium>(package: &mut Package<F>, name: &str) -> Result<(), Error> {

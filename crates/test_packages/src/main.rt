@@ -10,6 +10,7 @@ mod commands;
 mod faults;
 mod names;
 mod opening;
+mod pieces;
 mod replies;
 
 use anyhow::Result;

@@ -8,7 +8,7 @@ use Rattle.msi.proofs.Leaving.{writing_leaves}
 use Rattle.msi.proofs.Filled.{not_permitted_fills, streams_fill}
 use Rattle.msi.proofs.Causes.{refused_cause, refused_change}
 use Rattle.msi.proofs.Permitted.{not_permitted, permitted}
-use Rattle.msi.proofs.package.Package.write_stream.Goals as goal
+use Rattle.msi.proofs.package.Package.put_stream.Goals as goal
 
 pub returns-in-Err-clause-changes : goal.returns-in-Err-clause-changes
 returns-in-Err-clause-changes g c = not_permitted (Makes (written_within (letters_in (file_in c.args.self.now)) (most_bytes (file_in c.args.self.now)) c.args.name.now c.args.bytes.now)) c.args.self.now c.in-Err.error (sym c.may_change.ensures ∙ c.in-Err.is)
