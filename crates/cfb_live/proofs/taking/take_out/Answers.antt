@@ -1,7 +1,8 @@
-use Rattle.std.proofs.Common.{◌≡◌, inl, refl, ap, sym, ◌∙◌, subst, rules}
+use Rattle.std.proofs.Common.{◌≡◌, [], inl, inr, refl, ap, sym, ◌∙◌, subst, rules}
 use Rattle.std.specs.Prelude.{slice_get, Some}
 use Rattle.cfb_fat.specs.Keeping.{fails_cause}
-use Rattle.cfb_owned.proofs.GoingOn.{goes_cause, goes_then}
+use Rattle.cfb_fat.specs.Resting.{all_rest_refl}
+use Rattle.cfb_owned.proofs.GoingOn.{fails_go_on, goes_cause, goes_then}
 use Rattle.cfb_tree.specs.Directory.{kind_stream}
 use Rattle.cfb_tree.specs.EntryViews.{entry_in}
 use Rattle.cfb_directory.specs.Children.{HoldsChild}
@@ -70,6 +71,11 @@ returns-in-Err-unlink_dir_entry-clause-answers g c =
       cause = fails_cause a b (allocator_of c.fail.new.self) c.in-Err-unlink_dir_entry.error (goes_cause a m b c.in-Err-unlink_dir_entry.error c.free_stream.ensures.goes_on c.in_default-free_stream.ensures.answers.live.1 told.cause) c.fail.ensures;
       fault = told.fault;
     }
+
+pub returns-in-Err-unlink_dir_entry-clause-goes_on : goal.returns-in-Err-unlink_dir_entry-clause-goes_on
+returns-in-Err-unlink_dir_entry-clause-goes_on g c =
+    let b = allocator_of c.unlink_dir_entry-2.new.self in
+    fails_go_on 0 [] (allocator_of c.args.mini.now) b b (allocator_of c.fail.new.self) (goes_then _ _ _ c.free_stream.ensures.goes_on c.unlink_dir_entry-2.ensures.goes_on) (inr (all_rest_refl b)) c.fail.ensures
 
 pub returns-clause-taken : goal.returns-clause-taken
 returns-clause-taken g c = λ l tree path name m leaf.
