@@ -8,7 +8,7 @@ use Rattle.cfb_medium.specs.Calls.{IsFaultUnless, Keeps}
 use Rattle.cfb_medium.specs.Stops.{LeavesOnly}
 use Rattle.cfb_medium.specs.declared.error.Error.{Error}
 use Rattle.cfb_live.specs.Doing.{IsFault}
-use Rattle.cfb_medium.specs.declared.error.Error.TheVariants.{Device, InvalidData, InvalidInput}
+use Rattle.cfb_medium.specs.declared.error.Error.TheVariants.{Device, Failed, InvalidData, InvalidInput}
 use Rattle.cfb_medium.specs.declared.medium.ReadMedium.{Ghosts}
 use Rattle.cfb_mini.specs.Views.{allocator_of}
 use Rattle.cfb_tree.specs.Names.{Letters}
@@ -51,6 +51,10 @@ module _ {D : Type 0} (g : device.Ghosts D) (old : D) where
 
 pub device_is_fault : (e : Error) → e ≡ Device → IsFault e
 device_is_fault e is = subst IsFault (sym is) (inl tt)
+
+-- a recovery is refused by no earlier fault
+pub recovered_fresh : (e : Error) → (e ≡ InvalidData) ⊎ (e ≡ Device) → e ≡ Failed → ⊥
+recovered_fresh e kind is = ⊎_elim (λ data. (let never : Failed ≡ InvalidData = sym is ∙ data in cc)) (λ device. (let never : Failed ≡ Device = sym is ∙ device in cc)) kind
 
 -- a new package is refused for a fault, or the device isn't honest
 pub new_refused : (honest : Bool) (letters : Letters) (e : Error) → (IsTrue honest → IsNewRefusal letters e) → IsChangeError e

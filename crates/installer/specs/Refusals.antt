@@ -2,7 +2,7 @@
 use Rattle.std.specs.Prelude.{◌≡◌, ◌⊎◌, ◌<◌, ◌-◌, ◌^◌, ℕ, [], List, Some, false, IsTrue}
 use Rattle.cfb_medium.specs.Calls.{IsFaultUnless}
 use Rattle.cfb_medium.specs.declared.error.Error.{Error}
-use Rattle.cfb_medium.specs.declared.error.Error.TheVariants.{InvalidData, InvalidInput, AlreadyExists, Device}
+use Rattle.cfb_medium.specs.declared.error.Error.TheVariants.{InvalidData, InvalidInput, AlreadyExists, Device, Failed}
 use Rattle.cfb_live.specs.Doing.{IsFault}
 use Rattle.cfb_tree.specs.Names.{Letters}
 use Rattle.msi.specs.Changing.{IsChangeError}
@@ -16,6 +16,10 @@ module _ {D : Type 0} (g : Ghosts D) (old new : D) (e : Error) where
   abbrev pub IsCounted : Type 0
   IsCounted = e ≡ Device → g.failures old < 2 ^ 64 - 1 → g.failures old < g.failures new
 
+  -- a fault of a device that was just recovered: where it is named, it failed and counted it, and it had no earlier one
+  abbrev pub IsFreshFault : Type 0
+  IsFreshFault = IsCounted × (e ≡ Failed → ⊥)
+
   -- the log is malformed
   abbrev pub IsMalformed : Type 0
   IsMalformed = (e ≡ InvalidData) × (IsTrue (g.honest old) → logged (g.content old) ≡ MalformedLog)
@@ -26,7 +30,7 @@ pub record IsCreateRefusal (letters : Letters) {D : Type 0} (g : Ghosts D) (old 
   pub kind : IsMalformed g old new e
       ⊎ (((e ≡ AlreadyExists) × (IsTrue (g.honest old) → ¬ (recovered (g.content old) ≡ Some [])))
       ⊎ (((e ≡ InvalidInput) × (may_use letters ≡ false)) ⊎ (IsFault e ⊎ ((IsTrue (g.honest old) → ⊥) × IsChangeError e))))
-  pub counted : IsCounted g old new e
+  pub fault : IsFreshFault g old new e
 
 -- a malformed log; a fault; or what the package of the home file is refused for, once recovered
 pub record IsOpenRefusal (letters : Letters) {D : Type 0} (g : Ghosts D) (old new : D) (e : Error) : Type 0 where

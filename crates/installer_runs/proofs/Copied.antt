@@ -13,7 +13,7 @@ use Rattle.cfb_tree.specs.Names.{Letters}
 use Rattle.installer.proofs.Stopping.{survives_commit, survives_rest, survives_then}
 use Rattle.installer.proofs.Begun.{counted_later}
 use Rattle.installer.specs.Course.{Mark}
-use Rattle.installer.specs.Refusals.{IsCounted}
+use Rattle.installer.specs.Refusals.{IsCounted, IsFreshFault}
 use Rattle.installer.specs.Survival.{gives, given_since, IsFound, IsGiven, Survives}
 use Rattle.installer_runs.specs.Copying.{CopiesOn, IsCopied, IsCopyRefusal, IsUncopied, SurvivesCopy}
 use Rattle.msi.specs.Changing.{failed_in, PackageIsFit}
@@ -117,27 +117,23 @@ module _ {F : Type 0} {k : medium.Ghosts F} (source : Package F k) where
   fault_uncopied e fault = inr (inr (inl fault))
 
 -- the same cause between equal devices
-pub cause_along : {D : Type 0} (g : Ghosts D) (Below : Error → Type 0) (result : Result (Unit {0}) Error) (a b c d : D) → a ≡ b → d ≡ c → IfErr result (λ e. Below e ⊎ IsCounted g a c e)
-    → IfErr result (λ e. Below e ⊎ IsCounted g b d e)
+pub cause_along : {D : Type 0} (g : Ghosts D) (Below : Error → Type 0) (result : Result (Unit {0}) Error) (a b c d : D) → a ≡ b → d ≡ c → IfErr result (λ e. Below e ⊎ IsFreshFault g a c e)
+    → IfErr result (λ e. Below e ⊎ IsFreshFault g b d e)
 cause_along {D} g Below result a b c d first last cause =
-    subst (λ (x : D). IfErr result (λ e. Below e ⊎ IsCounted g x d e)) first (subst (λ (x : D). IfErr result (λ e. Below e ⊎ IsCounted g a x e)) (sym last) cause)
+    subst (λ (x : D). IfErr result (λ e. Below e ⊎ IsFreshFault g x d e)) first (subst (λ (x : D). IfErr result (λ e. Below e ⊎ IsFreshFault g a x e)) (sym last) cause)
 
 pub count_along : {D : Type 0} (g : Ghosts D) (a b c d : D) → a ≡ b → d ≡ c → g.failures a ≤ g.failures c → g.failures b ≤ g.failures d
 count_along {D} g a b c d first last counted = subst (λ (x : D). g.failures x ≤ g.failures d) first (subst (λ (x : D). g.failures a ≤ g.failures x) (sym last) counted)
-
--- no other error names the device
-pub not_device : {D : Type 0} (g : Ghosts D) (old new : D) (e : Error) → (e ≡ Device → ⊥) → IsCounted g old new e
-not_device g old new e never = λ is. absurd (never is)
 
 -- a copy that is refused, of a device that was recovered
 module _ {F : Type 0} {k : medium.Ghosts F} (before after : Package F k) {D : Type 0} (g : Ghosts D) (old mid new : D) where
   pub copy_refused : (bytes : List ℕ) → recovered (g.content old) ≡ Some bytes → g.failures old ≤ g.failures mid → g.failures mid ≤ g.failures new → (result : Result (Unit {0}) Error)
       → IfErr result (λ e. ((e ≡ AlreadyExists) × (bytes ≡ [] → ⊥)) ⊎ IsUncopied before e)
-      → IfErr result (λ e. HasCauseBelow (allocator_of (mini_of (file_in before))) (allocator_of (mini_of (file_in after))) e ⊎ IsCounted g mid new e) → IfErr result (IsCopyRefusal before after g old new)
+      → IfErr result (λ e. HasCauseBelow (allocator_of (mini_of (file_in before))) (allocator_of (mini_of (file_in after))) e ⊎ IsFreshFault g mid new e) → IfErr result (IsCopyRefusal before after g old new)
   copy_refused bytes given first second (Ok u) kind cause = tt
   copy_refused bytes given first second (Err e) kind cause = record {
     kind = ⊎_elim (λ there. inr (inl (there.0, λ empty. there.1 (same empty)))) (λ un. inr (inr un)) kind;
-    cause = ⊎_elim (λ below. inl below) (λ count. inr (counted_later g old mid new e first count second)) cause;
+    cause = ⊎_elim (λ below. inl below) (λ own. inr (counted_later g old mid new e first own.0 second, own.1)) cause;
   }
     where
       same : recovered (g.content old) ≡ Some [] → bytes ≡ []

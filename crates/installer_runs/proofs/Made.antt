@@ -92,6 +92,11 @@ module _ {D : Type 0} {g : Ghosts D} {h : medium.Ghosts (Staged D g)} (letters :
       kind e end (inr (inl is)) = inr is
       kind e end (inr (inr device)) = inl (subst (IsFaultUnless ⊥) (sym device.0) tt)
 
+      fresh : (e : Error) (end : Course) → IsUndoneFault start e end → e ≡ Failed → ⊥
+      fresh e end (inl memory) is = let never : Failed ≡ Memory = sym is ∙ memory in cc
+      fresh e end (inr (inl full)) is = let never : Failed ≡ Full = sym is ∙ full in cc
+      fresh e end (inr (inr device)) is = let never : Failed ≡ Device = sym is ∙ device.0 in cc
+
       counted : (e : Error) (end : Course) → end.failures ≡ g.failures (device_below leads.last) → IsUndoneFault start e end → IsCounted g old new e
       counted e end here undone = λ is less. faults (g.failures old) (g.failures (device_below it)) (g.failures new) less begun.counted later (there is undone)
         where
@@ -113,5 +118,5 @@ module _ {D : Type 0} {g : Ghosts D} {h : medium.Ghosts (Staged D g)} (letters :
           let undone = fault e went.0 (commit_undone (letters_in it) start went.0 e refl sound went.1) in
           record {
             kind = inr (inr (inr (inl (kind e went.0 undone))));
-            counted = counted e went.0 (went.2.failures ∙ counts (medium_in (file_in (package_in leads.last)))) undone;
+            fault = (counted e went.0 (went.2.failures ∙ counts (medium_in (file_in (package_in leads.last)))) undone, fresh e went.0 undone);
           }

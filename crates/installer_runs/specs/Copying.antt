@@ -8,7 +8,7 @@ use Rattle.cfb_medium.specs.declared.error.Error.TheVariants.{AlreadyExists, Inv
 use Rattle.cfb_medium.specs.declared.medium.ReadMedium as medium
 use Rattle.cfb_mini.specs.Views.{allocator_of}
 use Rattle.installer.specs.Course.{Mark}
-use Rattle.installer.specs.Refusals.{IsCounted, IsMalformed}
+use Rattle.installer.specs.Refusals.{IsFreshFault, IsMalformed}
 use Rattle.installer.specs.Survival.{Survives}
 use Rattle.msi.specs.Changing.{PackageIsFit}
 use Rattle.msi.specs.Committing.{HoldsSound}
@@ -27,10 +27,10 @@ IsUncopied source e = ((e ≡ InvalidData) × (sound_in source ≡ false))
     ⊎ (((e ≡ InvalidInput) × IsTooLong (most_bytes (file_in source)) (pool_in source).pool (summary_in source).props) ⊎ IsFault e)
 
 -- THE COPY IS REFUSED: for a malformed log; for a home file that isn't empty once recovered; or since the package isn't copied. Where the error
--- names a device, that of the source failed, or this one, and the failure was counted.
+-- names a device, that of the source failed, or this one, and the failure was counted; an earlier fault is the source's alone.
 pub record IsCopyRefusal {F : Type 0} {k : medium.Ghosts F} (before after : Package F k) {D : Type 0} (g : Ghosts D) (old new : D) (e : Error) : Type 0 where
   pub kind : IsMalformed g old new e ⊎ (((e ≡ AlreadyExists) × ¬ (recovered (g.content old) ≡ Some [])) ⊎ IsUncopied before e)
-  pub cause : HasCauseBelow (allocator_of (mini_of (file_in before))) (allocator_of (mini_of (file_in after))) e ⊎ IsCounted g old new e
+  pub cause : HasCauseBelow (allocator_of (mini_of (file_in before))) (allocator_of (mini_of (file_in after))) e ⊎ IsFreshFault g old new e
 
 module _ {F : Type 0} {k : medium.Ghosts F} (source : Package F k) {D : Type 0} (g : Ghosts D) where
   -- bytes were published that hold the source's package, sound, where it can be written as it is

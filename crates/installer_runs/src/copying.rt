@@ -3,14 +3,14 @@ ghost use Rattle.cfb.specs.Views.{letters_in, mini_of};
 ghost use Rattle.cfb_fat.specs.Tables.{HasCauseBelow};
 ghost use Rattle.cfb_medium.specs.declared.error.Error.TheVariants.{AlreadyExists};
 ghost use Rattle.cfb_mini.specs.Views.{allocator_of};
-ghost use Rattle.installer.specs.Refusals.{IsCounted};
+ghost use Rattle.installer.specs.Refusals.{IsFreshFault};
 ghost use Rattle.installer.specs.Survival.{Survives};
 ghost use Rattle.installer_runs.specs.Copying.{CopiesOn, IsCopied, IsCopyRefusal, IsUncopied, SurvivesCopy};
 ghost use Rattle.msi.specs.Opened.{file_in, PackageHolds};
 ghost use Rattle.msi_meaning.specs.Package.{Packed};
 ghost use Rattle.staged.specs.Log.{recovered};
-ghost use Rattle.staged.specs.Staged.{device_of, staged_bytes, IsHonest};
-ghost use Rattle.std.specs.Prelude.{◌≡◌, ◌⊎◌, ◌≤◌, List, [], Some, IfErr, IsTrue, OnOk};
+ghost use Rattle.staged.specs.Staged.{device_of, is_failed, staged_bytes, IsHonest};
+ghost use Rattle.std.specs.Prelude.{◌≡◌, ◌⊎◌, ◌≤◌, List, [], Some, false, IfErr, IsTrue, OnOk};
 
 use cfb_medium::{Error, Medium, ReadMedium};
 use installer::recovered_medium;
@@ -57,9 +57,10 @@ fn copy_over<D: Device, F: Medium>(
         → Survives (letters_in (file_in source.old)) D.Device (device_of medium) result.0 [] }
     ensures refused { IsHonest medium → (P : Packed) → PackageHolds source.old P → IfErr result.1
         (λ e. ((e ≡ AlreadyExists) × (staged_bytes medium ≡ [] → ⊥)) ⊎ IsUncopied source.old e) }
-    ensures cause { IfErr result.1 (λ e. HasCauseBelow (allocator_of (mini_of (file_in source.old)))
+    ensures cause { is_failed medium ≡ false
+        → IfErr result.1 (λ e. HasCauseBelow (allocator_of (mini_of (file_in source.old)))
         (allocator_of (mini_of (file_in source.new))) e
-        ⊎ IsCounted D.Device (device_of medium) result.0 e) }
+        ⊎ IsFreshFault D.Device (device_of medium) result.0 e) }
     ensures counted { D.failures (device_of medium) ≤ D.failures result.0 }
 {
     let mut medium = medium;
@@ -85,9 +86,10 @@ fn commit_copy<D: Device, F: Medium>(
         → SurvivesCopy source.old D.Device (device_of medium.old) (device_of medium.new) }
     ensures refused { (P : Packed) → PackageHolds source.old P
         → IfErr result (IsUncopied source.old) }
-    ensures cause { IfErr result (λ e. HasCauseBelow (allocator_of (mini_of (file_in source.old)))
+    ensures cause { is_failed medium.old ≡ false
+        → IfErr result (λ e. HasCauseBelow (allocator_of (mini_of (file_in source.old)))
         (allocator_of (mini_of (file_in source.new))) e
-        ⊎ IsCounted D.Device (device_of medium.old) (device_of medium.new) e) }
+        ⊎ IsFreshFault D.Device (device_of medium.old) (device_of medium.new) e) }
     ensures counted { D.failures (device_of medium.old) ≤ D.failures (device_of medium.new) }
 {
     match source.copy_to(medium) {

@@ -1,4 +1,4 @@
-use Rattle.std.proofs.Common.{◌⊎◌, ◌≤◌, arith, inl, inr, refl, ⊎_elim}
+use Rattle.std.proofs.Common.{◌≡◌, ◌∙◌, ◌⊎◌, ◌≤◌, arith, false, inl, inr, refl, sym, true, ⊎_elim}
 use Rattle.std.proofs.lemmas.Result.{IfErr-weaker}
 use Rattle.std.specs.Prelude.{IsTrue}
 use Rattle.cfb.specs.Views.{letters_in, mini_of}
@@ -6,7 +6,7 @@ use Rattle.cfb_fat.specs.Tables.{HasCauseBelow}
 use Rattle.cfb_medium.specs.Calls.{IsFaultUnless}
 use Rattle.cfb_mini.specs.Views.{allocator_of}
 use Rattle.installer.proofs.Begun.{counted_later}
-use Rattle.installer.specs.Refusals.{IsCounted}
+use Rattle.installer.specs.Refusals.{IsFreshFault}
 use Rattle.installer_runs.proofs.Copied.{copied_is, copied_survives, fault_uncopied, rested_survives, survives_none, uncopied}
 use Rattle.installer_runs.specs.Copying.{IsUncopied}
 use Rattle.msi.specs.Opened.{file_in}
@@ -52,16 +52,21 @@ returns-in-Err-clause-counted g c =
     (d.rests_keeps _ _ (c.in-Err.ensures.continues c.args.medium.now (record { device = d.rests_refl _; failed = refl })).device).counted
 
 pub returns-in-Ok-clause-cause : goal.returns-in-Ok-clause-cause
-returns-in-Ok-clause-cause g c =
+returns-in-Ok-clause-cause g c = λ healthy.
     let d = g.met.D.Device in
     let mid = c.copy_to.new.target in
-    let read = (c.in-Ok.ensures.continues c.args.medium.now (record { device = d.rests_refl _; failed = refl })).device in
+    let on = c.in-Ok.ensures.continues c.args.medium.now (record { device = d.rests_refl _; failed = refl }) in
     IfErr-weaker c.commit.result (HasStagedCause mid c.commit.new.self)
-    (λ e. HasCauseBelow (allocator_of (mini_of (file_in c.args.source.now))) (allocator_of (mini_of (file_in c.copy_to.new.self))) e ⊎ IsCounted g.D.Device (device_of c.args.medium.now) (device_of c.commit.new.self) e)
-    (λ e cause. inr (counted_later g.D.Device (device_of c.args.medium.now) (device_of mid) (device_of c.commit.new.self) e (d.rests_keeps _ _ read).counted (cause mid (record { device = d.rests_refl _; failed = refl })).device c.commit.ensures.failures))
+    (λ e. HasCauseBelow (allocator_of (mini_of (file_in c.args.source.now))) (allocator_of (mini_of (file_in c.copy_to.new.self))) e ⊎ IsFreshFault g.D.Device (device_of c.args.medium.now) (device_of c.commit.new.self) e)
+    (λ e cause. inr (
+       counted_later g.D.Device (device_of c.args.medium.now) (device_of mid) (device_of c.commit.new.self) e (d.rests_keeps _ _ on.device).counted (cause mid (record { device = d.rests_refl _; failed = refl })).device c.commit.ensures.failures,
+       λ is. (let never : false ≡ true = sym healthy ∙ (cause c.args.medium.now on).earlier is in cc),
+     ))
     c.commit.ensures.cause
 
 pub returns-in-Err-clause-cause : goal.returns-in-Err-clause-cause
-returns-in-Err-clause-cause g c =
+returns-in-Err-clause-cause g c = λ healthy.
     let d = g.met.D.Device in
-    ⊎_elim (λ below. inl below) (λ since. inr (since c.args.medium.now (record { device = d.rests_refl _; failed = refl })).device) c.in-Err.ensures.cause
+    ⊎_elim (λ below. inl below) (λ since.
+        let own = since c.args.medium.now (record { device = d.rests_refl _; failed = refl }) in
+        inr (own.device, λ is. (let never : false ≡ true = sym healthy ∙ own.earlier is in cc))) c.in-Err.ensures.cause

@@ -2,7 +2,7 @@ use Rattle.std.proofs.Common.{◌∙◌, [], Some, ap, inl, inr, subst, sym, ⊎
 use Rattle.std.specs.Prelude.{IsTrue}
 use Rattle.cfb.specs.Views.{letters_in}
 use Rattle.cfb_medium.specs.Calls.{IsFaultUnless}
-use Rattle.installer.proofs.Begun.{began_survives, malformed_or_fault}
+use Rattle.installer.proofs.Begun.{began_survives, malformed_or_fault, recovered_fresh}
 use Rattle.installer.proofs.Stopping.{survives_alike, survives_then}
 use Rattle.installer_runs.proofs.Copied.{copies_on, copy_refused, survives_behind, survives_none}
 use Rattle.msi.specs.Opened.{file_in}
@@ -37,13 +37,13 @@ pub returns-in-Ok-clause-refused : goal.returns-in-Ok-clause-refused
 returns-in-Ok-clause-refused g c = λ honest P held.
     let after : IsTrue (g.D.Device.honest (device_of c.in-Ok.medium)) = rw c.in-Ok.ensures.honest honest in
     copy_refused c.args.source.now c.copy_over.new.source g.D.Device c.args.device (device_of c.in-Ok.medium) c.copy_over.result.0 (staged_bytes c.in-Ok.medium) (c.in-Ok.ensures.bytes honest) c.in-Ok.ensures.failures
-    c.copy_over.ensures.counted c.copy_over.result.1 (c.copy_over.ensures.refused after P held) c.copy_over.ensures.cause
+    c.copy_over.ensures.counted c.copy_over.result.1 (c.copy_over.ensures.refused after P held) (c.copy_over.ensures.cause c.in-Ok.ensures.sound)
 
 pub returns-in-Err-clause-refused : goal.returns-in-Err-clause-refused
 returns-in-Err-clause-refused g c = λ honest P held. record {
   kind = ⊎_elim (λ malformed. inl malformed) (λ fault. inr (inr (inr (inr (inl (subst (IsFaultUnless ⊥) (sym fault) tt))))))
       (malformed_or_fault g.D.Device c.args.device c.in-Err.device c.in-Err.error c.in-Err.ensures.err c.in-Err.ensures.malformed);
-  cause = inr c.in-Err.ensures.err.counted;
+  cause = inr (c.in-Err.ensures.err.counted, recovered_fresh c.in-Err.error c.in-Err.ensures.err.kind);
 }
 
 pub returns-in-Ok-clause-copied : goal.returns-in-Ok-clause-copied

@@ -1,4 +1,4 @@
-use Rattle.std.proofs.Common.{◌≡◌, ◌∙◌, ◌⊎◌, [], ap, inl, inr, length, refl, sym}
+use Rattle.std.proofs.Common.{◌≡◌, ◌∙◌, ◌⊎◌, [], ap, false, inl, inr, length, refl, sym, true}
 use Rattle.std.proofs.lemmas.List.{nil_from_length}
 use Rattle.std.proofs.lemmas.Result.{IfErr-weaker}
 use Rattle.std.specs.Prelude.{IsTrue}
@@ -55,9 +55,10 @@ returns-in-Ok-eq0-clause-refused g c = λ honest P held.
     (c.commit_copy-copied.ensures.refused P held)
 
 pub returns-in-Ok-eq0-clause-cause : goal.returns-in-Ok-eq0-clause-cause
-returns-in-Ok-eq0-clause-cause g c =
+returns-in-Ok-eq0-clause-cause g c = λ healthy.
+    let live = sym (c.len.ensures.continues c.args.medium (record { device = g.met.D.Device.rests_refl _; failed = refl })).failed ∙ healthy in
     cause_along g.D.Device (HasCauseBelow (allocator_of (mini_of (file_in c.args.source.now))) (allocator_of (mini_of (file_in c.commit_copy-copied.new.source)))) c.commit_copy-copied.result (device_of c.len.new.self)
-    (device_of c.args.medium) (device_of c.commit_copy-copied.new.medium) c.into_device.result c.len.ensures.quiet c.into_device.ensures.device c.commit_copy-copied.ensures.cause
+    (device_of c.args.medium) (device_of c.commit_copy-copied.new.medium) c.into_device.result c.len.ensures.quiet c.into_device.ensures.device (c.commit_copy-copied.ensures.cause live)
 
 pub returns-in-Ok-eq0-clause-counted : goal.returns-in-Ok-eq0-clause-counted
 returns-in-Ok-eq0-clause-counted g c =
@@ -67,10 +68,10 @@ pub returns-in-Err-clause-refused : goal.returns-in-Err-clause-refused
 returns-in-Err-clause-refused g c = λ honest P held. inr (inr (inr (inl c.in-Err.ensures.refusal)))
 
 pub returns-in-Err-clause-cause : goal.returns-in-Err-clause-cause
-returns-in-Err-clause-cause g c = inr (λ is. (let never : Failed ≡ Device = sym c.in-Err.ensures.failed ∙ is in absurd (cc)))
+returns-in-Err-clause-cause g c = λ healthy. (let never : true ≡ false = c.in-Err.ensures.answer ∙ healthy in absurd (cc))
 
 pub returns-in-Ok-clause-cause : goal.returns-in-Ok-clause-cause
-returns-in-Ok-clause-cause g c = inr (λ is. (let never : AlreadyExists ≡ Device = is in absurd (cc)))
+returns-in-Ok-clause-cause g c = λ healthy. inr (λ is. (let never : AlreadyExists ≡ Device = is in absurd (cc)), λ is. (let never : AlreadyExists ≡ Failed = is in cc))
 
 pub returns-in-Ok-clause-refused : goal.returns-in-Ok-clause-refused
 returns-in-Ok-clause-refused g c = λ honest P held. inl (refl, λ empty. c.in-Ok.field-0-test.1 (c.in-Ok.ensures.length honest ∙ ap length empty))

@@ -1,10 +1,10 @@
-use Rattle.std.proofs.Common.{◌∙◌, ◌≡◌, [], ap, arith, inl, inr, length, refl, sym, ⊎_elim}
+use Rattle.std.proofs.Common.{◌∙◌, ◌≡◌, [], ap, arith, false, inl, inr, length, refl, sym, true, ⊎_elim}
 use Rattle.std.proofs.lemmas.List.{nil_from_length}
 use Rattle.std.specs.Prelude.{IsTrue, Some}
 use Rattle.cfb_tree.specs.LetterViews.{letters_of}
 use Rattle.msi.specs.Creating.{IsNewRefusal}
 use Rattle.staged.specs.Staged.{device_of, staged_bytes, Continues}
-use Rattle.installer.proofs.Begun.{began_counted, began_survives, begins_at, device_is_fault, malformed_or_fault, new_refused}
+use Rattle.installer.proofs.Begun.{began_counted, began_survives, begins_at, device_is_fault, malformed_or_fault, new_refused, recovered_fresh}
 use Rattle.installer.proofs.Going.{package_live}
 use Rattle.installer.proofs.Recovering.{never_recovered}
 use Rattle.installer.proofs.Stopping.{survives_alike}
@@ -18,7 +18,7 @@ pub returns-in-Err-clause-refused : goal.returns-in-Err-clause-refused
 returns-in-Err-clause-refused g c = record {
   kind = ⊎_elim (λ malformed. inl malformed) (λ fault. inr (inr (inr (inl (device_is_fault c.in-Err.error fault)))))
       (malformed_or_fault g.D.Device c.args.device c.in-Err.device c.in-Err.error c.in-Err.ensures.err c.in-Err.ensures.malformed);
-  counted = c.in-Err.ensures.err.counted;
+  fault = (c.in-Err.ensures.err.counted, recovered_fresh c.in-Err.error c.in-Err.ensures.err.kind);
 }
 
 pub returns-in-Ok-len-clause-survives : goal.returns-in-Ok-len-clause-survives
@@ -76,6 +76,7 @@ returns-in-Err-create-clause-refused g c =
     let d = g.met.D.Device in
     let start = c.len.ensures.continues c.in-Ok.medium (record { device = d.rests_refl _; failed = refl }) in
     let on = c.in-Err-create.ensures.left.1 c.in-Ok.medium start in
+    let cause = c.in-Err-create.ensures.cause c.in-Ok.medium start in
     let of_honest : IsTrue (g.D.Device.honest c.args.device) → IsNewRefusal (letters_of c.args.letters) c.in-Err-create.error = λ honest.
     let before : IsTrue (g.D.Device.honest (device_of c.in-Ok.medium)) = rw c.in-Ok.ensures.honest honest in
     let after : IsTrue (g.D.Device.honest (device_of c.len.new.self)) = rw c.len.ensures.honest before in
@@ -83,8 +84,11 @@ returns-in-Err-create-clause-refused g c =
     c.in-Err-create.ensures.refused after (omega (arith, same)) in
     record {
       kind = inr (inr (new_refused (g.D.Device.honest c.args.device) (letters_of c.args.letters) c.in-Err-create.error of_honest c.in-Err-create.ensures.kinds));
-      counted = rw c.into_device-in-Err-create.ensures.device (
-          began_counted g.D.Device d.counts_now d.rests_keeps d.rests_leaves c.args.device (device_of c.in-Ok.medium) _ c.in-Ok.ensures.honest c.in-Ok.ensures.failures c.in-Ok.ensures.stops on.device c.in-Err-create.error
-          (c.in-Err-create.ensures.cause c.in-Ok.medium start).device
-          );
+      fault = (
+        rw c.into_device-in-Err-create.ensures.device (
+            began_counted g.D.Device d.counts_now d.rests_keeps d.rests_leaves c.args.device (device_of c.in-Ok.medium) _ c.in-Ok.ensures.honest c.in-Ok.ensures.failures c.in-Ok.ensures.stops on.device c.in-Err-create.error
+            cause.device
+            ),
+        λ is. (let never : false ≡ true = sym c.in-Ok.ensures.sound ∙ cause.earlier is in cc),
+      );
     }
