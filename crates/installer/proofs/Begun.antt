@@ -54,7 +54,7 @@ device_is_fault e is = subst IsFault (sym is) (inl tt)
 
 -- a recovery is refused by no earlier fault
 pub recovered_fresh : (e : Error) → (e ≡ InvalidData) ⊎ (e ≡ Device) → e ≡ Failed → ⊥
-recovered_fresh e kind is = ⊎_elim (λ data. (let never : Failed ≡ InvalidData = sym is ∙ data in cc)) (λ device. (let never : Failed ≡ Device = sym is ∙ device in cc)) kind
+recovered_fresh e kind is = ⊎_elim (λ malformed. (let never : Failed ≡ InvalidData = sym is ∙ malformed in cc)) (λ device. (let never : Failed ≡ Device = sym is ∙ device in cc)) kind
 
 -- a new package is refused for a fault, or the device isn't honest
 pub new_refused : (honest : Bool) (letters : Letters) (e : Error) → (IsTrue honest → IsNewRefusal letters e) → IsChangeError e
