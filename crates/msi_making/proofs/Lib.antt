@@ -14,9 +14,13 @@ pub mod Holding
 pub mod Shaped
 pub mod Given
 pub mod NewTable
+pub mod NoStream
 pub mod ThreePuts
+pub mod Limits
 pub mod CreatedFrom
 pub mod NewStored
+pub mod ValidatedFrom
+pub mod ValidatedStored
 pub mod ThreeSteps
 pub mod Headings
 pub mod HeldTests

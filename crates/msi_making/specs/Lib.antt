@@ -5,3 +5,4 @@ pub mod Dropping
 pub mod Drops
 pub mod Remains
 pub mod Describing
+pub mod Validating

@@ -13,7 +13,7 @@ mod remaining;
 mod replacing;
 mod testing;
 
-pub use created::new_tables_are_stored;
+pub use created::{new_tables_are_stored, new_validations_are_stored};
 pub use dropped::dropped_packages_are_stored;
 pub use dropping::drop_table;
 pub use laws::{dropped_tables_are_gone, new_tables_are_among_the_others};
