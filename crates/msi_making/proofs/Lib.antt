@@ -34,3 +34,8 @@ pub mod ThreeCounted
 pub mod ReadyFrom
 pub mod JoinedRows
 pub mod NewSo
+pub mod MadeBy
+pub mod TwoCounted
+pub mod ListedReady
+pub mod ListedSo
+pub mod ValidatedExits

@@ -27,6 +27,15 @@ module _ (letters : Letters) (old after : Tree) (P : Packed) (sound : StoresSoun
   pub as_new : IsNewTable letters P name columns pool c t v
   as_new = is_new letters old P sound name columns (is.rows, pool) met c t v (is.columns_stored, is.tables_stored, is.validation_stored)
 
+  differs : bytes_eq name validation_name ≡ false
+  differs = is_apart P.tables name as_new.none (holding validation_name met.validation.columns met.validation.rows) (validation_there letters old P sound name columns (is.rows, pool) met)
+
+  abbrev V : Table
+  V = holding validation_name as_new.own as_new.old_v
+
+  pub validation_is_there : IsThere P.tables V
+  validation_is_there = as_new.limited.there differs
+
   pub come_back_three : CanBeStoredThree P is.rows → ComeBackThree P c t v
   come_back_three can = are_back letters old P sound name columns (is.rows, pool) met c t v (is.columns_stored, is.tables_stored, is.validation_stored) can
 
@@ -34,27 +43,18 @@ module _ (letters : Letters) (old after : Tree) (P : Packed) (sound : StoresSoun
     two : HasPutTwo letters bc bt old put.second
     two = record { first = put.first; columns = put.columns; tables = put.tables }
 
-    differs : bytes_eq name validation_name ≡ false
-    differs = is_apart P.tables name as_new.none (holding validation_name met.validation.columns met.validation.rows) (validation_there letters old P sound name columns (is.rows, pool) met)
-
-    abbrev V : Table
-    V = holding validation_name as_new.own as_new.old_v
-
-    v_there : IsThere P.tables V
-    v_there = as_new.limited.there differs
-
     own_is : own_columns P ≡ as_new.own
-    own_is = ap (λ (o : Option Table). unwrap_or (option_map (λ t. t.columns) o) []) v_there.found
+    own_is = ap (λ (o : Option Table). unwrap_or (option_map (λ t. t.columns) o) []) validation_is_there.found
 
     none_there : at_name letters (filter (λ o. not (is_stream o)) (objects put.second.content)) (stream_name validation_name) ≡ None
     none_there = two_free letters old after P sound.usable sound.stores sound.named name columns pool c t v as_new bc bt put.second two
 
     last : LeavesOthers letters put.second after
-    last = put_leaves letters P sound.usable sound.named V v_there refl bv put.second after put.validation none_there
+    last = put_leaves letters P sound.usable sound.named V validation_is_there refl bv put.second after put.validation none_there
 
     stands : AreReadThree P bc bt bv c t v → rows_of P.pool.long (kinds_of as_new.own) (unwrap_or (table_stream letters (objects after.content) validation_name) []) ≡ Some v
     stands read =
-        ap (λ o. rows_of P.pool.long (kinds_of as_new.own) (unwrap_or o [])) (put_stands letters P sound.usable sound.named V v_there refl bv put.second after put.validation none_there)
+        ap (λ o. rows_of P.pool.long (kinds_of as_new.own) (unwrap_or o [])) (put_stands letters P sound.usable sound.named V validation_is_there refl bv put.second after put.validation none_there)
         ∙ subst (λ cs. rows_of P.pool.long (kinds_of cs) bv ≡ Some v) own_is read.validation
 
     pub stored_after : AreReadThree P bc bt bv c t v → StoresSound letters after (with_table P name columns pool c t v)

@@ -6,3 +6,5 @@ pub mod Drops
 pub mod Remains
 pub mod Describing
 pub mod Validating
+pub mod Putting
+pub mod Listing
