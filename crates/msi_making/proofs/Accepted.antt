@@ -42,7 +42,7 @@ not_true : (b : Bool) → not b ≡ true → b ≡ false
 not_true true e = absurd (cc)
 not_true false e = refl
 
-none_found : (o : Option Table) → not (is_some o) ≡ true → o ≡ None
+pub none_found : (o : Option Table) → not (is_some o) ≡ true → o ≡ None
 none_found None e = refl
 none_found (Some t) e = absurd (cc)
 

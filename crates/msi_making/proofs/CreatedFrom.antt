@@ -83,7 +83,7 @@ unsaid_by name rows (c ∷ cs) e =
     let parts = or_parts (has_key (map (take 2) rows) (text name ∷ text c.name ∷ [])) (list_any (has_key (map (take 2) rows)) (map (λ c. text name ∷ text c.name ∷ []) cs)) e in
     ap₂ (λ a b. a && b) (unfound name c.name rows parts.0) (unsaid_by name rows cs parts.1)
 
-none_so : {X : Type 0} (o : Option X) → is_none o ≡ true → o ≡ None
+pub none_so : {X : Type 0} (o : Option X) → is_none o ≡ true → o ≡ None
 none_so None e = refl
 none_so (Some x) e = absurd (cc)
 

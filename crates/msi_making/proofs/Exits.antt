@@ -27,7 +27,7 @@ use Rattle.msi_tables.specs.Schema.{columns_columns, columns_name, tables_column
 use Rattle.msi_tables.specs.Table.{Heading, IsStoredByKeys}
 use Rattle.msi_making.specs.Created.{with_table, AreReadThree, HasPutThree, IsAccepted}
 use Rattle.msi_making.specs.Making.{CanPutThree, Makes, PutsThree}
-use Rattle.msi_making.proofs.Holding.{holding, IsThere}
+use Rattle.msi_making.proofs.Holding.{holding}
 use Rattle.msi_making.proofs.MadeBy.{can_put, headings_stay, Comes}
 use Rattle.msi_making.proofs.MadeBy as by
 use Rattle.msi_making.proofs.NewStored.{as_new, parts_kept, stored_after, validation_is_there}

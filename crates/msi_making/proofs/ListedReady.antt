@@ -59,8 +59,7 @@ module _ (letters : Letters) (tree : Tree) (P : Packed) (sound : StoresSound let
       let t : IsWrittenByKeys next P.pool.long tables_columns rows.1 bt = laid.1.written (t_data letters tree P sound validation_name listed_columns [] none_wide cells) in
       let can : CanBeStoredTwo P rows = record { columns = laid.0.writable; tables = laid.1.writable; columns_places = laid.0.places; tables_places = laid.1.places } in
       let accepted : IsValidated letters P next c.stored t.stored = record { rows = rows; told = told; columns_stored = c.by_keys; tables_stored = t.by_keys } in
-      let back : ComeBackTwo P c.stored t.stored = come_back_two letters tree tree P sound next c.stored t.stored accepted can in
-      (
+      let back : ComeBackTwo P c.stored t.stored = come_back_two letters tree tree P sound next c.stored t.stored accepted can in (
         c.stored,
         t.stored,
         accepted,

@@ -1,6 +1,6 @@
 -- A package with a new table: its tables, its schema, its names and its counts.
 use Rattle.std.proofs.Common.{◌≡◌, ◌∙◌, ℕ, ◌+◌, ◌<◌, ◌≤◌, Bool, true, false, cond, List, [], ◌∷◌, ◌++◌, get_or, length, map, refl, sym, ap, ap₂, subst, arith, Some, None, not}
-use Rattle.std.specs.Prelude.{◌&&◌, ◌||◌, ◌↔◌, ◌==◌, bytes_eq, count_by, find, is_none, is_some, take, unwrap_or, All, Contains, IfSome, IsTrue}
+use Rattle.std.specs.Prelude.{◌&&◌, ◌||◌, ◌↔◌, bytes_eq, count_by, is_some, take, All, Contains, IfSome, IsTrue}
 use Rattle.std.specs.List.{list_all, list_any}
 use Rattle.std.specs.List.Sorted.{IsPermutation, IsStrictlySortedBy}
 use Rattle.std.proofs.lemmas.Bool.{and_parts}
@@ -17,8 +17,8 @@ use Rattle.cfb_tree.proofs.OneContent.{Some_same}
 use Rattle.msi_changes.specs.Laws.{names_place, uses_in, KeepsPlaces}
 use Rattle.msi_changes.proofs.CellUses.{HasUses, Stays}
 use Rattle.msi_columns.specs.Column.{Column}
-use Rattle.msi_meaning.specs.Calls.{is_kept, names_distinct, new_table, rows_put, table_put}
-use Rattle.msi_meaning.specs.Package.{at_name, is_table_name, objects, rows_named, stream_name, table_name_cmp, table_stream, Packed}
+use Rattle.msi_meaning.specs.Calls.{new_table, rows_put, table_put}
+use Rattle.msi_meaning.specs.Package.{at_name, is_table_name, rows_named, stream_name, table_name_cmp, Packed}
 use Rattle.msi_meaning.specs.Sound.{is_free_table_name, uses_of}
 use Rattle.msi_meaning.specs.SoundParts.{IsNamed}
 use Rattle.msi_meaning.specs.Split.{Stores}
@@ -30,8 +30,8 @@ use Rattle.msi_rewritten.proofs.Tables.{names_kept}
 use Rattle.msi_rewritten.proofs.Texts.{rows_used}
 use Rattle.msi_schema.proofs.Beside.{added, begins_once, moved}
 use Rattle.msi_schema.proofs.Schemas.{schemas_grow, schemas_moved}
-use Rattle.msi_tables.specs.Rows.{kinds_of, rows_of, Row}
-use Rattle.msi_tables.specs.Schema.{are_keys, begins_with, columns_columns, columns_in, columns_name, columns_rows, is_filled, is_for, is_of_listed, is_schema, names_described, schema_of, tables_columns, tables_name, validation_columns, validation_name, validation_row}
+use Rattle.msi_tables.specs.Rows.{kinds_of, Row}
+use Rattle.msi_tables.specs.Schema.{are_keys, begins_with, columns_columns, columns_in, columns_name, columns_rows, is_filled, is_of_listed, is_schema, names_described, schema_of, tables_columns, tables_name, validation_columns, validation_name}
 use Rattle.msi_tables.specs.Table.{are_distinct, data_rows, has_key, row_data, table_named, Table}
 use Rattle.msi_values.specs.Datum.{binary, null, number, text, Datum}
 use Rattle.msi_making.specs.Created.{with_table}

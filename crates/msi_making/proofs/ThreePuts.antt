@@ -1,38 +1,32 @@
 -- A tree stores the package with a new table, where the streams of the system tables got the rows that describe it.
-use Rattle.std.proofs.Common.{◌≡◌, ◌∙◌, ℕ, zero, suc, ◌<◌, ◌/◌, Bool, true, false, cond, List, [], ◌∷◌, get_or, length, map, refl, sym, ap, ap₂, subst, Option, Some, None, not}
-use Rattle.std.specs.Prelude.{◌&&◌, ◌||◌, ◌==◌, bytes_eq, filter, nat_le, option_and_then, option_map, slice_get, unwrap_or, All, IsTrue}
+use Rattle.std.proofs.Common.{◌≡◌, ◌∙◌, ℕ, zero, suc, ◌<◌, Bool, true, false, cond, List, [], ◌∷◌, get_or, length, map, refl, sym, ap, ap₂, subst, Some, None, not}
+use Rattle.std.specs.Prelude.{◌&&◌, ◌||◌, bytes_eq, filter, slice_get, unwrap_or, All}
 use Rattle.std.specs.List.{list_any}
-use Rattle.std.proofs.Math.Nat.{zero-div}
 use Rattle.std.proofs.lemmas.List.Elements.{All-head, All-map, All-tail}
 use Rattle.cfb_tree.specs.Names.{Letters}
-use Rattle.cfb_tree.specs.Objects.{a_storage, a_stream, is_same_name, name_of, Object}
+use Rattle.cfb_tree.specs.Objects.{a_stream, is_same_name, name_of, Object}
 use Rattle.cfb_tree.specs.Tree.{Tree}
 use Rattle.cfb_tree.proofs.OneContent.{Some_same}
 use Rattle.msi_columns.specs.Column.{Column}
-use Rattle.msi_columns.specs.declared.column.ColumnType.{ColumnType}
-use Rattle.msi_meaning.specs.Calls.{own_columns, with_rows}
+use Rattle.msi_meaning.specs.Calls.{with_rows}
 use Rattle.msi_meaning.specs.Opening.{may_use}
-use Rattle.msi_meaning.specs.Package.{at_name, data_name, is_own, is_stream, object_bytes, objects, pool_name, stream_at, stream_name, summary_name, table_stream, Packed}
-use Rattle.msi_meaning.specs.Sound.{is_free_table_name}
+use Rattle.msi_meaning.specs.Package.{at_name, data_name, is_own, is_stream, objects, pool_name, stream_at, stream_name, summary_name, table_stream, Packed}
 use Rattle.msi_meaning.specs.SoundParts.{IsNamed}
 use Rattle.msi_meaning.specs.Split.{Stores}
 use Rattle.msi_meaning.specs.Streams.{IsDropped}
-use Rattle.msi_meaning.proofs.EncodedKeys.{keys_tell, name_encoded}
 use Rattle.msi_meaning.proofs.Roots.{put_dropped, put_found}
 use Rattle.msi_meaning.proofs.SystemRows.{bytes_swap, same_bytes}
 use Rattle.msi_pool.specs.Pool.{Pool}
 use Rattle.msi_rewritten.specs.Rewriting.{HasPut}
-use Rattle.msi_rewritten.proofs.Beside.{key_by_same, put_keeps_storages, same_by_key}
-use Rattle.msi_rewritten.proofs.Names.{found_same, kept_has, no_slash, storage_listed, summary_apart, tables_apart}
-use Rattle.msi_rewritten.proofs.Put.{beside, data_beside, free_parts, names_differ, not_true, pool_beside, summary_beside}
+use Rattle.msi_rewritten.proofs.Beside.{put_keeps_storages, same_by_key}
+use Rattle.msi_rewritten.proofs.Names.{no_slash, storage_listed, tables_apart}
+use Rattle.msi_rewritten.proofs.Put.{beside, data_beside, free_parts, names_differ, pool_beside, summary_beside}
 use Rattle.msi_rewritten.proofs.Tables.{other_kept}
 use Rattle.msi_stored.specs.Changing.{KeepsParts}
-use Rattle.msi_tables.specs.Rows.{kinds_of, max_rows, numbers_from, row_at, row_count, row_width, rows_of, Row}
+use Rattle.msi_tables.specs.Rows.{kinds_of, rows_of, Row}
 use Rattle.msi_tables.specs.Schema.{columns_columns, columns_name, tables_columns, tables_name, validation_name}
-use Rattle.msi_tables.specs.Table.{table_named, Table}
+use Rattle.msi_tables.specs.Table.{Table}
 use Rattle.msi_texts.specs.Category.{is_identifier}
-use Rattle.msi_texts.specs.StreamName.{is_marked}
-use Rattle.msi_making.specs.Created.{AreReadThree, HasPutThree}
 use Rattle.msi_making.specs.Validating.{AreReadTwo, HasPutTwo}
 use Rattle.msi_making.proofs.Holding.{all_put, any_put, holding, there_has, IsThere}
 use Rattle.msi_making.proofs.NoStream.{identifier, keep, marked, no_rows, no_strays, no_table_stream, Unmarked}

@@ -22,7 +22,7 @@ use Rattle.msi_stored.specs.Changing.{PackageRule, StoresSound}
 use Rattle.msi_stored.specs.Room.{IsFullForName, IsFullForRule}
 use Rattle.msi_tables.specs.Rows.{kinds_of, rows_bytes, Row}
 use Rattle.msi_tables.specs.Schema.{columns_columns, columns_name, tables_columns, tables_name, validation_name}
-use Rattle.msi_tables.specs.Table.{Heading, IsStoredByKeys, Table}
+use Rattle.msi_tables.specs.Table.{Heading, IsStoredByKeys}
 use Rattle.msi_making.specs.Listing.{answer}
 use Rattle.msi_making.specs.Making.{Makes}
 use Rattle.msi_making.specs.Putting.{CanPutTwo, PutsTwo}

@@ -1,6 +1,6 @@
 -- A _Validation that is accepted is new: what is stored of _Columns and _Tables stands behind what was there, and no row limits it.
-use Rattle.std.proofs.Common.{◌≡◌, ◌∙◌, ℕ, ◌+◌, Bool, true, false, cond, List, [], ◌∷◌, ◌++◌, length, map, refl, sym, ap, ap₂, subst, Option, Some, None, Result, Ok, Err, not}
-use Rattle.std.specs.Prelude.{◌&&◌, bytes_eq, is_none, is_some, nat_le, nat_lt, All}
+use Rattle.std.proofs.Common.{◌≡◌, ℕ, ◌+◌, Bool, true, false, List, [], ◌∷◌, ◌++◌, length, map, refl, sym, ap, ap₂, subst, Some, None, Result, Ok, not}
+use Rattle.std.specs.Prelude.{◌&&◌, bytes_eq, is_none, nat_le, nat_lt, All}
 use Rattle.std.specs.List.{list_all}
 use Rattle.std.specs.Str.{chars}
 use Rattle.std.specs.List.Sorted.{IsPermutation}
@@ -23,12 +23,12 @@ use Rattle.msi_tables.specs.Rows.{max_rows, Row}
 use Rattle.msi_tables.specs.Schema.{columns_columns, columns_name, columns_rows, tables_columns, tables_name, validation_name}
 use Rattle.msi_tables.specs.Table.{table_named, IsStoredByKeys, Table}
 use Rattle.msi_tables.proofs.Writable.{rows_move_by_keys}
-use Rattle.msi_texts.specs.Results.{◌>>=◌, unless_not}
+use Rattle.msi_texts.specs.Results.{◌>>=◌}
 use Rattle.msi_values.specs.Datum.{text, Datum}
 use Rattle.msi_making.specs.Created.{with_table}
 use Rattle.msi_making.specs.Validating.{listed_columns, listing, validated, with_validation, CanBeStoredTwo, ComeBackTwo}
-use Rattle.msi_making.proofs.Accepted.{passes, same_ok, then_ok, AreCounted}
-use Rattle.msi_making.proofs.CreatedFrom.{c_back, of_columns, of_tables, stored_c, stored_t, t_back}
+use Rattle.msi_making.proofs.Accepted.{none_found, passes, same_ok, then_ok, AreCounted}
+use Rattle.msi_making.proofs.CreatedFrom.{c_back, none_so, of_columns, of_tables, stored_c, stored_t, t_back}
 use Rattle.msi_making.proofs.Given.{are_given, are_shaped, counted_before, AreGiven, AreShaped}
 use Rattle.msi_making.proofs.Holding.{all_put, holding}
 use Rattle.msi_making.proofs.Limits.{limited_none}
@@ -71,10 +71,6 @@ pub record IsAllowed (at_free : Bool) (P : Packed) (x : (List Row × List Row) �
   pub free : at_free ≡ true
   pub rows : AreListed P validation_name listed_columns x
 
-none_found : (o : Option Table) → not (is_some o) ≡ true → o ≡ None
-none_found None e = refl
-none_found (Some t) e = absurd (cc)
-
 pub is_allowed : (at_free : Bool) (P : Packed) (x : (List Row × List Row) × Pool) → validated at_free P ≡ Ok x → IsAllowed at_free P x
 is_allowed at_free P x e =
     let a = passes (not (has_table P validation_name) && at_free) AlreadyExists (listing P validation_name listed_columns) x e in
@@ -104,10 +100,6 @@ none_named (t ∷ ts) name none = by (bytes_eq t.name name) refl (none_named ts 
 all_same : (f : Table → Table) (ts : List Table) → All (λ u. f u ≡ u) ts → map f ts ≡ ts
 all_same f [] all = refl
 all_same f (t ∷ ts) all = ap₂ (λ (u : Table) us. u ∷ us) (All-head (λ u. f u ≡ u) t ts all) (all_same f ts (All-tail (λ u. f u ≡ u) t ts all))
-
-none_so : {X : Type 0} (o : Option X) → is_none o ≡ true → o ≡ None
-none_so None e = refl
-none_so (Some x) e = absurd (cc)
 
 module _ (P : Packed) (none : table_named P.tables validation_name ≡ None) where
   abbrev W : Table

@@ -1,5 +1,5 @@
 -- What an empty _Validation comes to before anything is written.
-use Rattle.std.specs.Prelude.{◌≡◌, ◌&&◌, ◌+◌, ◌++◌, ◌⊎◌, ℕ, Bool, true, List, [], ◌∷◌, map, length, is_none, nat_le, nat_lt, Err, MatchResult, Ok, Result, Some}
+use Rattle.std.specs.Prelude.{◌≡◌, ◌&&◌, ◌+◌, ◌++◌, ◌⊎◌, Bool, true, List, [], ◌∷◌, map, length, is_none, nat_le, nat_lt, Err, MatchResult, Ok, Result, Some}
 use Rattle.std.specs.List.{list_all}
 use Rattle.std.specs.Rc.{rc_value}
 use Rattle.cfb_live.specs.Doing.{IsFault}

@@ -302,7 +302,14 @@ fn listed_table(
         Ok(counted) => counted,
     };
     let values = &new_rows.columns;
-    let columns_bytes = bytes_with_new_rows(alloc, &columns_table, pool, columns_rows, listed, values)?;
+    let columns_bytes = bytes_with_new_rows(
+        alloc,
+        &columns_table,
+        pool,
+        columns_rows,
+        listed,
+        values,
+    )?;
     let values = &new_rows.tables;
     let tables_bytes = bytes_with_new_rows(alloc, &tables_table, pool, tables_rows, named, values)?;
     let table = Table::new(alloc, "_Validation", columns, pool.long_string_refs())?;

@@ -4,7 +4,6 @@ use Rattle.cfb_medium.specs.Calls.{IsFaultUnless}
 use Rattle.cfb_medium.specs.declared.error.Error.{Error}
 use Rattle.msi_changes.specs.Prepared.{pool_after}
 use Rattle.msi_columns.specs.Column.{Column}
-use Rattle.msi_columns.specs.Held.{columns_of}
 use Rattle.msi_meaning.specs.Calls.{new_table, stored_rows}
 use Rattle.msi_pool.specs.Pool.{Pool}
 use Rattle.msi_tables.specs.Held.{heading_of, rows_held}
