@@ -81,8 +81,9 @@ fn carry_out<R: Files<File = File> + AllocGlobal + Clock, O: Write, E: Write>(
 {
     match line {
         Line::Create(package, log) => on_files(rt, Word::Create, package, log, out, err),
-        Line::Adopt(package, log, source) => {
-            on_files(rt, Word::Adopt(source), package, log, out, err)
+        Line::Adopt(package, log, source, validation) => {
+            let word = Word::Adopt(source, validation);
+            on_files(rt, word, package, log, out, err)
         }
         Line::Recover(package, log) => on_files(rt, Word::Recover, package, log, out, err),
         Line::List(package, log) => on_files(rt, Word::List, package, log, out, err),
@@ -100,8 +101,8 @@ fn carry_out<R: Files<File = File> + AllocGlobal + Clock, O: Write, E: Write>(
 #[derive(Clone, Copy, Debug)]
 enum Word<'a> {
     Create,
-    // With the path of the package that is read.
-    Adopt(&'a str),
+    // With the path of the package that is read, and whether it gets an empty _Validation.
+    Adopt(&'a str, bool),
     Recover,
     List,
     // With the path of the command file, and whether progress is shown.
@@ -155,7 +156,9 @@ fn do_word<R: Files<File = File> + AllocGlobal + Clock, O: Write, E: Write>(
 {
     let ended = match word {
         Word::Create => create(rt, paths, out),
-        Word::Adopt(source) => return adopt_file(rt, paths, source, out, err),
+        Word::Adopt(source, has_validation) => {
+            return adopt_file(rt, paths, source, has_validation, out, err);
+        }
         Word::Recover => finish(rt, paths, out),
         Word::List => list(rt, paths, out),
         Word::Run(commands, shows_progress) => {
@@ -213,17 +216,18 @@ fn create<R: Files<File = File> + AllocGlobal, O: Write>(
     }
 }
 
-// Makes a package of one of any maker, which is read first.
+// Makes a package of one of any maker, which is read first, with an empty _Validation where it is to have one and has none.
 fn adopt_file<R: Files<File = File> + AllocGlobal, O: Write, E: Write>(
     rt: &R,
     paths: &Paths<'_>,
     source: &str,
+    has_validation: bool,
     out: &mut O,
     err: &mut E,
 ) -> u8
     ensures { result ≤ 3 }
 {
-    let mut package = match adopted_package(rt, source, out, err) {
+    let mut package = match adopted_package(rt, source, has_validation, out, err) {
         Ok(package) => package,
         Err(status) => return status,
     };

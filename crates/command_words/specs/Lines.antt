@@ -14,7 +14,7 @@ abbrev pub said : Line → Text × List (Text × Text)
 said (Create home log) = (codes "create", (codes "PACKAGE", home.now) ∷ [])
 said (Recover home log) = (codes "recover", (codes "PACKAGE", home.now) ∷ [])
 said (Run home log commands) = (codes "run", (codes "PACKAGE", home.now) ∷ [])
-said (Adopt home log source) = (codes "adopt", (codes "PACKAGE", home.now) ∷ (codes "SOURCE", source.now) ∷ [])
+said (Adopt home log source validation) = (codes "adopt", (codes "PACKAGE", home.now) ∷ (codes "SOURCE", source.now) ∷ [])
 said (ListNames home log) = (codes "list", (codes "PACKAGE", home.now) ∷ [])
 said (Show file parts) = (codes "show", (codes "FILE", file.now) ∷ [])
 said (Check file) = (codes "check", (codes "FILE", file.now) ∷ [])
@@ -72,7 +72,7 @@ abbrev pub AsksFor : Line → List Row → Type 0
 AsksFor (Create home log) rows = IsNamedIn log (first_of (codes "LOG") rows) rows
 AsksFor (Recover home log) rows = IsNamedIn log (first_of (codes "LOG") rows) rows
 AsksFor (ListNames home log) rows = IsNamedIn log (first_of (codes "LOG") rows) rows
-AsksFor (Adopt home log source) rows = IsNamedIn log None rows
+AsksFor (Adopt home log source validation) rows = IsNamedIn log None rows × (validation ≡ is_set (first_of (codes "validation") rows))
 AsksFor (Run home log commands) rows = let first = first_of (codes "COMMANDS") rows in let last = first_of (codes "LAST") rows in
     (Some commands.now ≡ commands_among first last) × IsNamedIn log (log_among first last) rows
 AsksFor (Show file parts) rows = AreAsked parts rows

@@ -22,13 +22,16 @@ two_paths = with_rule (with_rule (new_app (codes "run")) (path (codes "PACKAGE")
 abbrev pub run : App
 run = with_rule (with_rule two_paths (new_rule (codes "LAST"))) log_option
 
--- the word that adopts a package: its own path, and that of the package that is read, with its log behind `--log`
-abbrev pub adopted : App
-adopted = with_rule (with_rule (with_rule (new_app (codes "adopt")) (path (codes "PACKAGE"))) (path (codes "SOURCE"))) log_option
-
 -- a word behind two hyphens, which nothing follows
 abbrev pub flag : Text → Rule
 flag id = record (new_rule id) { long = Some id; action = Some SetTrue }
+
+-- the word that adopts a package: its own path, and that of the package that is read, with its log behind `--log`, and a flag
+abbrev pub sourced : App
+sourced = with_rule (with_rule (with_rule (new_app (codes "adopt")) (path (codes "PACKAGE"))) (path (codes "SOURCE"))) log_option
+
+abbrev pub adopted : App
+adopted = with_rule sourced (flag (codes "validation"))
 
 -- the word that shows a package: its path, a table's name, which may be missing, and three flags
 abbrev pub table_shown : App

@@ -39,8 +39,9 @@ pub struct Parts<'a> {
 pub enum Line<'a> {
     /// Make a new package.
     Create(&'a str, Log<'a>),
-    /// Make a package of one of any maker, whose texts are counted otherwise.
-    Adopt(&'a str, Log<'a>, &'a str),
+    /// Make a package of one of any maker, whose texts are counted otherwise; and whether it gets an empty `_Validation`, where it has
+    /// none.
+    Adopt(&'a str, Log<'a>, &'a str, bool),
     /// Finish a commit.
     Recover(&'a str, Log<'a>),
     /// Run the commands of a file.
@@ -147,7 +148,8 @@ fn line_of_adoption<'a>(paths: &ArgMatches<'a>) -> Option<Line<'a>>
     let package = path(paths, "PACKAGE")?;
     let source = path(paths, "SOURCE")?;
     let log = log_in(None, paths);
-    Some(Line::Adopt(package, log, source))
+    let validation = has_flag(paths, "validation");
+    Some(Line::Adopt(package, log, source, validation))
 }
 
 // The log that is named among the paths, or behind `--log`.

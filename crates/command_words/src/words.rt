@@ -2,7 +2,7 @@
 ghost use Rattle.std.specs.Prelude.{◌≡◌, codes, true, false, IfOk, IfErr, map, string_bytes};
 ghost use Rattle.clap.specs.Words.{app_of, kind_of, rule_of, takes, with_rule, with_subcommand, HasMatchesOf};
 ghost use Rattle.clap.specs.declared.Command.TheViews.{out-Command as fields_of};
-ghost use Rattle.command_words.specs.Words.{adopted, bare, checked, exported, log_option, msidb, on_package, path, run, shown, streams_shown, summary_shown, table_shown, two_paths, with_files, with_log, with_looks, without_run};
+ghost use Rattle.command_words.specs.Words.{adopted, bare, checked, exported, log_option, msidb, on_package, path, run, shown, sourced, streams_shown, summary_shown, table_shown, two_paths, with_files, with_log, with_looks, without_run};
 
 use clap::error::ErrorKind;
 use clap::{Arg, ArgAction, ArgMatches, Command, Error};
@@ -206,13 +206,13 @@ fn with_folder<'a>(alloc: Global) -> Result<Command<'a>, AllocError>
 
 // The word that adopts a package, with the paths of both.
 fn with_source<'a>(alloc: Global) -> Result<Command<'a>, AllocError>
-    ensures app { IfOk result (λ c. app_of c ≡ adopted) }
+    ensures app { IfOk result (λ c. app_of c ≡ sourced) }
     ensures local { IfOk result (λ c. (fields_of c).has_globals ≡ false) }
 {
     let command = Command::new(alloc, "adopt")
         .about("Makes a package that can be changed of one whose texts are counted otherwise")
         .after_help(
-            "Example: msidb adopt setup.msi other.msi\nMakes the package, and the log setup.msi.log. It holds what the other one does, and counts each text as often as cells use it. A package\nthat breaks further rules isn't adopted: they are told as `check` tells them, and nothing is made. The other package is only read.\nStatus: 0 done, 1 rules are broken, 3 the other file is no package, or there is a package already.",
+            "Example: msidb adopt setup.msi other.msi\nMakes the package, and the log setup.msi.log. It holds what the other one does, and counts each text as often as cells use it. A package\nthat breaks further rules isn't adopted: they are told as `check` tells them, and nothing is made. The other package is only read.\nTables can be made and dropped only where there is a table _Validation: with --validation a package without one gets an empty one.\nStatus: 0 done, 1 rules are broken, 3 the other file is no package, or there is a package already.",
         );
     let source = needed(
         alloc,
@@ -227,6 +227,18 @@ fn with_source<'a>(alloc: Global) -> Result<Command<'a>, AllocError>
         source,
     )?;
     add(first, log_behind(alloc))
+}
+
+// The same with a flag for an empty _Validation.
+fn with_adoption<'a>(alloc: Global) -> Result<Command<'a>, AllocError>
+    ensures app { IfOk result (λ c. app_of c ≡ adopted) }
+    ensures local { IfOk result (λ c. (fields_of c).has_globals ≡ false) }
+{
+    let validation = Arg::new(alloc, "validation")
+        .long("validation")
+        .action(ArgAction::SetTrue)
+        .help("An empty table _Validation, where there is none");
+    add(with_source(alloc)?, validation)
 }
 
 fn root<'a>(alloc: Global) -> Result<Command<'a>, AllocError>
@@ -317,7 +329,7 @@ fn on_exports<'a>(alloc: Global) -> Result<Command<'a>, AllocError>
 fn definition<'a>(alloc: Global) -> Result<Command<'a>, AllocError>
     ensures { IfOk result (λ c. app_of c ≡ msidb) }
 {
-    let adopt = with_source(alloc)?;
+    let adopt = with_adoption(alloc)?;
     let bare = on_exports(alloc)?;
     with(bare, adopt)
 }

@@ -9,6 +9,7 @@ use Rattle.msi_columns.specs.Column.{Column}
 use Rattle.msi_edits.specs.Edited as edited
 use Rattle.msi_making.specs.Created.{with_table}
 use Rattle.msi_making.specs.Making.{Makes}
+use Rattle.msi_making.specs.Validating.{validated, with_validation, Validates}
 use Rattle.msi_meaning.specs.Calls.{created, own_columns, Creates, Ends, Rows3}
 use Rattle.msi_meaning.specs.Package.{at_name, stream_name, Packed}
 use Rattle.msi_meaning.specs.Split.{HasPool}
@@ -19,7 +20,7 @@ use Rattle.msi_pool.specs.PoolState.{PoolState}
 use Rattle.msi_stored.proofs.Kept.{pool_kept}
 use Rattle.msi_stored.specs.Changing.{PackageRule, StoreIsChanged}
 use Rattle.msi_tables.specs.Rows.{Row}
-use Rattle.msi_tables.specs.Schema.{columns_columns, tables_columns}
+use Rattle.msi_tables.specs.Schema.{columns_columns, tables_columns, validation_name}
 use Rattle.msi_tables.specs.Table.{IsStoredByKeys}
 use Rattle.msi.specs.Changing.{failed_in, PackageChanges}
 use Rattle.msi.specs.Opened.{PackageHolds, file_in, pool_in, sound_in, store_in}
@@ -36,6 +37,16 @@ made_keeps letters P name columns Q told = by (created (is_none (at_name letters
         × (Q ≡ with_table P name columns x.1 c t v)) → (Q.kind ≡ P.kind) × (Q.summary ≡ P.summary)
     by (Err e) told = let never : Ok tt ≡ Err e = told.1 in absurd (cc)
     by (Ok x) told = let is = told.1.6 in (ap (λ (X : Packed). X.kind) is, ap (λ (X : Packed). X.summary) is)
+
+-- so does an empty _Validation
+pub validated_keeps : (letters : Letters) (P Q : Packed) → Validates letters P Q (Ok tt) → (Q.kind ≡ P.kind) × (Q.summary ≡ P.summary)
+validated_keeps letters P Q told = by (validated (is_none (at_name letters P.storages (stream_name validation_name))) P) told
+  where
+    by : (r : Result ((List Row × List Row) × Pool) Error)
+        → Ends r P Q (Ok tt) (λ x. (c : List Row) × (t : List Row) × IsStoredByKeys x.1 columns_columns x.0.0 c × IsStoredByKeys x.1 tables_columns x.0.1 t × (Q ≡ with_validation P x.1 c t))
+        → (Q.kind ≡ P.kind) × (Q.summary ≡ P.summary)
+    by (Err e) told = let never : Ok tt ≡ Err e = told.1 in absurd (cc)
+    by (Ok x) told = let is = told.1.4 in (ap (λ (X : Packed). X.kind) is, ap (λ (X : Packed). X.summary) is)
 
 module _ {F : Type 0} {g : Ghosts F} (rule : PackageRule) (keeps : (P Q : Packed) → rule P Q (Ok tt) → (Q.kind ≡ P.kind) × (Q.summary ≡ P.summary)) (old new : Package F g) (d : DifferByStore old new)
     (live : failed_in old ≡ false) (sound : sound_in old ≡ true) where

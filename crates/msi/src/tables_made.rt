@@ -7,6 +7,7 @@ ghost use Rattle.cfb_owned.specs.Chains.{GoesOn};
 ghost use Rattle.msi_columns.specs.Held.{columns_of};
 ghost use Rattle.msi.specs.Changing.{IsChangeError, PackageChanges, PackageFills};
 ghost use Rattle.msi.specs.Opened.{file_in};
+ghost use Rattle.msi_making.specs.Validating.{Validates};
 ghost use Rattle.msi_meaning.specs.Calls.{Creates};
 
 use crate::package::Package;
@@ -36,5 +37,28 @@ impl<F: Medium> Package<F> {
             return Err(error);
         }
         msi_making::create_table(self.alloc, &mut self.store, &mut self.pool, name, columns)
+    }
+
+    /// Gives the package an empty table `_Validation`, which `_Columns` and `_Tables` list: packages of other makers may have none, and
+    /// tables can't be made or dropped there. No row speaks of its own columns. `Failed` after an earlier fault, `InvalidData` where the
+    /// package isn't sound; then `AlreadyExists` where there is a table `_Validation`, or a storage stands at its name, `InvalidInput` for
+    /// more than 65536 rows in `_Columns` or `_Tables`, or where the pool is full. The other errors are faults, as for inserts. The rows of
+    /// the two tables are written to the file; the uses of texts are counted in memory, and written by a flush. After an error nothing is
+    /// changed, or the package has failed.
+    pub fn add_validation(&mut self) -> Result<(), Error>
+        ensures changes { PackageChanges (λ P Q answer. Validates (letters_in (file_in self.old)) P
+            Q answer) result self.old self.new }
+        ensures full { PackageFills (λ P Q answer. Validates (letters_in (file_in self.old)) P Q
+            answer) result self.old self.new }
+        ensures goes_on { GoesOn (allocator_of (mini_of (file_in self.old)))
+            (allocator_of (mini_of (file_in self.new))) }
+        ensures cause { IfErr result (HasCauseBelow (allocator_of (mini_of (file_in self.old)))
+            (allocator_of (mini_of (file_in self.new)))) }
+        ensures kinds { IfErr result IsChangeError }
+    {
+        if let Err(error) = self.may_change() {
+            return Err(error);
+        }
+        msi_making::add_validation(self.alloc, &mut self.store, &mut self.pool)
     }
 }

@@ -15,7 +15,7 @@ use Rattle.msi_tables.specs.Schema.{columns_columns, columns_name, columns_rows,
 use Rattle.msi_tables.specs.Table.{has_key, is_valid_table_name, keys_of, table_named, Table}
 use Rattle.msi_texts.specs.Category.{is_identifier}
 use Rattle.msi_texts.specs.Results.{◌>>=◌, or_refused, unless_not}
-use Rattle.msi_values.specs.Datum.{text}
+use Rattle.msi_values.specs.Datum.{text, Datum}
 
 -- ---- steps of a chain
 
@@ -42,24 +42,24 @@ not_true : (b : Bool) → not b ≡ true → b ≡ false
 not_true true e = absurd (cc)
 not_true false e = refl
 
-none_found : (o : Option Table) → not (is_some o) ≡ true → o ≡ None
+pub none_found : (o : Option Table) → not (is_some o) ≡ true → o ≡ None
 none_found None e = refl
 none_found (Some t) e = absurd (cc)
 
 -- ---- the rows that describe it
 
 -- the rows as cells, whose texts are counted one table after the other
-pub record AreCounted (pool : Pool) (name : List ℕ) (columns : List Column) : Type 0 where
+pub record AreCounted (pool : Pool) (name : List ℕ) (columns : List Column) (limits : List (List Datum)) : Type 0 where
   pub c : List Row × Pool
   pub t : List Row × Pool
   pub v : List Row × Pool
   pub c_is : rows_counted pool (columns_rows name 1 columns) ≡ Ok c
   pub t_is : rows_counted c.1 ((text name ∷ []) ∷ []) ≡ Ok t
-  pub v_is : rows_counted t.1 (map (validation_row name) columns) ≡ Ok v
+  pub v_is : rows_counted t.1 limits ≡ Ok v
 
 -- the same behind those that were there
 pub record AreDescribed (P : Packed) (name : List ℕ) (columns : List Column) (x : Rows3 × Pool) : Type 0 where
-  pub new : AreCounted P.pool name columns
+  pub new : AreCounted P.pool name columns (map (validation_row name) columns)
   pub c_few : nat_le (length (stored_rows P columns_name) + length columns) max_rows ≡ true
   pub t_few : nat_lt (length (stored_rows P tables_name)) max_rows ≡ true
   pub v_few : nat_le (length (stored_rows P validation_name) + length columns) max_rows ≡ true

@@ -1,6 +1,6 @@
 -- A new table that is accepted is new: what is stored of it stands behind what was there.
 use Rattle.std.proofs.Common.{◌≡◌, ◌∙◌, ℕ, suc, ◌+◌, ◌<◌, ◌≤◌, Bool, true, false, cond, List, [], ◌∷◌, ◌++◌, drop, length, map, refl, sym, ap, ap₂, subst, arith, Option, Some, None, not}
-use Rattle.std.specs.Prelude.{◌&&◌, bytes_eq, find, is_none, option_map, take, unwrap_or, IfSome}
+use Rattle.std.specs.Prelude.{◌&&◌, bytes_eq, find, is_none, option_map, take, nat_le, nat_lt, unwrap_or, All, IfSome, IsTrue}
 use Rattle.std.specs.List.{list_all, list_any}
 use Rattle.std.specs.List.Sorted.{IsPermutation}
 use Rattle.std.specs.Ordering.{is_eq}
@@ -13,6 +13,7 @@ use Rattle.cfb_tree.specs.Names.{Letters}
 use Rattle.cfb_tree.specs.Tree.{Tree}
 use Rattle.cfb_tree.proofs.OneContent.{Some_same}
 use Rattle.msi_columns.specs.Column.{Column}
+use Rattle.msi_meaning.specs.Back.{ComeBack}
 use Rattle.msi_meaning.specs.Calls.{own_columns, stored_rows, Rows3}
 use Rattle.msi_meaning.specs.Package.{at_name, is_table_name, rows_named, stream_name, Packed}
 use Rattle.msi_meaning.specs.Sound.{uses_of}
@@ -23,15 +24,16 @@ use Rattle.msi_rewritten.proofs.Columns.{have_columns}
 use Rattle.msi_rewritten.proofs.Stored.{found_at}
 use Rattle.msi_schema.proofs.Numbered.{name_found}
 use Rattle.msi_stored.specs.Changing.{StoresSound}
-use Rattle.msi_tables.specs.Rows.{max_rows, Row}
+use Rattle.msi_tables.specs.Rows.{has_place, max_rows, AreWritable, Row}
 use Rattle.msi_tables.specs.Schema.{columns_columns, columns_in, columns_name, columns_rows, is_for, tables_columns, tables_name, validation_columns, validation_name, validation_row}
 use Rattle.msi_tables.specs.Table.{has_key, key_cmp, key_values, row_data, IsStoredByKeys, Table}
 use Rattle.msi_tables.proofs.Writable.{rows_move_by_keys}
 use Rattle.msi_values.specs.Datum.{text, Datum}
 use Rattle.msi_making.specs.Created.{CanBeStoredThree, ComeBackThree}
 use Rattle.msi_making.proofs.Accepted.{AreMet}
-use Rattle.msi_making.proofs.Given.{are_given, are_shaped, counted_before, AreGiven, AreShaped}
+use Rattle.msi_making.proofs.Given.{are_given, are_shaped, counted_before, validation_wide, AreGiven, AreShaped}
 use Rattle.msi_making.proofs.Holding.{holding, is_there, there_has, IsThere}
+use Rattle.msi_making.proofs.Limits.{limited_more}
 use Rattle.msi_making.proofs.NewTable.{IsNewTable}
 
 -- ---- keys of _Validation
@@ -81,7 +83,7 @@ unsaid_by name rows (c ∷ cs) e =
     let parts = or_parts (has_key (map (take 2) rows) (text name ∷ text c.name ∷ [])) (list_any (has_key (map (take 2) rows)) (map (λ c. text name ∷ text c.name ∷ []) cs)) e in
     ap₂ (λ a b. a && b) (unfound name c.name rows parts.0) (unsaid_by name rows cs parts.1)
 
-none_so : {X : Type 0} (o : Option X) → is_none o ≡ true → o ≡ None
+pub none_so : {X : Type 0} (o : Option X) → is_none o ≡ true → o ≡ None
 none_so None e = refl
 none_so (Some x) e = absurd (cc)
 
@@ -123,6 +125,44 @@ module _ (letters : Letters) (tree : Tree) (P : Packed) (sound : StoresSound let
   pub stored_t : stored_rows P tables_name ≡ of_tables.rows
   stored_t = ap rows_in of_tables.there.found
 
+-- ---- the rows of _Columns and _Tables with new ones come back
+
+as_many : (pool : Pool) (rows : List Row) (said : List (List Datum)) (n : ℕ) → map (row_data pool) rows ≡ said → length said ≡ n → length rows ≡ n
+as_many pool rows said n e long = sym (length-map rows (row_data pool)) ∙ ap length e ∙ long
+
+module _ (P : Packed) (name : List ℕ) (columns : List Column) (pool : Pool) (new_c new_t : List Row) where
+  abbrev cs : List Row
+  cs = stored_rows P columns_name ++ new_c
+
+  abbrev ts : List Row
+  ts = stored_rows P tables_name ++ new_t
+
+  pub c_back : map (row_data pool) new_c ≡ columns_rows name 1 columns → nat_le (length (stored_rows P columns_name) + length columns) max_rows ≡ true → (c : List Row) → IsStoredByKeys pool columns_columns cs c
+      → AreWritable P.pool.long columns_columns cs → All (λ row. IsTrue (list_all has_place row)) cs → ComeBack P.pool.long columns_columns c
+  c_back says fits c stored writable places =
+      let more : length new_c ≡ length columns = as_many pool new_c (columns_rows name 1 columns) (length columns) says (many_rows name 1 columns) in
+      let few : length (stored_rows P columns_name) + length columns ≤ 65536 = grind (arith, nat_tests, fits) in
+      come_back P.pool.long columns_columns cs c (rows_move_by_keys pool columns_columns cs c stored)
+      (record {
+        columns_there = (let four : length columns_columns ≡ 4 = refl in omega (arith, four));
+        few = omega (arith, length-append (stored_rows P columns_name) new_c, more, few);
+        writable = writable;
+        places = places;
+      })
+
+  pub t_back : map (row_data pool) new_t ≡ (text name ∷ []) ∷ [] → nat_lt (length (stored_rows P tables_name)) max_rows ≡ true → (t : List Row) → IsStoredByKeys pool tables_columns ts t
+      → AreWritable P.pool.long tables_columns ts → All (λ row. IsTrue (list_all has_place row)) ts → ComeBack P.pool.long tables_columns t
+  t_back says fits t stored writable places =
+      let more : length new_t ≡ 1 = as_many pool new_t ((text name ∷ []) ∷ []) 1 says refl in
+      let few : length (stored_rows P tables_name) < 65536 = grind (arith, nat_tests, fits) in
+      come_back P.pool.long tables_columns ts t (rows_move_by_keys pool tables_columns ts t stored)
+      (record {
+        columns_there = (let one : length tables_columns ≡ 1 = refl in omega (arith, one));
+        few = omega (arith, length-append (stored_rows P tables_name) new_t, more, few);
+        writable = writable;
+        places = places;
+      })
+
 module _ (letters : Letters) (tree : Tree) (P : Packed) (sound : StoresSound letters tree P) (name : List ℕ) (columns : List Column) (x : Rows3 × Pool)
     (met : AreMet (is_none (at_name letters P.storages (stream_name name))) P name columns x) where
   abbrev there_c : HasTable P.tables columns_name columns_columns
@@ -134,7 +174,7 @@ module _ (letters : Letters) (tree : Tree) (P : Packed) (sound : StoresSound let
   abbrev w : Table
   w = met.validation
 
-  validation_there : IsThere P.tables (holding validation_name w.columns w.rows)
+  pub validation_there : IsThere P.tables (holding validation_name w.columns w.rows)
   validation_there =
       let at = found_at P.tables validation_name w met.found in
       let same : w ≡ holding validation_name w.columns w.rows = ap (λ n. holding n w.columns w.rows) at.3 in
@@ -153,11 +193,14 @@ module _ (letters : Letters) (tree : Tree) (P : Packed) (sound : StoresSound let
   unsaid = unsaid_by name (map (row_data P.pool) w.rows) columns
       (sym (ap (λ keys. list_any (has_key keys) (map (λ c. text name ∷ text c.name ∷ []) columns)) (keys_are P.pool w.columns keys_flags w.rows)) ∙ met.unsaid)
 
-  given : AreGiven P.pool (uses_of P.tables) name columns met.rows.new.v.1 met.rows.new.c.0 met.rows.new.t.0 met.rows.new.v.0
-  given = are_given P.pool name columns met.rows.new (uses_of P.tables) (counted_before letters tree P sound.stores sound.counted (holding validation_name w.columns w.rows) validation_there)
+  abbrev limits : List (List Datum)
+  limits = map (validation_row name) columns
 
-  shaped : AreShaped P.pool name columns met.rows.new w.columns met.columns_fit met.name_fits met.validation_fits
-  shaped = are_shaped P.pool name columns met.rows.new w.columns met.columns_fit met.name_fits met.validation_fits
+  given : AreGiven P.pool (uses_of P.tables) name columns limits met.rows.new.v.1 met.rows.new.c.0 met.rows.new.t.0 met.rows.new.v.0
+  given = are_given P.pool name columns limits met.rows.new (validation_wide name columns) (uses_of P.tables) (counted_before letters tree P sound.stores sound.counted (holding validation_name w.columns w.rows) validation_there)
+
+  shaped : AreShaped P.pool name columns limits met.rows.new w.columns met.columns_fit met.name_fits met.validation_fits
+  shaped = are_shaped P.pool name columns limits met.rows.new w.columns met.columns_fit met.name_fits met.validation_fits
 
   abbrev all : Rows3 × Pool
   all = ((stored_rows P columns_name ++ met.rows.new.c.0, stored_rows P tables_name ++ met.rows.new.t.0, stored_rows P validation_name ++ met.rows.new.v.0), met.rows.new.v.1)
@@ -173,43 +216,25 @@ module _ (letters : Letters) (tree : Tree) (P : Packed) (sound : StoresSound let
     own = w.columns;
     columns_there = there_c.there;
     tables_there = there_t.there;
-    validation_there = validation_there;
     new_c = met.rows.new.c.0;
     new_t = met.rows.new.t.0;
     new_v = met.rows.new.v.0;
     c_moved = subst (λ rows. IsPermutation (rows ++ met.rows.new.c.0) c) (stored_c letters tree P sound) (rows_move_by_keys all.1 columns_columns all.0.0 c stored.0);
     t_moved = subst (λ rows. IsPermutation (rows ++ met.rows.new.t.0) t) (stored_t letters tree P sound) (rows_move_by_keys all.1 tables_columns all.0.1 t stored.1);
-    v_moved = subst (λ rows. IsPermutation (rows ++ met.rows.new.v.0) v) stored_v (rows_move_by_keys all.1 (own_columns P) all.0.2 v stored.2);
+    limits = limits;
+    limited = limited_more letters tree P sound.stores sound.named name columns met.new w.columns w.rows validation_there met.rows.new.v.1 given.stays met.rows.new.v.0 v
+        (subst (λ rows. IsPermutation (rows ++ met.rows.new.v.0) v) stored_v (rows_move_by_keys all.1 (own_columns P) all.0.2 v stored.2)) given.v_says met.some met.distinct met.kept unsaid;
     given = given;
     kept = shaped.kept;
     none = met.new;
     free = ap₂ (λ a b. a && b) (ap₂ (λ a b. a && b) met.valid met.not_pool) met.not_data;
     no_storage = none_so (at_name letters P.storages (stream_name name)) met.free;
-    some = met.some;
-    distinct = met.distinct;
-    can_keep = met.kept;
-    unsaid = unsaid;
   }
 
   pub is_new : (c t v : List Row) → Stored x c t v → IsNewTable letters P name columns x.1 c t v
   is_new = subst (λ (y : Rows3 × Pool). (c t v : List Row) → Stored y c t v → IsNewTable letters P name columns y.1 c t v) (sym met.rows.is) new_by_all
 
   -- ---- the rows can be written, and come back
-
-  as_many : (pool : Pool) (rows : List Row) (said : List (List Datum)) (n : ℕ) → map (row_data pool) rows ≡ said → length said ≡ n → length rows ≡ n
-  as_many pool rows said n e long = sym (length-map rows (row_data pool)) ∙ ap length e ∙ long
-
-  c_few : length all.0.0 ≤ max_rows
-  c_few =
-      let more : length met.rows.new.c.0 ≡ length columns = as_many met.rows.new.v.1 met.rows.new.c.0 (columns_rows name 1 columns) (length columns) given.c_says (many_rows name 1 columns) in
-      let few : length (stored_rows P columns_name) + length columns ≤ 65536 = (let e = met.rows.c_few in grind (arith, nat_tests, e)) in
-      omega (arith, length-append (stored_rows P columns_name) met.rows.new.c.0, more, few)
-
-  t_few : length all.0.1 ≤ max_rows
-  t_few =
-      let more : length met.rows.new.t.0 ≡ 1 = as_many met.rows.new.v.1 met.rows.new.t.0 ((text name ∷ []) ∷ []) 1 given.t_says refl in
-      let few : length (stored_rows P tables_name) < 65536 = (let e = met.rows.t_few in grind (arith, nat_tests, e)) in
-      omega (arith, length-append (stored_rows P tables_name) met.rows.new.t.0, more, few)
 
   v_few : length all.0.2 ≤ max_rows
   v_few =
@@ -223,10 +248,8 @@ module _ (letters : Letters) (tree : Tree) (P : Packed) (sound : StoresSound let
 
   back_by_all : (c t v : List Row) → Stored all c t v → CanBeStoredThree P all.0 → ComeBackThree P c t v
   back_by_all c t v stored can = record {
-    columns = come_back P.pool.long columns_columns all.0.0 c (rows_move_by_keys all.1 columns_columns all.0.0 c stored.0)
-        (record { columns_there = (let four : length columns_columns ≡ 4 = refl in omega (arith, four)); few = c_few; writable = can.columns; places = can.columns_places });
-    tables = come_back P.pool.long tables_columns all.0.1 t (rows_move_by_keys all.1 tables_columns all.0.1 t stored.1)
-        (record { columns_there = (let one : length tables_columns ≡ 1 = refl in omega (arith, one)); few = t_few; writable = can.tables; places = can.tables_places });
+    columns = c_back P name columns met.rows.new.v.1 met.rows.new.c.0 met.rows.new.t.0 given.c_says met.rows.c_few c stored.0 can.columns can.columns_places;
+    tables = t_back P name columns met.rows.new.v.1 met.rows.new.c.0 met.rows.new.t.0 given.t_says met.rows.t_few t stored.1 can.tables can.tables_places;
     validation = come_back P.pool.long (own_columns P) all.0.2 v (rows_move_by_keys all.1 (own_columns P) all.0.2 v stored.2)
         (record { columns_there = own_some; few = v_few; writable = can.validation; places = can.validation_places });
   }

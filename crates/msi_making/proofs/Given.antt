@@ -27,7 +27,7 @@ use Rattle.msi_rewritten.proofs.Texts.{rows_stay}
 use Rattle.msi_tables.specs.Rows.{kinds_of, AreWritable, Row}
 use Rattle.msi_tables.specs.Schema.{columns_columns, columns_rows, tables_columns, validation_row}
 use Rattle.msi_tables.specs.Table.{row_data, Table}
-use Rattle.msi_values.specs.Datum.{text}
+use Rattle.msi_values.specs.Datum.{text, Datum}
 use Rattle.msi_making.proofs.Accepted.{AreCounted}
 use Rattle.msi_making.proofs.Holding.{there_uses, IsThere}
 use Rattle.msi_making.proofs.Shaped.{rows_fit}
@@ -64,22 +64,22 @@ columns_wide : (name : List ℕ) (n : ℕ) (cs : List Column) → All (λ ds. le
 columns_wide name n [] = All-nil (λ ds. length ds ≡ 4)
 columns_wide name n (c ∷ cs) = All-cons (λ ds. length ds ≡ 4) _ (columns_rows name (suc n) cs) refl (columns_wide name (suc n) cs)
 
-validation_wide : (name : List ℕ) (cs : List Column) → All (λ ds. length ds ≡ 10) (map (validation_row name) cs)
+pub validation_wide : (name : List ℕ) (cs : List Column) → All (λ ds. length ds ≡ 10) (map (validation_row name) cs)
 validation_wide name cs = All-map (λ ds. length ds ≡ 10) (validation_row name) cs (λ k d within. refl)
 
 -- what the cells say, in the pool that counts them all beside what was there
-pub record AreGiven (before : Pool) (uses : ℕ → ℕ) (name : List ℕ) (columns : List Column) (pool : Pool) (c t v : List Row) : Type 0 where
+pub record AreGiven (before : Pool) (uses : ℕ → ℕ) (name : List ℕ) (columns : List Column) (limits : List (List Datum)) (pool : Pool) (c t v : List Row) : Type 0 where
   pub c_says : map (row_data pool) c ≡ columns_rows name 1 columns
   pub t_says : map (row_data pool) t ≡ (text name ∷ []) ∷ []
-  pub v_says : map (row_data pool) v ≡ map (validation_row name) columns
+  pub v_says : map (row_data pool) v ≡ limits
   pub c_none : uses_in c 0 ≡ 0
   pub t_none : uses_in t 0 ≡ 0
   pub v_none : uses_in v 0 ≡ 0
   pub counts : HasUses pool (λ n. uses_in v n + (uses_in t n + (uses_in c n + uses n)))
   pub stays : Stays uses before pool
 
-module _ (pool : Pool) (name : List ℕ) (columns : List Column) (d : AreCounted pool name columns) where
-  module _ (uses : ℕ → ℕ) (has : HasUses pool uses) where
+module _ (pool : Pool) (name : List ℕ) (columns : List Column) (limits : List (List Datum)) (d : AreCounted pool name columns limits) where
+  module _ (wide : All (λ ds. length ds ≡ 10) limits) (uses : ℕ → ℕ) (has : HasUses pool uses) where
     abbrev with_c : ℕ → ℕ
     with_c n = uses_in d.c.0 n + uses n
 
@@ -94,11 +94,10 @@ module _ (pool : Pool) (name : List ℕ) (columns : List Column) (d : AreCounted
     t_given = of_ok (rows_counted d.c.1 ((text name ∷ []) ∷ [])) (GivesRows 1 with_c d.c.1 ((text name ∷ []) ∷ [])) d.t d.t_is
         (rows_given 1 d.c.1 ((text name ∷ []) ∷ []) with_c (All-cons (λ ds. length ds ≡ 1) (text name ∷ []) [] refl (All-nil (λ ds. length ds ≡ 1))) c_given.counts)
 
-    v_given : GivesRows 10 with_t d.t.1 (map (validation_row name) columns) d.v
-    v_given = of_ok (rows_counted d.t.1 (map (validation_row name) columns)) (GivesRows 10 with_t d.t.1 (map (validation_row name) columns)) d.v d.v_is
-        (rows_given 10 d.t.1 (map (validation_row name) columns) with_t (validation_wide name columns) t_given.counts)
+    v_given : GivesRows 10 with_t d.t.1 limits d.v
+    v_given = of_ok (rows_counted d.t.1 limits) (GivesRows 10 with_t d.t.1 limits) d.v d.v_is (rows_given 10 d.t.1 limits with_t wide t_given.counts)
 
-    pub are_given : AreGiven pool uses name columns d.v.1 d.c.0 d.t.0 d.v.0
+    pub are_given : AreGiven pool uses name columns limits d.v.1 d.c.0 d.t.0 d.v.0
     are_given =
         let c_kept : Stays with_c d.c.1 d.v.1 = stays_then t_given.stays (fewer_stay (λ n at some. omega (arith, some)) v_given.stays) in
         record {
@@ -114,7 +113,7 @@ module _ (pool : Pool) (name : List ℕ) (columns : List Column) (d : AreCounted
 
   -- they can be written
   module _ (own : List Column) (c_fits : list_all (are_valid columns_columns) (columns_rows name 1 columns) ≡ true) (t_fits : are_valid tables_columns (text name ∷ []) ≡ true)
-      (v_fits : list_all (are_valid own) (map (validation_row name) columns) ≡ true) where
+      (v_fits : list_all (are_valid own) limits ≡ true) where
     pub record AreShaped : Type 0 where
       pub c : AreWritable pool.long columns_columns d.c.0
       pub t : AreWritable pool.long tables_columns d.t.0
@@ -128,7 +127,7 @@ module _ (pool : Pool) (name : List ℕ) (columns : List Column) (d : AreCounted
         let t : AreWritable d.c.1.long tables_columns d.t.0 × KeepsPlaces d.c.1 d.t.1 =
         of_ok (rows_counted d.c.1 ((text name ∷ []) ∷ [])) (λ r. AreWritable d.c.1.long tables_columns r.0 × KeepsPlaces d.c.1 r.1) d.t d.t_is (rows_fit tables_columns d.c.1 ((text name ∷ []) ∷ []) (one_fits t_fits)) in
         let v : AreWritable d.t.1.long own d.v.0 × KeepsPlaces d.t.1 d.v.1 =
-        of_ok (rows_counted d.t.1 (map (validation_row name) columns)) (λ r. AreWritable d.t.1.long own r.0 × KeepsPlaces d.t.1 r.1) d.v d.v_is (rows_fit own d.t.1 (map (validation_row name) columns) v_fits) in
+        of_ok (rows_counted d.t.1 limits) (λ r. AreWritable d.t.1.long own r.0 × KeepsPlaces d.t.1 r.1) d.v d.v_is (rows_fit own d.t.1 limits v_fits) in
         let both = kept_then pool d.c.1 d.t.1 c.1 t.1 in
         record {
           c = c.0;

@@ -13,7 +13,7 @@ use Rattle.msi_making.specs.declared.describing.SystemTables.{SystemTables}
 use Rattle.msi_making.proofs.Shaped.{writable_joined}
 use Rattle.msi_making.proofs.ThreeCounted.{can_write_three}
 
-with_new : (long : Bool) (h : Heading) (old cells : List Row) → AreWritable h.long h.columns old → h.long ≡ long → AreWritable long h.columns cells → AreWritable h.long h.columns (old ++ cells)
+pub with_new : (long : Bool) (h : Heading) (old cells : List Row) → AreWritable h.long h.columns old → h.long ≡ long → AreWritable long h.columns cells → AreWritable h.long h.columns (old ++ cells)
 with_new long h old cells wide same new = writable_joined h.long h.columns old cells wide (subst (λ (l : Bool). AreWritable l h.columns cells) (sym same) new)
 
 module _ (it : SystemTables) (new : NewRows) (p : Pool) (wide : AreWide it) (d : AreDescribed p.long it new) (x : Rows3 × Pool) where

@@ -14,9 +14,13 @@ pub mod Holding
 pub mod Shaped
 pub mod Given
 pub mod NewTable
+pub mod NoStream
 pub mod ThreePuts
+pub mod Limits
 pub mod CreatedFrom
 pub mod NewStored
+pub mod ValidatedFrom
+pub mod ValidatedStored
 pub mod ThreeSteps
 pub mod Headings
 pub mod HeldTests
@@ -30,3 +34,8 @@ pub mod ThreeCounted
 pub mod ReadyFrom
 pub mod JoinedRows
 pub mod NewSo
+pub mod MadeBy
+pub mod TwoCounted
+pub mod ListedReady
+pub mod ListedSo
+pub mod ValidatedExits

@@ -1,6 +1,6 @@
 -- A package with a new table: its tables, its schema, its names and its counts.
 use Rattle.std.proofs.Common.{◌≡◌, ◌∙◌, ℕ, ◌+◌, ◌<◌, ◌≤◌, Bool, true, false, cond, List, [], ◌∷◌, ◌++◌, get_or, length, map, refl, sym, ap, ap₂, subst, arith, Some, None, not}
-use Rattle.std.specs.Prelude.{◌&&◌, ◌||◌, ◌↔◌, ◌==◌, bytes_eq, count_by, find, is_none, is_some, take, unwrap_or, All, Contains, IfSome, IsTrue}
+use Rattle.std.specs.Prelude.{◌&&◌, ◌||◌, ◌↔◌, bytes_eq, count_by, is_some, take, All, Contains, IfSome, IsTrue}
 use Rattle.std.specs.List.{list_all, list_any}
 use Rattle.std.specs.List.Sorted.{IsPermutation, IsStrictlySortedBy}
 use Rattle.std.proofs.lemmas.Bool.{and_parts}
@@ -15,25 +15,24 @@ use Rattle.cfb_tree.specs.Names.{Letters}
 use Rattle.cfb_tree.specs.Tree.{Tree}
 use Rattle.cfb_tree.proofs.OneContent.{Some_same}
 use Rattle.msi_changes.specs.Laws.{names_place, uses_in, KeepsPlaces}
-use Rattle.msi_changes.proofs.CellUses.{HasUses}
+use Rattle.msi_changes.proofs.CellUses.{HasUses, Stays}
 use Rattle.msi_columns.specs.Column.{Column}
-use Rattle.msi_meaning.specs.Calls.{is_kept, names_distinct, new_table, rows_put, table_put}
-use Rattle.msi_meaning.specs.Package.{at_name, is_table_name, objects, rows_named, stream_name, table_name_cmp, table_stream, Packed}
+use Rattle.msi_meaning.specs.Calls.{new_table, rows_put, table_put}
+use Rattle.msi_meaning.specs.Package.{at_name, is_table_name, rows_named, stream_name, table_name_cmp, Packed}
 use Rattle.msi_meaning.specs.Sound.{is_free_table_name, uses_of}
 use Rattle.msi_meaning.specs.SoundParts.{IsNamed}
 use Rattle.msi_meaning.specs.Split.{Stores}
 use Rattle.msi_meaning.specs.Uses.{TextsAreCounted}
-use Rattle.msi_meaning.proofs.NewColumns.{new_columns}
-use Rattle.msi_meaning.proofs.NewRows.{columns_begin, columns_filled, columns_keys, keys_apart, validation_begins, validation_keys}
+use Rattle.msi_meaning.proofs.NewRows.{columns_begin, columns_filled, columns_keys}
 use Rattle.msi_meaning.proofs.SystemRows.{bytes_swap, same_bytes, table_found}
 use Rattle.msi_pool.specs.Pool.{Pool}
 use Rattle.msi_rewritten.proofs.Tables.{names_kept}
 use Rattle.msi_rewritten.proofs.Texts.{rows_used}
 use Rattle.msi_schema.proofs.Beside.{added, begins_once, moved}
 use Rattle.msi_schema.proofs.Schemas.{schemas_grow, schemas_moved}
-use Rattle.msi_tables.specs.Rows.{kinds_of, rows_of, Row}
-use Rattle.msi_tables.specs.Schema.{are_keys, begins_with, columns_columns, columns_in, columns_name, columns_rows, is_filled, is_for, is_of_listed, is_schema, names_described, schema_of, tables_columns, tables_name, validation_columns, validation_name, validation_row}
-use Rattle.msi_tables.specs.Table.{are_distinct, data_rows, row_data, table_named, Table}
+use Rattle.msi_tables.specs.Rows.{kinds_of, Row}
+use Rattle.msi_tables.specs.Schema.{are_keys, begins_with, columns_columns, columns_in, columns_name, columns_rows, is_filled, is_of_listed, is_schema, names_described, schema_of, tables_columns, tables_name, validation_columns, validation_name}
+use Rattle.msi_tables.specs.Table.{are_distinct, data_rows, has_key, row_data, table_named, Table}
 use Rattle.msi_values.specs.Datum.{binary, null, number, text, Datum}
 use Rattle.msi_making.specs.Created.{with_table}
 use Rattle.msi_making.proofs.Among.{put_uses, rises_put}
@@ -114,8 +113,33 @@ counted_from pool ts has none = record {
 
 -- ---- the new table
 
--- What makes a table new: none has its name, and the rows that describe it stand behind those of the three system tables, in some order;
--- the pool counts their texts beside the others.
+-- no other has its name
+pub is_apart : (ts : List Table) (name : List ℕ) → table_named ts name ≡ None → (u : Table) → IsThere ts u → bytes_eq name u.name ≡ false
+is_apart ts name none u there = by (bytes_eq name u.name) refl
+  where
+    by : (b : Bool) → bytes_eq name u.name ≡ b → b ≡ false
+    by false e = refl
+    by true e = (let never : None ≡ Some u = sym none ∙ ap (table_named ts) (same_bytes name u.name e) ∙ there.found in absurd (cc))
+
+-- What _Validation comes to beside a new table: rows stand behind its own, in some order; or it is the new table itself, and has none.
+-- What they say of the new table, if anything, is said of no other.
+pub record IsLimited (letters : Letters) (P : Packed) (name : List ℕ) (columns : List Column) (limits : Rows) (pool : Pool) (own : List Column) (old_v new_v v : List Row) : Type 0 where
+  pub now : IsThere (rows_put validation_name v (table_put (new_table name columns) P.tables)) (holding validation_name own v)
+  pub there : bytes_eq name validation_name ≡ false → IsThere P.tables (holding validation_name own old_v)
+  pub own_new : bytes_eq name validation_name ≡ true → columns ≡ own
+  pub read : (tree : Tree) (stores : Stores letters tree P) → stores.validation ≡ old_v
+  pub said : IsPermutation (map (row_data P.pool) old_v ++ limits) (map (row_data pool) v)
+  pub uses : (n : ℕ) → uses_of (rows_put validation_name v (table_put (new_table name columns) P.tables)) n ≡ uses_in new_v n + uses_of (table_put (new_table name columns) P.tables) n
+  pub kinds : kinds_of own ≡ kinds_of validation_columns
+  pub keys : map (λ c. c.key) own ≡ map (λ c. c.key) validation_columns
+  pub no_storage : at_name letters P.storages (stream_name validation_name) ≡ None
+  pub described : (cs : Rows) → list_any (begins_with name) cs ≡ false → schema_of (cs ++ columns_rows name 1 columns) (map (row_data P.pool) old_v ++ limits) name ≡ Some columns
+  pub whole : are_keys (map (take 2) limits) ≡ true
+  pub begin : list_all (begins_with name) limits ≡ true
+  pub apart : list_all (λ key. not (has_key (map (take 2) limits) key)) (map (take 2) (map (row_data P.pool) old_v)) ≡ true
+
+-- What makes a table new: none has its name, and the rows that describe it stand behind those of the system tables, in some order; the
+-- pool counts their texts beside the others.
 pub record IsNewTable (letters : Letters) (P : Packed) (name : List ℕ) (columns : List Column) (pool : Pool) (c t v : List Row) : Type 0 where
   pub old_c : List Row
   pub old_t : List Row
@@ -123,22 +147,32 @@ pub record IsNewTable (letters : Letters) (P : Packed) (name : List ℕ) (column
   pub own : List Column
   pub columns_there : IsThere P.tables (holding columns_name columns_columns old_c)
   pub tables_there : IsThere P.tables (holding tables_name tables_columns old_t)
-  pub validation_there : IsThere P.tables (holding validation_name own old_v)
   pub new_c : List Row
   pub new_t : List Row
   pub new_v : List Row
   pub c_moved : IsPermutation (old_c ++ new_c) c
   pub t_moved : IsPermutation (old_t ++ new_t) t
-  pub v_moved : IsPermutation (old_v ++ new_v) v
-  pub given : AreGiven P.pool (uses_of P.tables) name columns pool new_c new_t new_v
+  pub limits : Rows
+  pub limited : IsLimited letters P name columns limits pool own old_v new_v v
+  pub given : AreGiven P.pool (uses_of P.tables) name columns limits pool new_c new_t new_v
   pub kept : KeepsPlaces P.pool pool
   pub none : table_named P.tables name ≡ None
   pub free : is_free_table_name name ≡ true
   pub no_storage : at_name letters P.storages (stream_name name) ≡ None
-  pub some : not (length columns == 0) ≡ true
-  pub distinct : names_distinct columns ≡ true
-  pub can_keep : list_all is_kept columns ≡ true
-  pub unsaid : list_all (λ c. is_none (find (is_for name c.name) (map (row_data P.pool) old_v))) columns ≡ true
+
+-- rows as values, where new ones stand behind them in some order
+pub said_moved : (letters : Letters) (tree : Tree) (P : Packed) → Stores letters tree P → (pool : Pool) → Stays (uses_of P.tables) P.pool pool → (u : Table) → IsThere P.tables u
+    → (added_rows stored : List Row) (also : Rows) → map (row_data pool) added_rows ≡ also → IsPermutation (u.rows ++ added_rows) stored → IsPermutation (map (row_data P.pool) u.rows ++ also) (map (row_data pool) stored)
+said_moved letters tree P stores pool stays u there added_rows stored also says moves =
+    let said : map (row_data pool) (u.rows ++ added_rows) ≡ map (row_data P.pool) u.rows ++ also =
+    map-append (row_data pool) u.rows added_rows ∙ ap₂ (λ a b. a ++ b) (said_still letters tree P stores pool stays u there) says in
+    subst (λ rows. IsPermutation rows (map (row_data pool) stored)) said (IsPermutation-map (row_data pool) (u.rows ++ added_rows) stored moves)
+
+-- their uses of texts
+pub uses_stored : (old added_rows stored : List Row) → IsPermutation (old ++ added_rows) stored → (n : ℕ) → uses_in stored n ≡ uses_in old n + uses_in added_rows n
+uses_stored old added_rows stored moves n =
+    let use_in_row : Row → ℕ = λ row. count_by (names_place n) row in
+    sum_by-IsPermutation use_in_row (old ++ added_rows) stored moves ∙ sum_by-append use_in_row old added_rows
 
 module _ (letters : Letters) (tree : Tree) (P : Packed) (stores : Stores letters tree P) (named : IsNamed letters P) (name : List ℕ) (columns : List Column) (pool : Pool) (c t v : List Row)
     (h : IsNewTable letters P name columns pool c t v) where
@@ -158,11 +192,7 @@ module _ (letters : Letters) (tree : Tree) (P : Packed) (stores : Stores letters
   tables2 = rows_put tables_name t tables1
 
   pub apart : (u : Table) → IsThere P.tables u → bytes_eq name u.name ≡ false
-  apart u there = by (bytes_eq name u.name) refl
-    where
-      by : (b : Bool) → bytes_eq name u.name ≡ b → b ≡ false
-      by false e = refl
-      by true e = (let never : None ≡ Some u = sym h.none ∙ ap (table_named P.tables) (same_bytes name u.name e) ∙ there.found in absurd (cc))
+  apart = is_apart P.tables name h.none
 
   -- ---- the three tables after
 
@@ -185,19 +215,9 @@ module _ (letters : Letters) (tree : Tree) (P : Packed) (stores : Stores letters
   pub validation_now : IsThere Q.tables (holding validation_name h.own v)
   validation_now =
       there_beside columns_name c tables2 (holding validation_name h.own v)
-      (there_beside tables_name t tables1 (holding validation_name h.own v)
-      (there_own validation_name v tables0 (holding validation_name h.own h.old_v)
-      (there_put new P.tables (holding validation_name h.own h.old_v) h.validation_there (apart (holding validation_name h.own h.old_v) h.validation_there))
-      refl) refl) refl
+      (there_beside tables_name t tables1 (holding validation_name h.own v) h.limited.now refl) refl
 
   -- ---- rows as values
-
-  module _ (u : Table) (there : IsThere P.tables u) (added_rows stored : List Row) (also : Rows) (says : map (row_data pool) added_rows ≡ also) (moves : IsPermutation (u.rows ++ added_rows) stored) where
-    said_moved : IsPermutation (map (row_data P.pool) u.rows ++ also) (map (row_data pool) stored)
-    said_moved =
-        let said : map (row_data pool) (u.rows ++ added_rows) ≡ map (row_data P.pool) u.rows ++ also =
-        map-append (row_data pool) u.rows added_rows ∙ ap₂ (λ a b. a ++ b) (said_still letters tree P stores pool h.given.stays u there) says in
-        subst (λ rows. IsPermutation rows (map (row_data pool) stored)) said (IsPermutation-map (row_data pool) (u.rows ++ added_rows) stored moves)
 
   abbrev Ts : Rows
   Ts = map (row_data P.pool) h.old_t
@@ -212,16 +232,16 @@ module _ (letters : Letters) (tree : Tree) (P : Packed) (stores : Stores letters
   more = columns_rows name 1 columns
 
   abbrev also : Rows
-  also = map (validation_row name) columns
+  also = h.limits
 
   t_said : IsPermutation (Ts ++ (text name ∷ []) ∷ []) (map (row_data pool) t)
-  t_said = said_moved (holding tables_name tables_columns h.old_t) h.tables_there h.new_t t ((text name ∷ []) ∷ []) h.given.t_says h.t_moved
+  t_said = said_moved letters tree P stores pool h.given.stays (holding tables_name tables_columns h.old_t) h.tables_there h.new_t t ((text name ∷ []) ∷ []) h.given.t_says h.t_moved
 
   c_said : IsPermutation (Cs ++ more) (map (row_data pool) c)
-  c_said = said_moved (holding columns_name columns_columns h.old_c) h.columns_there h.new_c c more h.given.c_says h.c_moved
+  c_said = said_moved letters tree P stores pool h.given.stays (holding columns_name columns_columns h.old_c) h.columns_there h.new_c c more h.given.c_says h.c_moved
 
   v_said : IsPermutation (Vs ++ also) (map (row_data pool) v)
-  v_said = said_moved (holding validation_name h.own h.old_v) h.validation_there h.new_v v also h.given.v_says h.v_moved
+  v_said = h.limited.said
 
   tables_before : rows_named P tables_name ≡ Ts
   tables_before = ap (data_rows P.pool) h.tables_there.found
@@ -235,18 +255,8 @@ module _ (letters : Letters) (tree : Tree) (P : Packed) (stores : Stores letters
   columns_after : rows_named Q columns_name ≡ map (row_data pool) c
   columns_after = ap (data_rows pool) columns_now.found
 
-  -- _Validation is read by its own columns as by the ten
-  pub own_kinds : kinds_of h.own ≡ kinds_of validation_columns
-  own_kinds = subst (λ o. IfSome o (λ u. kinds_of u.columns ≡ kinds_of validation_columns)) h.validation_there.found named.validation_kinds
-
-  abbrev bytes_at : List ℕ → List ℕ
-  bytes_at m = unwrap_or (table_stream letters (objects tree.content) m) []
-
   validation_same : stores.validation ≡ h.old_v
-  validation_same =
-      let read : rows_of P.pool.long (kinds_of h.own) (bytes_at validation_name) ≡ Some h.old_v =
-      there_has (λ u. rows_of P.pool.long (kinds_of u.columns) (bytes_at u.name) ≡ Some u.rows) P.tables (holding validation_name h.own h.old_v) h.validation_there stores.rows in
-      Some_same (sym stores.validation_is ∙ ap (λ ks. rows_of P.pool.long ks (bytes_at validation_name)) (sym own_kinds) ∙ read)
+  validation_same = h.limited.read tree stores
 
   -- ---- the schema
 
@@ -276,12 +286,12 @@ module _ (letters : Letters) (tree : Tree) (P : Packed) (stores : Stores letters
   unspoken = none_spoken name Ts unlisted Cs (schema_tests Ts Cs Vs schema_before).1
 
   described : schema_of (Cs ++ more) (Vs ++ also) name ≡ Some columns
-  described = new_columns Cs Vs name columns h.some unspoken h.unsaid h.can_keep h.distinct
+  described = h.limited.described Cs unspoken
 
   grown : is_schema (Ts ++ (text name ∷ []) ∷ []) (Cs ++ more) (Vs ++ also) ≡ true
   grown =
       schemas_grow Ts Cs Vs more also name schema_before unlisted (columns_keys name 1 columns) (columns_filled name 1 columns) (columns_begin name 1 columns)
-      (validation_keys name columns h.distinct) (validation_begins name columns) (keys_apart name Vs columns h.unsaid) (ap is_some described)
+      h.limited.whole h.limited.begin h.limited.apart (ap is_some described)
 
   pub schema_after : is_schema (rows_named Q tables_name) (rows_named Q columns_name) (map (row_data pool) v) ≡ true
   schema_after =
@@ -305,7 +315,7 @@ module _ (letters : Letters) (tree : Tree) (P : Packed) (stores : Stores letters
       ∙ described
 
   -- no other table has its name
-  name_apart : (j : ℕ) (d : Table) → j < length P.tables → bytes_eq (get_or P.tables j d).name name ≡ false
+  pub name_apart : (j : ℕ) (d : Table) → j < length P.tables → bytes_eq (get_or P.tables j d).name name ≡ false
   name_apart j d within = by (bytes_eq (get_or P.tables j d).name name) refl
     where
       by : (b : Bool) → bytes_eq (get_or P.tables j d).name name ≡ b → b ≡ false
@@ -334,7 +344,7 @@ module _ (letters : Letters) (tree : Tree) (P : Packed) (stores : Stores letters
   old_told = λ j d within.
       let u : Table = get_or P.tables j d in
       columns_told u.name
-      ∙ added Cs more Vs also u.name (none_speak name u.name (name_apart j d within) more (columns_begin name 1 columns)) (none_speak name u.name (name_apart j d within) also (validation_begins name columns))
+      ∙ added Cs more Vs also u.name (none_speak name u.name (name_apart j d within) more (columns_begin name 1 columns)) (none_speak name u.name (name_apart j d within) also h.limited.begin)
       ∙ columns_before_told j d within
 
   -- a fact of names and columns that all tables have
@@ -393,9 +403,8 @@ module _ (letters : Letters) (tree : Tree) (P : Packed) (stores : Stores letters
     no_storage = every (λ m cs. at_name letters P.storages (stream_name m) ≡ None) named.no_storage h.no_storage;
     not_listed = subst (All Unlisted) (sym tables_after) (All-permutation Unlisted (Ts ++ (text name ∷ []) ∷ []) (map (row_data pool) t) t_said
         (All-append Unlisted Ts ((text name ∷ []) ∷ []) (subst (All Unlisted) tables_before named.not_listed) (All-cons Unlisted (text name ∷ []) [] new_unlisted (All-nil Unlisted))));
-    validation_kinds = subst (λ o. IfSome o (λ u. kinds_of u.columns ≡ kinds_of validation_columns)) (sym validation_now.found) own_kinds;
-    validation_keys = subst (λ o. IfSome o (λ u. map (λ c. c.key) u.columns ≡ map (λ c. c.key) validation_columns)) (sym validation_now.found)
-        (subst (λ o. IfSome o (λ u. map (λ c. c.key) u.columns ≡ map (λ c. c.key) validation_columns)) h.validation_there.found named.validation_keys);
+    validation_kinds = subst (λ o. IfSome o (λ u. kinds_of u.columns ≡ kinds_of validation_columns)) (sym validation_now.found) h.limited.kinds;
+    validation_keys = subst (λ o. IfSome o (λ u. map (λ c. c.key) u.columns ≡ map (λ c. c.key) validation_columns)) (sym validation_now.found) h.limited.keys;
   }
     where
       new_unlisted : Unlisted (text name ∷ [])
@@ -403,32 +412,23 @@ module _ (letters : Letters) (tree : Tree) (P : Packed) (stores : Stores letters
 
   -- ---- counts
 
-  abbrev use_in_row : ℕ → Row → ℕ
-  use_in_row n row = count_by (names_place n) row
-
-  uses_stored : (old added_rows stored : List Row) → IsPermutation (old ++ added_rows) stored → (n : ℕ) → uses_in stored n ≡ uses_in old n + uses_in added_rows n
-  uses_stored old added_rows stored moves n = sum_by-IsPermutation (use_in_row n) (old ++ added_rows) stored moves ∙ sum_by-append (use_in_row n) old added_rows
-
   uses_now : (n : ℕ) → uses_of Q.tables n ≡ uses_in h.new_v n + (uses_in h.new_t n + (uses_in h.new_c n + uses_of P.tables n))
   uses_now n =
       let c0 : Table = holding columns_name columns_columns h.old_c in
       let t0 : Table = holding tables_name tables_columns h.old_t in
-      let v0 : Table = holding validation_name h.own h.old_v in
       let rises0 : IsStrictlySortedBy table_name_cmp (map (λ u. u.name) tables0) = rises_put new P.tables h.none stores.rising in
       let rises1 : IsStrictlySortedBy table_name_cmp (map (λ u. u.name) tables1) = rises_still validation_name v tables0 rises0 in
       let rises2 : IsStrictlySortedBy table_name_cmp (map (λ u. u.name) tables2) = rises_still tables_name t tables1 rises1 in
-      let v_there : IsThere tables0 v0 = there_put new P.tables v0 h.validation_there (apart v0 h.validation_there) in
       let t_there : IsThere tables1 t0 = there_beside validation_name v tables0 t0 (there_put new P.tables t0 h.tables_there (apart t0 h.tables_there)) refl in
       let c_there : IsThere tables2 c0 = there_beside tables_name t tables1 c0 (there_beside validation_name v tables0 c0 (there_put new P.tables c0 h.columns_there (apart c0 h.columns_there)) refl) refl in
       let zero_put : uses_of tables0 n ≡ uses_in [] n + uses_of P.tables n = put_uses new P.tables n in
       let none : uses_in [] n ≡ 0 = refl in
-      let one : uses_of tables1 n + uses_in h.old_v n ≡ uses_in v n + uses_of tables0 n = uses_swapped validation_name v tables0 v0 v_there refl rises0 n in
+      let one : uses_of tables1 n ≡ uses_in h.new_v n + uses_of tables0 n = h.limited.uses n in
       let two : uses_of tables2 n + uses_in h.old_t n ≡ uses_in t n + uses_of tables1 n = uses_swapped tables_name t tables1 t0 t_there refl rises1 n in
       let three : uses_of Q.tables n + uses_in h.old_c n ≡ uses_in c n + uses_of tables2 n = uses_swapped columns_name c tables2 c0 c_there refl rises2 n in
-      let vs = uses_stored h.old_v h.new_v v h.v_moved n in
       let ts = uses_stored h.old_t h.new_t t h.t_moved n in
       let cs = uses_stored h.old_c h.new_c c h.c_moved n in
-      omega (arith, zero_put, none, one, two, three, vs, ts, cs)
+      omega (arith, zero_put, none, one, two, three, ts, cs)
 
   pub counted_after : TextsAreCounted pool Q.tables
   counted_after = counted_from pool Q.tables

@@ -20,6 +20,7 @@ use Rattle.msi_making.specs.Created.{AreReadThree, CanBeStoredThree, IsAccepted}
 use Rattle.msi_making.specs.Describing.{answer, counting}
 use Rattle.msi_making.specs.Testing.{three_counted}
 use Rattle.msi_making.proofs.Accepted.{AreCounted}
+use Rattle.msi_making.proofs.Given.{validation_wide}
 use Rattle.msi_making.proofs.Ready.{c_data, t_data, v_data, written_three}
 use Rattle.msi_making.proofs.ThreeCounted.{are_three}
 
@@ -59,12 +60,14 @@ module _ (letters : Letters) (tree : Tree) (P : Packed) (sound : StoresSound let
       → (bc bt bv : List ℕ) → Laid y bc bt bv → Written y.1 bc bt bv
   written_from y is all =
       let d = are_three P.pool (columns_rows name 1 columns) ((text name ∷ []) ∷ []) (map (validation_row name) columns) y is in
-      let cells : AreCounted P.pool name columns = record { c = d.c; t = d.t; v = d.v; c_is = d.c_is; t_is = d.t_is; v_is = d.v_is } in
+      let limits = map (validation_row name) columns in
+      let wide = validation_wide name columns in
+      let cells : AreCounted P.pool name columns limits = record { c = d.c; t = d.t; v = d.v; c_is = d.c_is; t_is = d.t_is; v_is = d.v_is } in
       let from : From ((d.c.0, d.t.0, d.v.0), d.v.1) = λ told bc bt bv laid.
       let can : CanBeStoredThree P (joined ((d.c.0, d.t.0, d.v.0), d.v.1)) =
       record { columns = laid.0.writable; tables = laid.1.writable; validation = laid.2.writable; columns_places = laid.0.places; tables_places = laid.1.places; validation_places = laid.2.places } in
       let w3 = written_three letters tree P sound name columns w found cells told can bc bt bv
-      (laid.0.written (c_data letters tree P sound name columns w found cells)) (laid.1.written (t_data letters tree P sound name columns w found cells)) (laid.2.written (v_data letters tree P sound name columns w found cells)) in
+      (laid.0.written (c_data letters tree P sound name columns limits wide cells)) (laid.1.written (t_data letters tree P sound name columns limits wide cells)) (laid.2.written (v_data letters tree P sound name columns w found cells)) in
       (w3.c, w3.t, w3.v, w3.accepted, w3.read, w3.written) in
       subst From d.is from (all ∙ ap (λ (r : Result (Rows3 × Pool) Error). r >>= λ x. Ok (joined x, x.1)) is)
 

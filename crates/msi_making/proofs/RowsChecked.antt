@@ -75,7 +75,7 @@ module _ (letters : Letters) (tree : Tree) (P : Packed) (sound : StoresSound let
 
 -- ---- their number
 
-as_held : (P : Packed) (rows : List (Vec ValueRef Global)) (name : List ℕ) → rows_held rows ≡ stored_rows P name → length rows ≡ length (stored_rows P name)
+pub as_held : (P : Packed) (rows : List (Vec ValueRef Global)) (name : List ℕ) → rows_held rows ≡ stored_rows P name → length rows ≡ length (stored_rows P name)
 as_held P rows name is = sym (length-map rows (λ row. row.items)) ∙ ap length is
 
 pub room_so : (P : Packed) (cs ts vs : List (Vec ValueRef Global)) → rows_held cs ≡ stored_rows P columns_name → rows_held ts ≡ stored_rows P tables_name → rows_held vs ≡ stored_rows P validation_name

@@ -11,7 +11,7 @@ use Rattle.msi_meaning.proofs.UnderRoot.{at_path}
 use Rattle.msi_rewritten.proofs.Names.{storage_listed}
 use Rattle.msi_stored.specs.Changing.{StoresSound}
 use Rattle.msi_tables.specs.Table.{table_named}
-use Rattle.msi_making.proofs.ThreePuts.{no_stream}
+use Rattle.msi_making.proofs.NoStream.{no_stream}
 
 abbrev storages_in : List Object → List Object
 storages_in os = filter (λ o. not (is_stream o)) os

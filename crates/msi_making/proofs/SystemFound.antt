@@ -115,3 +115,8 @@ module _ (letters : Letters) (tree : Tree) (P : Packed) (sound : StoresSound let
       let at = found_at P.tables validation_name w found in
       let same : w ≡ holding validation_name w.columns w.rows = ap (λ n. holding n w.columns w.rows) at.3 in
       is_there P.tables (holding validation_name w.columns w.rows) (found ∙ ap (λ (u : Table). Some u) same)
+
+-- a fault, or what can't be
+pub only_fault : (e : Error) → IsFault e ⊎ ⊥ → IsFault e
+only_fault e (inl fault) = fault
+only_fault e (inr never) = absurd never

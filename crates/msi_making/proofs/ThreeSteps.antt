@@ -1,4 +1,4 @@
--- The streams of the three tables are put one after the other.
+-- The streams of the tables that describe others are put one after the other.
 use Rattle.std.proofs.Common.{◌≡◌, ◌∙◌, ℕ, List, ap, inl, refl, sym, subst, true, Ok, Err}
 use Rattle.std.specs.Prelude.{filter, not}
 use Rattle.cfb.specs.Doing.{FileMeans}
@@ -17,6 +17,8 @@ use Rattle.msi_rewritten.specs.Rewriting.{HasPut}
 use Rattle.msi_rewritten.proofs.Beside.{put_keeps_storages}
 use Rattle.msi_tables.specs.Schema.{columns_name, tables_name, validation_name}
 use Rattle.msi_making.specs.Making.{CanPutThree, PutsThree}
+use Rattle.msi_making.specs.Putting.{CanPutTwo, PutsTwo}
+use Rattle.msi_making.specs.Validating.{HasPutTwo}
 
 -- what can be put can be put behind another
 can_still : (letters : Letters) (name bytes other : List ℕ) (a b : Tree) → HasPut letters name bytes a b → CanPut letters name a → CanPut letters other a → CanPut letters other b
@@ -39,25 +41,27 @@ module _ {F : Type 0} {g : Ghosts F} (letters : Letters) (name bytes : List ℕ)
   step_fault : (e : Error) → PutsTable {T = Unit {0}} name bytes (Err e) a b → (tree : Tree) → FileMeans a tree → CanPut letters name tree → IsFault e
   step_fault e puts tree means can = puts.refused tree means (subst (λ l. CanPut l name tree) (sym same) can)
 
-module _ {F : Type 0} {g : Ghosts F} (bc bt bv : List ℕ) (old one : CompoundFile F g) where
+-- ---- those of _Columns and _Tables
+
+module _ {F : Type 0} {g : Ghosts F} (bc bt : List ℕ) (old one : CompoundFile F g) where
   abbrev letters : Letters
   letters = letters_in old
 
-  pub first_unput : (e : Error) → PutsTable {T = Unit {0}} columns_name bc (Err e) old one → PutsThree {T = Unit {0}} bc bt bv (Err e) old one
+  pub first_unput : (e : Error) → PutsTable {T = Unit {0}} columns_name bc (Err e) old one → PutsTwo {T = Unit {0}} bc bt (Err e) old one
   first_unput e p = record { done = tt; refused = λ tree means can. p.refused tree means can.columns; rests = p.rests; seen = p.seen }
 
   module _ (p : PutsTable {T = Unit {0}} columns_name bc (Ok tt) old one) (two : CompoundFile F g) where
     abbrev First : Tree → Type 0
     First tree = Stepped letters columns_name bc old one refl tree
 
-    first_step : (tree : Tree) → FileMeans old tree → CanPutThree letters tree → First tree
+    first_step : (tree : Tree) → FileMeans old tree → CanPutTwo letters tree → First tree
     first_step tree means can = stepped letters columns_name bc old one refl p tree means can.columns
 
-    tables_can : (tree : Tree) (can : CanPutThree letters tree) (s : First tree) → CanPut letters tables_name s.after
+    tables_can : (tree : Tree) (can : CanPutTwo letters tree) (s : First tree) → CanPut letters tables_name s.after
     tables_can tree can s = can_still letters columns_name bc tables_name tree s.after s.put can.columns can.tables
 
     pub second_unput : (failed_file : CompoundFile F g) (e : Error) → PutsTable {T = Unit {0}} tables_name bt (Err e) one two → has_failed_here (allocator_of (mini_of failed_file)) ≡ true
-        → (letters_in failed_file ≡ letters_in two) × (sound_of failed_file ≡ sound_of two) × (validation_of failed_file ≡ validation_of two) → PutsThree {T = Unit {0}} bc bt bv (Err e) old failed_file
+        → (letters_in failed_file ≡ letters_in two) × (sound_of failed_file ≡ sound_of two) × (validation_of failed_file ≡ validation_of two) → PutsTwo {T = Unit {0}} bc bt (Err e) old failed_file
     second_unput failed_file e q failed seen = record {
       done = tt;
       refused = λ tree means can.
@@ -67,40 +71,53 @@ module _ {F : Type 0} {g : Ghosts F} (bc bt bv : List ℕ) (old one : CompoundFi
       seen = (seen.0 ∙ q.seen.0 ∙ p.seen.0, seen.1 ∙ q.seen.1 ∙ p.seen.1, seen.2 ∙ q.seen.2 ∙ p.seen.2);
     }
 
-    module _ (q : PutsTable {T = Unit {0}} tables_name bt (Ok tt) one two) (three : CompoundFile F g) where
-      abbrev Second : Tree → Type 0
-      Second tree = Stepped letters tables_name bt one two p.seen.0 tree
+    pub both_put : PutsTable {T = Unit {0}} tables_name bt (Ok tt) one two → PutsTwo {T = Unit {0}} bc bt (Ok tt) old two
+    both_put q = record {
+      done = λ tree means can.
+          let s = first_step tree means can in
+          let u = stepped letters tables_name bt one two p.seen.0 q s.after s.means (tables_can tree can s) in
+          (u.after, u.means, record { first = s.after; columns = s.put; tables = u.put });
+      refused = tt;
+      rests = tt;
+      seen = (q.seen.0 ∙ p.seen.0, q.seen.1 ∙ p.seen.1, q.seen.2 ∙ p.seen.2);
+    }
 
-      second_step : (tree : Tree) (can : CanPutThree letters tree) (s : First tree) → Second s.after
-      second_step tree can s = stepped letters tables_name bt one two p.seen.0 q s.after s.means (tables_can tree can s)
+-- ---- and that of _Validation behind them
 
-      validation_can : (tree : Tree) (can : CanPutThree letters tree) (s : First tree) (u : Second s.after) → CanPut letters validation_name u.after
-      validation_can tree can s u =
-          can_still letters tables_name bt validation_name s.after u.after u.put (tables_can tree can s) (can_still letters columns_name bc validation_name tree s.after s.put can.columns can.validation)
+module _ {F : Type 0} {g : Ghosts F} (bc bt bv : List ℕ) (old two : CompoundFile F g) where
+  abbrev own : Letters
+  own = letters_in old
 
-      two_letters : letters_in two ≡ letters
-      two_letters = q.seen.0 ∙ p.seen.0
+  both_can : (tree : Tree) → CanPutThree own tree → CanPutTwo own tree
+  both_can tree can = record { columns = can.columns; tables = can.tables }
 
-      pub third_unput : (failed_file : CompoundFile F g) (e : Error) → PutsTable {T = Unit {0}} validation_name bv (Err e) two three → has_failed_here (allocator_of (mini_of failed_file)) ≡ true
-          → (letters_in failed_file ≡ letters_in three) × (sound_of failed_file ≡ sound_of three) × (validation_of failed_file ≡ validation_of three) → PutsThree {T = Unit {0}} bc bt bv (Err e) old failed_file
-      third_unput failed_file e r failed seen = record {
-        done = tt;
-        refused = λ tree means can.
-            let s = first_step tree means can in
-            let u = second_step tree can s in
-            step_fault letters validation_name bv two three two_letters e r u.after u.means (validation_can tree can s u);
-        rests = inl failed;
-        seen = (seen.0 ∙ r.seen.0 ∙ two_letters, seen.1 ∙ r.seen.1 ∙ q.seen.1 ∙ p.seen.1, seen.2 ∙ r.seen.2 ∙ q.seen.2 ∙ p.seen.2);
-      }
+  pub both_unput : (e : Error) → PutsTwo {T = Unit {0}} bc bt (Err e) old two → PutsThree {T = Unit {0}} bc bt bv (Err e) old two
+  both_unput e p = record { done = tt; refused = λ tree means can. p.refused tree means (both_can tree can); rests = p.rests; seen = p.seen }
 
-      pub all_put : PutsTable {T = Unit {0}} validation_name bv (Ok tt) two three → PutsThree {T = Unit {0}} bc bt bv (Ok tt) old three
-      all_put r = record {
-        done = λ tree means can.
-            let s = first_step tree means can in
-            let u = second_step tree can s in
-            let w = stepped letters validation_name bv two three two_letters r u.after u.means (validation_can tree can s u) in
-            (w.after, w.means, record { first = s.after; second = u.after; columns = s.put; tables = u.put; validation = w.put });
-        refused = tt;
-        rests = tt;
-        seen = (r.seen.0 ∙ two_letters, r.seen.1 ∙ q.seen.1 ∙ p.seen.1, r.seen.2 ∙ q.seen.2 ∙ p.seen.2);
-      }
+  validation_can : (tree after : Tree) → CanPutThree own tree → HasPutTwo own bc bt tree after → CanPut own validation_name after
+  validation_can tree after can put =
+      can_still own tables_name bt validation_name put.first after put.tables (can_still own columns_name bc tables_name tree put.first put.columns can.columns can.tables)
+      (can_still own columns_name bc validation_name tree put.first put.columns can.columns can.validation)
+
+  module _ (p : PutsTwo {T = Unit {0}} bc bt (Ok tt) old two) (three : CompoundFile F g) where
+    pub third_unput : (failed_file : CompoundFile F g) (e : Error) → PutsTable {T = Unit {0}} validation_name bv (Err e) two three → has_failed_here (allocator_of (mini_of failed_file)) ≡ true
+        → (letters_in failed_file ≡ letters_in three) × (sound_of failed_file ≡ sound_of three) × (validation_of failed_file ≡ validation_of three) → PutsThree {T = Unit {0}} bc bt bv (Err e) old failed_file
+    third_unput failed_file e r failed seen = record {
+      done = tt;
+      refused = λ tree means can.
+          let d = p.done tree means (both_can tree can) in
+          step_fault own validation_name bv two three p.seen.0 e r d.0 d.1 (validation_can tree d.0 can d.2);
+      rests = inl failed;
+      seen = (seen.0 ∙ r.seen.0 ∙ p.seen.0, seen.1 ∙ r.seen.1 ∙ p.seen.1, seen.2 ∙ r.seen.2 ∙ p.seen.2);
+    }
+
+    pub all_put : PutsTable {T = Unit {0}} validation_name bv (Ok tt) two three → PutsThree {T = Unit {0}} bc bt bv (Ok tt) old three
+    all_put r = record {
+      done = λ tree means can.
+          let d = p.done tree means (both_can tree can) in
+          let w = stepped own validation_name bv two three p.seen.0 r d.0 d.1 (validation_can tree d.0 can d.2) in
+          (w.after, w.means, record { first = d.2.first; second = d.0; columns = d.2.columns; tables = d.2.tables; validation = w.put });
+      refused = tt;
+      rests = tt;
+      seen = (r.seen.0 ∙ p.seen.0, r.seen.1 ∙ p.seen.1, r.seen.2 ∙ p.seen.2);
+    }

@@ -5,3 +5,6 @@ pub mod Dropping
 pub mod Drops
 pub mod Remains
 pub mod Describing
+pub mod Validating
+pub mod Putting
+pub mod Listing

@@ -4,6 +4,7 @@ ghost use Rattle.cfb_tree.specs.Names.{Letters};
 ghost use Rattle.cfb_tree.specs.Tree.{Tree};
 ghost use Rattle.msi_columns.specs.Column.{Column};
 ghost use Rattle.msi_making.specs.Created.{with_table, AreReadThree, CanBeStoredThree, ComeBackThree, HasPutThree, IsAccepted};
+ghost use Rattle.msi_making.specs.Validating.{with_validation, AreReadTwo, CanBeStoredTwo, ComeBackTwo, HasPutTwo, IsValidated};
 ghost use Rattle.msi_meaning.specs.Package.{Packed};
 ghost use Rattle.msi_pool.specs.Pool.{Pool};
 ghost use Rattle.msi_stored.specs.Changing.{KeepsParts, StoresSound};
@@ -25,4 +26,20 @@ pub fn new_tables_are_stored()
         → (name : List ℕ) (columns : List Column) (pool : Pool) (c t v : List Row)
         → (is : IsAccepted letters P name columns pool c t v) → CanBeStoredThree P is.rows
         → ComeBackThree P c t v }
+{}
+
+/// Where an empty _Validation is accepted, the tree in which the streams of _Columns and _Tables got the rows that list it stores the
+/// package with that table, and it is sound; the streams of pool and summary stay, and it has none of its own. The rows come back from
+/// their bytes.
+pub fn new_validations_are_stored()
+    ensures stored { (letters : Letters) (old new : Tree) (P : Packed) → StoresSound letters old P
+        → (pool : Pool) (c t : List Row) → IsValidated letters P pool c t → (bc bt : List ℕ)
+        → HasPutTwo letters bc bt old new → AreReadTwo P bc bt c t
+        → StoresSound letters new (with_validation P pool c t) }
+    ensures keeps { (letters : Letters) (old new : Tree) (P : Packed) → StoresSound letters old P
+        → (pool : Pool) (c t : List Row) → IsValidated letters P pool c t → (bc bt : List ℕ)
+        → HasPutTwo letters bc bt old new → KeepsParts letters old new }
+    ensures come_back { (letters : Letters) (tree : Tree) (P : Packed) → StoresSound letters tree P
+        → (pool : Pool) (c t : List Row) → (is : IsValidated letters P pool c t)
+        → CanBeStoredTwo P is.rows → ComeBackTwo P c t }
 {}

@@ -249,8 +249,8 @@ fn check_rows<F: ReadMedium>(
     Ok(())
 }
 
-// Whether a storage stands at the encoded name of a table.
-fn is_storage<F: ReadMedium>(
+/// Whether a storage stands at the encoded name of a table.
+pub(crate) fn is_storage<F: ReadMedium>(
     alloc: Global,
     file: &CompoundFile<F>,
     name: &str,

@@ -2,7 +2,7 @@
 ghost use Rattle.std.specs.Prelude.{◌≤◌, IfErr};
 
 use crate::check::write_defects;
-use crate::packages::{adopted_at, defects_at};
+use crate::packages::{adopted_at, defects_at, validate};
 use cfb::MemoryMedium;
 use cfb_medium::Error;
 use msi::{Defect, Package};
@@ -11,14 +11,41 @@ use std::fs::File;
 use std::io::Write;
 use std::rt::Files;
 
-/// A copy in memory of the package at a path, with right counts, which is sound. Where there can be none the status is given and what
-/// was found is told: 1 where the package breaks further rules, a line for each; 3 where the file is no package or can't be read, which
-/// is told with the file's name, and where nothing can be written. The file is only read.
+/// A copy in memory of the package at a path, with right counts, which is sound, and with an empty `_Validation` where it is to have one
+/// and has none. Where there can be none the status is given and what was found is told: 1 where the package breaks further rules, a
+/// line for each; 3 where the file is no package or can't be read, or `_Validation` can't be added, which is told with the file's name,
+/// and where nothing can be written. The file is only read.
 pub fn adopted_package<'a, R: Files<File = File> + AllocGlobal, O: Write, E: Write>(
     rt: &R,
     path: &'a str,
+    has_validation: bool,
     out: &'a mut O,
     err: &'a mut E,
+) -> Result<Package<MemoryMedium>, u8>
+    ensures { IfErr result (λ status. status ≤ 3) }
+{
+    let mut package = match counted_package(rt, path, out, err) {
+        Ok(package) => package,
+        Err(status) => return Err(status),
+    };
+    if !has_validation {
+        return Ok(package);
+    }
+    match validate(&mut package) {
+        Ok(()) => Ok(package),
+        Err(error) => {
+            let _ = writeln!(err, "msidb: {path}: no _Validation can be added: {error}");
+            Err(3)
+        }
+    }
+}
+
+// The same as it is.
+fn counted_package<R: Files<File = File> + AllocGlobal, O: Write, E: Write>(
+    rt: &R,
+    path: &str,
+    out: &mut O,
+    err: &mut E,
 ) -> Result<Package<MemoryMedium>, u8>
     ensures { IfErr result (λ status. status ≤ 3) }
 {

@@ -164,6 +164,14 @@ pub(crate) fn adopted_at<R: Files<File = File> + AllocGlobal>(
     }
 }
 
+/// Gives a package an empty _Validation, where it has none.
+pub(crate) fn validate(package: &mut Package<MemoryMedium>) -> Result<(), Error> {
+    if package.has_table("_Validation") {
+        return Ok(());
+    }
+    package.add_validation()
+}
+
 // The bytes of a copy with right counts.
 fn copy_of(alloc: Global, file: &mut CompoundFile<FileMedium>) -> Result<MemoryMedium, Error> {
     let letters = CaseMapper::ascii(alloc)?;

@@ -4,59 +4,35 @@ use Rattle.cfb_fat.specs.Keeping.{fails_cause}
 use Rattle.cfb_fat.specs.Resting.{all_rest_refl}
 use Rattle.cfb_mini.specs.Views.{allocator_of}
 use Rattle.cfb_owned.proofs.GoingOn.{fails_go_on, goes_cause, goes_then}
-use Rattle.msi_making.proofs.ThreeSteps.{all_put, first_unput, second_unput, third_unput}
+use Rattle.msi_making.proofs.ThreeSteps.{all_put, both_unput, third_unput}
 use Rattle.msi_making.proofs.putting.put_three.Goals as goal
 
 pub returns-in-Err-clause-puts : goal.returns-in-Err-clause-puts
-returns-in-Err-clause-puts g c = first_unput c.args.columns.now c.args.tables.now c.args.validation.now c.args.file.now c.put_table_bytes.new.file c.in-Err.error c.in-Err.ensures.puts
+returns-in-Err-clause-puts g c = both_unput c.args.columns.now c.args.tables.now c.args.validation.now c.args.file.now c.put_two.new.file c.in-Err.error c.in-Err.ensures.puts
 
 pub returns-in-Err-put_table_bytes-clause-puts : goal.returns-in-Err-put_table_bytes-clause-puts
 returns-in-Err-put_table_bytes-clause-puts g c =
-    second_unput c.args.columns.now c.args.tables.now c.args.validation.now c.args.file.now c.put_table_bytes.new.file c.in-Ok.ensures.puts c.put_table_bytes-2.new.file
+    third_unput c.args.columns.now c.args.tables.now c.args.validation.now c.args.file.now c.put_two.new.file c.in-Ok.ensures.puts c.put_table_bytes.new.file
     c.fail.new.self c.in-Err-put_table_bytes.error c.in-Err-put_table_bytes.ensures.puts c.fail.ensures.fails.sectors.failed c.fail.ensures.seen
 
 pub returns-in-Err-put_table_bytes-clause-goes_on : goal.returns-in-Err-put_table_bytes-clause-goes_on
 returns-in-Err-put_table_bytes-clause-goes_on g c =
-    let b = allocator_of (mini_of c.put_table_bytes-2.new.file) in
-    fails_go_on 0 [] (allocator_of (mini_of c.args.file.now)) b b (allocator_of (mini_of c.fail.new.self)) (goes_then _ _ _ c.put_table_bytes.ensures.goes_on c.put_table_bytes-2.ensures.goes_on) (inr (all_rest_refl b))
+    let b = allocator_of (mini_of c.put_table_bytes.new.file) in
+    fails_go_on 0 [] (allocator_of (mini_of c.args.file.now)) b b (allocator_of (mini_of c.fail.new.self)) (goes_then _ _ _ c.put_two.ensures.goes_on c.put_table_bytes.ensures.goes_on) (inr (all_rest_refl b))
     c.fail.ensures.fails
 
 pub returns-in-Err-put_table_bytes-clause-cause : goal.returns-in-Err-put_table_bytes-clause-cause
 returns-in-Err-put_table_bytes-clause-cause g c =
     let a = allocator_of (mini_of c.args.file.now) in
-    let b = allocator_of (mini_of c.put_table_bytes-2.new.file) in
+    let b = allocator_of (mini_of c.put_table_bytes.new.file) in
     fails_cause a b (allocator_of (mini_of c.fail.new.self)) c.in-Err-put_table_bytes.error
-    (goes_cause a (allocator_of (mini_of c.put_table_bytes.new.file)) b c.in-Err-put_table_bytes.error c.put_table_bytes.ensures.goes_on c.in-Ok.ensures.live c.in-Err-put_table_bytes.ensures.cause) c.fail.ensures.fails
-
-pub returns-in-Err-put_table_bytes-2-clause-puts : goal.returns-in-Err-put_table_bytes-2-clause-puts
-returns-in-Err-put_table_bytes-2-clause-puts g c =
-    third_unput c.args.columns.now c.args.tables.now c.args.validation.now c.args.file.now c.put_table_bytes.new.file c.in-Ok.ensures.puts c.put_table_bytes-2.new.file c.in-Ok-put_table_bytes.ensures.puts
-    c.put_table_bytes-3.new.file c.fail-in-Err-put_table_bytes-2.new.self c.in-Err-put_table_bytes-2.error c.in-Err-put_table_bytes-2.ensures.puts c.fail-in-Err-put_table_bytes-2.ensures.fails.sectors.failed c.fail-in-Err-put_table_bytes-2.ensures.seen
-
-pub returns-in-Err-put_table_bytes-2-clause-goes_on : goal.returns-in-Err-put_table_bytes-2-clause-goes_on
-returns-in-Err-put_table_bytes-2-clause-goes_on g c =
-    let b = allocator_of (mini_of c.put_table_bytes-3.new.file) in
-    fails_go_on 0 [] (allocator_of (mini_of c.args.file.now)) b b (allocator_of (mini_of c.fail-in-Err-put_table_bytes-2.new.self))
-    (goes_then _ _ _ c.put_table_bytes.ensures.goes_on (goes_then _ _ _ c.put_table_bytes-2.ensures.goes_on c.put_table_bytes-3.ensures.goes_on)) (inr (all_rest_refl b)) c.fail-in-Err-put_table_bytes-2.ensures.fails
-
-pub returns-in-Err-put_table_bytes-2-clause-cause : goal.returns-in-Err-put_table_bytes-2-clause-cause
-returns-in-Err-put_table_bytes-2-clause-cause g c =
-    let a = allocator_of (mini_of c.args.file.now) in
-    let b = allocator_of (mini_of c.put_table_bytes-3.new.file) in
-    fails_cause a b (allocator_of (mini_of c.fail-in-Err-put_table_bytes-2.new.self)) c.in-Err-put_table_bytes-2.error
-    (goes_cause a (allocator_of (mini_of c.put_table_bytes-2.new.file)) b c.in-Err-put_table_bytes-2.error (goes_then _ _ _ c.put_table_bytes.ensures.goes_on c.put_table_bytes-2.ensures.goes_on) c.in-Ok-put_table_bytes.ensures.live
-    c.in-Err-put_table_bytes-2.ensures.cause) c.fail-in-Err-put_table_bytes-2.ensures.fails
-
-pub returns-clause-puts : goal.returns-clause-puts
-returns-clause-puts g c =
-    all_put c.args.columns.now c.args.tables.now c.args.validation.now c.args.file.now c.put_table_bytes.new.file c.in-Ok.ensures.puts c.put_table_bytes-2.new.file c.in-Ok-put_table_bytes.ensures.puts
-    c.put_table_bytes-3.new.file c.in-Ok-put_table_bytes-2.ensures.puts
-
-pub returns-clause-goes_on : goal.returns-clause-goes_on
-returns-clause-goes_on g c = goes_then _ _ _ c.put_table_bytes.ensures.goes_on (goes_then _ _ _ c.put_table_bytes-2.ensures.goes_on c.put_table_bytes-3.ensures.goes_on)
+    (goes_cause a (allocator_of (mini_of c.put_two.new.file)) b c.in-Err-put_table_bytes.error c.put_two.ensures.goes_on c.in-Ok.ensures.live c.in-Err-put_table_bytes.ensures.cause) c.fail.ensures.fails
 
 pub returns-in-Err-put_table_bytes-clause-full : goal.returns-in-Err-put_table_bytes-clause-full
 returns-in-Err-put_table_bytes-clause-full g c = λ is live. let never : true ≡ false = sym c.fail.ensures.fails.sectors.failed ∙ live in absurd (cc)
 
-pub returns-in-Err-put_table_bytes-2-clause-full : goal.returns-in-Err-put_table_bytes-2-clause-full
-returns-in-Err-put_table_bytes-2-clause-full g c = λ is live. let never : true ≡ false = sym c.fail-in-Err-put_table_bytes-2.ensures.fails.sectors.failed ∙ live in absurd (cc)
+pub returns-clause-puts : goal.returns-clause-puts
+returns-clause-puts g c = all_put c.args.columns.now c.args.tables.now c.args.validation.now c.args.file.now c.put_two.new.file c.in-Ok.ensures.puts c.put_table_bytes.new.file c.in-Ok-put_table_bytes.ensures.puts
+
+pub returns-clause-goes_on : goal.returns-clause-goes_on
+returns-clause-goes_on g c = goes_then _ _ _ c.put_two.ensures.goes_on c.put_table_bytes.ensures.goes_on
