@@ -59,14 +59,14 @@ returns-in-Ok-clause-cause g c = λ healthy.
     IfErr-weaker c.commit.result (HasStagedCause mid c.commit.new.self)
     (λ e. HasCauseBelow (allocator_of (mini_of (file_in c.args.source.now))) (allocator_of (mini_of (file_in c.copy_to.new.self))) e ⊎ IsFreshFault g.D.Device (device_of c.args.medium.now) (device_of c.commit.new.self) e)
     (λ e cause. inr (
-       counted_later g.D.Device (device_of c.args.medium.now) (device_of mid) (device_of c.commit.new.self) e (d.rests_keeps _ _ on.device).counted (cause mid (record { device = d.rests_refl _; failed = refl })).device c.commit.ensures.failures,
-       λ is. (let never : false ≡ true = sym healthy ∙ (cause c.args.medium.now on).earlier is in cc),
-     ))
+      counted_later g.D.Device (device_of c.args.medium.now) (device_of mid) (device_of c.commit.new.self) e (d.rests_keeps _ _ on.device).counted (cause mid (record { device = d.rests_refl _; failed = refl })).device c.commit.ensures.failures,
+      λ is. (let never : false ≡ true = sym healthy ∙ (cause c.args.medium.now on).earlier is in cc),
+    ))
     c.commit.ensures.cause
 
 pub returns-in-Err-clause-cause : goal.returns-in-Err-clause-cause
 returns-in-Err-clause-cause g c = λ healthy.
     let d = g.met.D.Device in
     ⊎_elim (λ below. inl below) (λ since.
-        let own = since c.args.medium.now (record { device = d.rests_refl _; failed = refl }) in
-        inr (own.device, λ is. (let never : false ≡ true = sym healthy ∙ own.earlier is in cc))) c.in-Err.ensures.cause
+    let own = since c.args.medium.now (record { device = d.rests_refl _; failed = refl }) in
+    inr (own.device, λ is. (let never : false ≡ true = sym healthy ∙ own.earlier is in cc))) c.in-Err.ensures.cause
