@@ -100,14 +100,6 @@ shifted stop k first number r back off = ⊎_elim
     (λ past. above k r.first _ _ past ∙ sym (above k (r.first + 1) _ _ (omega (arith, past, off))))
     (cases_lt k r.first)
 
--- and is all of it
-pub swallowed : (stop k first number : ℕ) (r : Run) (back : List Run) → start_of stop back ≡ r.first + 1 → k ≢ r.first
-    → entry_at stop (record { first = first; kind = Special number } ∷ r ∷ back) k ≡ entry_at stop (record { first = first; kind = Special number } ∷ back) k
-swallowed stop k first number r back one off = ⊎_elim
-    (λ less. below k r.first _ _ less ∙ sym (below k (start_of stop back) _ _ (omega (arith, less, one))))
-    (λ past. above k r.first _ _ past ∙ above k (start_of stop back) _ _ (omega (arith, past, off, one)) ∙ sym (above k (start_of stop back) _ _ (omega (arith, past, off, one))))
-    (cases_lt k r.first)
-
 -- what is added behind all entries
 pub pushed : (at stop k : ℕ) (runs : List Run) (kind : Kind) → AreTiled at stop runs → k < stop → at ≤ k → entry_at stop runs k ≡ entry_at (stop + 1) (runs ++ record { first = stop; kind = kind } ∷ []) k
 pushed at stop k [] kind t less from = absurd (let s : at ≡ stop = t in omega (arith, s, less, from))

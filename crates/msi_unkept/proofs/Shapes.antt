@@ -60,10 +60,6 @@ unlike_next i cs ds old new all c d there c_is d_is more so_far =
     ∙ ap (λ b. old ++ b) (sym (unlike_more (i + 1) i cs ds there))
     ∙ so_far
 
--- behind the end of both there are none
-pub unlike_end : (n i : ℕ) (cs ds : List Column) → length cs ≤ i → length ds ≤ i → unlike_from n (drop i cs) (drop i ds) ≡ []
-unlike_end n i cs ds over_cs over_ds = ap₂ (unlike_from n) (drop_of_length-le cs over_cs) (drop_of_length-le ds over_ds)
-
 -- ---- none is unlike just where types and keys are the same
 
 same_type : (k l : ColumnType) → is_same_type k l ≡ true → k ≡ l
