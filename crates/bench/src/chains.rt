@@ -64,21 +64,24 @@ fn append(allocator: &mut Allocator<MemoryMedium>, count: usize) -> Result<u32, 
     Ok(start)
 }
 
-/// Appends sectors to a chain, a call for each, and frees the chain.
+/// Appends sectors to a chain, a call for each, frees the chain, and appends as many to another.
 pub fn append_and_free(rt: &HostRuntime, count: usize) -> Result<()> {
     let mut allocator = allocator(rt.alloc())?;
-    let start = append_and_tell(rt, &mut allocator, count)?;
-    free_and_tell(rt, &mut allocator, start, count)
+    let start = append_and_tell(rt, &mut allocator, "sectors appended", count)?;
+    free_and_tell(rt, &mut allocator, start, count)?;
+    append_and_tell(rt, &mut allocator, "sectors appended again", count)?;
+    Ok(())
 }
 
 fn append_and_tell(
     rt: &HostRuntime,
     allocator: &mut Allocator<MemoryMedium>,
+    part: &str,
     count: usize,
 ) -> Result<u32> {
     let begin = Instant::now(rt)?;
     let start = append(allocator, count)?;
-    print_time(rt, "sectors appended", count, begin)?;
+    print_time(rt, part, count, begin)?;
     Ok(start)
 }
 

@@ -1,5 +1,5 @@
 //! Streams of a compound file in memory, written, and read from the file that is opened again.
-use crate::file_calls::{entries, into_inner, make, new_file, open, read_streams, write};
+use crate::file_calls::{copy, entries, into_inner, make, new_file, open, read_streams, write};
 use crate::print_time;
 use anyhow::Result;
 use cfb::CompoundFile;
@@ -8,13 +8,14 @@ use std::alloc::Global;
 use std::time::Instant;
 
 // So many bytes are written at once.
-const PIECE: usize = 65536;
+const PIECE: usize = 4096;
 
 /// Makes so many streams of 100 bytes and as many of 10,000, and reads them.
 pub fn write_and_read(rt: &HostRuntime, count: usize) -> Result<()> {
     let mut file = new_file(rt.alloc())?;
     write_both(rt, &mut file, count)?;
-    open_and_read(rt, into_inner(file))
+    open_and_read(rt, into_inner(file))?;
+    Ok(())
 }
 
 fn write_both(rt: &HostRuntime, file: &mut CompoundFile<MemoryMedium>, count: usize) -> Result<()> {
@@ -52,7 +53,8 @@ fn write_streams(
 pub fn write_large(rt: &HostRuntime, megabytes: usize) -> Result<()> {
     let mut file = new_file(rt.alloc())?;
     write_megabytes(rt, &mut file, megabytes)?;
-    open_and_read(rt, into_inner(file))
+    open_and_read(rt, into_inner(file))?;
+    Ok(())
 }
 
 fn write_megabytes(
@@ -66,8 +68,8 @@ fn write_megabytes(
     print_time(rt, "megabytes written", megabytes, begin)
 }
 
-// Makes a stream of so many bytes at a path.
-fn write_new(
+/// Makes a stream of so many bytes at a path, in pieces of 4,096 bytes.
+pub fn write_new(
     alloc: Global,
     file: &mut CompoundFile<MemoryMedium>,
     path: &str,
@@ -78,12 +80,13 @@ fn write_new(
     write(file, path, &piece, len)
 }
 
-// Opens the file again, and reads each stream whole, by its path.
-fn open_and_read(rt: &HostRuntime, medium: MemoryMedium) -> Result<()> {
+/// Opens the file that a medium holds, and reads each stream whole, by its path.
+pub fn open_and_read(rt: &HostRuntime, medium: MemoryMedium) -> Result<CompoundFile<MemoryMedium>> {
     let begin = Instant::now(rt)?;
     let mut file = open(rt.alloc(), medium)?;
     print_time(rt, "files opened", 1, begin)?;
-    read_and_tell(rt, &mut file)
+    read_and_tell(rt, &mut file)?;
+    Ok(file)
 }
 
 fn read_and_tell(rt: &HostRuntime, file: &mut CompoundFile<MemoryMedium>) -> Result<()> {
@@ -98,4 +101,22 @@ fn read_all(alloc: Global, file: &mut CompoundFile<MemoryMedium>) -> Result<usiz
     let count = entries.len();
     read_streams(alloc, file, entries)?;
     Ok(count)
+}
+
+/// Copies a file of so many streams of 100 bytes.
+pub fn write_and_copy(rt: &HostRuntime, count: usize) -> Result<()> {
+    let mut file = new_file(rt.alloc())?;
+    write_streams(rt.alloc(), &mut file, count, 100)?;
+    copy_and_tell(rt, &mut file, count)
+}
+
+fn copy_and_tell(
+    rt: &HostRuntime,
+    file: &mut CompoundFile<MemoryMedium>,
+    count: usize,
+) -> Result<()> {
+    let mut target = MemoryMedium::new(rt.alloc());
+    let begin = Instant::now(rt)?;
+    copy(file, &mut target)?;
+    print_time(rt, "streams copied", count, begin)
 }

@@ -1,8 +1,9 @@
 //! Calls of a compound file, each in a function of its own: what is told of a call costs time wherever it is seen.
 use cfb::{CompoundFile, Entries, Stream};
-use cfb_medium::{Error, MemoryMedium, ReadMedium};
+use cfb_medium::{Error, MemoryMedium, ReadMedium, Timestamp};
 use cfb_tree::CaseMapper;
 use std::alloc::Global;
+use std::io::SeekFrom;
 
 /// A new compound file in memory.
 pub fn new_file(alloc: Global) -> Result<CompoundFile<MemoryMedium>, Error> {
@@ -31,8 +32,52 @@ pub fn make(file: &mut CompoundFile<MemoryMedium>, path: &str) -> Result<(), Err
     file.create_new_stream(path)
 }
 
+/// Makes a stream of these bytes.
+pub fn put(file: &mut CompoundFile<MemoryMedium>, path: &str, bytes: &[u8]) -> Result<(), Error> {
+    file.put_stream(path, bytes)
+}
+
 pub fn remove(file: &mut CompoundFile<MemoryMedium>, path: &str) -> Result<(), Error> {
     file.remove_stream(path)
+}
+
+/// Makes a storage without objects.
+pub fn make_storage(file: &mut CompoundFile<MemoryMedium>, path: &str) -> Result<(), Error> {
+    file.create_storage(path, Timestamp::zero())
+}
+
+/// Removes a storage with all that it holds.
+pub fn remove_storage(file: &mut CompoundFile<MemoryMedium>, path: &str) -> Result<(), Error> {
+    file.remove_storage_all(path)
+}
+
+/// Writes the file to another medium.
+pub fn copy(file: &mut CompoundFile<MemoryMedium>, target: &mut MemoryMedium) -> Result<(), Error> {
+    file.copy_to(target)
+}
+
+/// The stream of a path, opened to be read and written.
+pub fn stream<'a>(
+    file: &'a mut CompoundFile<MemoryMedium>,
+    path: &str,
+) -> Result<Stream<'a, MemoryMedium>, Error> {
+    file.open_stream(path)
+}
+
+pub fn close(stream: Stream<'_, MemoryMedium>) -> Result<(), Error> {
+    stream.close()
+}
+
+pub fn seek(stream: &mut Stream<'_, MemoryMedium>, place: u64) -> Result<(), Error> {
+    stream.seek(SeekFrom::Start(place))?;
+    Ok(())
+}
+
+pub fn read_piece(
+    stream: &mut Stream<'_, MemoryMedium>,
+    buffer: &mut [u8],
+) -> Result<usize, Error> {
+    stream.read(buffer)
 }
 
 /// Writes so many bytes to a stream, as many as the piece has at once.
@@ -66,7 +111,7 @@ fn write_pieces(
     Ok(())
 }
 
-fn write_piece(stream: &mut Stream<'_, MemoryMedium>, piece: &[u8]) -> Result<(), Error> {
+pub fn write_piece(stream: &mut Stream<'_, MemoryMedium>, piece: &[u8]) -> Result<(), Error> {
     stream.write(piece)?;
     Ok(())
 }

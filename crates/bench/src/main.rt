@@ -3,10 +3,12 @@
 
 mod chains;
 mod contents;
+mod deep;
 mod file_calls;
 mod files;
 mod inserts;
 mod joins;
+mod places;
 mod pools;
 mod stores;
 mod streams;
@@ -19,7 +21,7 @@ use streams::Order;
 
 // A line for each benchmark: its word, what its size counts, and what it does.
 const LIST: &str = "\
-chain SECTORS     appends sectors to one chain, a call each, and frees the chain
+chain SECTORS     appends sectors to one chain, a call each, frees the chain, and appends as many again
 insert ROWS       inserts so many rows into a table of as many, by one insert
 insert-one ROWS   inserts one row into a table of so many
 join ROWS         joins two tables of so many rows by equal numbers
@@ -27,11 +29,14 @@ pool TEXTS        counts a use of each of so many texts, and then another one of
 pool-insert ROWS  inserts so many rows, an insert each, over a pool of 65535 texts
 store WRITES      writes 4,096 bytes to a store so often, at places far apart, and commits
 commit PAGES      writes so many pages of 512 bytes side by side to a store, and commits
-streams COUNT     makes so many streams in one storage, in shuffled order, and removes them
+streams COUNT     makes so many streams of 100 bytes, in shuffled order, reads them from the file opened again, and removes them
 streams-up COUNT  the same in rising order
 streams-down COUNT  the same in falling order
+deep COUNT        makes so many storages, each in the last one, and removes them by one call
 write COUNT       writes so many streams of 100 bytes and as many of 10,000, and reads them from the file that is opened again
-large MEGABYTES   so with one stream of so many megabytes
+large MEGABYTES   so with one stream of so many megabytes, in pieces of 4,096 bytes
+places COUNT      reads and writes so many pieces of 4,096 bytes at places far apart of a stream that has 10,000 bytes for each
+copy COUNT        copies a file of so many streams of 100 bytes
 read FILE         opens the compound file of that path, lists it, and reads each stream whole
 ";
 
@@ -69,6 +74,9 @@ fn run(rt: &HostRuntime, name: &str, size: usize) -> Result<()> {
         "pool-insert" => pools::insert_one_each(rt, size),
         "write" => contents::write_and_read(rt, size),
         "large" => contents::write_large(rt, size),
+        "copy" => contents::write_and_copy(rt, size),
+        "deep" => deep::make_and_remove(rt, size),
+        "places" => places::read_and_write(rt, size),
         "store" => stores::write_apart(rt, size),
         "commit" => stores::commit_pages(rt, size),
         "streams" => streams::make_and_remove(rt, size, Order::Shuffled),

@@ -1,5 +1,6 @@
-//! Streams made in one storage of a compound file in memory, and removed.
-use crate::file_calls::{make, new_file, remove};
+//! Streams made in one storage of a compound file in memory, read from the file that is opened again, and removed.
+use crate::contents::open_and_read;
+use crate::file_calls::{into_inner, new_file, put, remove};
 use crate::print_time;
 use anyhow::Result;
 use cfb::CompoundFile;
@@ -9,6 +10,9 @@ use std::time::Instant;
 
 // Odd, so that no two numbers give one name; its multiples lie far apart, as those of the golden ratio do.
 const STEP: u32 = 2_654_435_761;
+
+// The bytes of each stream.
+const BYTES: [u8; 100] = [7; 100];
 
 /// In which order names are made and removed: far apart, rising or falling.
 #[derive(Clone, Copy)]
@@ -37,7 +41,7 @@ fn make_all(
 ) -> Result<()> {
     for n in 0..count {
         let path = path_of(alloc, n, order)?;
-        make(file, &path)?;
+        put(file, &path, &BYTES)?;
     }
     Ok(())
 }
@@ -55,11 +59,18 @@ fn remove_all(
     Ok(())
 }
 
-/// Makes so many streams without bytes, a call for each, and removes them.
+/// Makes so many streams of 100 bytes, a call for each, opens the file again, reads each by its path, and removes each.
 pub fn make_and_remove(rt: &HostRuntime, count: usize, order: Order) -> Result<()> {
+    let medium = made(rt, count, order)?;
+    let mut file = open_and_read(rt, medium)?;
+    remove_and_tell(rt, &mut file, count, order)
+}
+
+// What the file of so many new streams leaves.
+fn made(rt: &HostRuntime, count: usize, order: Order) -> Result<MemoryMedium> {
     let mut file = new_file(rt.alloc())?;
     make_and_tell(rt, &mut file, count, order)?;
-    remove_and_tell(rt, &mut file, count, order)
+    Ok(into_inner(file))
 }
 
 fn make_and_tell(
