@@ -115,8 +115,7 @@ fn copy_and_tell(
     file: &mut CompoundFile<MemoryMedium>,
     count: usize,
 ) -> Result<()> {
-    let mut target = MemoryMedium::new(rt.alloc());
     let begin = Instant::now(rt)?;
-    copy(file, &mut target)?;
+    copy(rt.alloc(), file)?;
     print_time(rt, "streams copied", count, begin)
 }

@@ -32,11 +32,6 @@ pub fn make(file: &mut CompoundFile<MemoryMedium>, path: &str) -> Result<(), Err
     file.create_new_stream(path)
 }
 
-/// Makes a stream of these bytes.
-pub fn put(file: &mut CompoundFile<MemoryMedium>, path: &str, bytes: &[u8]) -> Result<(), Error> {
-    file.put_stream(path, bytes)
-}
-
 pub fn remove(file: &mut CompoundFile<MemoryMedium>, path: &str) -> Result<(), Error> {
     file.remove_stream(path)
 }
@@ -51,9 +46,11 @@ pub fn remove_storage(file: &mut CompoundFile<MemoryMedium>, path: &str) -> Resu
     file.remove_storage_all(path)
 }
 
-/// Writes the file to another medium.
-pub fn copy(file: &mut CompoundFile<MemoryMedium>, target: &mut MemoryMedium) -> Result<(), Error> {
-    file.copy_to(target)
+/// A copy of the file in another medium.
+pub fn copy(alloc: Global, file: &mut CompoundFile<MemoryMedium>) -> Result<MemoryMedium, Error> {
+    let mut target = MemoryMedium::new(alloc);
+    file.copy_to(&mut target)?;
+    Ok(target)
 }
 
 /// The stream of a path, opened to be read and written.

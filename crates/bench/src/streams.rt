@@ -1,6 +1,6 @@
 //! Streams made in one storage of a compound file in memory, read from the file that is opened again, and removed.
-use crate::contents::open_and_read;
-use crate::file_calls::{into_inner, new_file, put, remove};
+use crate::contents::{open_and_read, write_new};
+use crate::file_calls::{into_inner, new_file, remove};
 use crate::print_time;
 use anyhow::Result;
 use cfb::CompoundFile;
@@ -11,8 +11,8 @@ use std::time::Instant;
 // Odd, so that no two numbers give one name; its multiples lie far apart, as those of the golden ratio do.
 const STEP: u32 = 2_654_435_761;
 
-// The bytes of each stream.
-const BYTES: [u8; 100] = [7; 100];
+// How many bytes each stream has.
+const LEN: usize = 100;
 
 /// In which order names are made and removed: far apart, rising or falling.
 #[derive(Clone, Copy)]
@@ -41,7 +41,7 @@ fn make_all(
 ) -> Result<()> {
     for n in 0..count {
         let path = path_of(alloc, n, order)?;
-        put(file, &path, &BYTES)?;
+        write_new(alloc, file, &path, LEN)?;
     }
     Ok(())
 }
