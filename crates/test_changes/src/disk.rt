@@ -1,6 +1,8 @@
 //! A compound file on disk: made, changed there, and read from there again.
+use crate::calls;
+use crate::streams::write_bytes;
 use anyhow::Result;
-use cfb::{CompoundFile, Error, FileMedium, ReadMedium, Timestamp, create, open, open_rw};
+use cfb::{CompoundFile, Entry, Error, FileMedium, ReadMedium, Timestamp, create, open, open_rw};
 
 const PATH: &str = "new.cfb";
 
@@ -27,34 +29,39 @@ fn make(rt: &HostRuntime) -> Result<()> {
 // Adds a storage with a stream, and commits.
 fn change(rt: &HostRuntime) -> Result<()> {
     let mut file = open_rw(rt, rt.alloc(), PATH)?;
-    file.create_storage("/store", Timestamp::from_unix(86400, 0))?;
-    file.create_new_stream("/store/text")?;
-    write(&mut file, b"Hello, disk.")?;
-    file.commit()?;
+    change_open(&mut file)?;
     println!(rt; "changed")?;
     Ok(())
 }
 
-fn write(file: &mut CompoundFile<FileMedium>, bytes: &[u8]) -> Result<(), Error> {
-    let mut stream = file.open_stream("/store/text")?;
-    let done = stream.write(bytes);
-    let closed = stream.close();
-    done?;
-    closed
+fn change_open(file: &mut CompoundFile<FileMedium>) -> Result<(), Error> {
+    calls::create_storage(file, "/store", Timestamp::from_unix(86400, 0))?;
+    calls::create_new_stream(file, "/store/text")?;
+    write_bytes(file, "/store/text", 0, b"Hello, disk.")?;
+    calls::commit(file)
 }
 
 // Prints the objects of the file, and the bytes of its streams.
 fn print_objects(rt: &HostRuntime) -> Result<()> {
     let mut file = open(rt, rt.alloc(), PATH)?;
     for entry in file.walk()? {
-        let (path, made) = (entry.path(), entry.created().to_unix().0);
-        if entry.is_stream() {
-            let mut bytes = Vec::new(rt.alloc());
-            file.open_read_stream(path)?.read_to_end(&mut bytes)?;
-            println!(rt; "{path}: {bytes:?}")?;
-        } else {
-            println!(rt; "{path}: made at {made}")?;
-        }
+        print_object(rt, &mut file, &entry)?;
+    }
+    Ok(())
+}
+
+fn print_object<F: ReadMedium>(
+    rt: &HostRuntime,
+    file: &mut CompoundFile<F>,
+    entry: &Entry,
+) -> Result<()> {
+    let (path, made) = (entry.path(), entry.created().to_unix().0);
+    if entry.is_stream() {
+        let mut bytes = Vec::new(rt.alloc());
+        file.open_read_stream(path)?.read_to_end(&mut bytes)?;
+        println!(rt; "{path}: {bytes:?}")?;
+    } else {
+        println!(rt; "{path}: made at {made}")?;
     }
     Ok(())
 }

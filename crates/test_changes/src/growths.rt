@@ -1,5 +1,7 @@
 //! Calls that take memory, on compound files in memory: whether each was done, or what it refused left no part changed.
+use crate::calls;
 use crate::empty_file::{bytes_now, image, open_empty_file, stays};
+use crate::streams::lengthen;
 use cfb::CompoundFile;
 use cfb_chains::Links;
 use cfb_live::{NewObject, create_storage_all, make_object, remove_storage_all};
@@ -145,23 +147,18 @@ fn go_back(alloc: Global) -> Result<bool, Error> {
     let store = Staged::new(alloc, device).map_err(|refused| refused.1)?;
     let letters = CaseMapper::ascii(alloc)?;
     let mut file = CompoundFile::create(alloc, store, letters).map_err(|refused| refused.1)?;
-    file.create_new_stream("/a")?;
-    lengthen(&mut file, LENGTHS[0])?;
-    file.commit()?;
-    if lengthen(&mut file, LENGTHS[1]).is_ok() {
-        return Ok(true);
-    }
-    if file.has_failed() && file.roll_back().is_err() {
-        return Ok(false);
-    }
-    Ok(lengthen(&mut file, LENGTHS[1]).is_ok())
+    move_and_go_back(&mut file)
 }
 
-// Gives the stream so many bytes.
-fn lengthen(file: &mut CompoundFile<Staged<MemoryDevice>>, len: u64) -> Result<(), Error> {
-    let mut stream = file.open_stream("/a")?;
-    let done = stream.set_len(len);
-    let closed = stream.close();
-    done?;
-    closed
+fn move_and_go_back(file: &mut CompoundFile<Staged<MemoryDevice>>) -> Result<bool, Error> {
+    calls::create_new_stream(file, "/a")?;
+    lengthen(file, "/a", LENGTHS[0])?;
+    calls::commit(file)?;
+    if lengthen(file, "/a", LENGTHS[1]).is_ok() {
+        return Ok(true);
+    }
+    if file.has_failed() && calls::roll_back(file).is_err() {
+        return Ok(false);
+    }
+    Ok(lengthen(file, "/a", LENGTHS[1]).is_ok())
 }

@@ -40,9 +40,9 @@ impl Subject for Stores {
                 self.file = Some(file_in_store(alloc, &self.bytes, MANY)?);
             }
             "as many calls" => return as_many_calls(alloc, &self.bytes, row),
-            "goes back" => return goes_back(alloc, &self.bytes, row),
-            "goes back twice" => return goes_back_twice(alloc, &self.bytes, row),
-            "stays failed" => return stays_failed(alloc, &self.bytes, row),
+            "goes back" => return each_fault(alloc, &self.bytes, row, Trial::Calls),
+            "goes back twice" => return each_fault(alloc, &self.bytes, row, Trial::WayBack),
+            "stays failed" => return each_fault(alloc, &self.bytes, row, Trial::Commit),
             _ => {}
         }
         match &mut self.file {
@@ -119,61 +119,118 @@ fn as_many_calls(alloc: Global, bytes: &[u8], row: &Row) -> Result<String, Error
     yes_or_no(alloc, first == second)
 }
 
-// Makes a call while each call of the device fails in turn. Where the file has failed it goes back, and the call is made again.
-fn goes_back(alloc: Global, bytes: &[u8], row: &Row) -> Result<String, Error> {
-    let first = device_calls(alloc, bytes, row, 2)?;
-    for pass in first..MANY {
-        let mut file = file_in_store(alloc, bytes, pass)?;
-        let before = tree_of(alloc, &file)?;
-        match run(alloc, &mut file, row, 1) {
-            Ok(()) => return copy_of(alloc, "each fault told, then done"),
-            Err(Error::Device) if file.has_failed() => {
-                roll_back(&mut file)?;
-                if tree_of(alloc, &file)? != before {
-                    return Ok(format!(in alloc; "another tree at call {pass}")?);
-                }
-                run(alloc, &mut file, row, 1)?;
-            }
-            Err(Error::Device) => {}
-            Err(error) => return Ok(format!(in alloc; "{error:?} at call {pass}")?),
+// What is tried while each call of the device fails in turn.
+#[derive(Clone, Copy)]
+enum Trial {
+    // Calls: where the file has failed it goes back, and they are made again.
+    Calls,
+    // A way back from calls: the file stays or has failed, and goes back once more.
+    WayBack,
+    // A commit of calls: the store has failed then, and nothing goes back.
+    Commit,
+}
+
+// Tries it with each call of the device failing in turn, behind those of the file's opening (or, for calls, of the calls in the second list).
+fn each_fault(alloc: Global, bytes: &[u8], row: &Row, trial: Trial) -> Result<String, Error> {
+    let place = match trial {
+        Trial::Calls => 2,
+        _ => 1,
+    };
+    for pass in device_calls(alloc, bytes, row, place)?..MANY {
+        if let Some(told) = one_fault(alloc, bytes, row, trial, pass)? {
+            return Ok(told);
         }
     }
     copy_of(alloc, "endless")
 }
 
-// Makes calls, and goes back while each call of the device fails in turn: the file stays or has failed, and goes back once more.
-fn goes_back_twice(alloc: Global, bytes: &[u8], row: &Row) -> Result<String, Error> {
-    let first = device_calls(alloc, bytes, row, 1)?;
-    for pass in first..MANY {
-        let mut file = file_in_store(alloc, bytes, pass)?;
-        let before = tree_of(alloc, &file)?;
-        run(alloc, &mut file, row, 1)?;
-        let changed = tree_of(alloc, &file)?;
-        match roll_back(&mut file) {
-            Ok(()) => return copy_of(alloc, "each fault told, then done"),
-            Err(Error::Device) if file.has_failed() => {}
-            Err(Error::Device) if tree_of(alloc, &file)? == changed => {}
-            Err(error) => return Ok(format!(in alloc; "{error:?} at call {pass}")?),
-        }
-        roll_back(&mut file)?;
-        if tree_of(alloc, &file)? != before {
-            return Ok(format!(in alloc; "another tree at call {pass}")?);
-        }
+// The same with one call failing: the answer, or none where another is to fail.
+fn one_fault(
+    alloc: Global,
+    bytes: &[u8],
+    row: &Row,
+    trial: Trial,
+    pass: u64,
+) -> Result<Option<String>, Error> {
+    let mut file = file_in_store(alloc, bytes, pass)?;
+    match trial {
+        Trial::Calls => try_calls(alloc, &mut file, row, pass),
+        Trial::WayBack => try_way_back(alloc, &mut file, row, pass),
+        Trial::Commit => try_commit(alloc, &mut file, row, pass),
     }
-    copy_of(alloc, "endless")
 }
 
-// Makes calls, and commits them while each call of the device fails in turn: the store has failed then, and nothing goes back.
-fn stays_failed(alloc: Global, bytes: &[u8], row: &Row) -> Result<String, Error> {
-    let first = device_calls(alloc, bytes, row, 1)?;
-    for pass in first..MANY {
-        let mut file = file_in_store(alloc, bytes, pass)?;
-        run(alloc, &mut file, row, 1)?;
-        match commit(&mut file) {
-            Ok(()) => return copy_of(alloc, "each fault told, then done"),
-            Err(Error::Device) if roll_back(&mut file) == Err(Error::Failed) => {}
-            Err(error) => return Ok(format!(in alloc; "{error:?} at call {pass}")?),
-        }
+fn try_calls(
+    alloc: Global,
+    file: &mut CompoundFile<Store>,
+    row: &Row,
+    pass: u64,
+) -> Result<Option<String>, Error> {
+    let before = tree_of(alloc, file)?;
+    match run(alloc, file, row, 1) {
+        Ok(()) => return Ok(Some(all_told(alloc)?)),
+        Err(Error::Device) if file.has_failed() => {}
+        Err(Error::Device) => return Ok(None),
+        Err(error) => return Ok(Some(error_told(alloc, error, pass)?)),
     }
-    copy_of(alloc, "endless")
+    roll_back(file)?;
+    let told = other_tree(alloc, file, &before, pass)?;
+    if told.is_none() {
+        run(alloc, file, row, 1)?;
+    }
+    Ok(told)
+}
+
+fn try_way_back(
+    alloc: Global,
+    file: &mut CompoundFile<Store>,
+    row: &Row,
+    pass: u64,
+) -> Result<Option<String>, Error> {
+    let before = tree_of(alloc, file)?;
+    run(alloc, file, row, 1)?;
+    let changed = tree_of(alloc, file)?;
+    match roll_back(file) {
+        Ok(()) => return Ok(Some(all_told(alloc)?)),
+        Err(Error::Device) if file.has_failed() => {}
+        Err(Error::Device) if tree_of(alloc, file)? == changed => {}
+        Err(error) => return Ok(Some(error_told(alloc, error, pass)?)),
+    }
+    roll_back(file)?;
+    other_tree(alloc, file, &before, pass)
+}
+
+fn try_commit(
+    alloc: Global,
+    file: &mut CompoundFile<Store>,
+    row: &Row,
+    pass: u64,
+) -> Result<Option<String>, Error> {
+    run(alloc, file, row, 1)?;
+    match commit(file) {
+        Ok(()) => Ok(Some(all_told(alloc)?)),
+        Err(Error::Device) if roll_back(file) == Err(Error::Failed) => Ok(None),
+        Err(error) => Ok(Some(error_told(alloc, error, pass)?)),
+    }
+}
+
+// That the file has another tree than this, where it has.
+fn other_tree(
+    alloc: Global,
+    file: &CompoundFile<Store>,
+    before: &String,
+    pass: u64,
+) -> Result<Option<String>, Error> {
+    if tree_of(alloc, file)? == *before {
+        return Ok(None);
+    }
+    Ok(Some(format!(in alloc; "another tree at call {pass}")?))
+}
+
+fn all_told(alloc: Global) -> Result<String, Error> {
+    copy_of(alloc, "each fault told, then done")
+}
+
+fn error_told(alloc: Global, error: Error, pass: u64) -> Result<String, Error> {
+    Ok(format!(in alloc; "{error:?} at call {pass}")?)
 }

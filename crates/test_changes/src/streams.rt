@@ -11,16 +11,26 @@ pub fn write_at<F: Medium>(
     file: &mut CompoundFile<F>,
     row: &Row,
 ) -> Result<(), Error> {
-    let bytes = bytes_at(alloc, row, 3)?;
-    let mut stream = file.open_stream(row.text(1))?;
-    let done = write(&mut stream, row.number(2), &bytes);
+    let at = u64::try_from(row.number(2)).unwrap_or(0);
+    write_bytes(file, row.text(1), at, &bytes_at(alloc, row, 3)?)
+}
+
+/// The same from one that is told.
+pub fn write_bytes<F: Medium>(
+    file: &mut CompoundFile<F>,
+    path: &str,
+    at: u64,
+    bytes: &[u8],
+) -> Result<(), Error> {
+    let mut stream = file.open_stream(path)?;
+    let done = write(&mut stream, at, bytes);
     let closed = stream.close();
     done?;
     closed
 }
 
-fn write<F: Medium>(stream: &mut Stream<'_, F>, at: i64, bytes: &[u8]) -> Result<(), Error> {
-    stream.seek(SeekFrom::Start(u64::try_from(at).unwrap_or(0)))?;
+fn write<F: Medium>(stream: &mut Stream<'_, F>, at: u64, bytes: &[u8]) -> Result<(), Error> {
+    stream.seek(SeekFrom::Start(at))?;
     stream.write(bytes)?;
     stream.flush()
 }
@@ -54,8 +64,12 @@ fn append_pieces<F: Medium>(
 
 /// Gives the stream at a path so many bytes.
 pub fn set_len<F: Medium>(file: &mut CompoundFile<F>, row: &Row) -> Result<(), Error> {
-    let len = u64::try_from(row.number(2)).unwrap_or(0);
-    let mut stream = file.open_stream(row.text(1))?;
+    lengthen(file, row.text(1), u64::try_from(row.number(2)).unwrap_or(0))
+}
+
+/// The same of a number that is told.
+pub fn lengthen<F: Medium>(file: &mut CompoundFile<F>, path: &str, len: u64) -> Result<(), Error> {
+    let mut stream = file.open_stream(path)?;
     let done = stream.set_len(len);
     let closed = stream.close();
     done?;
