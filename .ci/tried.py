@@ -1,10 +1,12 @@
 """Which wrong bodies stand as tried. must-fail.tried has a line for each: its crate and name, and a sum over all that decides whether
-it is refused: the edit, the text of its function with the answers of its proof, all that this proof sees (sight.py), and the logic of
-the toolchain. So a change takes away the lines of those bodies alone that meet it. Of an edit of anything but one function's body, and
-of functions that are proved together, the crate's whole text is summed, with all that it sees."""
+it is refused: the edit, with those of its crate's libraries that it names; the text of its function with the answers of its proof; all
+that this proof sees (sight.py); and the logic of the toolchain. So a change takes away the lines of those bodies alone that meet it. Of an
+edit of anything but one function's body, and of functions that are proved together, the crate's whole text is summed, with all that it
+sees."""
 import functools
 import hashlib
 import pathlib
+import re
 import subprocess
 import sys
 
@@ -64,13 +66,19 @@ def meets(sight, crate, edit):
     return [changed, *own, *sight.of(crate, [*code, *new], answers, brought)]
 
 
+def named_in(edit, libraries):
+    """Those of the libraries that the edit names: without one of them it can't be tried."""
+    words = set(re.findall(r"\w+", edit.read_text()))
+    return [it for it in libraries if it in words]
+
+
 def sums(*named):
     """The sum of each wrong body of these crates, or of all, as the files stand now."""
     version, known = logic(), crates()
     sight, found = Sight(ROOT, known, functools.partial(below, known=known)), {}
     for crate in named or sorted(known):
         for edit in edits_of(crate):
-            texts = [version, f"{crate}: {' '.join(known[crate])}", *meets(sight, crate, edit)]
+            texts = [version, f"{crate}: {' '.join(named_in(edit, known[crate]))}", *meets(sight, crate, edit)]
             found[f"{crate}/{edit.name}"] = hashlib.sha256("".join(f"{len(it)}\n{it}" for it in texts).encode()).hexdigest()
     return found
 
