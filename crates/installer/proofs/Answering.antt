@@ -11,24 +11,24 @@ use Rattle.cfb_fat.specs.Tables.{has_failed_here, HasCauseBelow}
 use Rattle.cfb_fat.specs.declared.allocator.Allocator.{Allocator}
 use Rattle.cfb_medium.specs.Calls.{IsFaultUnless, Keeps}
 use Rattle.cfb_medium.specs.declared.error.Error.{Error}
-use Rattle.cfb_medium.specs.declared.error.Error.TheVariants.{Device, Failed, InvalidData, InvalidInput, Memory, NotFound}
+use Rattle.cfb_medium.specs.declared.error.Error.TheVariants.{Device, Failed, Full, InvalidData, InvalidInput, Memory, NotFound}
 use Rattle.cfb_medium.specs.declared.medium.ReadMedium.{Ghosts}
 use Rattle.cfb_mini.specs.Views.{allocator_of}
 use Rattle.cfb_owned.specs.Chains.{GoesOn}
 use Rattle.command_file.specs.Request as asked
 use Rattle.command_file.specs.Request.{Request, is_changing, is_codepage, is_reading}
-use Rattle.msi.specs.Changing.{failed_in, permission, KeepsHeld, PackageChanges, PackageWrites}
+use Rattle.msi.specs.Changing.{failed_in, permission, IsRemovalError, KeepsHeld, PackageChanges, PackageWrites}
 use Rattle.msi.specs.Opened.{file_in, sound_in, PackageHolds, PackageRests}
 use Rattle.msi.specs.declared.package.Package.{Package}
 use Rattle.msi_meaning.specs.Package.{Packed}
 use Rattle.msi_stored.proofs.StoredLaws.{file_refl}
 use Rattle.msi_stored.specs.Changing.{PackageRule}
-use Rattle.installer.proofs.Faults.{fault_of}
+use Rattle.installer.proofs.Faults.{own_fault_of}
 use Rattle.installer.proofs.Going.{err_is, goes_changes, goes_lost, goes_told, moves_on, no_commit_read, not_ok, step_of_reading, unchanging, unread, Moves, StepOr}
 use Rattle.installer.proofs.Resting.{keeps_rests, rests_on}
 use Rattle.installer.proofs.Writing.{goes_writes}
 use Rattle.installer.specs.Behaviour.{BehavesOnce}
-use Rattle.installer.specs.Course.{Course}
+use Rattle.installer.specs.Course.{Course, takes_room}
 use Rattle.installer.specs.Follows.{AnswersQuietly}
 use Rattle.installer.specs.Reply.{Reply}
 use Rattle.installer.specs.Reply as told
@@ -48,25 +48,37 @@ reads_err expected e tell P is = rw is (refl, refl)
 pub stays_on : {F : Type 0} {g : Ghosts F} (it : Allocator F g) → GoesOn it it
 stays_on it = record { honest = refl; continues = λ start from. from; version = refl; live = λ is. is; orderly = λ _. refl; told = λ _ _ _ is. is }
 
--- an error that is neither a device's nor that of an earlier fault
-abbrev pub IsOwn : Error → Type 0
-IsOwn e = (e ≡ Device → ⊥) × (e ≡ Failed → ⊥)
+-- an error that comes neither from a device, nor from an earlier fault, nor from want of numbers
+pub record IsOwn (e : Error) : Type 0 where
+  pub device : e ≡ Device → ⊥
+  pub earlier : e ≡ Failed → ⊥
+  pub full : e ≡ Full → ⊥
 
 pub data_own : (e : Error) → e ≡ InvalidData → IsOwn e
-data_own e is = (λ device. let never : InvalidData ≡ Device = sym is ∙ device in absurd (cc), λ failed. let never : InvalidData ≡ Failed = sym is ∙ failed in absurd (cc))
+data_own e is = rw is (record { device = λ no. absurd (cc); earlier = λ no. absurd (cc); full = λ no. absurd (cc) })
 
 pub memory_own : (e : Error) → e ≡ Memory → IsOwn e
-memory_own e is = (λ device. let never : Memory ≡ Device = sym is ∙ device in absurd (cc), λ failed. let never : Memory ≡ Failed = sym is ∙ failed in absurd (cc))
+memory_own e is = rw is (record { device = λ no. absurd (cc); earlier = λ no. absurd (cc); full = λ no. absurd (cc) })
 
 pub refusal_own : (e : Error) → (e ≡ NotFound) ⊎ (e ≡ InvalidInput) → IsOwn e
-refusal_own e is = (
-  λ device. ⊎_elim (λ a. let never : NotFound ≡ Device = sym a ∙ device in absurd (cc)) (λ b. let never : InvalidInput ≡ Device = sym b ∙ device in absurd (cc)) is,
-  λ failed. ⊎_elim (λ a. let never : NotFound ≡ Failed = sym a ∙ failed in absurd (cc)) (λ b. let never : InvalidInput ≡ Failed = sym b ∙ failed in absurd (cc)) is,
-)
+refusal_own e (inl is) = rw is (record { device = λ no. absurd (cc); earlier = λ no. absurd (cc); full = λ no. absurd (cc) })
+refusal_own e (inr is) = rw is (record { device = λ no. absurd (cc); earlier = λ no. absurd (cc); full = λ no. absurd (cc) })
+
+-- nor does the refusal of what removes
+pub removal_fits : (e : Error) → IsRemovalError e → e ≡ Full → ⊥
+removal_fits e (inl fault) full = subst (IsFaultUnless ⊥) full fault
+removal_fits e (inr (inl is)) full = let never : NotFound ≡ Full = sym is ∙ full in absurd (cc)
+removal_fits e (inr (inr (inl is))) full = let never : InvalidInput ≡ Full = sym is ∙ full in absurd (cc)
+removal_fits e (inr (inr (inr is))) full = let never : InvalidData ≡ Full = sym is ∙ full in absurd (cc)
+
+-- what may need numbers may be told that some are missing
+pub may_fill : {A : Type 0} (result : Result (Unit {0}) Error) → A → IfErr result (λ e. e ≡ Full → A)
+may_fill (Ok u) is = tt
+may_fill (Err e) is = λ _. is
 
 -- such an error has its cause
 pub cause_own : {F : Type 0} {g : Ghosts F} (old new : Package F g) (e : Error) → IsOwn e → HasCauseBelow (allocator_of (mini_of (file_in old))) (allocator_of (mini_of (file_in new))) e
-cause_own old new e own = own_cause (allocator_of (mini_of (file_in old))) (allocator_of (mini_of (file_in new))) e own.0 (λ failed. absurd (own.1 failed))
+cause_own old new e own = own_cause (allocator_of (mini_of (file_in old))) (allocator_of (mini_of (file_in new))) e own.device (λ failed. absurd (own.earlier failed))
 
 -- such is the refusal of a change that isn't permitted, unless there was a fault
 pub permission_own : (failed sound : Bool) (r : Result (Unit {0}) Error) → failed ≡ false → r ≡ permission failed sound → IfErr r IsOwn
@@ -139,12 +151,12 @@ module _ {F : Type 0} {g : Ghosts F} (refl_continues : (m : F) → g.continues m
       → PackageChanges rule result (package_in old) (package_in new)
       → GoesOn (allocator_of (mini_of (file_in (package_in old)))) (allocator_of (mini_of (file_in (package_in new))))
       → IfErr result (HasCauseBelow (allocator_of (mini_of (file_in (package_in old)))) (allocator_of (mini_of (file_in (package_in new)))))
-      → reply ≡ told_of result → AnswersQuietly request reply old new
-  answers_changes rule request reply result changing step changes on cause is = record {
+      → IfErr result (λ e. e ≡ Full → takes_room request ≡ true) → reply ≡ told_of result → AnswersQuietly request reply old new
+  answers_changes rule request reply result changing step changes on cause room is = record {
     by_rule = record {
       goes = λ start at. rw is (
           goes_changes refl_continues (package_in old) (package_in new) start at live (moves_on refl_continues continues_keeps (package_in old) (package_in new) on changes.seen.1)
-          rule request changing step result changes cause
+          rule request changing step result changes cause room
           );
       letters = changes.seen.0;
       sound = changes.seen.1;
@@ -163,7 +175,8 @@ module _ {F : Type 0} {g : Ghosts F} (refl_continues : (m : F) → g.continues m
   answers_in_memory rule request reply result changing step changes same own is =
       let before = allocator_of (mini_of (file_in (package_in old))) in
       answers_changes rule request reply result changing step changes (subst (λ (f : CompoundFile F g). GoesOn before (allocator_of (mini_of f))) (sym same) (stays_on before))
-      (IfErr-weaker result IsOwn (HasCauseBelow before (allocator_of (mini_of (file_in (package_in new))))) (λ e owns. own_cause before (allocator_of (mini_of (file_in (package_in new)))) e owns.0 (λ failed. absurd (owns.1 failed))) own) is
+      (IfErr-weaker result IsOwn (HasCauseBelow before (allocator_of (mini_of (file_in (package_in new))))) (λ e owns. own_cause before (allocator_of (mini_of (file_in (package_in new)))) e owns.device (λ failed. absurd (owns.earlier failed))) own)
+      (IfErr-weaker result IsOwn (λ e. e ≡ Full → takes_room request ≡ true) (λ e owns full. absurd (owns.full full)) own) is
 
   -- a flush
   pub answers_writes : (reply : Reply) (result : Result (Unit {0}) Error) → PackageWrites result (package_in old) (package_in new)
@@ -234,7 +247,7 @@ module _ {F : Type 0} {g : Ghosts F} (refl_continues : (m : F) → g.continues m
       by_rule = record {
         goes = λ start at. ⊎_elim
             (λ fault. goes_lost refl_continues (package_in old) (package_in new) start at live moves request e keeps other
-            (inl (fault_of refl_continues (package_in old) (package_in new) start (record start { held = start.held; failures = g.failures (medium_in (file_in (package_in new))) }) e live at.failures refl cause (inl fault))))
+            (inl (own_fault_of refl_continues (package_in old) (package_in new) start (record start { held = start.held; failures = g.failures (medium_in (file_in (package_in new))) }) request e live at.failures refl cause fault)))
             (λ step. goes_told refl_continues (package_in old) (package_in new) start at live moves request (told.refused e) (no_commit_read request reading) keeps
             (step_of_reading (session_letters old) start.sound start.held start.held request (told.refused e) (unchanging request reading) step)) (is start.held (held_at start at));
         letters = rests.file.letters;

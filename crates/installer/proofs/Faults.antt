@@ -13,7 +13,8 @@ use Rattle.cfb_mini.specs.Views.{allocator_of}
 use Rattle.msi.specs.Changing.{failed_in}
 use Rattle.msi.specs.Opened.{file_in}
 use Rattle.msi.specs.declared.package.Package.{Package}
-use Rattle.installer.specs.Course.{Course}
+use Rattle.command_file.specs.Request.{Request}
+use Rattle.installer.specs.Course.{Course, takes_room}
 use Rattle.installer.specs.Course.{IsFault as IsCourseFault}
 
 -- want of memory, a fault of the device, or one before
@@ -29,13 +30,19 @@ fault_kinds UnexpectedEof is = absurd is
 fault_kinds Full is = absurd is
 
 module _ {F : Type 0} {g : Ghosts F} (refl_continues : (m : F) → g.continues m m) where
-  -- a fault of a package that has not failed is one of the course
-  pub fault_of : (old new : Package F g) (start end : Course) (e : Error) → failed_in old ≡ false → start.failures ≡ g.failures (medium_in (file_in old)) → end.failures ≡ g.failures (medium_in (file_in new))
-      → HasCauseBelow (allocator_of (mini_of (file_in old))) (allocator_of (mini_of (file_in new))) e → IsFault e → IsCourseFault start e end
-  fault_of old new start end e live first last cause fault =
+  -- a fault of a package that has not failed is one of the course, whatever was asked for
+  pub own_fault_of : (old new : Package F g) (start end : Course) (request : Request) (e : Error) → failed_in old ≡ false → start.failures ≡ g.failures (medium_in (file_in old))
+      → end.failures ≡ g.failures (medium_in (file_in new)) → HasCauseBelow (allocator_of (mini_of (file_in old))) (allocator_of (mini_of (file_in new))) e → IsFaultUnless ⊥ e
+      → IsCourseFault start request e end
+  own_fault_of old new start end request e live first last cause kinds =
       let own = cause (medium_in (file_in old)) (refl_continues (medium_in (file_in old))) in
-      ⊎_elim
-      (λ kinds. ⊎_elim (λ memory. inl memory) (λ more. ⊎_elim
+      ⊎_elim (λ memory. inl memory) (λ more. ⊎_elim
       (λ device. inr (inr (device, λ less. let up = own.device device (omega (arith, first, less)) in omega (arith, first, last, up))))
-      (λ failed. absurd (both_ways (failed_in old) live (own.earlier failed))) more) (fault_kinds e kinds))
-      (λ full. inr (inl full)) fault
+      (λ failed. absurd (both_ways (failed_in old) live (own.earlier failed))) more) (fault_kinds e kinds)
+
+  -- and want of numbers is, where the request may need some
+  pub fault_of : (old new : Package F g) (start end : Course) (request : Request) (e : Error) → (e ≡ Full → takes_room request ≡ true) → failed_in old ≡ false
+      → start.failures ≡ g.failures (medium_in (file_in old)) → end.failures ≡ g.failures (medium_in (file_in new))
+      → HasCauseBelow (allocator_of (mini_of (file_in old))) (allocator_of (mini_of (file_in new))) e → IsFault e → IsCourseFault start request e end
+  fault_of old new start end request e room live first last cause fault =
+      ⊎_elim (λ kinds. own_fault_of old new start end request e live first last cause kinds) (λ full. inr (inl (full, room full))) fault

@@ -8,7 +8,7 @@ use Rattle.cfb_fat.specs.Tables.{has_failed_here, HasCauseBelow}
 use Rattle.cfb_live.specs.Doing.{IsFault}
 use Rattle.cfb_medium.specs.Calls.{Keeps}
 use Rattle.cfb_medium.specs.declared.error.Error.{Error}
-use Rattle.cfb_medium.specs.declared.error.Error.TheVariants.{InvalidData, InvalidInput}
+use Rattle.cfb_medium.specs.declared.error.Error.TheVariants.{Full, InvalidData, InvalidInput}
 use Rattle.cfb_medium.specs.declared.medium.ReadMedium.{Ghosts}
 use Rattle.cfb_mini.specs.Views.{allocator_of}
 use Rattle.cfb_owned.specs.Chains.{GoesOn}
@@ -21,7 +21,7 @@ use Rattle.msi.specs.declared.package.Package.{Package}
 use Rattle.msi_meaning.specs.Package.{Packed}
 use Rattle.msi_stored.specs.Changing.{PackageRule}
 use Rattle.installer.proofs.Faults.{fault_of}
-use Rattle.installer.specs.Course.{Course, Goes, IsTooMuch, IsUndone, StepAs, committed_after, failed, running, fails, stays, steps}
+use Rattle.installer.specs.Course.{Course, Goes, IsTooMuch, IsUndone, StepAs, committed_after, failed, running, fails, stays, steps, takes_room}
 use Rattle.installer.specs.Reply.{Reply}
 use Rattle.installer.specs.Reply as told
 use Rattle.installer.specs.Sessions.{phase_of, IsAt}
@@ -174,10 +174,10 @@ step_of_reading letters false P Q request reply reading step = rw reading step
 
 module _ {F : Type 0} {g : Ghosts F} (refl_continues : (m : F) → g.continues m m) (old new : Package F g) (start : Course) (at : IsAt old start) (live : failed_in old ≡ false) (moves : Moves old new) where
   -- a fault
-  pub faulted : (request : Request) (e : Error) → is_reading request ≡ false → HasCauseBelow (allocator_of (mini_of (file_in old))) (allocator_of (mini_of (file_in new))) e → IsFault e
+  pub faulted : (request : Request) (e : Error) → is_reading request ≡ false → (e ≡ Full → takes_room request ≡ true) → HasCauseBelow (allocator_of (mini_of (file_in old))) (allocator_of (mini_of (file_in new))) e → IsFault e
       → (failed_in new ≡ true) ⊎ KeepsHeld old new → Leads new (letters_in (file_in old)) start request (told.refused e)
-  faulted request e unread cause fault kept =
-      undone old new start at live moves.counted moves.sound request e unread (λ end last. inl (fault_of refl_continues old new start end e live at.failures last cause fault)) kept
+  faulted request e unread room cause fault kept =
+      undone old new start at live moves.counted moves.sound request e unread (λ end last. inl (fault_of refl_continues old new start end request e room live at.failures last cause fault)) kept
 
   -- the package that was held is held, and nothing has failed
   kept_live : KeepsHeld old new → (failed_in new ≡ false) × PackageHolds new start.held
@@ -204,14 +204,14 @@ module _ {F : Type 0} {g : Ghosts F} (refl_continues : (m : F) → g.continues m
 
     -- a change of a sound package
     goes_sound : (result : Result (Unit {0}) Error) → PackageChanges rule result old new → IfErr result (HasCauseBelow (allocator_of (mini_of (file_in old))) (allocator_of (mini_of (file_in new))))
-        → start.sound ≡ true → Leads new (letters_in (file_in old)) start request (told_of result)
-    goes_sound (Ok u) changes cause sound =
+        → IfErr result (λ e. e ≡ Full → takes_room request ≡ true) → start.sound ≡ true → Leads new (letters_in (file_in old)) start request (told_of result)
+    goes_sound (Ok u) changes cause room sound =
         let made = changes.done start.held (held_here old new start at live moves.counted moves.sound) in
         let own : Step (letters_in (file_in old)) start.held request told.done made.0 = ⊎_elim (λ is. is) (λ much. absurd (not_ok much.0)) (step start.held made.0 (Ok tt) made.1) in
         stepped old new start at live moves.counted moves.sound request told.done made.0 (no_commit request changing)
         (step_of_sound (letters_in (file_in old)) start.sound start.held made.0 request told.done sound own) (live_yet old new moves live made.2.file.live) made.2
-    goes_sound (Err e) changes cause sound = ⊎_elim
-        (λ fault. faulted request e (unread request changing) cause fault changes.rests)
+    goes_sound (Err e) changes cause room sound = ⊎_elim
+        (λ fault. faulted request e (unread request changing) room cause fault changes.rests)
         (λ rule. refused_stays e sound rule.1 (step start.held start.held (Err e) rule.0))
         (changes.refused start.held (held_here old new start at live moves.counted moves.sound) (sym at.sound ∙ sound))
 
@@ -224,5 +224,5 @@ module _ {F : Type 0} {g : Ghosts F} (refl_continues : (m : F) → g.continues m
         goes_told request (told.refused e) (no_commit request changing) both.1 (rw unsound (rw is (step_refused (letters_in (file_in old)) start.held request changing)))
 
     pub goes_changes : (result : Result (Unit {0}) Error) → PackageChanges rule result old new → IfErr result (HasCauseBelow (allocator_of (mini_of (file_in old))) (allocator_of (mini_of (file_in new))))
-        → Leads new (letters_in (file_in old)) start request (told_of result)
-    goes_changes result changes cause = ⊎_elim (λ sound. goes_sound result changes cause sound) (λ unsound. goes_unsound result changes unsound) (by_sound start.sound)
+        → IfErr result (λ e. e ≡ Full → takes_room request ≡ true) → Leads new (letters_in (file_in old)) start request (told_of result)
+    goes_changes result changes cause room = ⊎_elim (λ sound. goes_sound result changes cause room sound) (λ unsound. goes_unsound result changes unsound) (by_sound start.sound)

@@ -32,7 +32,7 @@ sized P request much = absurd much
 
 outside : (old new : Course) (request : Request) (e : Error) → IsUndone old request e new → is_outside (is_sized request) e ≡ true
 outside old new request e is = ⊎_elim
-    (λ fault. ⊎_elim (λ memory. rw memory refl) (λ more. ⊎_elim (λ full. rw full refl) (λ device. rw device.0 refl) more) fault)
+    (λ fault. ⊎_elim (λ memory. rw memory refl) (λ more. ⊎_elim (λ full. rw full.0 refl) (λ device. rw device.0 refl) more) fault)
     (λ much. rw much.0 (sized old.held request much.1)) is
 
 -- what is undone, or refused after a fault, is by no rule

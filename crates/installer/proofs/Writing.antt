@@ -21,7 +21,7 @@ use Rattle.msi_meaning.specs.Package.{Packed}
 use Rattle.msi_streams.specs.Parts.{IsTooLong}
 use Rattle.installer.proofs.Faults.{fault_of}
 use Rattle.installer.proofs.Going.{by_sound, held_here, more, stepped, undone, was, goes_told, Leads, Moves}
-use Rattle.installer.specs.Course.{Course, IsTooMuch, IsUndone, StepAs, steps}
+use Rattle.installer.specs.Course.{Course, IsTooMuch, IsUndone, StepAs, steps, takes_room}
 use Rattle.installer.specs.Reply as told
 use Rattle.installer.specs.Sessions.{phase_of, IsAt}
 use Rattle.installer.specs.Step.{told_of}
@@ -43,11 +43,11 @@ module _ {F : Type 0} {g : Ghosts F} (refl_continues : (m : F) → g.continues m
   holds = at.held (at.phase ∙ ap phase_of live)
 
   -- what can't be saved is a fault, or too much
-  unsaved : (request : Request) (much : ((v : Version) × IsTooLong (stream_len_mask v) start.held.pool start.held.summary) → IsTooMuch start.held request) (e : Error)
+  unsaved : (request : Request) (room : takes_room request ≡ true) (much : ((v : Version) × IsTooLong (stream_len_mask v) start.held.pool start.held.summary) → IsTooMuch start.held request) (e : Error)
       → HasCauseBelow (allocator_of (mini_of (file_in old))) (allocator_of (mini_of (file_in new))) e → IsUnsaved old new e
       → (end : Course) → end.failures ≡ g.failures (medium_in (file_in new)) → IsUndone start request e end
-  unsaved request much e cause is end last = ⊎_elim
-      (λ fault. inl (fault_of refl_continues old new start end e live at.failures last cause fault))
+  unsaved request room much e cause is end last = ⊎_elim
+      (λ fault. inl (fault_of refl_continues old new start end request e (λ _. room) live at.failures last cause fault))
       (λ long. inr (
         long.0,
         much (
@@ -67,7 +67,7 @@ module _ {F : Type 0} {g : Ghosts F} (refl_continues : (m : F) → g.continues m
       (⊎_elim (λ sound. record { holds = λ P h. writes.holds P h (sym at.sound ∙ sound) }) (λ unsound. untouched (writes.unsound live (sym at.sound ∙ unsound)).1) (by_sound start.sound))
       (step_flush (letters_in (file_in old)) start.sound start.held)
   goes_writes (Err e) moves writes cause = ⊎_elim
-      (λ sound. undone old new start at live moves.counted moves.sound asked.flush e refl (unsaved asked.flush (λ is. is) e cause (writes.refused start.held holds (sym at.sound ∙ sound))) writes.rests)
+      (λ sound. undone old new start at live moves.counted moves.sound asked.flush e refl (unsaved asked.flush refl (λ is. is) e cause (writes.refused start.held holds (sym at.sound ∙ sound))) writes.rests)
       (λ unsound. absurd (not_err (writes.unsound live (sym at.sound ∙ unsound)).0)) (by_sound start.sound)
 
   pub goes_commits : (has_published : F → List ℕ → Type 0) (result : Result (Unit {0}) Error) → g.failures (medium_in (file_in old)) ≤ g.failures (medium_in (file_in new)) → PackageCommits has_published result old new
@@ -81,5 +81,5 @@ module _ {F : Type 0} {g : Ghosts F} (refl_continues : (m : F) → g.continues m
         record { phase = now ∙ ap phase_of (sym commits.live.1); held = λ _. kept; failures = refl; sound = at.sound ∙ sym commits.seen.1 },
       )
   goes_commits has_published (Err e) counted commits cause = ⊎_elim
-      (λ sound. undone old new start at live counted commits.seen.1 asked.commit e refl (unsaved asked.commit (λ is. is) e cause (commits.refused start.held holds (sym at.sound ∙ sound))) commits.rests)
+      (λ sound. undone old new start at live counted commits.seen.1 asked.commit e refl (unsaved asked.commit refl (λ is. is) e cause (commits.refused start.held holds (sym at.sound ∙ sound))) commits.rests)
       (λ unsound. absurd (not_err (commits.unsound live (sym at.sound ∙ unsound)).0)) (by_sound start.sound)

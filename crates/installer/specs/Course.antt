@@ -1,5 +1,5 @@
 -- How a session goes along a list of commands.
-use Rattle.std.specs.Prelude.{◌≡◌, ◌⊎◌, ◌<◌, ◌≤◌, ◌-◌, ◌^◌, ℕ, Bool, true, false, length, List, [], ◌∷◌, ◌++◌, Option, Some}
+use Rattle.std.specs.Prelude.{◌≡◌, ◌⊎◌, ◌<◌, ◌≤◌, ◌-◌, ◌^◌, ℕ, Bool, true, false, not, length, List, [], ◌∷◌, ◌++◌, Option, Some}
 use Rattle.cfb_medium.specs.Versions.{stream_len_mask}
 use Rattle.cfb_medium.specs.declared.error.Error.{Error}
 use Rattle.cfb_medium.specs.declared.error.Error.TheVariants.{Memory, Device, Failed, Full, InvalidInput}
@@ -34,9 +34,18 @@ pub record Mark : Type 0 where
   pub held : Packed
   pub done : Bool
 
--- want of memory or of a number of entries or sectors, or a fault of the device that was counted
-abbrev pub IsFault : Course → Error → Course → Type 0
-IsFault old e new = (e ≡ Memory) ⊎ ((e ≡ Full) ⊎ ((e ≡ Device) × (old.failures < 2 ^ 64 - 1 → old.failures < new.failures)))
+-- A command that may need numbers of entries or sectors: all but those that read, that remove streams, or that change page or summary in memory.
+abbrev pub takes_room : Request → Bool
+takes_room (command.remove_stream name) = false
+takes_room command.remove_signature = false
+takes_room (command.set_summary edit) = false
+takes_room (command.set_codepage page) = false
+takes_room request = not (is_reading request)
+
+-- want of memory; want of numbers of entries or sectors, where the request may need some; or a fault of the device that was counted
+abbrev pub IsFault : Course → Request → Error → Course → Type 0
+IsFault old request e new =
+    (e ≡ Memory) ⊎ (((e ≡ Full) × (takes_room request ≡ true)) ⊎ ((e ≡ Device) × (old.failures < 2 ^ 64 - 1 → old.failures < new.failures)))
 
 -- a stream that the request would write has more bytes than one of some version can have, or pool or summary can't be written at all
 abbrev pub IsTooMuch : Packed → Request → Type 0
@@ -57,7 +66,7 @@ committed_after old request reply = old.committed
 
 -- a fault, or bytes that are too many
 abbrev pub IsUndone : Course → Request → Error → Course → Type 0
-IsUndone old request e new = IsFault old e new ⊎ ((e ≡ InvalidInput) × IsTooMuch old.held request)
+IsUndone old request e new = IsFault old request e new ⊎ ((e ≡ InvalidInput) × IsTooMuch old.held request)
 
 -- One command: its step; or it is undone, and the package stays; or by that the session fails, which no command that reads meets; and a
 -- session that has failed refuses. No failure of the device is counted back.

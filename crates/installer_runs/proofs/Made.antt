@@ -84,28 +84,28 @@ module _ {D : Type 0} {g : Ghosts D} {h : medium.Ghosts (Staged D g)} (letters :
       start : Course
       start = beginning it P
 
-      fault : (e : Error) (end : Course) → IsUndone start asked.commit e end → IsUndoneFault start e end
+      fault : (e : Error) (end : Course) → IsUndone start asked.commit e end → IsUndoneFault start asked.commit e end
       fault e end undone = ⊎_elim (λ fault. fault) (λ much. absurd (new_is_short Installer P is_new (stream_len_mask much.1.0) (mask_wide much.1.0) much.1.1)) undone
 
-      kind : (e : Error) (end : Course) → IsUndoneFault start e end → IsFault e
+      kind : (e : Error) (end : Course) → IsUndoneFault start asked.commit e end → IsFault e
       kind e end (inl is) = inl (subst (IsFaultUnless ⊥) (sym is) tt)
-      kind e end (inr (inl is)) = inr is
+      kind e end (inr (inl is)) = inr is.0
       kind e end (inr (inr device)) = inl (subst (IsFaultUnless ⊥) (sym device.0) tt)
 
-      fresh : (e : Error) (end : Course) → IsUndoneFault start e end → e ≡ Failed → ⊥
+      fresh : (e : Error) (end : Course) → IsUndoneFault start asked.commit e end → e ≡ Failed → ⊥
       fresh e end (inl memory) is = let never : Failed ≡ Memory = sym is ∙ memory in cc
-      fresh e end (inr (inl full)) is = let never : Failed ≡ Full = sym is ∙ full in cc
+      fresh e end (inr (inl full)) is = let never : Failed ≡ Full = sym is ∙ full.0 in cc
       fresh e end (inr (inr device)) is = let never : Failed ≡ Device = sym is ∙ device.0 in cc
 
-      counted : (e : Error) (end : Course) → end.failures ≡ g.failures (device_below leads.last) → IsUndoneFault start e end → IsCounted g old new e
+      counted : (e : Error) (end : Course) → end.failures ≡ g.failures (device_below leads.last) → IsUndoneFault start asked.commit e end → IsCounted g old new e
       counted e end here undone = λ is less. faults (g.failures old) (g.failures (device_below it)) (g.failures new) less begun.counted later (there is undone)
         where
           later : g.failures (device_below it) ≤ g.failures new
           later = subst (λ (d : D). g.failures (device_below it) ≤ g.failures d) (sym leads.given) (leads.follows.survives start at).counted
 
-          there : e ≡ Device → IsUndoneFault start e end → g.failures (device_below it) < 2 ^ 64 - 1 → g.failures (device_below it) < g.failures new
+          there : e ≡ Device → IsUndoneFault start asked.commit e end → g.failures (device_below it) < 2 ^ 64 - 1 → g.failures (device_below it) < g.failures new
           there is (inl memory) few = let never : Device ≡ Memory = sym is ∙ memory in absurd (cc)
-          there is (inr (inl full)) few = let never : Device ≡ Full = sym is ∙ full in absurd (cc)
+          there is (inr (inl full)) few = let never : Device ≡ Full = sym is ∙ full.0 in absurd (cc)
           there is (inr (inr device)) few =
               let first : start.failures ≡ g.failures (device_below it) = counts (medium_in (file_in (package_in it))) in
               let last : end.failures ≡ g.failures new = here ∙ sym (ap (λ (d : D). g.failures d) leads.given) in

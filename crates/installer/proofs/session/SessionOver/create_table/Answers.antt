@@ -1,5 +1,5 @@
 use Rattle.std.proofs.Common.{inl, refl, subst}
-use Rattle.installer.proofs.Answering.{answers_changes, answers_memory, rests_itself}
+use Rattle.installer.proofs.Answering.{answers_changes, answers_memory, may_fill, rests_itself}
 use Rattle.msi_columns.specs.Held.{columns_of}
 use Rattle.msi_meaning.specs.Calls.{Creates}
 use Rattle.installer.specs.Sessions.{letters_in, package_in}
@@ -10,7 +10,7 @@ returns-in-Ok g c =
     let G = g.met.F.ReadMedium in
     answers_changes G.continues_refl G.continues_keeps c.args.self.now _ c.requires (λ P Q answer. Creates (letters_in c.args.self.now) P c.args.name.now (columns_of c.in-Ok.columns.items) Q answer) _ _
     c.create_table.result refl (λ P Q answer made. inl (answer, subst (λ columns. Creates (letters_in c.args.self.now) P c.args.name.now columns Q answer) c.in-Ok.ensures.copies made, refl))
-    c.create_table.ensures.changes c.create_table.ensures.goes_on c.create_table.ensures.cause c.answer_of.ensures
+    c.create_table.ensures.changes c.create_table.ensures.goes_on c.create_table.ensures.cause (may_fill c.create_table.result refl) c.answer_of.ensures
 
 pub returns-in-Err : goal.returns-in-Err
 returns-in-Err g c =
