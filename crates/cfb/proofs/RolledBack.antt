@@ -1,5 +1,5 @@
 -- A file that was rolled back.
-use Rattle.std.proofs.Common.{◌≡◌, ap, sym, subst, ◌∙◌, IsTrue}
+use Rattle.std.proofs.Common.{◌≡◌, ap, refl, sym, subst, ◌∙◌, IsTrue}
 use Rattle.cfb_medium.specs.declared.medium.ReadMedium.{Ghosts}
 use Rattle.std.specs.Prelude.{ℕ, List, true}
 use Rattle.cfb_fat.specs.Tables.{bytes_of, has_failed_here, medium_of}
@@ -18,9 +18,8 @@ module _ {F : Type 0} {g : Ghosts F} (has_published : F → List ℕ → Type 0)
       → g.failed (medium_of (allocator_of (mini_of new))) ≡ g.failed (medium_of (allocator_of (mini_of old)))
       → (IsTrue (g.honest mid) → IsOpenedAs (validation_of old) (letters_in old) (g.bytes mid) new) → RollsBack has_published old new
   rolls_back mid new rolled opens failed opened = record {
-    live = opens.live;
+    opens = record { honest = refl; continues = λ start since. since; bytes = λ _. refl; live = opens.live; memory = opens.memory; sizes = opens.sizes };
     failed = failed;
-    memory = opens.memory;
     bytes = λ honest published was. opens.bytes (subst IsTrue (sym rolled.as_honest) honest) ∙ rolled.rolled honest published was;
     opened = λ honest published was. subst (λ b. IsOpenedAs (validation_of old) (letters_in old) b new) (rolled.rolled honest published was) (opened (subst IsTrue (sym rolled.as_honest) honest));
   }

@@ -1,9 +1,9 @@
 -- A file that goes back to the bytes that were published last.
-use Rattle.std.specs.Prelude.{◌≡◌, ◌⊎◌, ℕ, false, true, List, IsTrue}
+use Rattle.std.specs.Prelude.{◌≡◌, ℕ, true, List, IsTrue}
 use Rattle.cfb_fat.specs.Tables.{bytes_of, has_failed_here, is_honest, medium_of}
 use Rattle.cfb_medium.specs.declared.medium.ReadMedium.{Ghosts}
-use Rattle.cfb_mini.specs.Views.{allocator_of, IsMini}
-use Rattle.cfb_opening.specs.Opened.{CanOpen}
+use Rattle.cfb_mini.specs.Views.{allocator_of}
+use Rattle.cfb_opening.specs.Opened.{CanOpen, OpensAt}
 use Rattle.cfb.specs.Opened.{IsOpenedAs}
 use Rattle.cfb.specs.Views.{letters_in, mini_of, validation_of, FileRests}
 use Rattle.cfb.specs.declared.compound_file.CompoundFile.{CompoundFile}
@@ -13,12 +13,11 @@ module _ {F : Type 0} {g : Ghosts F} where
   abbrev pub OfPublished : (F → List ℕ → Type 0) → CompoundFile F g → (List ℕ → Type 0) → Type 0
   OfPublished has_published old P = IsTrue (is_honest (allocator_of (mini_of old))) → (published : List ℕ) → has_published (medium_of (allocator_of (mini_of old))) published → P published
 
-  -- The file is live, over a medium that has failed only where it had. It has the published bytes, and is what the same reader finds
-  -- who opens these: where they are sound, it means the tree that they mean.
+  -- The file was opened over its medium, which has failed only where it had. It has the published bytes, and is what the same reader
+  -- finds who opens these: where they are sound, it means the tree that they mean.
   pub record RollsBack (has_published : F → List ℕ → Type 0) (old new : CompoundFile F g) : Type 0 where
-    pub live : has_failed_here (allocator_of (mini_of new)) ≡ false
+    pub opens : OpensAt (medium_of (allocator_of (mini_of new))) (mini_of new)
     pub failed : g.failed (medium_of (allocator_of (mini_of new))) ≡ g.failed (medium_of (allocator_of (mini_of old)))
-    pub memory : IsMini (mini_of new)
     pub bytes : OfPublished has_published old (λ published. bytes_of (allocator_of (mini_of new)) ≡ published)
     pub opened : OfPublished has_published old (λ published. IsOpenedAs (validation_of old) (letters_in old) published new)
 

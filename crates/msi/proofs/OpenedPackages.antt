@@ -21,6 +21,7 @@ use Rattle.cfb_mini.specs.Views.{allocator_of, directory_of}
 use Rattle.cfb_opening.specs.Opened.{OpensAt}
 use Rattle.cfb_opening.specs.Tables.{OnlyReads}
 use Rattle.cfb.proofs.OpenedFiles.{left_since}
+use Rattle.cfb_sectors.specs.declared.validation.Validation.{Validation}
 use Rattle.cfb_sectors.specs.declared.validation.Validation.TheVariants.{Permissive}
 use Rattle.cfb_tree.specs.Directory.{Entry}
 use Rattle.cfb_tree.specs.Names.{Letters}
@@ -36,7 +37,7 @@ use Rattle.msi_streams.specs.Parts.{HasThree}
 use Rattle.msi_stored.specs.Changing.{StoresSound}
 use Rattle.msi_parts.proofs.Collected.{opened_is, schema_of}
 use Rattle.msi_parts.proofs.Memory.{memory_is}
-use Rattle.msi_parts.specs.Held.{AreHeld}
+use Rattle.msi_parts.specs.Held.{headings_in, AreHeld}
 use Rattle.msi_parts.specs.Parts.{AreParts, IsSoundIn}
 use Rattle.msi_parts.specs.declared.parts.PackageParts.{PackageParts}
 use Rattle.msi.specs.Opened.{PackageHolds, IsOpenedPackage, IsRefused, IsSoundFile, file_in, kind_in, pool_in, sound_in, summary_in, tables_in}
@@ -48,6 +49,19 @@ use Rattle.msi.specs.declared.package.Package.{Package}
 -- each tree that the bytes show is refused so, or a part is lost
 abbrev Refuses : Letters → List ℕ → Error → Type 0
 Refuses letters bytes e = (tree : Tree) → ShowsTree letters bytes tree → IsLostPart letters bytes e ⊎ (opened letters tree ≡ Err e)
+
+-- a package of the parts that were found in a file, and were judged, is found in it
+pub found_of : {F : Type 0} {g : Ghosts F} (a b : CompoundFile F g) (it : Package F g) (parts : PackageParts) (sound : Bool) → file_in it ≡ b → FileRests a b
+    → (kind_in it ≡ parts.kind) × (summary_in it ≡ parts.summary) × (pool_in it ≡ parts.pool) × (tables_in it ≡ headings_in parts) → sound_in it ≡ sound
+    → ((tree : Tree) → HoldsShown a tree → may_use (letters_in a) ≡ true → AreHeld (letters_in a) tree parts)
+    → ((tree : Tree) → FileHolds a tree → may_use (letters_in a) ≡ true → IsTrue sound ↔ IsSoundIn (letters_in a) tree (sound_of a)) → (sound_of a ≡ false → sound ≡ false)
+    → IsFound a it
+found_of a b it parts sound file rests are is held judged unsound = record {
+  rests = subst (λ f. FileRests a f) (sym file) rests;
+  parts = λ tree shown may. (parts.gives_back, rw (are.0, are.1, are.2, are.3) (held tree shown may).parts);
+  judged = λ tree holds may. subst (λ (b : Bool). IsTrue b ↔ IsSoundIn (letters_in a) tree (sound_of a)) (sym is) (judged tree holds may);
+  unsound = λ e. is ∙ unsound e;
+}
 
 module _ {F : Type 0} {g : Ghosts F} (medium : F) (a : CompoundFile F g) (opens : OpensAt medium (mini_of a)) where
   -- a file that was only read since it was opened was opened so
@@ -71,12 +85,13 @@ module _ {F : Type 0} {g : Ghosts F} (medium : F) (a : CompoundFile F g) (opens 
       let here = cause start (opens.continues start since) in
       record { device = here.device; earlier = λ is. subst (λ f. IsTrue (f || g.failed start)) opens.live (here.earlier is) }
 
-  module _ (letters : Letters) (named : letters_in a ≡ letters) (may : may_use letters ≡ true) (honest : IsTrue (g.honest medium)) (as_opened : IsOpenedAs Permissive letters (g.bytes medium) a) where
+  module _ (letters : Letters) (named : letters_in a ≡ letters) (may : may_use letters ≡ true) (honest : IsTrue (g.honest medium)) (validation : Validation)
+      (as_opened : IsOpenedAs validation letters (g.bytes medium) a) where
     held : (tree : Tree) → Means letters (g.bytes medium) tree → FileHolds a tree
-    held tree means = holds_opened Permissive letters medium a tree honest opens named as_opened means
+    held tree means = holds_opened validation letters medium a tree honest opens named as_opened means
 
     shown : (tree : Tree) → ShowsTree letters (g.bytes medium) tree → HoldsShown a tree
-    shown tree shows = shown_opened Permissive letters medium a tree honest opens named as_opened shows
+    shown tree shows = shown_opened validation letters medium a tree honest opens named as_opened shows
 
     may_here : may_use (letters_in a) ≡ true
     may_here = ap may_use named ∙ may
@@ -193,7 +208,7 @@ module _ {F : Type 0} {g : Ghosts F} (medium : F) (a : CompoundFile F g) (opens 
     answer_opened letters named may as_opened = by r ok
       where
         by : (r : Answer F g) → IfOk r (IsFound a) → IfOk r (λ it. IsTrue (g.honest medium) → IsOpenedPackage letters (g.bytes medium) it)
-        by (Ok it) found = λ honest. found_opened medium a opens letters named may honest (as_opened honest) it found
+        by (Ok it) found = λ honest. found_opened medium a opens letters named may honest Permissive (as_opened honest) it found
         by (Err e) found = tt
 
   -- a refusal, whatever would have been answered in its place
@@ -218,7 +233,7 @@ module _ {F : Type 0} {g : Ghosts F} (medium : F) (a : CompoundFile F g) (opens 
       where
         by : (r : Result X (F × Error)) → IfErr r (λ e. IsGivenUp a e.0 e.1) → IfErr r (λ e. IsTrue (g.honest medium) → IsFaultUnless ⊥ e.1 ⊎ IsRefused letters (g.bytes medium) e.1)
         by (Ok it) given = tt
-        by (Err e) given = λ honest. given_refused medium a opens letters named may honest (as_opened honest) e.0 e.1 given
+        by (Err e) given = λ honest. given_refused medium a opens letters named may honest Permissive (as_opened honest) e.0 e.1 given
 
 -- what was judged of the file after it was read is so of the file before
 pub judged_before : {F : Type 0} {g : Ghosts F} (a b : CompoundFile F g) → FileRests a b → (tree : Tree) (r : Result (PackageParts × Bool) Error)

@@ -75,7 +75,7 @@ fn opened_package<F: ReadMedium>(
 }
 
 // The parts of the package of a file, and whether it is sound.
-fn judged_parts<F: ReadMedium>(
+pub(crate) fn judged_parts<F: ReadMedium>(
     alloc: Global,
     file: &mut CompoundFile<F>,
 ) -> Result<(PackageParts, bool), Error>

@@ -49,7 +49,7 @@ impl<'a> Changes<'a> {
     // Writes a stream piece by piece.
     fn write(&mut self, alloc: Global, row: &Row) -> Result<String, Error> {
         match &mut self.package {
-            Some(package) => pieces_told(alloc, package, row),
+            Some(package) => told_of(alloc, write_pieces(alloc, package, row)),
             None => Err(Error::NotFound),
         }
     }
@@ -91,6 +91,14 @@ impl<'a> Changes<'a> {
         }
     }
 
+    // Goes back to what was committed.
+    fn roll_back(&mut self, alloc: Global) -> Result<String, Error> {
+        match &mut self.package {
+            Some(package) => told_of(alloc, taken_back(package)),
+            None => Err(Error::NotFound),
+        }
+    }
+
     // What becomes of a command on the package that was committed last, while each call of the medium fails in turn.
     fn fault(&mut self, alloc: Global, row: &Row) -> Result<String, Error> {
         let bytes = self.committed_bytes(alloc)?;
@@ -118,6 +126,7 @@ impl Subject for Changes<'_> {
             "copy" => self.copy(alloc),
             "fails" => self.fault(alloc, row),
             "pieces" => self.write(alloc, row),
+            "back" => self.roll_back(alloc),
             _ => match &mut self.package {
                 Some(package) => answers_of(alloc, package, row),
                 None => Err(Error::NotFound),
@@ -141,6 +150,10 @@ fn home_of(alloc: Global, device: &MemoryDevice) -> Result<Vec<u8>, Error> {
 
 fn is_sound(package: &Stored) -> bool {
     package.is_sound()
+}
+
+fn taken_back(package: &mut Stored) -> Result<(), Error> {
+    package.roll_back()
 }
 
 fn copy_of_package(alloc: Global, package: &mut Stored) -> Result<Vec<u8>, Error> {
@@ -213,9 +226,9 @@ fn changes_of(alloc: Global, package: &mut Stored, commands: &[Command]) -> Resu
     Ok(told)
 }
 
-fn pieces_told(alloc: Global, package: &mut Stored, row: &Row) -> Result<String, Error> {
+fn told_of(alloc: Global, change: Result<(), Error>) -> Result<String, Error> {
     let mut told = String::new(alloc);
-    push_answer(alloc, &mut told, done(write_pieces(alloc, package, row)))?;
+    push_answer(alloc, &mut told, done(change))?;
     Ok(told)
 }
 
