@@ -92,24 +92,15 @@ fn recovery_stopped(alloc: Global, files: &Pair, calls: u64) -> Result<Stopped, 
 // The home file that a recovery of these files gives.
 fn recovered_home(alloc: Global, files: &Pair) -> Result<Vec<u8>, Error> {
     let mut device = files.device(alloc)?;
-    home_after_recovery(alloc, &mut device)
-}
-
-fn home_after_recovery(alloc: Global, device: &mut MemoryDevice) -> Result<Vec<u8>, Error> {
-    recover(device)?;
-    Ok(Vec::from_slice(alloc, home_of(device))?)
-}
-
-// Whether a recovery of these files gives this home file.
-fn gives(alloc: Global, files: &Pair, home: &[u8]) -> Result<bool, Error> {
-    let found = recovered_home(alloc, files)?;
-    Ok(found.as_slice() == home)
+    recover(&mut device)?;
+    Ok(Vec::from_slice(alloc, home_of(&device))?)
 }
 
 // Each of these pairs gives this home file.
 fn each_gives(alloc: Global, all: &[Pair], home: &[u8]) -> Result<()> {
     for files in all {
-        wants(gives(alloc, files, home)?, "the same home file")?;
+        let found = recovered_home(alloc, files)?;
+        wants(found.as_slice() == home, "the same home file")?;
     }
     Ok(())
 }
@@ -137,12 +128,9 @@ fn recovery_with_stops(alloc: Global, files: &Pair, home: &[u8]) -> Result<u64> 
 // A recovery of these files gives one of the two home files, also when it is stopped: how many stops that were.
 fn stops_given(alloc: Global, files: &Pair, old: &[u8], new: &[u8]) -> Result<u64> {
     let home = recovered_home(alloc, files)?;
-    is_old_or_new(&home, old, new)?;
+    let is_either = home.as_slice() == old || home.as_slice() == new;
+    wants(is_either, "the old bytes or the new")?;
     recovery_with_stops(alloc, files, &home)
-}
-
-fn is_old_or_new(home: &[u8], old: &[u8], new: &[u8]) -> Result<()> {
-    wants(home == old || home == new, "the old bytes or the new")
 }
 
 // Of each of these pairs a recovery gives one of the two home files: how many stops that were, with those of the recoveries.
@@ -231,14 +219,9 @@ fn is_dropped(device: &mut MemoryDevice) -> Result<()> {
     same(&home_of(device).len(), &0)
 }
 
-// A device behind the gate of a first commit, whose home file is torn.
-fn torn_device(alloc: Global) -> Result<MemoryDevice, Error> {
-    let run = first_commit(alloc, 6, 549)?;
-    cut_at(&run.device, &[0xFF, 0xFF], log_of(&run.device))
-}
-
 fn a_torn_home_file_behind_an_open_log_is_written_again(alloc: Global) -> Result<()> {
-    let mut device = torn_device(alloc)?;
+    let run = first_commit(alloc, 6, 549)?;
+    let mut device = cut_at(&run.device, &[0xFF, 0xFF], log_of(&run.device))?;
     let files = Pair::new(alloc, home_of(&device), log_of(&device))?;
     applies_first(&mut device)?;
     recovery_with_stops(alloc, &files, &FIRST)?;
@@ -254,14 +237,10 @@ fn applies_first(device: &mut MemoryDevice) -> Result<()> {
     )
 }
 
-// A device behind the first stop of a first commit at which it has so long a log, whose log is this one.
-fn cut_log(alloc: Global, log: &[u8]) -> Result<MemoryDevice, Error> {
-    let run = first_commit(alloc, 0, log.len())?;
-    cut_at(&run.device, &[], log)
-}
-
+// A recovery drops this log, behind the first stop of a first commit at which so long a log is there.
 fn is_log_dropped(alloc: Global, log: &[u8]) -> Result<()> {
-    let mut device = cut_log(alloc, log)?;
+    let run = first_commit(alloc, 0, log.len())?;
+    let mut device = cut_at(&run.device, &[], log)?;
     is_dropped(&mut device)
 }
 
@@ -307,15 +286,7 @@ fn no_stop_changes_what_a_sync_made_last(alloc: Global) -> Result<()> {
     is_first_left(&run.device)
 }
 
-// A device whose home file was written in its middle and behind its end.
-fn written_device(alloc: Global) -> Result<MemoryDevice, Error> {
-    let mut device = device(alloc, &[7; 6], &[])?;
-    match write_twice(&mut device) {
-        Ok(()) => Ok(device),
-        Err(error) => Err(error),
-    }
-}
-
+// Writes in the middle of the home file and behind its end.
 fn write_twice(device: &mut MemoryDevice) -> Result<(), Error> {
     write_home(device, 2, &[8, 8])?;
     write_home(device, 6, &[9])
@@ -344,7 +315,8 @@ fn is_synced_left(device: &mut MemoryDevice) -> Result<()> {
 }
 
 fn a_stop_leaves_what_lies_outside_every_write(alloc: Global) -> Result<()> {
-    let mut device = written_device(alloc)?;
+    let mut device = device(alloc, &[7; 6], &[])?;
+    write_twice(&mut device)?;
     is_rest_left(&device)?;
     is_nothing_else_left(&device)?;
     is_synced_left(&mut device)
