@@ -1,14 +1,16 @@
 -- Expressions and sources, by what stands at their keys.
-use Rattle.std.proofs.Common.{◌≡◌, ℕ, zero, suc, true, false, List, ◌∷◌, [], refl, ap, Some, None, arith, ◌≤◌, ◌<◌, length, get_or}
+use Rattle.std.proofs.Common.{◌≡◌, ℕ, zero, suc, true, false, List, ◌∷◌, [], refl, ap, Option, Some, None, arith, ◌≤◌, ◌<◌, length, get_or}
 use Rattle.std.specs.Prelude.{codes, option_and_then, option_map, if◌then◌else◌}
 use Rattle.serde_json.specs.Data.{Data, Items, no_items, item, Members, no_members, member, depth, items_depth}
 use Rattle.serde_json.specs.Data as json
 use Rattle.serde_json.specs.Find.{as_array, as_object, get_member}
 use Rattle.serde_json.specs.View.{items_view, view}
 use Rattle.serde_json.specs.declared.value.Value.{Value}
-use Rattle.command_file.specs.Expressions.{args_in, each_formula, formula_in, formulas_in, from_in, select_in, side_in, side_of, source_in}
+use Rattle.command_file.specs.Expressions.{args_in, each_formula, formula_in, formulas_in, from_in, joined, select_in, side_in, side_of, source_in}
 use Rattle.command_file.specs.Nested.{join_in, operation_in, select_at}
-use Rattle.json_parts.specs.Values.{all_in, keys_among, list_in, only_keys}
+use Rattle.msi_expr.specs.Formula.{Formula}
+use Rattle.msi_query.specs.Query.{Query}
+use Rattle.json_parts.specs.Values.{all_in, at_key, keys_among, list_in, only_keys, text_at}
 use Rattle.command_file.proofs.Named.{found_first}
 
 -- each expression of a list
@@ -73,6 +75,17 @@ side_is (json.boolean b) = refl
 side_is (json.number n) = refl
 side_is (json.string s) = refl
 side_is (json.array ds) = refl
+
+-- a join of no kind is none
+pub join_refused : (d : Data) → ((l r : Query) (on : Formula) → joined (text_at (codes "join") d) l r on ≡ None) → join_in d ≡ None
+join_refused d refused = go (at_key (codes "left") side_of d) (at_key (codes "right") side_of d) (at_key (codes "on") formula_in d)
+  where
+    go : (left right : Option Query) (on : Option Formula)
+        → option_and_then (λ l. option_and_then (λ r. option_and_then (joined (text_at (codes "join") d) l r) on) right) left ≡ None
+    go None right on = refl
+    go (Some l) None on = refl
+    go (Some l) (Some r) None = refl
+    go (Some l) (Some r) (Some on) = refused l r on
 
 pub join_is : (ms : Members) → keys_among (codes "join" ∷ codes "left" ∷ codes "right" ∷ codes "on" ∷ []) ms ≡ true
     → source_in (json.object ms) ≡ join_in (json.object ms)

@@ -1,13 +1,15 @@
 //! Selects: tables, joins, columns and conditions.
-ghost use Rattle.std.specs.Prelude.{◌≡◌, Some, codes, map, option_and_then, option_map};
+ghost use Rattle.std.specs.Prelude.{◌≡◌, ◌⊎◌, MatchResult, None, Some, codes, if◌then◌else◌, map, option_and_then, option_map};
+ghost use Rattle.cfb_medium.specs.declared.error.Error.TheVariants.{InvalidInput, Memory};
 ghost use Rattle.serde_json.specs.Find.{as_object};
 ghost use Rattle.serde_json.specs.View.{view};
-ghost use Rattle.msi_expr.specs.Formula.{formula_of};
+ghost use Rattle.msi_expr.specs.Formula.{Formula, formula_of};
+ghost use Rattle.msi_query.specs.Query.{Query, inner_join, left_join};
 ghost use Rattle.msi_query.specs.Said.{query_of};
 ghost use Rattle.command_file.specs.Expressions.{columns_in, joined, select_in, side_of, source_in};
 ghost use Rattle.command_file.specs.Nested.{all_of, join_in, select_at};
 ghost use Rattle.json_parts.specs.Reads.{Gives};
-ghost use Rattle.json_parts.specs.Values.{at_key};
+ghost use Rattle.json_parts.specs.Values.{at_key, text_at};
 
 use crate::expressions::{condition_of, expression_at};
 use cfb_medium::Error;
@@ -80,11 +82,29 @@ fn source_of(alloc: Global, json: &Json) -> Result<Select, Error>
 fn join_of(alloc: Global, json: &Json) -> Result<Select, Error>
     ensures { Gives query_of result (option_map all_of (join_in (view json.now))) }
 {
+    let is_left = match is_left_join(json) {
+        Ok(is_left) => is_left,
+        Err(error) => return Err(error),
+    };
     let left = side_at(alloc, json, "left")?;
     let right = side_at(alloc, json, "right")?;
     let on = expression_at(alloc, json, "on")?;
-    let kind = text_at(json, "join")?;
-    joined_select(alloc, kind, left, right, on)
+    joined_select(alloc, is_left, left, right, on)
+}
+
+// Whether the join keeps each row of its left side.
+fn is_left_join(json: &Json) -> Result<bool, Error>
+    ensures { MatchResult result
+        (λ is_left. (l r : Query) (on : Formula) → joined (text_at (codes "join") (view json.now)) l r on
+        ≡ Some (if is_left then left_join l r on else inner_join l r on))
+        (λ e. (e ≡ Memory) ⊎ ((e ≡ InvalidInput) × ((l r : Query) (on : Formula)
+        → joined (text_at (codes "join") (view json.now)) l r on ≡ None))) }
+{
+    match text_at(json, "join")? {
+        "inner" => Ok(false),
+        "left" => Ok(true),
+        _ => Err(Error::InvalidInput),
+    }
 }
 
 // A side of a join.
@@ -110,17 +130,18 @@ fn side_of(alloc: Global, json: &Json) -> Result<Select, Error>
 // Two selects joined.
 fn joined_select(
     alloc: Global,
-    kind: &str,
+    is_left: bool,
     left: Select,
     right: Select,
     on: Expr,
 ) -> Result<Select, Error>
-    ensures { Gives query_of result (option_map all_of
-        (joined (Some kind.now) (query_of left) (query_of right) (formula_of on))) }
+    ensures { Gives query_of result (Some (all_of (if is_left
+        then left_join (query_of left) (query_of right) (formula_of on)
+        else inner_join (query_of left) (query_of right) (formula_of on)))) }
 {
-    match kind {
-        "inner" => left.inner_join(alloc, right, on),
-        "left" => left.left_join(alloc, right, on),
-        _ => Err(Error::InvalidInput),
+    if is_left {
+        left.left_join(alloc, right, on)
+    } else {
+        left.inner_join(alloc, right, on)
     }
 }

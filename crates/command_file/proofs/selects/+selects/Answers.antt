@@ -1,11 +1,11 @@
-use Rattle.std.proofs.Common.{◌≡◌, ◌<◌, ◌∙◌, ap, sym, arith, refl, codes}
+use Rattle.std.proofs.Common.{◌≡◌, ◌<◌, ◌∙◌, ap, sym, arith, refl, codes, inl, inr, ⊎_elim, option_map}
 use Rattle.serde_json.proofs.Views.{view-Object}
 use Rattle.serde_json.specs.Data.{depth}
 use Rattle.serde_json.specs.View.{view, members_view}
 use Rattle.command_file.specs.Expressions.{side_of, source_in}
-use Rattle.command_file.specs.Nested.{join_in, select_at}
+use Rattle.command_file.specs.Nested.{all_of, join_in, select_at}
 use Rattle.command_file.proofs.Named.{get_depth}
-use Rattle.command_file.proofs.Nested.{join_is, side_is}
+use Rattle.command_file.proofs.Nested.{join_is, join_refused, side_is}
 use Rattle.command_file.proofs.selects.+selects.Goals as goal
 
 pub side_at-side_of-requires : goal.side_at-side_of-requires
@@ -28,3 +28,6 @@ source_of-returns-then-are_among t c =
     let same : source_in (view c.args.json.now) ≡ join_in (view c.args.json.now) =
     rw (ap view c.in-Object.is ∙ view-Object c.in-Object.members) (join_is (members_view c.in-Object.members.entries) (sym c.are_among.ensures ∙ c.if-are_among.true)) in
     rw same c.join_of.ensures
+
+pub join_of-returns-in-Err : goal.join_of-returns-in-Err
+join_of-returns-in-Err t c = ⊎_elim (λ memory. inl memory) (λ other. inr (other.0, ap (option_map all_of) (join_refused (view c.args.json.now) other.1))) c.in-Err.ensures
