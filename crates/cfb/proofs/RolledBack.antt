@@ -7,21 +7,22 @@ use Rattle.cfb_mini.specs.Views.{allocator_of}
 use Rattle.cfb_opening.specs.Opened.{CanOpen, OpensAt}
 use Rattle.cfb_opening.specs.Tables.{OnlyReads}
 use Rattle.cfb_sectors.specs.RollingBack as medium
+use Rattle.cfb_sectors.specs.declared.validation.Validation.{Validation}
 use Rattle.cfb.specs.Opened.{IsOpenedAs}
 use Rattle.cfb.specs.RollingBack.{CannotOpen, HasLostAll, RollsBack}
-use Rattle.cfb.specs.Views.{letters_in, mini_of, validation_of}
+use Rattle.cfb.specs.Views.{letters_in, mini_of}
 use Rattle.cfb.specs.declared.compound_file.CompoundFile.{CompoundFile}
 
-module _ {F : Type 0} {g : Ghosts F} (has_published : F → List ℕ → Type 0) (old : CompoundFile F g) where
+module _ {F : Type 0} {g : Ghosts F} (has_published : F → List ℕ → Type 0) (validation : Validation) (old : CompoundFile F g) where
   -- all was read again
   pub rolls_back : (mid : F) (new : CompoundFile F g) → medium.RollsBack g.honest g.bytes g.continues has_published (medium_of (allocator_of (mini_of old))) mid → OpensAt mid (mini_of new)
       → g.failed (medium_of (allocator_of (mini_of new))) ≡ g.failed (medium_of (allocator_of (mini_of old)))
-      → (IsTrue (g.honest mid) → IsOpenedAs (validation_of old) (letters_in old) (g.bytes mid) new) → RollsBack has_published old new
+      → (IsTrue (g.honest mid) → IsOpenedAs validation (letters_in old) (g.bytes mid) new) → RollsBack has_published validation old new
   rolls_back mid new rolled opens failed opened = record {
     opens = record { honest = refl; continues = λ start since. since; bytes = λ _. refl; live = opens.live; memory = opens.memory; sizes = opens.sizes };
     failed = failed;
     bytes = λ honest published was. opens.bytes (subst IsTrue (sym rolled.as_honest) honest) ∙ rolled.rolled honest published was;
-    opened = λ honest published was. subst (λ b. IsOpenedAs (validation_of old) (letters_in old) b new) (rolled.rolled honest published was) (opened (subst IsTrue (sym rolled.as_honest) honest));
+    opened = λ honest published was. subst (λ b. IsOpenedAs validation (letters_in old) b new) (rolled.rolled honest published was) (opened (subst IsTrue (sym rolled.as_honest) honest));
   }
 
   -- it couldn't be read
@@ -33,8 +34,8 @@ module _ {F : Type 0} {g : Ghosts F} (has_published : F → List ℕ → Type 0)
   }
 
   -- since the published bytes can't be opened
-  pub cannot_open : (mid : F) → medium.RollsBack g.honest g.bytes g.continues has_published (medium_of (allocator_of (mini_of old))) mid → (IsTrue (g.honest mid) → CanOpen (validation_of old) (letters_in old) (g.bytes mid) → ⊥)
-      → CannotOpen has_published old
+  pub cannot_open : (mid : F) → medium.RollsBack g.honest g.bytes g.continues has_published (medium_of (allocator_of (mini_of old))) mid → (IsTrue (g.honest mid) → CanOpen validation (letters_in old) (g.bytes mid) → ⊥)
+      → CannotOpen has_published validation old
   cannot_open mid rolled refused = record {
-    cannot = λ honest published was can. refused (subst IsTrue (sym rolled.as_honest) honest) (subst (CanOpen (validation_of old) (letters_in old)) (sym (rolled.rolled honest published was)) can);
+    cannot = λ honest published was can. refused (subst IsTrue (sym rolled.as_honest) honest) (subst (CanOpen validation (letters_in old)) (sym (rolled.rolled honest published was)) can);
   }

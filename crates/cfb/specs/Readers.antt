@@ -1,5 +1,5 @@
 -- As which reader a file is opened, and under which letter table.
-use Rattle.std.specs.Prelude.{◌≡◌, ℕ}
+use Rattle.std.specs.Prelude.{◌≡◌, ◌⊎◌, ℕ}
 use Rattle.cfb_medium.specs.declared.medium.ReadMedium.{Ghosts}
 use Rattle.cfb_sectors.specs.declared.validation.Validation.{Validation}
 use Rattle.cfb_streams.specs.Content.{most_of}
@@ -38,4 +38,10 @@ module _ {F : Type 0} {g : Ghosts F} where
   pub record IsReadAlike (old new : CompoundFile F g) : Type 0 where
     pub letters : letters_in new ≡ letters_in old
     pub validation : validation_of new ≡ validation_of old
+    pub most : most_ahead_of new ≡ most_ahead_of old
+
+  -- it is read so, or by a reader of this kind
+  pub record IsReadAs (other : Validation) (old new : CompoundFile F g) : Type 0 where
+    pub letters : letters_in new ≡ letters_in old
+    pub validation : (validation_of new ≡ validation_of old) ⊎ (validation_of new ≡ other)
     pub most : most_ahead_of new ≡ most_ahead_of old

@@ -1,7 +1,7 @@
 //! Files that go back to what was published last.
-ghost use Rattle.cfb.specs.Readers.{IsReadAlike, IsReadBy};
+ghost use Rattle.cfb.specs.Readers.{IsReadAlike, IsReadAs, IsReadBy};
 ghost use Rattle.cfb.specs.RollingBack.{CannotOpen, HasLostAll, RollsBack};
-ghost use Rattle.cfb.specs.Views.{mini_of, FileRests};
+ghost use Rattle.cfb.specs.Views.{mini_of, validation_of, FileRests};
 ghost use Rattle.cfb_fat.specs.Tables.{has_failed_here, medium_of};
 ghost use Rattle.cfb_medium.specs.Calls.{Extends, HasCauseSince, IsFaultUnless};
 ghost use Rattle.cfb_medium.specs.declared.error.Error.TheVariants.{InvalidData, InvalidInput};
@@ -12,6 +12,7 @@ use crate::CompoundFile;
 use crate::opening::{Reader, open_by};
 use cfb_medium::{Error, Medium};
 use cfb_mini::{MiniHusk, MiniLinks};
+use cfb_sectors::Validation;
 use cfb_streams::StreamLinks;
 use core::mem::replace_with;
 use std::alloc::Global;
@@ -39,15 +40,16 @@ fn husk_of<F: Medium>(alloc: Global, medium: F, mini: MiniHusk, reader: Reader) 
 }
 
 impl<F: Medium> CompoundFile<F> {
-    // The file of the medium that was rolled back; this one where the medium refuses, and one that has failed where the medium can't be
-    // read again.
-    fn rolled_back(self) -> (CompoundFile<F>, Result<(), Error>)
-        ensures rolled { OnOk result.1 (RollsBack F.has_published self result.0) }
+    // The file of the medium that was rolled back, opened as a reader of this kind does; this one where the medium refuses, and one that
+    // has failed where the medium can't be read again.
+    fn rolled_back(self, validation: Validation) -> (CompoundFile<F>, Result<(), Error>)
+        ensures rolled { OnOk result.1 (RollsBack F.has_published validation self result.0) }
         ensures left { OnErr result.1 (FileRests self result.0
             ⊎ HasLostAll F.has_published self result.0) }
         ensures unable { IsErrOf result.1 InvalidInput → FileRests self result.0 }
-        ensures refused { IsErrOf result.1 InvalidData → CannotOpen F.has_published self }
-        ensures reader { IsReadAlike self result.0 }
+        ensures refused { IsErrOf result.1 InvalidData
+            → CannotOpen F.has_published validation self }
+        ensures reader { IsReadAs validation self result.0 }
         ensures honest { F.honest (medium_of (allocator_of (mini_of result.0)))
             ≡ F.honest (medium_of (allocator_of (mini_of self))) }
         ensures continues { Extends F.continues (medium_of (allocator_of (mini_of self)))
@@ -62,7 +64,7 @@ impl<F: Medium> CompoundFile<F> {
             alloc,
             mini,
             letters,
-            validation,
+            validation: own,
             is_sound,
             links,
             mut ahead,
@@ -74,7 +76,7 @@ impl<F: Medium> CompoundFile<F> {
                     alloc,
                     mini,
                     letters,
-                    validation,
+                    validation: own,
                     is_sound,
                     links,
                     ahead,
@@ -99,11 +101,13 @@ impl<F: Medium> CompoundFile<F> {
     /// failed, `Memory` and `Device`: then all is as it was, or the file has failed, and may be rolled back again. `InvalidData`
     /// where the reader can't open the published bytes: then the file has failed. Nothing is written, and nothing is published.
     pub fn roll_back(&mut self) -> Result<(), Error>
-        ensures rolled { OnOk result (RollsBack F.has_published self.old self.new) }
+        ensures rolled { OnOk result (RollsBack F.has_published (validation_of self.old) self.old
+            self.new) }
         ensures left { OnErr result (FileRests self.old self.new
             ⊎ HasLostAll F.has_published self.old self.new) }
         ensures unable { IsErrOf result InvalidInput → FileRests self.old self.new }
-        ensures refused { IsErrOf result InvalidData → CannotOpen F.has_published self.old }
+        ensures refused { IsErrOf result InvalidData
+            → CannotOpen F.has_published (validation_of self.old) self.old }
         ensures reader { IsReadAlike self.old self.new }
         ensures honest { F.honest (medium_of (allocator_of (mini_of self.new)))
             ≡ F.honest (medium_of (allocator_of (mini_of self.old))) }
@@ -115,6 +119,33 @@ impl<F: Medium> CompoundFile<F> {
         ensures fault { IfErr result (λ e. IsFaultUnless (F.survives ≡ false) e
             ⊎ (e ≡ InvalidData)) }
     {
-        replace_with(self, (), |file: CompoundFile<F>, ()| file.rolled_back())
+        let validation = self.validation;
+        self.roll_back_as(validation)
+    }
+
+    /// As `roll_back`, but all is read again by a reader of this kind, who reads the file from then on.
+    pub fn roll_back_as(&mut self, validation: Validation) -> Result<(), Error>
+        ensures rolled { OnOk result (RollsBack F.has_published validation self.old self.new) }
+        ensures left { OnErr result (FileRests self.old self.new
+            ⊎ HasLostAll F.has_published self.old self.new) }
+        ensures unable { IsErrOf result InvalidInput → FileRests self.old self.new }
+        ensures refused { IsErrOf result InvalidData
+            → CannotOpen F.has_published validation self.old }
+        ensures reader { IsReadAs validation self.old self.new }
+        ensures honest { F.honest (medium_of (allocator_of (mini_of self.new)))
+            ≡ F.honest (medium_of (allocator_of (mini_of self.old))) }
+        ensures continues { Extends F.continues (medium_of (allocator_of (mini_of self.old)))
+            (medium_of (allocator_of (mini_of self.new))) }
+        ensures cause { IfErr result (HasCauseSince F.continues F.failures F.failed
+            (medium_of (allocator_of (mini_of self.old)))
+            (medium_of (allocator_of (mini_of self.new)))) }
+        ensures fault { IfErr result (λ e. IsFaultUnless (F.survives ≡ false) e
+            ⊎ (e ≡ InvalidData)) }
+    {
+        replace_with(
+            self,
+            validation,
+            |file: CompoundFile<F>, validation: Validation| { file.rolled_back(validation) },
+        )
     }
 }

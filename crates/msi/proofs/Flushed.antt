@@ -1,5 +1,5 @@
 -- A package whose pool and summary were written is packed by its file.
-use Rattle.std.proofs.Common.{◌≡◌, ◌∙◌, ◌⊎◌, Bool, IsTrue, ap, false, inl, inr, map, refl, subst, sym, true}
+use Rattle.std.proofs.Common.{◌≡◌, ◌∙◌, ◌⊎◌, Bool, IsTrue, ap, ap₂, false, inl, inr, map, refl, subst, sym, true}
 use Rattle.std.specs.Prelude.{Err, IfErr, Ok, OnErr, OnOk, Result, not, ◌&&◌, ◌||◌}
 use Rattle.cfb.proofs.LiveMeaning.{means_read}
 use Rattle.cfb.specs.Publishing.{medium_in}
@@ -7,9 +7,9 @@ use Rattle.cfb.specs.Putting.{KeepsMeant}
 use Rattle.cfb.specs.Views.{letters_in, mini_of}
 use Rattle.cfb.specs.Views as read
 use Rattle.cfb.specs.declared.compound_file.CompoundFile.{CompoundFile}
-use Rattle.cfb_fat.specs.Tables.{has_failed_here, HasCauseBelow}
+use Rattle.cfb_fat.specs.Tables.{has_failed, has_failed_here, HasCauseBelow}
 use Rattle.cfb_live.specs.Doing.{IsFault}
-use Rattle.cfb_medium.specs.Calls.{IsFaultUnless, Keeps}
+use Rattle.cfb_medium.specs.Calls.{Extends, IsFaultUnless, Keeps}
 use Rattle.cfb_medium.specs.declared.error.Error.{Error}
 use Rattle.cfb_medium.specs.declared.error.Error.TheVariants.{Failed, InvalidInput}
 use Rattle.cfb_medium.specs.declared.medium.ReadMedium.{Ghosts}
@@ -172,6 +172,31 @@ module _ {F : Type 0} {g : Ghosts F} where
     pub saved_writes : (r : Result (Unit {0}) Error) → SavesMemory r old new → PackageWrites r old new
     saved_writes (Ok u) s = sound_writes (Ok u) s.holds (λ P h is fit. saved_written new P (s.done P h is fit)) tt tt s.seen
     saved_writes (Err e) s = sound_writes (Err e) tt tt s.refused s.rests s.seen
+
+-- what lives has not failed by itself
+pub here_live : {F : Type 0} {g : Ghosts F} (it : Package F g) → failed_in it ≡ false → has_failed_here (allocator_of (mini_of (file_in it))) ≡ false
+here_live {F} {g} it live = first (has_failed_here (allocator_of (mini_of (file_in it)))) (g.failed (medium_in (file_in it))) live
+  where
+    first : (a b : Bool) → a || b ≡ false → a ≡ false
+    first true b is = absurd (cc)
+    first false b is = refl
+
+pub now_live : (A B : Type 0) (r : Result (Unit {0}) Error) → OnOk r (A × B) → OnOk r B
+now_live A B (Ok u) both = both.1
+now_live A B (Err e) both = tt
+
+-- what goes on and has not failed by itself lives
+module _ {F : Type 0} {g : Ghosts F} (refl_continues : (m : F) → g.continues m m) (continues_keeps : (a b : F) → g.continues a b → Keeps g.honest g.failed g.failures a b)
+    (old new : CompoundFile F g) (live : has_failed (allocator_of (mini_of old)) ≡ false) (on : Extends g.continues (medium_in old) (medium_in new)) where
+  pub lives_yet : (r : Result (Unit {0}) Error) → OnOk r (has_failed_here (allocator_of (mini_of new)) ≡ false) → OnOk r (has_failed (allocator_of (mini_of new)) ≡ false)
+  lives_yet (Ok u) here =
+      let keeps = continues_keeps (medium_in old) (medium_in new) (on (medium_in old) (refl_continues (medium_in old))) in
+      ap₂ (λ a b. a || b) here (sym keeps.as_failed ∙ second (has_failed_here (allocator_of (mini_of old))) (g.failed (medium_in old)) live)
+    where
+      second : (a b : Bool) → a || b ≡ false → b ≡ false
+      second true b is = absurd (cc)
+      second false b is = is
+  lives_yet (Err e) here = tt
 
 -- errors that are faults, whatever is held
 pub fault_unsaved : {F : Type 0} {g : Ghosts F} (old new : Package F g) (r : Result (Unit {0}) Error) → IfErr r (IsFaultUnless ⊥) → IfErr r (λ e. (P : Packed) → PackageHolds old P → IsTrue (sound_in old) → IsUnsaved old new e)

@@ -1,10 +1,10 @@
 //! Packages whose pool and summary are written to their streams.
-ghost use Rattle.std.specs.Prelude.{◌≡◌, ◌&&◌, not, Err, IfErr, IfOk, Ok};
+ghost use Rattle.std.specs.Prelude.{◌≡◌, ◌&&◌, false, not, Err, IfErr, IfOk, Ok, OnOk};
 ghost use Rattle.cfb.specs.Views.{mini_of};
 ghost use Rattle.cfb_fat.specs.Tables.{HasCauseBelow};
 ghost use Rattle.cfb_mini.specs.Views.{allocator_of};
 ghost use Rattle.cfb_owned.specs.Chains.{GoesOn};
-ghost use Rattle.msi.specs.Changing.{IsChangeError, PackageWrites};
+ghost use Rattle.msi.specs.Changing.{failed_in, IsChangeError, PackageWrites};
 ghost use Rattle.msi.specs.Copying.{GivesMedium};
 ghost use Rattle.msi.specs.Opened.{file_in, pool_in, written_in};
 ghost use Rattle.msi.specs.Steps.{SavesMemory};
@@ -20,6 +20,7 @@ impl<F: Medium> Package<F> {
     /// After an error nothing is changed, or the package has failed. A text that its page lacks is written with `?` in it.
     pub fn flush(&mut self) -> Result<(), Error>
         ensures writes { PackageWrites result self.old self.new }
+        ensures live { OnOk result (failed_in self.new ≡ false) }
         ensures goes_on { GoesOn (allocator_of (mini_of (file_in self.old)))
             (allocator_of (mini_of (file_in self.new))) }
         ensures cause { IfErr result (HasCauseBelow (allocator_of (mini_of (file_in self.old)))

@@ -13,14 +13,16 @@ ghost use Rattle.msi_stored.specs.Reading.{IsOpeningError};
 use crate::opening::judged_parts;
 use crate::package::Package;
 use cfb_medium::{Error, Medium};
+use cfb_sectors::Validation;
 use msi_parts::PackageParts;
 
 impl<F: Medium> Package<F> {
     /// Goes back to the package that was committed last, or else to the one that was opened, also after a fault: what was changed since
     /// is gone, and all is read again from the bytes that were published last, under the same letter table. `InvalidInput` where the
-    /// medium doesn't survive a stop, `Failed` where it has failed, `Memory` and `Device`; then as `open` refuses those bytes, which
-    /// it never does where a commit published them. After an error all is as it was, or the package has failed, and may be taken back
-    /// again. Nothing is written, and nothing is published.
+    /// medium doesn't survive a stop, `Failed` where it has failed, `Memory` and `Device`; then as `open` refuses those bytes, and
+    /// `InvalidData` where they hold a sound package and this one isn't sound, or the other way: so it never is where a commit published
+    /// them. After an error all is as it was, or the package has failed, and may be taken back again. Nothing is written, and nothing is
+    /// published.
     pub fn roll_back(&mut self) -> Result<(), Error>
         ensures back { OnOk result (GoesBack F.has_published self.old self.new) }
         ensures left { OnErr result (PackageRests self.old self.new
@@ -30,6 +32,7 @@ impl<F: Medium> Package<F> {
         ensures kinds { IfErr result (λ e. IsFaultUnless (F.survives ≡ false) e
             ⊎ IsOpeningError e) }
         ensures letters { letters_in (file_in self.new) ≡ letters_in (file_in self.old) }
+        ensures sound { sound_in self.new ≡ sound_in self.old }
         ensures honest { F.honest (medium_in (file_in self.new))
             ≡ F.honest (medium_in (file_in self.old)) }
         ensures continues { Extends F.continues (medium_in (file_in self.old))
@@ -37,12 +40,18 @@ impl<F: Medium> Package<F> {
         ensures cause { IfErr result (HasCauseSince F.continues F.failures F.failed
             (medium_in (file_in self.old)) (medium_in (file_in self.new))) }
     {
-        if let Err(error) = self.store.file.roll_back() {
+        let was_sound = self.is_sound;
+        if let Err(error) = self.store.file.roll_back_as(Validation::Permissive) {
             return Err(error);
         }
         if let Err(error) = self.read_again() {
             self.store.file.fail();
             return Err(error);
+        }
+        if self.is_sound != was_sound {
+            self.is_sound = was_sound;
+            self.store.file.fail();
+            return Err(Error::InvalidData);
         }
         Ok(())
     }
@@ -52,6 +61,7 @@ impl<F: Medium> Package<F> {
         ensures ok { OnOk result (IsFound (file_in self.old) self.new) }
         ensures err { IfErr result (IsGivenUp (file_in self.old) (medium_in (file_in self.new))) }
         ensures letters { letters_in (file_in self.new) ≡ letters_in (file_in self.old) }
+        ensures sound { IfErr result (λ e. sound_in self.new ≡ sound_in self.old) }
         ensures kinds { IfErr result IsOpeningError }
     {
         match judged_parts(self.alloc, &mut self.store.file) {

@@ -16,10 +16,10 @@ returns-in-Ok-open_by-clause-rolled g c =
     let rolled = c.in-Ok.ensures.rolled in
     let opens = c.in-Ok-open_by.ensures.opens in
     let keeps = G.continues_keeps was (medium_of (allocator_of (mini_of new))) (opens.continues was (rolled.extends was (G.continues_refl was))) in
-    rolls_back g.F.Medium.has_published it c.in-Ok.parts.0 new rolled opens (sym keeps.as_failed) c.in-Ok-open_by.ensures.opened
+    rolls_back g.F.Medium.has_published c.args.validation it c.in-Ok.parts.0 new rolled opens (sym keeps.as_failed) c.in-Ok-open_by.ensures.opened
 
 pub returns-clause-left : goal.returns-clause-left
-returns-clause-left g c = inr (has_lost_all g.F.Medium.has_published c.args.self c.in-Ok.parts.0 c.in-Err-open_by.medium c.husk_of.result c.in-Ok.ensures.rolled c.in-Err-open_by.ensures.left c.husk_of.ensures.medium c.husk_of.ensures.failed)
+returns-clause-left g c = inr (has_lost_all g.F.Medium.has_published c.args.validation c.args.self c.in-Ok.parts.0 c.in-Err-open_by.medium c.husk_of.result c.in-Ok.ensures.rolled c.in-Err-open_by.ensures.left c.husk_of.ensures.medium c.husk_of.ensures.failed)
 
 pub returns-clause-unable : goal.returns-clause-unable
 returns-clause-unable g c = λ wrong.
@@ -29,7 +29,7 @@ returns-clause-unable g c = λ wrong.
 pub returns-clause-refused : goal.returns-clause-refused
 returns-clause-refused g c = λ wrong.
     let is : c.in-Err-open_by.error ≡ InvalidData = cc in
-    cannot_open g.F.Medium.has_published c.args.self c.in-Ok.parts.0 c.in-Ok.ensures.rolled (c.in-Err-open_by.ensures.refused is)
+    cannot_open g.F.Medium.has_published c.args.validation c.args.self c.in-Ok.parts.0 c.in-Ok.ensures.rolled (c.in-Err-open_by.ensures.refused is)
 
 pub returns-clause-continues : goal.returns-clause-continues
 returns-clause-continues g c = λ start from.

@@ -3,7 +3,7 @@ use Rattle.cfb.specs.Views.{mini_of}
 use Rattle.cfb_mini.specs.Views.{allocator_of}
 use Rattle.cfb_owned.proofs.GoingOn.{rests_go_on}
 use Rattle.msi.specs.Opened.{file_in}
-use Rattle.msi.proofs.Flushed.{failed_cause, failed_writes, fault_kinds, fault_unsaved, keeps_flushed, on_err, on_ok, saved_writes, sound_writes, unsound_writes, written_already, written_yet}
+use Rattle.msi.proofs.Flushed.{failed_cause, failed_writes, fault_kinds, fault_unsaved, here_live, keeps_flushed, lives_yet, now_live, on_err, on_ok, saved_writes, sound_writes, unsound_writes, written_already, written_yet}
 use Rattle.msi.proofs.package.Package.flush.Goals as goal
 
 pub returns-then-has_failed-clause-writes : goal.returns-then-has_failed-clause-writes
@@ -34,3 +34,18 @@ returns-then-is_written-clause-kinds g c = fault_kinds c.flush.result c.flush.en
 
 pub returns-clause-writes : goal.returns-clause-writes
 returns-clause-writes g c = saved_writes c.args.self.now _ (sym c.has_failed.ensures ∙ c.if-has_failed.false) c.if-not-self.false c.write_memory.result c.write_memory.ensures.saves
+
+pub returns-then-not-self-clause-live : goal.returns-then-not-self-clause-live
+returns-then-not-self-clause-live g c = sym c.has_failed.ensures ∙ c.if-has_failed.false
+
+pub returns-then-is_written-clause-live : goal.returns-then-is_written-clause-live
+returns-then-is_written-clause-live g c =
+    let G = g.met.F.ReadMedium in
+    let sectors = c.flush.ensures.rests.mini.directory.allocator.sectors in
+    let live = sym c.has_failed.ensures ∙ c.if-has_failed.false in
+    lives_yet G.continues_refl G.continues_keeps (file_in c.args.self.now) c.flush.new.self live sectors.continues c.flush.result (on_ok c.flush.result (sectors.failed ∙ here_live c.args.self.now live))
+
+pub returns-clause-live : goal.returns-clause-live
+returns-clause-live g c =
+    let G = g.met.F.ReadMedium in
+    lives_yet G.continues_refl G.continues_keeps (file_in c.args.self.now) (file_in c.write_memory.new.self) (sym c.has_failed.ensures ∙ c.if-has_failed.false) c.write_memory.ensures.goes_on.continues c.write_memory.result (now_live _ _ c.write_memory.result c.write_memory.ensures.saves.live)
