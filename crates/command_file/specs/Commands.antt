@@ -136,7 +136,8 @@ ops = (codes "create_table", with_keys (codes "table" ∷ codes "columns" ∷ []
     ∷ (codes "set_codepage", with_keys (codes "id" ∷ []) (λ d. option_map command.set_codepage (at_key (codes "id") page_in d)))
     ∷ (codes "tables", alone command.tables) ∷ (codes "streams", alone command.streams) ∷ (codes "has_signature", alone command.has_signature)
     ∷ (codes "remove_signature", alone command.remove_signature) ∷ (codes "summary", alone command.summary) ∷ (codes "codepage", alone command.codepage)
-    ∷ (codes "flush", alone command.flush) ∷ (codes "commit", alone command.commit) ∷ []
+    ∷ (codes "flush", alone command.flush) ∷ (codes "commit", alone command.commit)
+    ∷ (codes "roll_back", alone command.roll_back) ∷ []
 
 -- one command
 unfoldable pub command_in : Data → Option Request

@@ -29,6 +29,7 @@ pub data Request : Type 0 where
   set_codepage : CodePage → Request
   flush : Request
   commit : Request
+  roll_back : Request
 
 -- ---- kinds of requests, which every request is one of
 
@@ -55,9 +56,14 @@ abbrev pub is_commit : Request → Bool
 is_commit commit = true
 is_commit _ = false
 
+-- the one that takes back what was changed
+abbrev pub is_roll_back : Request → Bool
+is_roll_back roll_back = true
+is_roll_back _ = false
+
 -- those that change
 abbrev pub is_changing : Request → Bool
-is_changing request = not (is_reading request) && not (is_writing request)
+is_changing request = not (is_reading request) && (not (is_writing request) && not (is_roll_back request))
 
 -- the one that takes no memory and no device
 abbrev pub is_codepage : Request → Bool

@@ -61,3 +61,4 @@ said command.Codepage = asked.codepage
 said (command.SetCodepage page) = asked.set_codepage page
 said command.Flush = asked.flush
 said command.Commit = asked.commit
+said command.RollBack = asked.roll_back

@@ -49,6 +49,8 @@ pub enum Command {
     Flush,
     /// Publishes the package.
     Commit,
+    /// Goes back to the package that was published last.
+    RollBack,
 }
 
 /// A change of the summary: a field's new value, or none, which clears it.

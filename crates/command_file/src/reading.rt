@@ -94,6 +94,7 @@ pub(crate) fn command_of(alloc: Global, json: &Json) -> Result<Command, Error>
         "codepage" => keyless_command(json, Command::Codepage),
         "flush" => keyless_command(json, Command::Flush),
         "commit" => keyless_command(json, Command::Commit),
+        "roll_back" => keyless_command(json, Command::RollBack),
         _ => Err(Error::InvalidInput),
     }
 }

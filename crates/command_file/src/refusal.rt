@@ -126,7 +126,8 @@ fn keys_of(op: &str) -> Option<Keys> {
         | "summary"
         | "codepage"
         | "flush"
-        | "commit" => (&[], &[]),
+        | "commit"
+        | "roll_back" => (&[], &[]),
         _ => return None,
     };
     Some(Keys { needed, optional })

@@ -87,7 +87,8 @@ A command file has a command of these, or several:
  {"op":"has_signature"},
  {"op":"remove_signature"},
  {"op":"flush"},
- {"op":"commit"}]
+ {"op":"commit"},
+ {"op":"roll_back"}]
 Status: 0 done, 1 a command was refused by a rule, 2 the command file was refused and nothing was opened, 3 a fault, or files that were refused."#
 }
 

@@ -17,7 +17,7 @@ use Rattle.cfb_mini.specs.Views.{allocator_of}
 use Rattle.cfb_owned.specs.Chains.{GoesOn}
 use Rattle.command_file.specs.Request as asked
 use Rattle.command_file.specs.Request.{Request, is_changing, is_codepage, is_reading}
-use Rattle.msi.specs.Changing.{failed_in, permission, IsRemovalError, KeepsHeld, PackageChanges, PackageWrites}
+use Rattle.msi.specs.Changing.{permission, IsRemovalError, KeepsHeld, PackageChanges, PackageWrites}
 use Rattle.msi.specs.Opened.{file_in, sound_in, PackageHolds, PackageRests}
 use Rattle.msi.specs.declared.package.Package.{Package}
 use Rattle.msi_meaning.specs.Package.{Packed}
@@ -32,7 +32,7 @@ use Rattle.installer.specs.Course.{Course, takes_room}
 use Rattle.installer.specs.Follows.{AnswersQuietly}
 use Rattle.installer.specs.Reply.{Reply}
 use Rattle.installer.specs.Reply as told
-use Rattle.installer.specs.Sessions.{condition_of, is_failed, package_in, phase_of, IsAt}
+use Rattle.installer.specs.Sessions.{condition_of, has_base, is_failed, package_in, phase_of, IsAt}
 use Rattle.installer.specs.Sessions.{letters_in as session_letters}
 use Rattle.installer.specs.Step.{Reads, Step, told_of}
 use Rattle.installer.specs.declared.session.SessionOver.{SessionOver}
@@ -113,7 +113,7 @@ no_codepage request is = refl
 -- how one behaves after a fault
 pub behaves_ended : {F : Type 0} {g : Ghosts F} (it : SessionOver F g) (request : Request) → is_failed it ≡ true → BehavesOnce (condition_of it) request (told.refused Failed) (condition_of it)
 behaves_ended it request failed = record {
-  ended = λ _. (refl, refl);
+  ended = λ _ _. (refl, refl);
   live = λ live _. both_ways (is_failed it) live failed;
   device = λ is. absurd (cc);
   reading = λ _. refl;
@@ -133,7 +133,7 @@ pub behaves_live : {F : Type 0} {g : Ghosts F} (refl_continues : (m : F) → g.c
 behaves_live refl_continues old new live request reply counted sound caused other reading unsound =
     let start = medium_in (file_in (package_in old)) in
     record {
-      ended = λ failed. absurd (both_ways (is_failed old) live failed);
+      ended = λ failed _. absurd (both_ways (is_failed old) live failed);
       live = λ _ is. both_ways (is_failed old) live ((caused Failed is start (refl_continues start)).earlier refl);
       device = λ is. (caused Device is start (refl_continues start)).device refl;
       reading = λ is. reading is ∙ sym live;
@@ -144,7 +144,7 @@ behaves_live refl_continues old new live request reply counted sound caused othe
     }
 
 module _ {F : Type 0} {g : Ghosts F} (refl_continues : (m : F) → g.continues m m) (continues_keeps : (a b : F) → g.continues a b → Keeps g.honest g.failed g.failures a b)
-    (old new : SessionOver F g) (live : is_failed old ≡ false) where
+    (old new : SessionOver F g) (live : is_failed old ≡ false) (based : has_base new ≡ has_base old) where
   -- a change
   pub answers_changes : (rule : PackageRule) (request : Request) (reply : Reply) (result : Result (Unit {0}) Error) → is_changing request ≡ true
       → ((P Q : Packed) (answer : Result (Unit {0}) Error) → rule P Q answer → StepOr (session_letters old) P request answer Q)
@@ -165,6 +165,7 @@ module _ {F : Type 0} {g : Ghosts F} (refl_continues : (m : F) → g.continues m
         (λ e told. told_error result reply (HasCauseBelow (allocator_of (mini_of (file_in (package_in old)))) (allocator_of (mini_of (file_in (package_in new))))) e is cause told)
         (λ e told. no_codepage request changing) (λ reads. absurd (both_ways (is_reading request) (unread request changing) reads))
         (λ unsound _. inl (is ∙ ap told_of (changes.unsound live unsound).0));
+    based = based;
     quiet = on;
   }
 
@@ -194,6 +195,7 @@ module _ {F : Type 0} {g : Ghosts F} (refl_continues : (m : F) → g.continues m
     behaves = behaves_live refl_continues old new live asked.flush reply (moves_on refl_continues continues_keeps (package_in old) (package_in new) on writes.seen.1).counted writes.seen.1
         (λ e told. told_error result reply (HasCauseBelow (allocator_of (mini_of (file_in (package_in old)))) (allocator_of (mini_of (file_in (package_in new))))) e is cause told)
         (λ e told. refl) (λ reads. absurd (cc)) (λ unsound changes. absurd (cc));
+    based = based;
     quiet = on;
   }
 
@@ -235,6 +237,7 @@ module _ {F : Type 0} {g : Ghosts F} (refl_continues : (m : F) → g.continues m
         sound = rests.sound;
       };
       behaves = behaves_reading request reply reading (λ e is. absurd (no_refusal reply e other is)) (λ e is. absurd (no_refusal reply e other is));
+      based = based;
       quiet = on;
     }
 
@@ -255,6 +258,7 @@ module _ {F : Type 0} {g : Ghosts F} (refl_continues : (m : F) → g.continues m
       };
       behaves = behaves_reading request (told.refused e) reading
           (λ f is. subst (HasCauseBelow (allocator_of (mini_of (file_in (package_in old)))) (allocator_of (mini_of (file_in (package_in new))))) (same_refusal e f is) cause) (λ f is. other);
+      based = based;
       quiet = on;
     }
 
@@ -269,5 +273,6 @@ module _ {F : Type 0} {g : Ghosts F} (refl_continues : (m : F) → g.continues m
       behaves = behaves_live refl_continues old new live request (told.refused e) moves.counted rests.sound
           (λ f told. cause_own (package_in old) (package_in new) f (memory_own f (sym (same_refusal e f told) ∙ is))) (λ f told. other) (λ _. rested)
           (λ _ _. inr (ap (λ f. told.refused f) is));
+      based = based;
       quiet = on;
     }

@@ -1,23 +1,18 @@
 -- Sessions that begin, and why none does.
 use Rattle.std.proofs.Common.{◌≡◌, ◌⊎◌, ◌<◌, ◌≤◌, ◌-◌, ◌^◌, ◌∙◌, ℕ, Bool, true, [], List, Some, ap, false, inl, inr, refl, subst, sym, ⊎_elim}
-use Rattle.std.specs.Prelude.{IsTrue}
-use Rattle.cfb.specs.Publishing.{medium_in}
-use Rattle.cfb.specs.Views.{mini_of}
-use Rattle.cfb_fat.specs.Tables.{has_failed_here}
-use Rattle.cfb_medium.specs.Calls.{IsFaultUnless, Keeps}
+use Rattle.std.specs.Prelude.{IsTrue, None, Option}
+use Rattle.cfb_medium.specs.Calls.{IsFaultUnless}
 use Rattle.cfb_medium.specs.Stops.{LeavesOnly}
 use Rattle.cfb_medium.specs.declared.error.Error.{Error}
 use Rattle.cfb_live.specs.Doing.{IsFault}
 use Rattle.cfb_medium.specs.declared.error.Error.TheVariants.{Device, Failed, InvalidData, InvalidInput}
 use Rattle.cfb_medium.specs.declared.medium.ReadMedium.{Ghosts}
-use Rattle.cfb_mini.specs.Views.{allocator_of}
 use Rattle.cfb_tree.specs.Names.{Letters}
 use Rattle.msi.specs.Changing.{failed_in, IsChangeError}
 use Rattle.msi.proofs.OpenAgain.{never_refused}
 use Rattle.msi.specs.Creating.{IsNewRefusal}
 use Rattle.msi.specs.Committing.{HoldsSound}
-use Rattle.msi.specs.Opened.{file_in, IsRefused, PackageHolds}
-use Rattle.msi.specs.declared.package.Package.{Package}
+use Rattle.msi.specs.Opened.{IsRefused, PackageHolds}
 use Rattle.msi_meaning.specs.Opening.{may_use}
 use Rattle.msi_meaning.specs.Package.{Packed}
 use Rattle.staged.specs.Device.{DeviceRests}
@@ -26,17 +21,30 @@ use Rattle.staged.specs.Log.{logged, recovered, MalformedLog}
 use Rattle.staged.specs.Recovery.{IsMalformedOrFault}
 use Rattle.staged.specs.Steps.{GivesAlike}
 use Rattle.staged.specs.declared.device.Device as device
-use Rattle.installer.proofs.Going.{package_live}
+use Rattle.staged.specs.declared.staged.Staged.{Staged}
 use Rattle.installer.proofs.Recovering.{faults, never_recovered}
 use Rattle.installer.proofs.Stopping.{begun_survives}
 use Rattle.installer.specs.Refusals.{IsCounted, IsMalformed}
-use Rattle.installer.specs.Sessions.{beginning, package_in, phase_of, IsAt}
+use Rattle.installer.specs.Sessions.{beginning, has_base, is_sound, package_in, phase_of, IsAt, IsPublished, StandsAt}
 use Rattle.installer.specs.Survival.{Survives}
 use Rattle.installer.specs.declared.session.SessionOver.{SessionOver}
 
 -- a session with a package that is held, and has not failed, is at its beginning
-pub begins_at : {F : Type 0} {g : Ghosts F} (s : SessionOver F g) (P : Packed) → failed_in (package_in s) ≡ false → PackageHolds (package_in s) P → IsAt (package_in s) (beginning s P)
-begins_at s P live held = record { phase = ap phase_of (sym live); held = λ _. held; failures = refl; sound = refl }
+pub begins_at : {F : Type 0} {g : Ghosts F} (s : SessionOver F g) (base : Option Packed) (P : Packed) → failed_in (package_in s) ≡ false → PackageHolds (package_in s) P → IsAt (package_in s) (beginning s base P)
+begins_at s base P live held = record { phase = ap phase_of (sym live); held = λ _. held; failures = refl; sound = refl }
+
+module _ {D : Type 0} {g : device.Ghosts D} {h : Ghosts (Staged D g)} (s : SessionOver (Staged D g) h) (P : Packed) (live : failed_in (package_in s) ≡ false) (held : PackageHolds (package_in s) P) where
+  -- over an empty home file
+  pub begins_new : has_base s ≡ false → StandsAt s (beginning s None P)
+  begins_new none = record { place = begins_at s None P live held; based = sym none; base = λ _ B is. absurd (cc is) }
+
+  -- over one of which the package was found
+  pub begins_found : has_base s ≡ true → (is_sound s ≡ true → IsPublished s P) → StandsAt s (beginning s (Some P) P)
+  begins_found some found = record {
+    place = begins_at s (Some P) P live held;
+    based = sym some;
+    base = λ sound B is. (let same : P ≡ B = cc is in subst (λ (Q : Packed). IsPublished s Q) same (found sound));
+  }
 
 module _ {D : Type 0} (g : device.Ghosts D) (old : D) where
   -- a recovery was refused

@@ -1,7 +1,6 @@
 -- The table of a name in memory is the package's.
 use Rattle.std.proofs.Common.{◌≡◌, ◌∙◌, ℕ, Bool, List, None, Some, ap, map, refl, sym}
 use Rattle.std.specs.Prelude.{Err, Ok, Option, option_map}
-use Rattle.cfb_medium.specs.declared.error.Error.{Error}
 use Rattle.cfb_medium.specs.declared.error.Error.TheVariants.{NotFound}
 use Rattle.cfb_medium.specs.declared.medium.ReadMedium.{Ghosts}
 use Rattle.msi.specs.Opened.{pool_in, tables_in, PackageHolds}

@@ -1,5 +1,5 @@
 -- What a fault of a package is to a session.
-use Rattle.std.proofs.Common.{◌≡◌, ◌⊎◌, ◌<◌, ◌-◌, ◌^◌, ◌||◌, ℕ, Bool, IsTrue, arith, false, inl, inr, refl, sym, true, ◌∙◌, ⊎_elim}
+use Rattle.std.proofs.Common.{◌≡◌, ◌⊎◌, arith, false, inl, inr, refl, true, ⊎_elim}
 use Rattle.std.proofs.lemmas.Bool.{both_ways}
 use Rattle.cfb.specs.Publishing.{medium_in}
 use Rattle.cfb.specs.Views.{mini_of}
@@ -18,7 +18,7 @@ use Rattle.installer.specs.Course.{Course, takes_room}
 use Rattle.installer.specs.Course.{IsFault as IsCourseFault}
 
 -- want of memory, a fault of the device, or one before
-fault_kinds : (e : Error) → IsFaultUnless ⊥ e → (e ≡ Memory) ⊎ ((e ≡ Device) ⊎ (e ≡ Failed))
+pub fault_kinds : (e : Error) → IsFaultUnless ⊥ e → (e ≡ Memory) ⊎ ((e ≡ Device) ⊎ (e ≡ Failed))
 fault_kinds InvalidInput is = absurd is
 fault_kinds Memory is = inl refl
 fault_kinds Device is = inr (inl refl)

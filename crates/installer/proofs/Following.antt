@@ -1,7 +1,7 @@
 -- How one command of a session goes, over a device.
 use Rattle.std.proofs.Common.{◌≡◌, ◌⊎◌, ◌≤◌, ◌∷◌, ◌∙◌, ℕ, Bool, List, [], Some, ap, false, inl, inr, refl, subst, sym, true, ⊎_elim}
 use Rattle.std.proofs.lemmas.Bool.{both_ways}
-use Rattle.std.specs.Prelude.{Err, IfErr, IsErrOf, IsTrue, Ok, OnOk, Option, Result}
+use Rattle.std.specs.Prelude.{Err, IfErr, IsErrOf, IsTrue, Ok, OnOk, Option, Result, is_some}
 use Rattle.cfb.specs.Publishing.{medium_in}
 use Rattle.cfb.specs.Views as file
 use Rattle.cfb.specs.Views.{mini_of}
@@ -11,27 +11,30 @@ use Rattle.cfb_medium.specs.declared.error.Error.{Error}
 use Rattle.cfb_medium.specs.declared.error.Error.TheVariants.{AlreadyExists, Device, Failed, Full, InvalidData, InvalidInput, Memory, NotFound, UnexpectedEof}
 use Rattle.cfb_medium.specs.declared.medium.ReadMedium.{Ghosts}
 use Rattle.cfb_mini.specs.Views.{allocator_of}
-use Rattle.cfb_owned.specs.Chains.{GoesOn}
 use Rattle.cfb_tree.specs.Names.{Letters}
-use Rattle.command_file.specs.Request.{Request, is_commit}
+use Rattle.command_file.specs.Request.{Request, is_commit, is_roll_back}
 use Rattle.command_file.specs.Request as asked
 use Rattle.msi.specs.Changing.{failed_in}
 use Rattle.msi.specs.Committing.{HoldWhatWasHeld, HoldsSound, PackageCommits}
 use Rattle.msi.specs.Opened.{file_in, sound_in, PackageHolds}
 use Rattle.msi.specs.declared.package.Package.{Package}
+use Rattle.msi_meaning.specs.Opening.{may_use}
 use Rattle.msi_meaning.specs.Package.{Packed}
+use Rattle.staged.specs.Device.{DeviceRests}
 use Rattle.staged.specs.Files.{Files}
-use Rattle.staged.specs.Log.{recovered}
+use Rattle.staged.specs.Log.{logged, recovered}
 use Rattle.staged.specs.Settled.{HasPublished}
 use Rattle.staged.specs.Staged.{device_of}
 use Rattle.staged.specs.declared.device.Device as device
 use Rattle.staged.specs.declared.staged.Staged.{Staged}
-use Rattle.installer.proofs.Stopping.{survives_commit, survives_rest, survives_stay}
-use Rattle.installer.specs.Course.{marks_as}
+use Rattle.installer.proofs.Answering.{behaves_ended}
+use Rattle.installer.proofs.Going.{base_other}
+use Rattle.installer.proofs.Stopping.{survives_commit, survives_rest}
+use Rattle.installer.specs.Course.{fails, marks_as, refuses, rolls, stays, steps, Course, Goes, KeepsBase}
 use Rattle.installer.specs.Follows.{AnswersQuietly, Follows}
 use Rattle.installer.specs.Reply.{Reply}
 use Rattle.installer.specs.Reply as told
-use Rattle.installer.specs.Sessions.{device_below, letters_in, package_in}
+use Rattle.installer.specs.Sessions.{device_below, is_failed, letters_in, package_in, phase_of, IsPublished}
 use Rattle.installer.specs.Step.{told_of}
 use Rattle.installer.specs.Survival.{gives, given_since, IsFound, IsGiven, Survives}
 use Rattle.installer.specs.declared.session.SessionOver.{SessionOver}
@@ -63,25 +66,89 @@ pub published_at : {D : Type 0} (g : device.Ghosts D) (result : Result (Unit {0}
 published_at g (Ok u) d Found p = (p.0, p.1.left, p.2)
 published_at g (Err e) d Found p = tt
 
+base_kept : (start end : Course) (request : Request) → is_commit request ≡ false → KeepsBase start request end → end.base ≡ start.base
+base_kept start end request other (inl kept) = kept
+base_kept start end request other (inr cut) = absurd (both_ways (is_commit request) other cut.0)
+
+-- what is no commit and no roll back leaves the package to which one leads
+pub kept_quiet : (letters : Letters) (start end : Course) (request : Request) (reply : Reply) → is_commit request ≡ false → is_roll_back request ≡ false → Goes letters start request reply end
+    → (end.base ≡ start.base) × (end.sound ≡ start.sound)
+kept_quiet letters start end request reply other unrolled (steps run step base yet sound counted) = (base ∙ base_other start request reply other, sound)
+kept_quiet letters start end request reply other unrolled (stays e run is undone page same base counted) = (base_kept start end request other base, ap (λ (c : Course). c.sound) same)
+kept_quiet letters start end request reply other unrolled (fails e run is undone unread same base counted) = (base_kept start end request other base, ap (λ (c : Course). c.sound) same)
+kept_quiet letters start end request reply other unrolled (refuses run own is same) = (ap (λ (c : Course). c.base) same, ap (λ (c : Course). c.sound) same)
+kept_quiet letters start end request reply other unrolled (rolls back goes) = absurd (both_ways (is_roll_back request) unrolled back)
+
+module _ {D : Type 0} {g : device.Ghosts D}
+    (counts_now : (d : D) (t : ℕ) (left : Files) → t ≤ g.moment d → g.may_leave d left → g.left_since d t left)
+    (rests_keeps : (a b : D) → g.rests a b → DeviceRests g.honest g.content g.writes g.failures a b) (rests_leaves : (a b : D) → g.rests a b → LeavesOnly g.moment g.left_since a b (g.may_leave a)) where
+  -- what was published is so after reads
+  pub published_yet : (a b : D) (bytes : List ℕ) → g.rests a b → IsTrue (g.honest a) → HasPublished g a bytes → HasPublished g b bytes
+  published_yet a b bytes rests honest published =
+      let same = (rests_keeps a b rests).same honest in
+      let leaves = rests_leaves a b rests in
+      record {
+        home = ap (λ (files : Files). files.home) same ∙ published.home;
+        closed = ap (λ (files : Files). logged files) same ∙ published.closed;
+        left = λ left now. published.left left (leaves.each left (counts_now b (g.moment a) left leaves.later now));
+      }
+
+  -- a call that is no commit leaves nothing more
+  pub still : (letters : Letters) (a b : D) → g.rests a b → Survives letters g a b []
+  still letters a b r =
+      let keeps = rests_keeps a b r in
+      survives_rest letters g counts_now a b (sym keeps.as_honest) keeps.counted (rests_leaves a b r)
+
 module _ {D : Type 0} {g : device.Ghosts D} {h : Ghosts (Staged D g)}
     (counts_now : (d : D) (t : ℕ) (left : Files) → t ≤ g.moment d → g.may_leave d left → g.left_since d t left)
-    (rests_honest : (a b : D) → g.rests a b → g.honest b ≡ g.honest a) (rests_counted : (a b : D) → g.rests a b → g.failures a ≤ g.failures b)
-    (rests_leaves : (a b : D) → g.rests a b → LeavesOnly g.moment g.left_since a b (g.may_leave a))
-    (refl_continues : (m : Staged D g) → h.continues m m) (rests : (a b : Staged D g) → h.continues a b → g.rests (device_of a) (device_of b)) where
-  -- a call that is no commit leaves nothing more
-  pub still : (letters : Letters) (old new : Package (Staged D g) h) → GoesOn (allocator_of (mini_of (file_in old))) (allocator_of (mini_of (file_in new)))
-      → Survives letters g (device_of (medium_in (file_in old))) (device_of (medium_in (file_in new))) []
-  still letters old new on =
-      let r = rests (medium_in (file_in old)) (medium_in (file_in new)) (on.continues (medium_in (file_in old)) (refl_continues (medium_in (file_in old)))) in
-      survives_rest letters g counts_now (device_of (medium_in (file_in old))) (device_of (medium_in (file_in new))) (rests_honest _ _ r) (rests_counted _ _ r) (rests_leaves _ _ r)
-
-  pub follows_quietly : (request : Request) (reply : Reply) (old new : SessionOver (Staged D g) h) → is_commit request ≡ false → AnswersQuietly request reply old new → Follows request reply old new
-  follows_quietly request reply old new other answers = record {
-    by_rule = answers.by_rule;
-    behaves = answers.behaves;
-    still = λ unsound. still (letters_in old) (package_in old) (package_in new) answers.quiet;
-    survives = λ start at. rw (marks_other start.sound start.held request reply other) (still (letters_in old) (package_in old) (package_in new) answers.quiet);
+    (rests_keeps : (a b : D) → g.rests a b → DeviceRests g.honest g.content g.writes g.failures a b) (rests_leaves : (a b : D) → g.rests a b → LeavesOnly g.moment g.left_since a b (g.may_leave a)) where
+  pub published_on : (old new : SessionOver (Staged D g) h) (B : Packed) → g.rests (device_below old) (device_below new)
+      → h.failed (medium_in (file_in (package_in old))) ≡ h.failed (medium_in (file_in (package_in new))) → letters_in new ≡ letters_in old → IsPublished old B → IsPublished new B
+  published_on old new B rests failed letters was = record {
+    live = sym failed ∙ was.live;
+    honest = subst IsTrue (rests_keeps (device_below old) (device_below new) rests).as_honest was.honest;
+    usable = ap may_use letters ∙ was.usable;
+    bytes = was.bytes;
+    published = published_yet counts_now rests_keeps rests_leaves (device_below old) (device_below new) was.bytes rests was.honest was.published;
+    found = λ fit. subst (λ l. HoldsSound l was.bytes B) (sym letters) (was.found fit);
   }
+
+  module _ (refl_continues : (m : Staged D g) → h.continues m m) (rests : (a b : Staged D g) → h.continues a b → g.rests (device_of a) (device_of b)) (failed : (a b : Staged D g) → h.continues a b → h.failed a ≡ h.failed b) where
+    pub follows_quietly : (request : Request) (reply : Reply) (old new : SessionOver (Staged D g) h) → is_commit request ≡ false → is_roll_back request ≡ false → AnswersQuietly request reply old new → Follows request reply old new
+    follows_quietly request reply old new other unrolled answers =
+        let on = answers.quiet.continues (medium_in (file_in (package_in old))) (refl_continues (medium_in (file_in (package_in old)))) in
+        let rested = rests (medium_in (file_in (package_in old))) (medium_in (file_in (package_in new))) on in
+        record {
+          goes = λ start at.
+              let there = answers.by_rule.goes start at.place in
+              let kept = kept_quiet (letters_in old) start there.0 request reply other unrolled there.1 in (
+                there.0,
+                there.1,
+                record {
+                  place = there.2;
+                  based = ap is_some kept.0 ∙ at.based ∙ sym answers.based;
+                  base = λ sound B is. published_on old new B rested (failed (medium_in (file_in (package_in old))) (medium_in (file_in (package_in new))) on) answers.by_rule.letters
+                      (at.base (sym kept.1 ∙ sound) B (sym kept.0 ∙ is));
+                },
+              );
+          letters = answers.by_rule.letters;
+          sound = answers.by_rule.sound;
+          behaves = answers.behaves;
+          still = λ unsound. still counts_now rests_keeps rests_leaves (letters_in old) (device_below old) (device_below new) rested;
+          survives = λ start at. rw (marks_other start.sound start.held request reply other) (still counts_now rests_keeps rests_leaves (letters_in old) (device_below old) (device_below new) rested);
+        }
+
+-- a command after a fault
+pub failed_follows : {D : Type 0} {g : device.Ghosts D} {h : Ghosts (Staged D g)} (it : SessionOver (Staged D g) h) (request : Request) → Survives (letters_in it) g (device_below it) (device_below it) [] → is_failed it ≡ true
+    → is_roll_back request ≡ false → Follows request (told.refused Failed) it it
+failed_follows it request stay failed own = record {
+  goes = λ start at. (start, refuses (at.place.phase ∙ ap phase_of failed) own refl refl, at);
+  letters = refl;
+  sound = refl;
+  behaves = behaves_ended it request failed;
+  still = λ _. stay;
+  survives = λ start at. rw (marks_none start.sound start.held request) stay;
+}
 
 module _ {D : Type 0} {g : device.Ghosts D} (counts_now : (d : D) (t : ℕ) (left : Files) → t ≤ g.moment d → g.may_leave d left → g.left_since d t left) where
   -- what a commit leaves: what might have been left before, or bytes that are found of its package

@@ -1,5 +1,5 @@
 -- How one command goes, whose package lies in its file.
-use Rattle.std.proofs.Common.{◌≡◌, ◌⊎◌, ◌≤◌, ◌||◌, ◌∙◌, Bool, ap, false, inl, inr, refl, rules, subst, sym, true, ⊎_elim}
+use Rattle.std.proofs.Common.{◌≡◌, ◌⊎◌, ◌≤◌, ◌||◌, ◌∙◌, Bool, ap, false, inl, inr, refl, rules, sym, true, ⊎_elim}
 use Rattle.std.proofs.lemmas.Bool.{both_ways}
 use Rattle.std.specs.Prelude.{Err, IfErr, Ok, Result}
 use Rattle.cfb.specs.Publishing.{medium_in}
@@ -21,7 +21,7 @@ use Rattle.msi.specs.declared.package.Package.{Package}
 use Rattle.msi_meaning.specs.Package.{Packed}
 use Rattle.msi_stored.specs.Changing.{PackageRule}
 use Rattle.installer.proofs.Faults.{fault_of}
-use Rattle.installer.specs.Course.{Course, Goes, IsTooMuch, IsUndone, StepAs, committed_after, failed, running, fails, stays, steps, takes_room}
+use Rattle.installer.specs.Course.{Course, Goes, IsTooMuch, IsUndone, StepAs, base_after, failed, running, fails, stays, steps, takes_room}
 use Rattle.installer.specs.Reply.{Reply}
 use Rattle.installer.specs.Reply as told
 use Rattle.installer.specs.Sessions.{phase_of, IsAt}
@@ -49,10 +49,10 @@ none_failed : (a b c : Bool) → a || c ≡ false → b ≡ false → b || c ≡
 none_failed true b c is now = absurd (cc)
 none_failed false b c is now = rw now is
 
--- what begins no commit leaves the package that was committed
-pub committed_other : (old : Course) (request : Request) (reply : Reply) → is_commit request ≡ false → committed_after old request reply ≡ old.committed
-committed_other old asked.commit reply other = absurd (cc)
-committed_other old request reply other = refl
+-- what begins no commit leaves the package to which a roll back leads
+pub base_other : (old : Course) (request : Request) (reply : Reply) → is_commit request ≡ false → base_after old request reply ≡ old.base
+base_other old asked.commit reply other = absurd (cc)
+base_other old request reply other = refl
 
 no_commit : (request : Request) → is_changing request ≡ true → is_commit request ≡ false
 no_commit asked.commit is = absurd (cc)
@@ -140,12 +140,12 @@ module _ {F : Type 0} {g : Ghosts F} (old new : Package F g) (start : Course) (a
   undone request e unread is kept = ⊎_elim
       (λ now. (
         record start { failures = g.failures (medium_in (file_in new)); phase = failed },
-        fails e was refl (is (record start { failures = g.failures (medium_in (file_in new)); phase = failed }) refl) unread refl more,
+        fails e was refl (is (record start { failures = g.failures (medium_in (file_in new)); phase = failed }) refl) unread refl (inl refl) more,
         record { phase = ap phase_of (sym now); held = λ no. absurd (cc); failures = refl; sound = at.sound ∙ sym sound },
       ))
       (λ now. (
         with_held start.held,
-        stays e was refl (is (with_held start.held) refl) (not_codepage request unread) refl more,
+        stays e was refl (is (with_held start.held) refl) (not_codepage request unread) refl (inl refl) more,
         held_at start.held now (⊎_elim (λ failed. absurd (both_ways (failed_in new) now failed)) (λ keeps. keeps.holds start.held held_here) kept),
       )) (by_sound (failed_in new))
     where
@@ -157,12 +157,12 @@ module _ {F : Type 0} {g : Ghosts F} (old new : Package F g) (start : Course) (a
   pub stepped : (request : Request) (reply : Reply) (P : Packed) → is_commit request ≡ false → StepAs start.sound letters start.held request reply P → failed_in new ≡ false → PackageHolds new P
       → Leads new letters start request reply
   stepped request reply P other step now held =
-      (with_held P, steps was step (sym (committed_other start request reply other)) was refl more, held_at P now held)
+      (with_held P, steps was step (sym (base_other start request reply other)) was refl more, held_at P now held)
 
   -- it met a fault, and the package stays
   pub lost : (request : Request) (e : Error) → is_codepage request ≡ false → IsUndone start request e (with_held start.held) → failed_in new ≡ false → PackageHolds new start.held
       → Leads new letters start request (told.refused e)
-  lost request e other is now held = (with_held start.held, stays e was refl is other refl more, held_at start.held now held)
+  lost request e other is now held = (with_held start.held, stays e was refl is other refl (inl refl) more, held_at start.held now held)
 
 -- the step of a sound package, or of any where the command reads
 pub step_of_sound : (letters : Letters) (sound : Bool) (P Q : Packed) (request : Request) (reply : Reply) → sound ≡ true → Step letters P request reply Q → StepAs sound letters P request reply Q

@@ -1,5 +1,5 @@
 -- Inserts that are put together one by one.
-use Rattle.std.proofs.Common.{◌≡◌, ◌∙◌, ◌+◌, ◌<◌, ℕ, zero, suc, map, length, take, List, [], ◌∷◌, ◌++◌, refl, sym, ap, arith}
+use Rattle.std.proofs.Common.{◌≡◌, ◌∙◌, ◌+◌, ◌<◌, ℕ, suc, map, length, take, List, [], ◌∷◌, ◌++◌, sym, ap, arith}
 use Rattle.std.proofs.lemmas.List.{append-nil, map-append}
 use Rattle.std.proofs.lemmas.List.Concat.{flat_map-append}
 use Rattle.std.proofs.Math.Seq.{take-suc}
@@ -8,8 +8,7 @@ use Rattle.command_file.specs.Request as asked
 use Rattle.command_file.specs.Request.{Request}
 use Rattle.msi_joined.specs.Joined.{joined_rows}
 use Rattle.msi_values.specs.Datum.{Datum}
-use Rattle.installer.specs.Groups.{all_done, inserts_of}
-use Rattle.installer.specs.Reply as told
+use Rattle.installer.specs.Groups.{inserts_of}
 
 -- the items up to one more
 pub taken_more : {X Y : Type 0} (f : X → Y) (xs : List X) (i : ℕ) (x : X) → i < length xs → x ≡ get_or xs i x → map f (take (i + 1) xs) ≡ map f (take i xs) ++ f x ∷ []

@@ -1,17 +1,16 @@
 -- A package that was only read.
-use Rattle.std.proofs.Common.{◌∙◌, ap, map, refl, subst, sym}
+use Rattle.std.proofs.Common.{◌∙◌, ap, map, subst, sym}
 use Rattle.cfb.proofs.Holding.{holds_yet}
 use Rattle.cfb.proofs.LiveMeaning.{means_read}
-use Rattle.cfb.specs.Views.{letters_in, mini_of}
+use Rattle.cfb.specs.Views.{mini_of}
 use Rattle.cfb_medium.specs.declared.medium.ReadMedium.{Ghosts}
 use Rattle.cfb_mini.specs.Views.{allocator_of}
 use Rattle.cfb_owned.proofs.GoingOn.{rests_go_on}
 use Rattle.cfb_owned.specs.Chains.{GoesOn}
 use Rattle.msi.specs.Changing.{KeepsHeld}
-use Rattle.msi.specs.Opened.{file_in, pool_in, PackageRests}
+use Rattle.msi.specs.Opened.{file_in, PackageRests}
 use Rattle.msi.specs.declared.package.Package.{Package}
 use Rattle.msi_meaning.specs.Opening.{may_use}
-use Rattle.msi_meaning.specs.Package.{Packed}
 use Rattle.msi_meaning.specs.Split.{HasPool, HasSummary, Stores}
 use Rattle.msi_parts.specs.Parts.{heading}
 use Rattle.msi_pool.specs.PoolState.{PoolState}

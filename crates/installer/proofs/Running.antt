@@ -14,7 +14,7 @@ use Rattle.installer.specs.Behaviour.{Behaves, Condition}
 use Rattle.installer.specs.Course.{Course, Mark, Runs, marks_of}
 use Rattle.installer.specs.Follows.{AreAnswered, FollowAll, Follows}
 use Rattle.installer.specs.Reply.{Reply}
-use Rattle.installer.specs.Sessions.{condition_of, device_below, is_sound, letters_in, package_in, IsAt}
+use Rattle.installer.specs.Sessions.{condition_of, device_below, letters_in}
 use Rattle.installer.specs.Survival.{Survives}
 use Rattle.installer.specs.declared.session.SessionOver.{SessionOver}
 
@@ -45,12 +45,12 @@ module _ {D : Type 0} {g : device.Ghosts D} {h : Ghosts (Staged D g)} where
   pub follow_one : (request : Request) (reply : Reply) (old new : SessionOver (Staged D g) h) → Follows request reply old new → FollowAll (request ∷ []) (reply ∷ []) old new
   follow_one request reply old new follows = record {
     ran = λ start at.
-        let on = follows.by_rule.goes start at in
+        let on = follows.goes start at in
         (on.0, marks_of start request reply, (on.0, [], on.1, (refl, refl), sym (append-nil (marks_of start request reply))), on.2, follows.survives start at);
-    letters = follows.by_rule.letters;
+    letters = follows.letters;
     behaves = (condition_of new, follows.behaves, refl);
     still = follows.still;
-    sound = follows.by_rule.sound;
+    sound = follows.sound;
   }
 
   pub follow_then : (first second : List Request) (told later : List Reply) (old mid new : SessionOver (Staged D g) h) → FollowAll first told old mid → FollowAll second later mid new → FollowAll (first ++ second) (told ++ later) old new

@@ -1,13 +1,15 @@
 -- Runs that are settled by their commands.
-use Rattle.std.proofs.Common.{◌≡◌, ◌⊎◌, ◌∙◌, Bool, List, [], ◌∷◌, ap, ap₂, false, not, refl, subst, sym, true, ⊎_elim}
-use Rattle.std.specs.Prelude.{bytes_eq, filter, is_none, ℕ, Result, Ok, Err}
+use Rattle.std.proofs.Common.{◌≡◌, ◌⊎◌, ◌||◌, ◌∙◌, ◌++◌, Bool, List, None, Some, [], ◌∷◌, ap, ap₂, false, inl, inr, not, refl, subst, sym, true, ⊎_elim}
+use Rattle.std.proofs.lemmas.Bool.{both_ways}
+use Rattle.std.specs.Prelude.{bytes_eq, filter, is_none, is_some, ℕ, Option, Result, Ok, Err}
 use Rattle.cfb_medium.specs.declared.error.Error.{Error}
-use Rattle.cfb_medium.specs.declared.error.Error.TheVariants.{AlreadyExists, Device, Full, InvalidInput, Memory}
+use Rattle.cfb_medium.specs.declared.error.Error.TheVariants.{AlreadyExists}
 use Rattle.cfb_meaning.specs.TreeRules.{Object}
 use Rattle.cfb_tree.specs.Names.{Letters}
-use Rattle.command_file.specs.Request.{Request, is_changing}
+use Rattle.command_file.specs.Request.{Request, is_changing, is_roll_back}
 use Rattle.command_file.specs.Request as command
 use Rattle.msi_changes.specs.Changes.{deleted, inserted, updated}
+use Rattle.msi.specs.Changing.{PackageIsFit}
 use Rattle.msi_meaning.specs.Calls.{change, created, dropped, found_table, may_insert, may_update, new_table, own_columns, rows_beside, rows_put, selected_in, table_put, Change, Ends, PackagePuts}
 use Rattle.msi_meaning.specs.Package.{at_name, stream_name, Packed}
 use Rattle.msi_meaning.specs.Streams.{may_name, plain_stream_name, stream_read, stream_removed, stream_written}
@@ -16,11 +18,11 @@ use Rattle.msi_tables.specs.Schema.{columns_columns, columns_name, tables_column
 use Rattle.msi_tables.specs.Table.{IsStoredByKeys}
 use Rattle.msi_texts.specs.Results.{unless_not, ◌>>=◌}
 use Rattle.installer.proofs.Once.{step_once}
-use Rattle.installer.specs.Course.{Course, Goes, IsTooMuch, IsUndone, Mark, Runs, StepAs, fails, refuses, stays, steps}
+use Rattle.installer.specs.Course.{base_after, over, fails, broken, unchanged, baseless, led, marks_as, marks_of, refuses, rolls, stays, steps, Course, Goes, GoesBack, IsTooMuch, KeepsBase, IsUndone, Mark, Runs, StepAs}
 use Rattle.installer.specs.Reply.{Reply}
 use Rattle.installer.specs.Reply as told
 use Rattle.installer.specs.Step.{PackageBecomes, Reads, Step}
-use Rattle.installer.specs.Undisturbed.{AreByRule, is_by_rule, is_outside, is_sized}
+use Rattle.installer.specs.Undisturbed.{AreByRule, AreFit, GoOn, IsBasedOn, is_by_rule, is_outside, is_sized}
 
 -- ---- replies that a rule gave
 
@@ -38,15 +40,26 @@ outside old new request e is = ⊎_elim
 -- what is undone, or refused after a fault, is by no rule
 not_by_rule : (request : Request) (reply : Reply) (e : Error) → reply ≡ told.refused e → is_outside (is_sized request) e ≡ true → is_by_rule request reply ≡ true → ⊥
 not_by_rule request reply e is out by =
-    let never : true ≡ false = sym by ∙ ap (is_by_rule request) is ∙ ap not out in
+    let never : true ≡ false = sym by ∙ ap (is_by_rule request) is ∙ ap (λ b. not (b || is_roll_back request)) out in
     absurd (cc)
+
+or_true : (b : Bool) → b || true ≡ true
+or_true true = refl
+or_true false = refl
+
+-- a roll back is by none
+not_back : (request : Request) (reply : Reply) → is_roll_back request ≡ true → is_by_rule request reply ≡ true → ⊥
+not_back request (told.refused e) back by =
+    let never : true ≡ false = sym by ∙ ap (λ b. not (is_outside (is_sized request) e || b)) back ∙ ap not (or_true (is_outside (is_sized request) e)) in cc
+not_back request reply back by = let never : true ≡ false = sym by ∙ ap not back in cc
 
 went : (letters : Letters) (old new : Course) (request : Request) (reply : Reply) → Goes letters old request reply new → is_by_rule request reply ≡ true
     → StepAs old.sound letters old.held request reply new.held × (new.sound ≡ old.sound)
-went letters old new request reply (steps run step committed yet sound counted) by = (step, sound)
-went letters old new request reply (stays e run is undone other same counted) by = absurd (not_by_rule request reply e is (outside old new request e undone) by)
-went letters old new request reply (fails e run is undone unread same counted) by = absurd (not_by_rule request reply e is (outside old new request e undone) by)
-went letters old new request reply (refuses run is same) by = absurd (not_by_rule request reply _ is refl by)
+went letters old new request reply (steps run step base yet sound counted) by = (step, sound)
+went letters old new request reply (stays e run is undone other same base counted) by = absurd (not_by_rule request reply e is (outside old new request e undone) by)
+went letters old new request reply (fails e run is undone unread same base counted) by = absurd (not_by_rule request reply e is (outside old new request e undone) by)
+went letters old new request reply (refuses run other is same) by = absurd (not_by_rule request reply _ is refl by)
+went letters old new request reply (rolls back goes) by = absurd (not_back request reply back by)
 
 -- ---- one answer
 
@@ -105,57 +118,133 @@ module _ (P Q : Packed) where
   becomes_keep (Ok R) r keeps h = ap (λ (p : Packed). p.storages) h.0 ∙ keeps
   becomes_keep (Err e) r keeps h = ap (λ (p : Packed). p.storages) h.0
 
-keeps : (letters : Letters) (P Q : Packed) (request : Request) (r : Reply) → Step letters P request r Q → Q.storages ≡ P.storages
-keeps letters P Q (command.create_table name columns) r h =
+step_keeps : (letters : Letters) (P Q : Packed) (request : Request) (r : Reply) → Step letters P request r Q → Q.storages ≡ P.storages
+step_keeps letters P Q (command.create_table name columns) r h =
     tables_keep P Q (created (is_none (at_name letters P.storages (stream_name name))) P name columns) h.0
     (λ x c. IsStoredByKeys x.1 columns_columns x.0.0 c) (λ x t. IsStoredByKeys x.1 tables_columns x.0.1 t) (λ x v. IsStoredByKeys x.1 (own_columns P) x.0.2 v)
     (λ x c t v. record P { pool = x.1; tables = rows_put columns_name c (rows_put tables_name t (rows_put validation_name v (table_put (new_table name columns) P.tables))) })
     h.1 (λ x c t v. refl)
-keeps letters P Q (command.drop_table name) r h =
+step_keeps letters P Q (command.drop_table name) r h =
     tables_keep P Q (dropped P name) h.0
     (λ x c. IsStored columns_columns (rows_beside P columns_name name) c) (λ x t. IsStored tables_columns (rows_beside P tables_name name) t) (λ x v. IsStored (own_columns P) (rows_beside P validation_name name) v)
     (λ x c t v. record P { pool = x.1; tables = rows_put columns_name c (rows_put tables_name t (rows_put validation_name v (filter (λ u. not (bytes_eq u.name name)) P.tables))) })
     h.1 (λ x c t v. refl)
-keeps letters P Q (command.insert name new_rows) r h =
+step_keeps letters P Q (command.insert name new_rows) r h =
     rows_keep P Q name (change P name (λ t. inserted (may_insert name) P.pool t new_rows)) h.0 (λ x stored. IsStoredByKeys x.pool x.table.columns x.rows stored) h.1
-keeps letters P Q (command.update name sets condition) r h =
+step_keeps letters P Q (command.update name sets condition) r h =
     rows_keep P Q name (change P name (λ t. updated (may_update name t.columns sets) P.pool t sets condition)) h.0 (λ x stored. IsStored x.table.columns x.rows stored) h.1
-keeps letters P Q (command.delete name condition) r h =
+step_keeps letters P Q (command.delete name condition) r h =
     rows_keep P Q name (change P name (λ t. deleted (may_insert name) P.pool t condition)) h.0 (λ x stored. IsStored x.table.columns x.rows stored) h.1
-keeps letters P Q (command.select asked) r h = reads_keep P Q (selected_in P asked >>= λ x. Ok (told.rows x.0 x.1)) r h
-keeps letters P Q (command.columns name) r h = reads_keep P Q (found_table P name >>= λ t. Ok (told.columns t.columns)) r h
-keeps letters P Q (command.read_stream name) r h = reads_keep P Q (stream_read letters P name >>= λ b. Ok (told.bytes b)) r h
-keeps letters P Q (command.write_stream name content) r h =
+step_keeps letters P Q (command.select asked) r h = reads_keep P Q (selected_in P asked >>= λ x. Ok (told.rows x.0 x.1)) r h
+step_keeps letters P Q (command.columns name) r h = reads_keep P Q (found_table P name >>= λ t. Ok (told.columns t.columns)) r h
+step_keeps letters P Q (command.read_stream name) r h = reads_keep P Q (stream_read letters P name >>= λ b. Ok (told.bytes b)) r h
+step_keeps letters P Q (command.write_stream name content) r h =
     becomes_keep P Q (stream_written letters P name content) r
     (bind_keeps P Q (may_name letters name) _ (λ _. bind_keeps P Q (unless_not (is_none (at_name letters P.storages (plain_stream_name name))) AlreadyExists) _ (λ _. refl))) h
-keeps letters P Q (command.remove_stream name) r h = becomes_keep P Q (stream_removed letters P name) r (bind_keeps P Q (stream_read letters P name) _ (λ _. refl)) h
-keeps letters P Q command.tables r h = ap (λ (p : Packed). p.storages) h.0
-keeps letters P Q command.streams r h = ap (λ (p : Packed). p.storages) h.0
-keeps letters P Q command.has_signature r h = ap (λ (p : Packed). p.storages) h.0
-keeps letters P Q command.remove_signature r h = ap (λ (p : Packed). p.storages) h.0
-keeps letters P Q command.summary r h = ap (λ (p : Packed). p.storages) h.0
-keeps letters P Q (command.set_summary edit) r h = ap (λ (p : Packed). p.storages) h.0
-keeps letters P Q command.codepage r h = ap (λ (p : Packed). p.storages) h.0
-keeps letters P Q (command.set_codepage page) r h = ap (λ (p : Packed). p.storages) h.0
-keeps letters P Q command.flush r h = ap (λ (p : Packed). p.storages) h.0
-keeps letters P Q command.commit r h = ap (λ (p : Packed). p.storages) h.0
+step_keeps letters P Q (command.remove_stream name) r h = becomes_keep P Q (stream_removed letters P name) r (bind_keeps P Q (stream_read letters P name) _ (λ _. refl)) h
+step_keeps letters P Q command.tables r h = ap (λ (p : Packed). p.storages) h.0
+step_keeps letters P Q command.streams r h = ap (λ (p : Packed). p.storages) h.0
+step_keeps letters P Q command.has_signature r h = ap (λ (p : Packed). p.storages) h.0
+step_keeps letters P Q command.remove_signature r h = ap (λ (p : Packed). p.storages) h.0
+step_keeps letters P Q command.summary r h = ap (λ (p : Packed). p.storages) h.0
+step_keeps letters P Q (command.set_summary edit) r h = ap (λ (p : Packed). p.storages) h.0
+step_keeps letters P Q command.codepage r h = ap (λ (p : Packed). p.storages) h.0
+step_keeps letters P Q (command.set_codepage page) r h = ap (λ (p : Packed). p.storages) h.0
+step_keeps letters P Q command.flush r h = ap (λ (p : Packed). p.storages) h.0
+step_keeps letters P Q command.commit r h = ap (λ (p : Packed). p.storages) h.0
+step_keeps letters P Q command.roll_back r h = absurd h
 
 keeps_unsound : (letters : Letters) (P Q : Packed) (request : Request) (r : Reply) (b : Bool) → is_changing request ≡ b → StepAs false letters P request r Q → Q.storages ≡ P.storages
 keeps_unsound letters P Q request r true is h = let one = rw is at h in ap (λ (p : Packed). p.storages) one.0
-keeps_unsound letters P Q request r false is h = let one = rw is at h in keeps letters P Q request r one
+keeps_unsound letters P Q request r false is h = let one = rw is at h in step_keeps letters P Q request r one
 
 keeps_as : (letters : Letters) (P Q : Packed) (request : Request) (r : Reply) (sound : Bool) → StepAs sound letters P request r Q → Q.storages ≡ P.storages
-keeps_as letters P Q request r true h = keeps letters P Q request r h
+keeps_as letters P Q request r true h = step_keeps letters P Q request r h
 keeps_as letters P Q request r false h = keeps_unsound letters P Q request r (is_changing request) refl h
 
-goes_keep : (letters : Letters) (old new : Course) (request : Request) (r : Reply) → Goes letters old request r new → new.held.storages ≡ old.held.storages
-goes_keep letters old new request r (steps run step committed yet sound counted) = keeps_as letters old.held new.held request r old.sound step
-goes_keep letters old new request r (stays e run is undone other same counted) = ap (λ (c : Course). c.held.storages) same
-goes_keep letters old new request r (fails e run is undone unread same counted) = ap (λ (c : Course). c.held.storages) same
-goes_keep letters old new request r (refuses run is same) = ap (λ (c : Course). c.held.storages) same
+based : (base : Option Packed) → is_some base ≡ true → (B : Packed) × (base ≡ Some B)
+based (Some B) is = (B, refl)
+based None is = absurd (cc)
 
-pub runs_keep : (letters : Letters) (start end : Course) (requests : List Request) (replies : List Reply) (marks : List Mark) → Runs letters start requests replies marks end → end.held.storages ≡ start.held.storages
-runs_keep letters start end [] [] marks runs = ap (λ (c : Course). c.held.storages) runs.1
-runs_keep letters start end (q ∷ qs) (r ∷ rs) marks runs = runs_keep letters runs.0 end qs rs runs.1 runs.3 ∙ goes_keep letters start runs.0 q r runs.2
-runs_keep letters start end [] (r ∷ rs) marks runs = absurd runs
-runs_keep letters start end (q ∷ qs) [] marks runs = absurd runs
+goes_keep : (letters : Letters) (old new : Course) (request : Request) (r : Reply) → is_roll_back request ≡ false → Goes letters old request r new → new.held.storages ≡ old.held.storages
+goes_keep letters old new request r other (steps run step base yet sound counted) = keeps_as letters old.held new.held request r old.sound step
+goes_keep letters old new request r other (stays e run is undone page same base counted) = ap (λ (c : Course). c.held.storages) same
+goes_keep letters old new request r other (fails e run is undone unread same base counted) = ap (λ (c : Course). c.held.storages) same
+goes_keep letters old new request r other (refuses run unrolled is same) = ap (λ (c : Course). c.held.storages) same
+goes_keep letters old new request r other (rolls back goes) = absurd (both_ways (is_roll_back request) other back)
+
+pub runs_keep : (letters : Letters) (start end : Course) (requests : List Request) (replies : List Reply) (marks : List Mark) → GoOn requests → Runs letters start requests replies marks end → end.held.storages ≡ start.held.storages
+runs_keep letters start end [] [] marks on runs = ap (λ (c : Course). c.held.storages) runs.1
+runs_keep letters start end (q ∷ qs) (r ∷ rs) marks on runs = runs_keep letters runs.0 end qs rs runs.1 on.1 runs.3 ∙ goes_keep letters start runs.0 q r on.0 runs.2
+runs_keep letters start end [] (r ∷ rs) marks on runs = absurd runs
+runs_keep letters start end (q ∷ qs) [] marks on runs = absurd runs
+
+-- ---- roll backs
+
+back_keeps : (old new : Course) (r : Reply) → IsBasedOn old.held.storages old → GoesBack old r new → new.held.storages ≡ old.held.storages
+back_keeps old new r on (led sound is some held same counted) =
+    let b = based old.base some in
+    let k = on sound b.0 b.1 in
+    ap (λ (p : Packed). p.storages) (held b.0 b.1 k.0) ∙ k.1
+back_keeps old new r on (unchanged sound run is same counted) = ap (λ (c : Course). c.held.storages) same
+back_keeps old new r on (baseless sound none run is same counted) = ap (λ (c : Course). c.held.storages) same
+back_keeps old new r on (over none run is same) = ap (λ (c : Course). c.held.storages) same
+back_keeps old new r on (broken e sound some is fit same counted) = ⊎_elim (λ one. ap (λ (c : Course). c.held.storages) one) (λ one. ap (λ (c : Course). c.held.storages) one) same
+
+back_based : (old new : Course) (r : Reply) → GoesBack old r new → (new.base ≡ old.base) × (new.sound ≡ old.sound)
+back_based old new r (led sound is some held same counted) = (ap (λ (c : Course). c.base) same, ap (λ (c : Course). c.sound) same)
+back_based old new r (unchanged sound run is same counted) = (ap (λ (c : Course). c.base) same, ap (λ (c : Course). c.sound) same)
+back_based old new r (baseless sound none run is same counted) = (ap (λ (c : Course). c.base) same, ap (λ (c : Course). c.sound) same)
+back_based old new r (over none run is same) = (ap (λ (c : Course). c.base) same, ap (λ (c : Course). c.sound) same)
+back_based old new r (broken e sound some is fit same counted) = ⊎_elim
+    (λ one. (ap (λ (c : Course). c.base) one, ap (λ (c : Course). c.sound) one)) (λ one. (ap (λ (c : Course). c.base) one, ap (λ (c : Course). c.sound) one)) same
+
+fit_first : (first second : List Mark) → AreFit (first ++ second) → AreFit first × AreFit second
+fit_first [] second are = (tt, are)
+fit_first (m ∷ first) second are = let rest = fit_first first second are.1 in ((are.0, rest.0), rest.1)
+
+-- the base of a course after a request is that of before, or what was committed
+after_based : (old : Course) (q : Request) (r : Reply) → old.sound ≡ true → AreFit (marks_of old q r) → (B : Packed) → base_after old q r ≡ Some B
+    → (old.base ≡ Some B) ⊎ (PackageIsFit B × (B.storages ≡ old.held.storages))
+after_based old command.commit told.done sound fits B is =
+    let one : AreFit (marks_as true old.held command.commit told.done) = subst (λ b. AreFit (marks_as b old.held command.commit told.done)) sound fits in
+    let same : old.held ≡ B = some_of is in
+    inr (subst (λ (P : Packed). PackageIsFit P) same one.0, ap (λ (p : Packed). p.storages) (sym same))
+  where
+    some_of : {X : Type 0} {x y : X} → Some x ≡ Some y → x ≡ y
+    some_of is = cc
+after_based old q r sound fits B is = inl is
+
+undone_based : (old new : Course) (q : Request) → KeepsBase old q new → (B : Packed) → new.base ≡ Some B → {Holds : Type 0} → (old.base ≡ Some B → Holds) → Holds
+undone_based old new q (inl kept) B b each = each (sym kept ∙ b)
+undone_based old new q (inr cut) B b each = let never : None ≡ Some B = sym cut.1 ∙ b in absurd (cc never)
+
+goes_based : (letters : Letters) (old new : Course) (q : Request) (r : Reply) → AreFit (marks_of old q r) → IsBasedOn old.held.storages old → Goes letters old q r new → IsBasedOn old.held.storages new
+goes_based letters old new q r fits on (steps run step base yet sound counted) = λ is B b. ⊎_elim
+    (λ before. on (sym sound ∙ is) B before) (λ now. now) (after_based old q r (sym sound ∙ is) fits B (sym base ∙ b))
+goes_based letters old new q r fits on (stays e run is undone page same base counted) = λ s B b. undone_based old new q base B b (on (sym (ap (λ (c : Course). c.sound) same) ∙ s) B)
+goes_based letters old new q r fits on (fails e run is undone unread same base counted) = λ s B b. undone_based old new q base B b (on (sym (ap (λ (c : Course). c.sound) same) ∙ s) B)
+goes_based letters old new q r fits on (refuses run unrolled is same) = λ s B b. on (sym (ap (λ (c : Course). c.sound) same) ∙ s) B (sym (ap (λ (c : Course). c.base) same) ∙ b)
+goes_based letters old new q r fits on (rolls back goes) = let both = back_based old new r goes in λ s B b. on (sym both.1 ∙ s) B (sym both.0 ∙ b)
+
+goes_storing : (letters : Letters) (old new : Course) (q : Request) (r : Reply) → IsBasedOn old.held.storages old → Goes letters old q r new → new.held.storages ≡ old.held.storages
+goes_storing letters old new q r on goes = by (is_roll_back q) refl goes
+  where
+    by : (b : Bool) → is_roll_back q ≡ b → Goes letters old q r new → new.held.storages ≡ old.held.storages
+    by false is goes = goes_keep letters old new q r is goes
+    by true is (rolls back goes) = back_keeps old new r on goes
+    by true is (steps run step base yet sound counted) = keeps_as letters old.held new.held q r old.sound step
+    by true is (stays e run told undone page same base counted) = ap (λ (c : Course). c.held.storages) same
+    by true is (fails e run told undone unread same base counted) = ap (λ (c : Course). c.held.storages) same
+    by true is (refuses run unrolled told same) = ap (λ (c : Course). c.held.storages) same
+
+pub runs_storing : (letters : Letters) (start end : Course) (requests : List Request) (replies : List Reply) (marks : List Mark) → IsBasedOn start.held.storages start → AreFit marks
+    → Runs letters start requests replies marks end → end.held.storages ≡ start.held.storages
+runs_storing letters start end [] [] marks on fits runs = ap (λ (c : Course). c.held.storages) runs.1
+runs_storing letters start end (q ∷ qs) (r ∷ rs) marks on fits runs =
+    let both = fit_first (marks_of start q r) runs.1 (subst (λ ms. AreFit ms) runs.4 fits) in
+    let same = goes_storing letters start runs.0 q r on runs.2 in
+    let next = subst (λ s. IsBasedOn s runs.0) (sym same) (goes_based letters start runs.0 q r both.0 on runs.2) in
+    runs_storing letters runs.0 end qs rs runs.1 next both.1 runs.3 ∙ same
+runs_storing letters start end [] (r ∷ rs) marks on fits runs = absurd runs
+runs_storing letters start end (q ∷ qs) [] marks on fits runs = absurd runs

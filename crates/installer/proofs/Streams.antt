@@ -1,5 +1,5 @@
 -- What the calls on streams do, as steps.
-use Rattle.std.proofs.Common.{◌≡◌, ◌⊎◌, ◌<◌, ◌≤◌, ◌∙◌, ℕ, Bool, List, ap, arith, false, inl, inr, length, refl, true}
+use Rattle.std.proofs.Common.{◌≡◌, ◌⊎◌, ℕ, Bool, List, ap, arith, false, inl, inr, length, refl, true}
 use Rattle.std.specs.Prelude.{Err, Ok, Result, nat_le}
 use Rattle.std.proofs.lemmas.Bool.Decides.{nat_tests}
 use Rattle.cfb_medium.specs.Versions.{stream_len_mask}

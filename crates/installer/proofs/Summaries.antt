@@ -1,16 +1,13 @@
 -- What an edit of a summary does to a package.
-use Rattle.std.proofs.Common.{◌≡◌, ◌⊎◌, ◌∙◌, ℕ, Bool, ap, false, inl, inr, refl, subst, sym, true}
-use Rattle.std.specs.Prelude.{Err, IfErr, IsErrOf, None, Ok, OnErr, OnOk, Option, Result, Some, IsTrue}
-use Rattle.cfb_live.specs.Doing.{IsFault}
+use Rattle.std.proofs.Common.{◌≡◌, ◌∙◌, ℕ, Bool, ap, false, inl, inr, refl, subst, sym, true}
+use Rattle.std.specs.Prelude.{Err, IfErr, None, Ok, Option, Result, Some, IsTrue}
 use Rattle.cfb_medium.specs.declared.error.Error.{Error}
-use Rattle.cfb_medium.specs.declared.error.Error.TheVariants.{Failed, InvalidData, Memory}
 use Rattle.cfb_medium.specs.declared.medium.ReadMedium.{Ghosts}
 use Rattle.msi.proofs.Summed.{holds_summed, one_section_held}
-use Rattle.msi.specs.Changing.{failed_in, permission, KeepsHeld, PackageChanges}
+use Rattle.msi.specs.Changing.{failed_in, permission, PackageChanges}
 use Rattle.msi.specs.Lending.{summed_up, with_summary}
 use Rattle.msi.specs.Opened.{sound_in, summary_in, PackageHolds}
 use Rattle.msi.specs.declared.package.Package.{Package}
-use Rattle.msi_meaning.specs.Package.{Packed}
 use Rattle.msi_props.specs.Held.{SetState}
 use Rattle.msi_props.specs.Props.{Property, Props}
 use Rattle.msi_stored.specs.Changing.{PackageRule}

@@ -1,38 +1,37 @@
 -- Inserts into one table that are carried out as one.
-use Rattle.std.proofs.Common.{◌≡◌, ◌⊎◌, ◌<◌, ◌≤◌, ◌-◌, ◌^◌, ◌∙◌, ℕ, Bool, true, false, length, map, take, List, [], ◌∷◌, ◌++◌, inl, inr, refl, sym, ap, subst, arith, ⊎_elim, Ok, Err, Result}
-use Rattle.std.specs.Prelude.{nat_lt}
+use Rattle.std.proofs.Common.{◌≡◌, ◌<◌, ◌≤◌, ◌-◌, ◌^◌, ◌∙◌, ℕ, Bool, true, false, length, map, take, List, [], ◌∷◌, ◌++◌, inl, inr, refl, sym, ap, subst, arith, Ok, Err, Result}
+use Rattle.std.specs.Prelude.{is_some, nat_lt}
 use Rattle.std.proofs.lemmas.Bool.{both_ways}
 use Rattle.std.proofs.lemmas.Bool.Decides.{nat_tests}
 use Rattle.cfb_medium.specs.declared.error.Error.{Error}
-use Rattle.cfb_medium.specs.declared.error.Error.TheVariants.{Device, Failed, Full, Memory}
 use Rattle.cfb_medium.specs.declared.medium.ReadMedium.{Ghosts}
 use Rattle.cfb_tree.specs.Names.{Letters}
 use Rattle.command_file.specs.Request as asked
-use Rattle.command_file.specs.Request.{Request}
+use Rattle.command_file.specs.Request.{Request, is_commit, is_roll_back}
 use Rattle.msi.specs.Opened.{PackageHolds}
 use Rattle.msi_joined.proofs.Each.{each}
 use Rattle.msi_joined.specs.Joined.{joined_rows, InsertsEach}
-use Rattle.msi_meaning.specs.Calls.{change, may_insert, Change, Ends, Inserts}
+use Rattle.msi_meaning.specs.Calls.{change, Change, Ends, Inserts}
 use Rattle.msi_meaning.specs.Package.{Packed}
 use Rattle.msi_values.specs.Datum.{Datum}
 use Rattle.staged.specs.declared.device.Device as device
 use Rattle.staged.specs.declared.staged.Staged.{Staged}
-use Rattle.installer.proofs.Following.{marks_other}
+use Rattle.installer.proofs.Following.{kept_quiet, marks_other}
 use Rattle.installer.proofs.Going.{step_of_sound}
 use Rattle.installer.proofs.Running.{follow_one}
 use Rattle.installer.proofs.Stopping.{survives_then}
 use Rattle.installer.specs.Behaviour.{Behaves, BehavesOnce, Condition}
-use Rattle.installer.specs.Course.{committed_after, failed, fails, marks_as, marks_of, refuses, running, stays, steps, Course, Goes, IsFault, IsUndone, Mark, Phase, Runs, StepAs}
+use Rattle.installer.specs.Course.{base_after, over, failed, fails, broken, unchanged, baseless, led, marks_as, refuses, rolls, running, stays, steps, Course, Goes, GoesBack, IsFault, IsUndone, Phase, Runs, StepAs}
 use Rattle.installer.specs.Follows.{FollowAll, Follows, GoesOnFrom}
 use Rattle.installer.specs.Groups.{all_done, inserts_of}
 use Rattle.installer.specs.Reply.{Reply}
 use Rattle.installer.specs.Reply as told
-use Rattle.installer.specs.Sessions.{condition_of, device_below, is_failed, is_sound, letters_in, package_in, phase_of, IsAt}
+use Rattle.installer.specs.Sessions.{condition_of, device_below, is_failed, is_sound, letters_in, package_in, phase_of, StandsAt}
 use Rattle.installer.specs.Step.{told_of, Step}
 use Rattle.installer.specs.Survival.{Survives}
 use Rattle.installer.specs.declared.session.SessionOver.{SessionOver}
 
-never_both : (p : Phase) → p ≡ running → p ≡ failed → ⊥
+pub never_both : (p : Phase) → p ≡ running → p ≡ failed → ⊥
 never_both p a b = (let never : running ≡ failed = sym a ∙ b in cc never)
 
 -- ---- one insert with other rows
@@ -47,10 +46,10 @@ module _ (letters : Letters) (name : List ℕ) (end : Course) (goes_on : end.pha
   abbrev with_held : Packed → Course
   with_held P = record end { held = P }
 
-  goes_to : (start : Course) (rows : List (List Datum)) (Mid : Packed) → start.phase ≡ running → end.sound ≡ start.sound → end.committed ≡ start.committed → start.failures ≤ end.failures
+  goes_to : (start : Course) (rows : List (List Datum)) (Mid : Packed) → start.phase ≡ running → end.sound ≡ start.sound → end.base ≡ start.base → start.failures ≤ end.failures
       → Inserts start.held name rows Mid (Ok tt) → Goes letters start (asked.insert name rows) told.done (with_held Mid)
-  goes_to start rows Mid was alike committed fewer done =
-      steps was (step_of_sound letters start.sound start.held Mid (asked.insert name rows) told.done (sym alike ∙ sound) (Ok tt, done, refl)) committed goes_on alike fewer
+  goes_to start rows Mid was alike based fewer done =
+      steps was (step_of_sound letters start.sound start.held Mid (asked.insert name rows) told.done (sym alike ∙ sound) (Ok tt, done, refl)) based goes_on alike fewer
 
   no_marks : (b : Bool) (P : Packed) (rows : List (List Datum)) (reply : Reply) → [] ≡ marks_as b P (asked.insert name rows) reply ++ []
   no_marks b P rows reply = sym (ap (λ ms. ms ++ []) (marks_other b P (asked.insert name rows) reply refl))
@@ -59,10 +58,10 @@ module _ (letters : Letters) (name : List ℕ) (end : Course) (goes_on : end.pha
   runs_on P [] is = (refl, ap with_held is)
   runs_on P (rows ∷ more) is = (with_held is.0, [], goes_to (with_held P) rows is.0 goes_on refl refl (omega arith) is.1, runs_on is.0 more is.2, no_marks end.sound P rows told.done)
 
-  runs_done : (start : Course) (rows : List (List Datum)) (more : List (List (List Datum))) → start.phase ≡ running → end.sound ≡ start.sound → end.committed ≡ start.committed → start.failures ≤ end.failures
+  runs_done : (start : Course) (rows : List (List Datum)) (more : List (List (List Datum))) → start.phase ≡ running → end.sound ≡ start.sound → end.base ≡ start.base → start.failures ≤ end.failures
       → InsertsEach start.held name (rows ∷ more) end.held → Runs letters start (inserts_of name (rows ∷ more)) (all_done (inserts_of name (rows ∷ more))) [] end
-  runs_done start rows more was alike committed fewer is =
-      (with_held is.0, [], goes_to start rows is.0 was alike committed fewer is.1, runs_on is.0 more is.2, no_marks start.sound start.held rows told.done)
+  runs_done start rows more was alike based fewer is =
+      (with_held is.0, [], goes_to start rows is.0 was alike based fewer is.1, runs_on is.0 more is.2, no_marks start.sound start.held rows told.done)
 
 -- each but the last finds the session as it was
 behaves_done : (old new : Condition) (name : List ℕ) (all rows : List (List Datum)) (more : List (List (List Datum))) → old.failed ≡ false → old.sound ≡ true → BehavesOnce old (asked.insert name all) told.done new
@@ -71,7 +70,7 @@ behaves_done old new name all rows [] live sound once = (new, other_rows old new
 behaves_done old new name all rows (next ∷ more) live sound once = (
   old,
   record {
-    ended = λ is. absurd (both_ways old.failed live is);
+    ended = λ is _. absurd (both_ways old.failed live is);
     live = λ _ is. cc is;
     device = λ is. absurd (cc is);
     reading = λ _. refl;
@@ -114,28 +113,40 @@ module _ (letters : Letters) (start : Course) (n : ℕ) (fewer : start.failures 
       on true is = (let few_yet : n < 2 ^ 64 - 1 = grind (arith, nat_tests, is) in let more_yet = rises few_yet in omega (arith, more_yet, fewer))
       on false is = (let many : 2 ^ 64 - 1 ≤ n = grind (arith, nat_tests, is) in omega (arith, many, few, more))
 
+  fault_before : (request : Request) (e : Error) (end : Course) → n ≤ end.failures → IsFault later request e end → IsFault start request e end
+  fault_before request e end more (inl memory) = inl memory
+  fault_before request e end more (inr (inl full)) = inr (inl full)
+  fault_before request e end more (inr (inr device)) = inr (inr (device.0, rise end.failures more device.1))
+
   undone_before : (request : Request) (e : Error) (end : Course) → n ≤ end.failures → IsUndone later request e end → IsUndone start request e end
   undone_before request e end more (inr much) = inr much
-  undone_before request e end more (inl (inl memory)) = inl (inl memory)
-  undone_before request e end more (inl (inr (inl full))) = inl (inr (inl full))
-  undone_before request e end more (inl (inr (inr device))) = inl (inr (inr (device.0, rise end.failures more device.1)))
+  undone_before request e end more (inl fault) = inl (fault_before request e end more fault)
 
-  committed_alike : (request : Request) (reply : Reply) → committed_after later request reply ≡ committed_after start request reply
-  committed_alike asked.commit told.done = refl
-  committed_alike request reply = refl
+  base_alike : (request : Request) (reply : Reply) → base_after later request reply ≡ base_after start request reply
+  base_alike asked.commit told.done = refl
+  base_alike request reply = refl
 
-  goes_before : (request : Request) (reply : Reply) (end : Course) → start.phase ≡ running → Goes letters later request reply end → Goes letters start request reply end
-  goes_before request reply end was (steps phase step committed after sound counted) = steps was step (committed ∙ committed_alike request reply) after sound (omega (arith, counted, fewer))
-  goes_before request reply end was (stays e phase is undone page same counted) = stays e was is (undone_before request e end counted undone) page same (omega (arith, counted, fewer))
-  goes_before request reply end was (fails e phase is undone reads same counted) = fails e was is (undone_before request e end counted undone) reads same (omega (arith, counted, fewer))
-  goes_before request reply end was (refuses phase is same) = absurd (never_both start.phase was phase)
+  back_before : (reply : Reply) (end : Course) → start.phase ≡ running → GoesBack later reply end → GoesBack start reply end
+  back_before reply end was (led sound is some held same counted) = led sound is some held same (omega (arith, counted, fewer))
+  back_before reply end was (unchanged sound phase is same counted) = unchanged sound was is same (omega (arith, counted, fewer))
+  back_before reply end was (baseless sound none phase is same counted) = baseless sound none was is same (omega (arith, counted, fewer))
+  back_before reply end was (over none phase is same) = absurd (never_both start.phase was phase)
+  back_before reply end was (broken e sound some is fit same counted) =
+      broken e sound some is (λ B b f. fault_before asked.roll_back e end counted (fit B b f)) same (omega (arith, counted, fewer))
+
+  pub goes_before : (request : Request) (reply : Reply) (end : Course) → start.phase ≡ running → Goes letters later request reply end → Goes letters start request reply end
+  goes_before request reply end was (steps phase step based after sound counted) = steps was step (based ∙ base_alike request reply) after sound (omega (arith, counted, fewer))
+  goes_before request reply end was (stays e phase is undone page same base counted) = stays e was is (undone_before request e end counted undone) page same base (omega (arith, counted, fewer))
+  goes_before request reply end was (fails e phase is undone reads same base counted) = fails e was is (undone_before request e end counted undone) reads same base (omega (arith, counted, fewer))
+  goes_before request reply end was (refuses phase other is same) = absurd (never_both start.phase was phase)
+  goes_before request reply end was (rolls back goes) = rolls back (back_before reply end was goes)
 
 -- ---- sessions
 
 module _ {D : Type 0} {g : device.Ghosts D} {h : Ghosts (Staged D g)} where
   -- nothing was changed, though failures of the device may have been counted
   pub record StandsStill (old mid : SessionOver (Staged D g) h) : Type 0 where
-    pub place : (start : Course) → IsAt (package_in old) start → (n : ℕ) × (start.failures ≤ n) × IsAt (package_in mid) (record start { failures = n }) × Survives (letters_in old) g (device_below old) (device_below mid) []
+    pub place : (start : Course) → StandsAt old start → (n : ℕ) × (start.failures ≤ n) × StandsAt mid (record start { failures = n }) × Survives (letters_in old) g (device_below old) (device_below mid) []
     pub live : is_failed old ≡ false
     pub live_yet : is_failed mid ≡ false
     pub letters : letters_in mid ≡ letters_in old
@@ -143,9 +154,9 @@ module _ {D : Type 0} {g : device.Ghosts D} {h : Ghosts (Staged D g)} where
     pub sound : is_sound mid ≡ is_sound old
     pub counted : (condition_of old).failures ≤ (condition_of mid).failures
 
-  behaves_before : (old mid : SessionOver (Staged D g) h) → StandsStill old mid → (request : Request) (reply : Reply) (new : Condition) → BehavesOnce (condition_of mid) request reply new → BehavesOnce (condition_of old) request reply new
+  pub behaves_before : (old mid : SessionOver (Staged D g) h) → StandsStill old mid → (request : Request) (reply : Reply) (new : Condition) → BehavesOnce (condition_of mid) request reply new → BehavesOnce (condition_of old) request reply new
   behaves_before old mid s request reply new b = record {
-    ended = λ is. absurd (both_ways (is_failed old) s.live is);
+    ended = λ is _. absurd (both_ways (is_failed old) s.live is);
     live = λ _. b.live s.live_yet;
     device = λ is. rises (condition_of old).failures (condition_of mid).failures new.failures s.counted b.counted (b.device is);
     reading = λ is. b.reading is ∙ s.live_yet ∙ sym s.live;
@@ -162,8 +173,8 @@ module _ {D : Type 0} {g : device.Ghosts D} {h : Ghosts (Staged D g)} where
           on true is = (let few_yet : b < 2 ^ 64 - 1 = grind (arith, nat_tests, is) in let more_yet = three few_yet in omega (arith, more_yet, one))
           on false is = (let many : 2 ^ 64 - 1 ≤ b = grind (arith, nat_tests, is) in omega (arith, many, few, two))
 
-  was_running : (old : SessionOver (Staged D g) h) (start : Course) → is_failed old ≡ false → IsAt (package_in old) start → start.phase ≡ running
-  was_running old start live at = at.phase ∙ ap phase_of live
+  was_running : (old : SessionOver (Staged D g) h) (start : Course) → is_failed old ≡ false → StandsAt old start → start.phase ≡ running
+  was_running old start live at = at.place.phase ∙ ap phase_of live
 
   stands_then : (old mid new : SessionOver (Staged D g) h) → StandsStill old mid → (requests : List Request) (replies : List Reply) → 0 < length requests → FollowAll requests replies mid new → FollowAll requests replies old new
   stands_then old mid new s [] replies some all = absurd (omega (arith, some))
@@ -186,62 +197,74 @@ module _ {D : Type 0} {g : device.Ghosts D} {h : Ghosts (Staged D g)} where
     sound = all.sound ∙ s.sound;
   }
 
+  -- so it is where a command has left the package
+  pub stands_by : (old new : SessionOver (Staged D g) h) (request : Request) (reply : Reply) → is_failed old ≡ false → is_failed new ≡ false → is_sound old ≡ true → is_commit request ≡ false → is_roll_back request ≡ false
+      → Follows request reply old new
+      → ((start end : Course) → StandsAt old start → StandsAt new end → Goes (letters_in old) start request reply end → (start.failures ≤ end.failures) × (end.held ≡ start.held)) → StandsStill old new
+  stands_by old new request reply live lives sound other unrolled follows held = record {
+    place = λ start at.
+        let on = follows.goes start at in
+        let same = kept_quiet (letters_in old) start on.0 request reply other unrolled on.1 in
+        let kept = held start on.0 at on.2 on.1 in (
+          on.0.failures,
+          kept.0,
+          record {
+            place = record {
+              phase = was_running old start live at ∙ sym (ap phase_of lives);
+              held = λ _. subst (λ P. PackageHolds (package_in new) P) kept.1 (on.2.place.held (was_running new on.0 lives on.2));
+              failures = on.2.place.failures;
+              sound = at.place.sound ∙ sym follows.sound;
+            };
+            based = ap is_some (sym same.0) ∙ on.2.based;
+            base = λ is B b. on.2.base (same.1 ∙ is) B (same.0 ∙ b);
+          },
+          subst (λ ms. Survives (letters_in old) g (device_below old) (device_below new) ms) (marks_other start.sound start.held request reply other) (follows.survives start at),
+        );
+    live = live;
+    live_yet = lives;
+    letters = follows.letters;
+    is_sound_then = sound;
+    sound = follows.sound;
+    counted = follows.behaves.counted;
+  }
+
   module _ (old new : SessionOver (Staged D g) h) (name : List ℕ) (all : List (List Datum)) (live : is_failed old ≡ false) (sound : is_sound old ≡ true) where
-    no_marks_left : (reply : Reply) → Follows (asked.insert name all) reply old new → (start : Course) → IsAt (package_in old) start → Survives (letters_in old) g (device_below old) (device_below new) []
+    no_marks_left : (reply : Reply) → Follows (asked.insert name all) reply old new → (start : Course) → StandsAt old start → Survives (letters_in old) g (device_below old) (device_below new) []
     no_marks_left reply follows start at = subst (λ ms. Survives (letters_in old) g (device_below old) (device_below new) ms) (marks_other start.sound start.held (asked.insert name all) reply refl) (follows.survives start at)
 
     -- ---- refused, and the session lives
 
-    held_yet : (e : Error) (start end : Course) → IsAt (package_in old) start → IsAt (package_in new) end → is_failed new ≡ false → Goes (letters_in old) start (asked.insert name all) (told.refused e) end → (start.failures ≤ end.failures) × (end.held ≡ start.held)
-    held_yet e start end at there lives (steps phase step committed after alike counted) =
-        let it = as_sound (letters_in old) start.sound start.held end.held (asked.insert name all) (told.refused e) (at.sound ∙ sound) step in
+    held_yet : (e : Error) (start end : Course) → StandsAt old start → StandsAt new end → is_failed new ≡ false → Goes (letters_in old) start (asked.insert name all) (told.refused e) end → (start.failures ≤ end.failures) × (end.held ≡ start.held)
+    held_yet e start end at there lives (steps phase step based after alike counted) =
+        let it = as_sound (letters_in old) start.sound start.held end.held (asked.insert name all) (told.refused e) (at.place.sound ∙ sound) step in
         (counted, refused_keeps start.held end.held name all e it.0 it.2 it.1)
-    held_yet e start end at there lives (stays f phase is undone page same counted) = (counted, ap (λ (c : Course). c.held) same)
-    held_yet e start end at there lives (fails f phase is undone reads same counted) = absurd (never_both end.phase (was_running new end lives there) (ap (λ (c : Course). c.phase) same))
-    held_yet e start end at there lives (refuses phase is same) = absurd (never_both start.phase (was_running old start live at) phase)
+    held_yet e start end at there lives (stays f phase is undone page same base counted) = (counted, ap (λ (c : Course). c.held) same)
+    held_yet e start end at there lives (fails f phase is undone reads same base counted) = absurd (never_both end.phase (was_running new end lives there) (ap (λ (c : Course). c.phase) same))
+    held_yet e start end at there lives (refuses phase other is same) = absurd (never_both start.phase (was_running old start live at) phase)
+    held_yet e start end at there lives (rolls back goes) = absurd (cc back)
 
     pub stands_still : (e : Error) → Follows (asked.insert name all) (told.refused e) old new → is_failed new ≡ false → StandsStill old new
-    stands_still e follows lives = record {
-      place = λ start at.
-          let on = follows.by_rule.goes start at in
-          let kept = held_yet e start on.0 at on.2 lives on.1 in (
-            on.0.failures,
-            kept.0,
-            record {
-              phase = was_running old start live at ∙ sym (ap phase_of lives);
-              held = λ _. subst (λ P. PackageHolds (package_in new) P) kept.1 (on.2.held (was_running new on.0 lives on.2));
-              failures = on.2.failures;
-              sound = at.sound ∙ sym follows.by_rule.sound;
-            },
-            no_marks_left (told.refused e) follows start at,
-          );
-      live = live;
-      live_yet = lives;
-      letters = follows.by_rule.letters;
-      is_sound_then = sound;
-      sound = follows.by_rule.sound;
-      counted = follows.behaves.counted;
-    }
+    stands_still e follows lives =
+        stands_by old new (asked.insert name all) (told.refused e) live lives sound refl refl follows (λ start end at there. held_yet e start end at there lives)
 
     pub goes_on_from : (e : Error) → Follows (asked.insert name all) (told.refused e) old new → is_failed new ≡ false → GoesOnFrom old new
     goes_on_from e follows lives requests replies last some then = stands_then old new last (stands_still e follows lives) requests replies some then
 
     -- ---- the session has failed by it
 
-    goes_first : (e : Error) (rows : List (List Datum)) (start end : Course) → IsAt (package_in new) end → is_failed new ≡ true → start.phase ≡ running → Goes (letters_in old) start (asked.insert name all) (told.refused e) end
+    goes_first : (e : Error) (rows : List (List Datum)) (start end : Course) → StandsAt new end → is_failed new ≡ true → start.phase ≡ running → Goes (letters_in old) start (asked.insert name all) (told.refused e) end
         → Goes (letters_in old) start (asked.insert name rows) (told.refused e) end
-    goes_first e rows start end there ended was (steps phase step committed after alike counted) = absurd (never_both end.phase after (there.phase ∙ ap phase_of ended))
-    goes_first e rows start end there ended was (stays f phase is undone page same counted) = absurd (never_both end.phase (ap (λ (c : Course). c.phase) same ∙ was) (there.phase ∙ ap phase_of ended))
-    goes_first e rows start end there ended was (fails f phase is undone reads same counted) = fails f phase is undone refl same counted
-    goes_first e rows start end there ended was (refuses phase is same) = refuses phase is same
+    goes_first e rows start end there ended was (steps phase step based after alike counted) = absurd (never_both end.phase after (there.place.phase ∙ ap phase_of ended))
+    goes_first e rows start end there ended was (stays f phase is undone page same base counted) = absurd (never_both end.phase (ap (λ (c : Course). c.phase) same ∙ was) (there.place.phase ∙ ap phase_of ended))
+    goes_first e rows start end there ended was (fails f phase is undone reads same base counted) = fails f phase is undone refl same base counted
+    goes_first e rows start end there ended was (refuses phase other is same) = refuses phase refl is same
+    goes_first e rows start end there ended was (rolls back goes) = absurd (cc back)
 
     pub first_fails : (e : Error) (rows : List (List Datum)) → Follows (asked.insert name all) (told.refused e) old new → is_failed new ≡ true → Follows (asked.insert name rows) (told.refused e) old new
     first_fails e rows follows ended = record {
-      by_rule = record {
-        goes = λ start at. (let on = follows.by_rule.goes start at in (on.0, goes_first e rows start on.0 on.2 ended (was_running old start live at) on.1, on.2));
-        letters = follows.by_rule.letters;
-        sound = follows.by_rule.sound;
-      };
+      goes = λ start at. (let on = follows.goes start at in (on.0, goes_first e rows start on.0 on.2 ended (was_running old start live at) on.1, on.2));
+      letters = follows.letters;
+      sound = follows.sound;
       behaves = other_rows (condition_of old) (condition_of new) name all rows (told.refused e) follows.behaves;
       still = follows.still;
       survives = λ start at. rw (marks_other start.sound start.held (asked.insert name rows) (told.refused e) refl) (no_marks_left (told.refused e) follows start at);
@@ -250,26 +273,27 @@ module _ {D : Type 0} {g : device.Ghosts D} {h : Ghosts (Staged D g)} where
   -- ---- done
 
   module _ (old new : SessionOver (Staged D g) h) (name : List ℕ) (rows : List (List Datum)) (more : List (List (List Datum))) (live : is_failed old ≡ false) (sound : is_sound old ≡ true) where
-    runs_all : (start end : Course) → IsAt (package_in old) start → Goes (letters_in old) start (asked.insert name (joined_rows (rows ∷ more))) told.done end
+    runs_all : (start end : Course) → StandsAt old start → Goes (letters_in old) start (asked.insert name (joined_rows (rows ∷ more))) told.done end
         → Runs (letters_in old) start (inserts_of name (rows ∷ more)) (all_done (inserts_of name (rows ∷ more))) [] end
-    runs_all start end at (steps phase step committed after alike counted) =
-        let it = as_sound (letters_in old) start.sound start.held end.held (asked.insert name (joined_rows (rows ∷ more))) told.done (at.sound ∙ sound) step in
+    runs_all start end at (steps phase step based after alike counted) =
+        let it = as_sound (letters_in old) start.sound start.held end.held (asked.insert name (joined_rows (rows ∷ more))) told.done (at.place.sound ∙ sound) step in
         let inserts = subst (λ a. Inserts start.held name (joined_rows (rows ∷ more)) end.held a) (done_so it.0 it.2) it.1 in
-        let texts = ((at.held phase).sound sound).1.counted in
-        runs_done (letters_in old) name end after (alike ∙ at.sound ∙ sound) start rows more phase alike committed counted (each start.held texts name rows more end.held inserts)
-    runs_all start end at (stays e phase is undone page same counted) = absurd (cc is)
-    runs_all start end at (fails e phase is undone reads same counted) = absurd (cc is)
-    runs_all start end at (refuses phase is same) = absurd (cc is)
+        let texts = ((at.place.held phase).sound sound).1.counted in
+        runs_done (letters_in old) name end after (alike ∙ at.place.sound ∙ sound) start rows more phase alike based counted (each start.held texts name rows more end.held inserts)
+    runs_all start end at (stays e phase is undone page same base counted) = absurd (cc is)
+    runs_all start end at (fails e phase is undone reads same base counted) = absurd (cc is)
+    runs_all start end at (refuses phase other is same) = absurd (cc is)
+    runs_all start end at (rolls back goes) = absurd (cc back)
 
     pub all_follow : Follows (asked.insert name (joined_rows (rows ∷ more))) told.done old new → FollowAll (inserts_of name (rows ∷ more)) (all_done (inserts_of name (rows ∷ more))) old new
     all_follow follows = record {
       ran = λ start at.
-          let on = follows.by_rule.goes start at in
+          let on = follows.goes start at in
           (on.0, [], runs_all start on.0 at on.1, on.2, no_marks_left old new name (joined_rows (rows ∷ more)) live sound told.done follows start at);
-      letters = follows.by_rule.letters;
+      letters = follows.letters;
       behaves = behaves_done (condition_of old) (condition_of new) name (joined_rows (rows ∷ more)) rows more live sound follows.behaves;
       still = follows.still;
-      sound = follows.by_rule.sound;
+      sound = follows.sound;
     }
 
 -- ---- what is said of commands that were put together

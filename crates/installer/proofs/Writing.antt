@@ -1,12 +1,11 @@
--- How a flush and a commit go.
-use Rattle.std.proofs.Common.{◌≡◌, ◌⊎◌, ◌≤◌, ◌∙◌, ℕ, Bool, List, ap, false, inl, inr, refl, subst, sym, true, ⊎_elim}
-use Rattle.std.specs.Prelude.{Err, IfErr, IsTrue, None, Ok, OnErr, OnOk, Result, Some}
+-- How a flush goes, and what of a commit is alike.
+use Rattle.std.proofs.Common.{◌≡◌, ◌∙◌, Bool, ap, false, inl, inr, refl, subst, sym, true, ⊎_elim}
+use Rattle.std.specs.Prelude.{Err, IfErr, Ok, Result}
 use Rattle.cfb.specs.Publishing.{medium_in}
 use Rattle.cfb.specs.Views.{letters_in, mini_of}
 use Rattle.cfb_fat.specs.Tables.{version_of, HasCauseBelow}
 use Rattle.cfb_medium.specs.Versions.{stream_len_mask}
 use Rattle.cfb_medium.specs.declared.error.Error.{Error}
-use Rattle.cfb_medium.specs.declared.error.Error.TheVariants.{InvalidInput}
 use Rattle.cfb_medium.specs.declared.medium.ReadMedium.{Ghosts}
 use Rattle.cfb_medium.specs.declared.version.Version.{Version}
 use Rattle.cfb_mini.specs.Views.{allocator_of}
@@ -14,14 +13,13 @@ use Rattle.cfb_tree.specs.Names.{Letters}
 use Rattle.command_file.specs.Request.{Request}
 use Rattle.command_file.specs.Request as asked
 use Rattle.msi.specs.Changing.{failed_in, IsUnsaved, KeepsHeld, PackageWrites}
-use Rattle.msi.specs.Committing.{PackageCommits}
-use Rattle.msi.specs.Opened.{file_in, pool_in, sound_in, summary_in, PackageHolds}
+use Rattle.msi.specs.Opened.{file_in, summary_in, PackageHolds}
 use Rattle.msi.specs.declared.package.Package.{Package}
 use Rattle.msi_meaning.specs.Package.{Packed}
 use Rattle.msi_streams.specs.Parts.{IsTooLong}
 use Rattle.installer.proofs.Faults.{fault_of}
-use Rattle.installer.proofs.Going.{by_sound, held_here, more, stepped, undone, was, goes_told, Leads, Moves}
-use Rattle.installer.specs.Course.{Course, IsTooMuch, IsUndone, StepAs, steps, takes_room}
+use Rattle.installer.proofs.Going.{by_sound, undone, goes_told, Leads, Moves}
+use Rattle.installer.specs.Course.{Course, IsTooMuch, IsUndone, StepAs, takes_room}
 use Rattle.installer.specs.Reply as told
 use Rattle.installer.specs.Sessions.{phase_of, IsAt}
 use Rattle.installer.specs.Step.{told_of}
@@ -35,7 +33,7 @@ pub step_commit : (letters : Letters) (sound : Bool) (P : Packed) → StepAs sou
 step_commit letters true P = (refl, refl)
 step_commit letters false P = (refl, refl)
 
-not_err : {e : Error} → ◌≡◌ {A = Result (Unit {0}) Error} (Err e) (Ok tt) → ⊥
+pub not_err : {e : Error} → ◌≡◌ {A = Result (Unit {0}) Error} (Err e) (Ok tt) → ⊥
 not_err is = cc
 
 module _ {F : Type 0} {g : Ghosts F} (refl_continues : (m : F) → g.continues m m) (old new : Package F g) (start : Course) (at : IsAt old start) (live : failed_in old ≡ false) where
@@ -43,7 +41,7 @@ module _ {F : Type 0} {g : Ghosts F} (refl_continues : (m : F) → g.continues m
   holds = at.held (at.phase ∙ ap phase_of live)
 
   -- what can't be saved is a fault, or too much
-  unsaved : (request : Request) (room : takes_room request ≡ true) (much : ((v : Version) × IsTooLong (stream_len_mask v) start.held.pool start.held.summary) → IsTooMuch start.held request) (e : Error)
+  pub unsaved : (request : Request) (room : takes_room request ≡ true) (much : ((v : Version) × IsTooLong (stream_len_mask v) start.held.pool start.held.summary) → IsTooMuch start.held request) (e : Error)
       → HasCauseBelow (allocator_of (mini_of (file_in old))) (allocator_of (mini_of (file_in new))) e → IsUnsaved old new e
       → (end : Course) → end.failures ≡ g.failures (medium_in (file_in new)) → IsUndone start request e end
   unsaved request room much e cause is end last = ⊎_elim
@@ -58,7 +56,7 @@ module _ {F : Type 0} {g : Ghosts F} (refl_continues : (m : F) → g.continues m
       )) is
 
   -- nothing was touched
-  untouched : new ≡ old → KeepsHeld old new
+  pub untouched : new ≡ old → KeepsHeld old new
   untouched same = record { holds = λ P h. subst (λ it. PackageHolds it P) (sym same) h }
 
   pub goes_writes : (result : Result (Unit {0}) Error) → Moves old new → PackageWrites result old new → IfErr result (HasCauseBelow (allocator_of (mini_of (file_in old))) (allocator_of (mini_of (file_in new))))
@@ -69,17 +67,3 @@ module _ {F : Type 0} {g : Ghosts F} (refl_continues : (m : F) → g.continues m
   goes_writes (Err e) moves writes cause = ⊎_elim
       (λ sound. undone old new start at live moves.counted moves.sound asked.flush e refl (unsaved asked.flush refl (λ is. is) e cause (writes.refused start.held holds (sym at.sound ∙ sound))) writes.rests)
       (λ unsound. absurd (not_err (writes.unsound live (sym at.sound ∙ unsound)).0)) (by_sound start.sound)
-
-  pub goes_commits : (has_published : F → List ℕ → Type 0) (result : Result (Unit {0}) Error) → g.failures (medium_in (file_in old)) ≤ g.failures (medium_in (file_in new)) → PackageCommits has_published result old new
-      → IfErr result (HasCauseBelow (allocator_of (mini_of (file_in old))) (allocator_of (mini_of (file_in new)))) → Leads new (letters_in (file_in old)) start asked.commit (told_of result)
-  goes_commits has_published (Ok u) counted commits cause =
-      let kept : PackageHolds new start.held = ⊎_elim (λ sound. (commits.done start.held holds (sym at.sound ∙ sound)).holds)
-      (λ unsound. (untouched (commits.unsound live (sym at.sound ∙ unsound)).1).holds start.held holds) (by_sound start.sound) in
-      let now : start.phase ≡ phase_of false = at.phase ∙ ap phase_of live in (
-        record start { failures = g.failures (medium_in (file_in new)); committed = Some start.held },
-        steps now (step_commit (letters_in (file_in old)) start.sound start.held) refl now refl (more old new start at live counted commits.seen.1),
-        record { phase = now ∙ ap phase_of (sym commits.live.1); held = λ _. kept; failures = refl; sound = at.sound ∙ sym commits.seen.1 },
-      )
-  goes_commits has_published (Err e) counted commits cause = ⊎_elim
-      (λ sound. undone old new start at live counted commits.seen.1 asked.commit e refl (unsaved asked.commit refl (λ is. is) e cause (commits.refused start.held holds (sym at.sound ∙ sound))) commits.rests)
-      (λ unsound. absurd (not_err (commits.unsound live (sym at.sound ∙ unsound)).0)) (by_sound start.sound)

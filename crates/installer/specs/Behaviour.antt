@@ -2,7 +2,7 @@
 use Rattle.std.specs.Prelude.{◌≡◌, ◌⊎◌, ◌<◌, ◌≤◌, ◌-◌, ◌^◌, ℕ, Bool, true, false, List, [], ◌∷◌}
 use Rattle.cfb_medium.specs.declared.error.Error.{Error}
 use Rattle.cfb_medium.specs.declared.error.Error.TheVariants.{Device, Failed, InvalidData, Memory}
-use Rattle.command_file.specs.Request.{Request, is_changing, is_codepage, is_reading}
+use Rattle.command_file.specs.Request.{Request, is_changing, is_codepage, is_reading, is_roll_back}
 use Rattle.installer.specs.Reply.{Reply}
 use Rattle.installer.specs.Reply as told
 
@@ -12,11 +12,11 @@ pub record Condition : Type 0 where
   pub sound : Bool
   pub failures : ℕ
 
--- The reply to one command. After a fault each is refused and nothing changes; before one none is refused so. Where the device is named,
--- it failed, and the failure was counted. A command that reads ends no session, and the code page is always told. A package that isn't
+-- The reply to one command. After a fault each is refused and nothing changes, but a roll back, which may lead out of that; before one none is
+-- refused so. Where the device is named, it failed, and the failure was counted. A command that reads ends no session, and the code page is always told. A package that isn't
 -- sound refuses each change, unless there was no memory. Soundness stays, and no failure is counted back.
 pub record BehavesOnce (old : Condition) (request : Request) (reply : Reply) (new : Condition) : Type 0 where
-  pub ended : old.failed ≡ true → (reply ≡ told.refused Failed) × (new ≡ old)
+  pub ended : old.failed ≡ true → is_roll_back request ≡ false → (reply ≡ told.refused Failed) × (new ≡ old)
   pub live : old.failed ≡ false → reply ≡ told.refused Failed → ⊥
   pub device : reply ≡ told.refused Device → old.failures < 2 ^ 64 - 1 → old.failures < new.failures
   pub reading : is_reading request ≡ true → new.failed ≡ old.failed

@@ -1,12 +1,13 @@
 -- How a session goes along a list of commands.
-use Rattle.std.specs.Prelude.{◌≡◌, ◌⊎◌, ◌<◌, ◌≤◌, ◌-◌, ◌^◌, ℕ, Bool, true, false, not, length, List, [], ◌∷◌, ◌++◌, Option, Some}
+use Rattle.std.specs.Prelude.{◌≡◌, ◌⊎◌, ◌<◌, ◌≤◌, ◌-◌, ◌^◌, ℕ, Bool, true, false, not, length, List, [], ◌∷◌, ◌++◌, Option, None, Some, is_some}
 use Rattle.cfb_medium.specs.Versions.{stream_len_mask}
 use Rattle.cfb_medium.specs.declared.error.Error.{Error}
-use Rattle.cfb_medium.specs.declared.error.Error.TheVariants.{Memory, Device, Failed, Full, InvalidInput}
+use Rattle.cfb_medium.specs.declared.error.Error.TheVariants.{Memory, Device, Failed, Full, InvalidInput, NotFound}
 use Rattle.cfb_medium.specs.declared.version.Version.{Version}
 use Rattle.cfb_tree.specs.Names.{Letters}
-use Rattle.command_file.specs.Request.{Request, is_codepage, is_reading}
+use Rattle.command_file.specs.Request.{Request, is_codepage, is_commit, is_reading, is_roll_back}
 use Rattle.command_file.specs.Request as command
+use Rattle.msi.specs.Changing.{PackageIsFit}
 use Rattle.msi_meaning.specs.Package.{Packed}
 use Rattle.msi_streams.specs.Parts.{IsTooLong}
 use Rattle.installer.specs.Reply.{Reply}
@@ -21,8 +22,9 @@ pub data Phase : Type 0 where
 -- where a session is
 pub record Course : Type 0 where
   pub held : Packed
-  -- that of the last commit that was answered Ok, else none
-  pub committed : Option Packed
+  -- to which a roll back leads: that of the last commit that was answered Ok, else the one that was opened; none where there is no such
+  -- one, or once a commit was cut off by a fault
+  pub base : Option Packed
   -- how often the device has failed
   pub failures : ℕ
   pub phase : Phase
@@ -40,6 +42,7 @@ takes_room (command.remove_stream name) = false
 takes_room command.remove_signature = false
 takes_room (command.set_summary edit) = false
 takes_room (command.set_codepage page) = false
+takes_room command.roll_back = false
 takes_room request = not (is_reading request)
 
 -- want of memory; want of numbers of entries or sectors, where the request may need some; or a fault of the device that was counted
@@ -59,25 +62,47 @@ abbrev pub StepAs : Bool → Letters → Packed → Request → Reply → Packed
 StepAs true letters P request reply Q = Step letters P request reply Q
 StepAs false letters P request reply Q = StepOfUnsound letters P request reply Q
 
--- the package that was committed last, after this request and its reply
-abbrev pub committed_after : Course → Request → Reply → Option Packed
-committed_after old command.commit told.done = Some old.held
-committed_after old request reply = old.committed
+-- the package to which a roll back leads, after this request and its reply
+abbrev pub base_after : Course → Request → Reply → Option Packed
+base_after old command.commit told.done = Some old.held
+base_after old request reply = old.base
 
 -- a fault, or bytes that are too many
 abbrev pub IsUndone : Course → Request → Error → Course → Type 0
 IsUndone old request e new = IsFault old request e new ⊎ ((e ≡ InvalidInput) × IsTooMuch old.held request)
 
--- One command: its step; or it is undone, and the package stays; or by that the session fails, which no command that reads meets; and a
--- session that has failed refuses. No failure of the device is counted back.
+-- what leads back stays, unless a commit was cut off
+abbrev pub KeepsBase : Course → Request → Course → Type 0
+KeepsBase old request new = (new.base ≡ old.base) ⊎ ((is_commit request ≡ true) × (new.base ≡ None))
+
+-- where it can be written as it is
+abbrev pub OfFit : Option Packed → (Packed → Type 0) → Type 0
+OfFit base Holds = (B : Packed) → base ≡ Some B → PackageIsFit B → Holds B
+
+-- A roll back of a sound package leads to the one that was committed last, or else opened, also after a fault; of another nothing was
+-- changed. It is refused where there is none; or a fault comes, by which the session may fail. (Where that package can't be written as it
+-- is, what was published may be another, or refused.)
+pub data GoesBack (old : Course) (reply : Reply) (new : Course) : Type 0 where
+  led : old.sound ≡ true → reply ≡ told.done → is_some old.base ≡ true → OfFit old.base (λ B. new.held ≡ B)
+      → new ≡ record old { held = new.held; failures = new.failures; phase = running } → old.failures ≤ new.failures → GoesBack old reply new
+  unchanged : old.sound ≡ false → old.phase ≡ running → reply ≡ told.done → new ≡ record old { failures = new.failures } → old.failures ≤ new.failures → GoesBack old reply new
+  baseless : old.sound ≡ true → old.base ≡ None → old.phase ≡ running → reply ≡ told.refused NotFound → new ≡ record old { failures = new.failures }
+      → old.failures ≤ new.failures → GoesBack old reply new
+  over : (old.sound ≡ true → old.base ≡ None) → old.phase ≡ failed → reply ≡ told.refused Failed → new ≡ old → GoesBack old reply new
+  broken : (e : Error) → old.sound ≡ true → is_some old.base ≡ true → reply ≡ told.refused e → OfFit old.base (λ B. IsFault old command.roll_back e new)
+      → (new ≡ record old { failures = new.failures }) ⊎ (new ≡ record old { failures = new.failures; phase = failed }) → old.failures ≤ new.failures → GoesBack old reply new
+
+-- One command: its step; or it is undone, and the package stays; or by that the session fails, which no command that reads meets; a session
+-- that has failed refuses; and a roll back goes back. No failure of the device is counted back.
 pub data Goes (letters : Letters) (old : Course) (request : Request) (reply : Reply) (new : Course) : Type 0 where
-  steps : old.phase ≡ running → StepAs old.sound letters old.held request reply new.held → new.committed ≡ committed_after old request reply
+  steps : old.phase ≡ running → StepAs old.sound letters old.held request reply new.held → new.base ≡ base_after old request reply
       → new.phase ≡ running → new.sound ≡ old.sound → old.failures ≤ new.failures → Goes letters old request reply new
   stays : (e : Error) → old.phase ≡ running → reply ≡ told.refused e → IsUndone old request e new → is_codepage request ≡ false
-      → new ≡ record old { failures = new.failures } → old.failures ≤ new.failures → Goes letters old request reply new
+      → new ≡ record old { failures = new.failures; base = new.base } → KeepsBase old request new → old.failures ≤ new.failures → Goes letters old request reply new
   fails : (e : Error) → old.phase ≡ running → reply ≡ told.refused e → IsUndone old request e new → is_reading request ≡ false
-      → new ≡ record old { failures = new.failures; phase = failed } → old.failures ≤ new.failures → Goes letters old request reply new
-  refuses : old.phase ≡ failed → reply ≡ told.refused Failed → new ≡ old → Goes letters old request reply new
+      → new ≡ record old { failures = new.failures; base = new.base; phase = failed } → KeepsBase old request new → old.failures ≤ new.failures → Goes letters old request reply new
+  refuses : old.phase ≡ failed → is_roll_back request ≡ false → reply ≡ told.refused Failed → new ≡ old → Goes letters old request reply new
+  rolls : is_roll_back request ≡ true → GoesBack old reply new → Goes letters old request reply new
 
 -- The commit that this command begins, unless the session has failed before. One of a package that isn't sound writes nothing.
 abbrev pub marks_as : Bool → Packed → Request → Reply → List Mark

@@ -11,12 +11,12 @@ use Rattle.staged.specs.declared.staged.Staged.{Staged}
 use Rattle.installer.specs.Behaviour.{Behaves, BehavesOnce}
 use Rattle.installer.specs.Course.{Course, Goes, Mark, Runs, marks_of}
 use Rattle.installer.specs.Reply.{Reply}
-use Rattle.installer.specs.Sessions.{condition_of, device_below, is_sound, letters_in, package_in, IsAt}
+use Rattle.installer.specs.Sessions.{condition_of, device_below, has_base, is_sound, letters_in, package_in, IsAt, StandsAt}
 use Rattle.installer.specs.Survival.{Survives}
 use Rattle.installer.specs.declared.session.SessionOver.{SessionOver}
 
 module _ {F : Type 0} {g : Ghosts F} where
-  -- from where it is in its course it goes on by the request's rule
+  -- from where its package is in its course it goes on by the request's rule (a step of private functions)
   pub record GoesByRule (request : Request) (reply : Reply) (old new : SessionOver F g) : Type 0 where
     pub goes : (start : Course) → IsAt (package_in old) start → (end : Course) × Goes (letters_in old) start request reply end × IsAt (package_in new) end
     pub letters : letters_in new ≡ letters_in old
@@ -25,24 +25,28 @@ module _ {F : Type 0} {g : Ghosts F} where
   -- so it does, and publishes nothing (a step of private functions)
   pub record AnswersQuietly (request : Request) (reply : Reply) (old new : SessionOver F g) : Type 0 where
     pub by_rule : GoesByRule request reply old new
+    pub based : has_base new ≡ has_base old
     pub behaves : BehavesOnce (condition_of old) request reply (condition_of new)
     pub quiet : GoesOn (allocator_of (mini_of (file_in (package_in old)))) (allocator_of (mini_of (file_in (package_in new))))
 
--- One command of a session over a device: it goes by its rule, whatever the device and the file it behaves, and what a stop leaves is told
--- with the commit that it begins; none begins where the package isn't sound, also where the file packs none.
-pub record Follows {D : Type 0} {g : device.Ghosts D} {h : Ghosts (Staged D g)} (request : Request) (reply : Reply) (old new : SessionOver (Staged D g) h) : Type 0 where
-  pub by_rule : GoesByRule request reply old new
-  pub behaves : BehavesOnce (condition_of old) request reply (condition_of new)
-  pub still : is_sound old ≡ false → Survives (letters_in old) g (device_below old) (device_below new) []
-  pub survives : (start : Course) → IsAt (package_in old) start → Survives (letters_in old) g (device_below old) (device_below new) (marks_of start request reply)
-
 module _ {D : Type 0} {g : device.Ghosts D} {h : Ghosts (Staged D g)} where
+  -- One command of a session over a device: from where it is in its course it goes on by the request's rule, whatever the device and the file
+  -- it behaves, and what a stop leaves is told with the commit that it begins; none begins where the package isn't sound, also where the file
+  -- packs none.
+  pub record Follows (request : Request) (reply : Reply) (old new : SessionOver (Staged D g) h) : Type 0 where
+    pub goes : (start : Course) → StandsAt old start → (end : Course) × Goes (letters_in old) start request reply end × StandsAt new end
+    pub letters : letters_in new ≡ letters_in old
+    pub sound : is_sound new ≡ is_sound old
+    pub behaves : BehavesOnce (condition_of old) request reply (condition_of new)
+    pub still : is_sound old ≡ false → Survives (letters_in old) g (device_below old) (device_below new) []
+    pub survives : (start : Course) → StandsAt old start → Survives (letters_in old) g (device_below old) (device_below new) (marks_of start request reply)
+
   -- THE COMMANDS WERE RUN in order, with a reply for each: from where the session is in its course it goes along them by their rules, and what
   -- a stop leaves is told with the commits that they begin; whatever the device and the file, they behave; and where the package isn't sound
   -- nothing that a recovery gives is changed.
   pub record FollowAll (requests : List Request) (replies : List Reply) (old new : SessionOver (Staged D g) h) : Type 0 where
-    pub ran : (start : Course) → IsAt (package_in old) start → (end : Course) × (marks : List Mark) × Runs (letters_in old) start requests replies marks end
-        × IsAt (package_in new) end × Survives (letters_in old) g (device_below old) (device_below new) marks
+    pub ran : (start : Course) → StandsAt old start → (end : Course) × (marks : List Mark) × Runs (letters_in old) start requests replies marks end
+        × StandsAt new end × Survives (letters_in old) g (device_below old) (device_below new) marks
     pub letters : letters_in new ≡ letters_in old
     pub behaves : Behaves (condition_of old) requests replies (condition_of new)
     pub still : is_sound old ≡ false → Survives (letters_in old) g (device_below old) (device_below new) []

@@ -1,5 +1,5 @@
 -- A session as what is seen of it.
-use Rattle.std.specs.Prelude.{◌≡◌, Bool, true, false, None}
+use Rattle.std.specs.Prelude.{◌≡◌, ℕ, Bool, true, false, List, Option, Some, is_some, IsTrue}
 use Rattle.cfb.specs.Publishing.{medium_in}
 use Rattle.cfb.specs.Views as file
 use Rattle.cfb_medium.specs.declared.medium.ReadMedium.{Ghosts}
@@ -7,12 +7,15 @@ use Rattle.cfb_tree.specs.Names.{Letters}
 use Rattle.msi.specs.Changing.{failed_in}
 use Rattle.msi.specs.Opened.{PackageHolds, file_in, sound_in}
 use Rattle.msi.specs.declared.package.Package.{Package}
+use Rattle.msi_meaning.specs.Opening.{may_use}
 use Rattle.msi_meaning.specs.Package.{Packed}
+use Rattle.staged.specs.Settled.{HasPublished}
 use Rattle.staged.specs.Staged.{device_of}
 use Rattle.staged.specs.declared.device.Device as device
 use Rattle.staged.specs.declared.staged.Staged.{Staged}
 use Rattle.installer.specs.Behaviour.{Condition}
 use Rattle.installer.specs.Course.{Course, Phase, running, failed}
+use Rattle.installer.specs.Survival.{IsFound}
 use Rattle.installer.specs.declared.session.SessionOver.{SessionOver}
 
 abbrev pub phase_of : Bool → Phase
@@ -43,14 +46,35 @@ module _ {F : Type 0} {g : Ghosts F} where
   abbrev pub letters_in : SessionOver F g → Letters
   letters_in s = file.letters_in (file_in (package_in s))
 
+  -- whether a package was opened or committed to which a roll back leads
+  abbrev pub has_base : SessionOver F g → Bool
+  has_base s = s.has_base
+
   -- how it stands
   abbrev pub condition_of : SessionOver F g → Condition
   condition_of s = record { failed = is_failed s; sound = is_sound s; failures = g.failures (medium_in (file_in (package_in s))) }
 
-  -- the place at which it begins with a package that is held
-  abbrev pub beginning : SessionOver F g → Packed → Course
-  beginning s P = record { held = P; committed = None; failures = g.failures (medium_in (file_in (package_in s))); phase = running; sound = is_sound s }
+  -- the place at which it begins with a package that is held, and one to which a roll back leads
+  abbrev pub beginning : SessionOver F g → Option Packed → Packed → Course
+  beginning s base P =
+      record { held = P; base = base; failures = g.failures (medium_in (file_in (package_in s))); phase = running; sound = is_sound s }
 
--- the device below it
-abbrev pub device_below : {D : Type 0} {g : device.Ghosts D} {h : Ghosts (Staged D g)} → SessionOver (Staged D g) h → D
-device_below s = device_of (medium_in (file_in (package_in s)))
+module _ {D : Type 0} {g : device.Ghosts D} {h : Ghosts (Staged D g)} where
+  -- the device below it
+  abbrev pub device_below : SessionOver (Staged D g) h → D
+  device_below s = device_of (medium_in (file_in (package_in s)))
+
+  -- what the device has published last is found to be this package, and its medium has not failed
+  pub record IsPublished (s : SessionOver (Staged D g) h) (B : Packed) : Type 0 where
+    pub honest : IsTrue (g.honest (device_below s))
+    pub live : h.failed (medium_in (file_in (package_in s))) ≡ false
+    pub usable : may_use (letters_in s) ≡ true
+    pub bytes : List ℕ
+    pub published : HasPublished g (device_below s) bytes
+    pub found : IsFound (letters_in s) bytes B
+
+  -- The session is at this place of a course: so is its package, and what a roll back would find was published.
+  pub record StandsAt (s : SessionOver (Staged D g) h) (course : Course) : Type 0 where
+    pub place : IsAt (package_in s) course
+    pub based : is_some course.base ≡ has_base s
+    pub base : course.sound ≡ true → (B : Packed) → course.base ≡ Some B → IsPublished s B

@@ -1,9 +1,13 @@
 -- Runs in which all went by the rules of packages.
-use Rattle.std.specs.Prelude.{◌≡◌, ◌||◌, Bool, true, false, not, List, [], ◌∷◌}
+use Rattle.std.specs.Prelude.{◌≡◌, ◌||◌, Bool, true, false, not, List, [], ◌∷◌, Some}
 use Rattle.cfb_medium.specs.declared.error.Error.{Error}
 use Rattle.cfb_medium.specs.declared.error.Error.TheVariants.{Device, Failed, Full, InvalidInput, Memory}
-use Rattle.command_file.specs.Request.{Request, is_writing}
+use Rattle.command_file.specs.Request.{Request, is_roll_back, is_writing}
 use Rattle.command_file.specs.Request as command
+use Rattle.cfb_meaning.specs.TreeRules.{Object}
+use Rattle.msi.specs.Changing.{PackageIsFit}
+use Rattle.msi_meaning.specs.Package.{Packed}
+use Rattle.installer.specs.Course.{Course, Mark}
 use Rattle.installer.specs.Reply.{Reply}
 use Rattle.installer.specs.Reply as told
 
@@ -21,12 +25,28 @@ is_outside sized Failed = true
 is_outside sized InvalidInput = sized
 is_outside sized e = false
 
--- a reply that a rule gave
+-- a reply that a rule of packages gave, which tells nothing of roll backs
 abbrev pub is_by_rule : Request → Reply → Bool
-is_by_rule request (told.refused e) = not (is_outside (is_sized request) e)
-is_by_rule request reply = true
+is_by_rule request (told.refused e) = not (is_outside (is_sized request) e || is_roll_back request)
+is_by_rule request reply = not (is_roll_back request)
 
 -- each reply is such a one
 abbrev pub AreByRule : List Request → List Reply → Type 0
 AreByRule (request ∷ requests) (reply ∷ replies) = (is_by_rule request reply ≡ true) × AreByRule requests replies
 AreByRule requests replies = Unit {0}
+
+-- ---- storages
+
+-- no request is a roll back
+abbrev pub GoOn : List Request → Type 0
+GoOn [] = Unit {0}
+GoOn (request ∷ requests) = (is_roll_back request ≡ false) × GoOn requests
+
+-- each package of these commits can be written as it is
+abbrev pub AreFit : List Mark → Type 0
+AreFit [] = Unit {0}
+AreFit (mark ∷ marks) = PackageIsFit mark.held × AreFit marks
+
+-- the package to which a roll back leads can be written as it is, and has these storages
+abbrev pub IsBasedOn : List Object → Course → Type 0
+IsBasedOn storages course = course.sound ≡ true → (B : Packed) → course.base ≡ Some B → PackageIsFit B × (B.storages ≡ storages)

@@ -5,7 +5,7 @@ ghost use Rattle.installer.specs.Said.{told_by};
 ghost use Rattle.installer.specs.Step.{told_of};
 ghost use Rattle.msi_changes.specs.Said.{delete_condition, delete_name, insert_name, insert_rows, update_condition, update_name, update_sets};
 ghost use Rattle.msi_columns.specs.Held.{columns_of};
-ghost use Rattle.std.specs.Prelude.{◌≡◌, false};
+ghost use Rattle.std.specs.Prelude.{◌≡◌, false, OnOk};
 
 use crate::Answer;
 use crate::copies::copies_of;
@@ -126,6 +126,15 @@ impl<F: Medium> SessionOver<F> {
         requires { is_failed self.old ≡ false }
         ensures { AnswersQuietly asked.flush (told_by result) self.old self.new }
     {
-        answer_of(self.package.flush())
+        answer_of(self.write_out())
+    }
+
+    // The same as its outcome.
+    pub(crate) fn write_out(&mut self) -> Result<(), Error>
+        requires { is_failed self.old ≡ false }
+        ensures quiet { AnswersQuietly asked.flush (told_of result) self.old self.new }
+        ensures live { OnOk result (is_failed self.new ≡ false) }
+    {
+        self.package.flush()
     }
 }

@@ -4,7 +4,7 @@ ghost use Rattle.command_file.specs.Request.{Request};
 ghost use Rattle.installer.specs.Course.{Course, Mark, Runs};
 ghost use Rattle.installer.specs.Reply.{Reply};
 ghost use Rattle.installer.specs.Step.{Step};
-ghost use Rattle.installer.specs.Undisturbed.{AreByRule};
+ghost use Rattle.installer.specs.Undisturbed.{AreByRule, AreFit, GoOn, IsBasedOn};
 ghost use Rattle.msi_meaning.specs.Package.{Packed};
 ghost use Rattle.std.specs.Prelude.{◌≡◌, List};
 
@@ -20,10 +20,16 @@ pub fn runs_are_one()
         → AreByRule requests rs → AreByRule requests ss → (rs ≡ ss) × (c.held ≡ d.held) }
 {}
 
-/// No command changes the storages of a package, with all that lies in them: after a run they are what they were.
+/// No command changes the storages of a package, with all that lies in them: after a run they are what they were, also where it was rolled
+/// back, if what was opened and what was committed can be written as it is.
 pub fn storages_stay()
-    ensures { (letters : Letters) (start end : Course) (requests : List Request)
+    ensures on { (letters : Letters) (start end : Course) (requests : List Request)
         (replies : List Reply) (marks : List Mark)
+        → GoOn requests → Runs letters start requests replies marks end
+        → end.held.storages ≡ start.held.storages }
+    ensures back { (letters : Letters) (start end : Course) (requests : List Request)
+        (replies : List Reply) (marks : List Mark)
+        → IsBasedOn start.held.storages start → AreFit marks
         → Runs letters start requests replies marks end
         → end.held.storages ≡ start.held.storages }
 {}

@@ -16,7 +16,7 @@ ghost use Rattle.msi_meaning.specs.Package.{Packed};
 ghost use Rattle.msi_meaning.specs.declared.kind.PackageType.TheVariants.{Installer};
 ghost use Rattle.staged.specs.Log.{logged, recovered, MalformedLog};
 ghost use Rattle.staged.specs.Settled.{HasPublished, IsSettled};
-ghost use Rattle.std.specs.Prelude.{◌≡◌, ℕ, List, [], Some, false, map, true, IfErr, IfOk, IsTrue, MatchResult, OnOk};
+ghost use Rattle.std.specs.Prelude.{◌≡◌, ℕ, List, [], None, Some, false, map, true, IfErr, IfOk, IsTrue, MatchResult, OnOk};
 ghost use Rattle.cfb_medium.specs.Calls.{Extends, IsFaultUnless};
 
 use crate::Answer;
@@ -35,6 +35,8 @@ use std::alloc::Global;
 pub struct SessionOver<F: Medium> {
     pub(crate) alloc: Global,
     pub(crate) package: Package<F>,
+    // whether a package was opened or committed, to which a roll back leads
+    pub(crate) has_base: bool,
 }
 
 /// A session over the two files of a device, which survives a stop at any moment.
@@ -59,7 +61,7 @@ impl<F: Medium> SessionOver<F> {
 }
 
 impl<D: Device> SessionOver<Staged<D>> {
-    ghost use Rattle.installer.specs.Sessions.{beginning, device_below, is_failed, is_sound, letters_in, package_in, IsAt};
+    ghost use Rattle.installer.specs.Sessions.{beginning, device_below, is_failed, is_sound, letters_in, package_in, StandsAt};
 
     /// Recovers, and begins a new installer package on an empty home file, whose names are compared under the letter table; nothing
     /// is committed. `InvalidData` for a malformed log, which leaves both files; `AlreadyExists` where the home file isn't empty;
@@ -72,7 +74,7 @@ impl<D: Device> SessionOver<Staged<D>> {
     ) -> Result<SessionOver<Staged<D>>, (D, Error)>
         ensures began { IsTrue (D.honest device) → IfOk result (λ s.
             (recovered (D.content device) ≡ Some []) × (P : Packed) × IsNew Installer P
-            × PackageIsFit P × IsAt (package_in s) (beginning s P)) }
+            × PackageIsFit P × StandsAt s (beginning s None P)) }
         ensures letters { IfOk result (λ s. letters_in s ≡ letters_of letters) }
         ensures sound { IfOk result (λ s. (is_failed s ≡ false) × (is_sound s ≡ true)) }
         ensures survives { MatchResult result
@@ -94,7 +96,11 @@ impl<D: Device> SessionOver<Staged<D>> {
             Err(error) => return Err((medium.into_device(), error)),
         }
         match Package::create(alloc, PackageType::Installer, medium, letters) {
-            Ok(package) => Ok(SessionOver { alloc, package }),
+            Ok(package) => Ok(SessionOver {
+                alloc,
+                package,
+                has_base: false,
+            }),
             Err((medium, error)) => Err((medium.into_device(), error)),
         }
     }
@@ -111,7 +117,7 @@ impl<D: Device> SessionOver<Staged<D>> {
             × (recovered (D.content device) ≡ Some bytes)
             × IsOpenedPackage (letters_of letters) bytes (package_in s)) }
         ensures began { IfOk result (λ s. (P : Packed) → PackageHolds (package_in s) P
-            → IsAt (package_in s) (beginning s P)) }
+            → StandsAt s (beginning s (Some P) P)) }
         ensures reopens { IsTrue (D.honest device) → (bytes : List ℕ) (P : Packed)
             → recovered (D.content device) ≡ Some bytes
             → HoldsSound (letters_of letters) bytes P → MatchResult result
@@ -133,7 +139,11 @@ impl<D: Device> SessionOver<Staged<D>> {
             Err(refusal) => return Err(refusal),
         };
         match Package::open(alloc, medium, letters) {
-            Ok(package) => Ok(SessionOver { alloc, package }),
+            Ok(package) => Ok(SessionOver {
+                alloc,
+                package,
+                has_base: true,
+            }),
             Err((medium, error)) => Err((medium.into_device(), error)),
         }
     }
@@ -157,7 +167,7 @@ impl<D: Device> SessionOver<Staged<D>> {
         ensures { Follows (said command.now) (told_by result) self.old self.new }
     {
         if self.has_failed() {
-            return Answer::Refused(Error::Failed);
+            return self.answer_failed(command);
         }
         match command {
             Command::CreateTable(name, columns) => self.create_table(name, columns),
@@ -180,6 +190,18 @@ impl<D: Device> SessionOver<Staged<D>> {
             Command::SetCodepage(page) => self.set_codepage(*page),
             Command::Flush => self.flush(),
             Command::Commit => answer_of(self.commit()),
+            Command::RollBack => answer_of(self.roll_back()),
+        }
+    }
+
+    // Answers a command where a fault has ended the session: a roll back alone may lead out of that.
+    fn answer_failed(&mut self, command: &Command) -> Answer
+        requires { is_failed self.old ≡ true }
+        ensures { Follows (said command.now) (told_by result) self.old self.new }
+    {
+        match command {
+            Command::RollBack => answer_of(self.roll_back()),
+            _ => Answer::Refused(Error::Failed),
         }
     }
 
@@ -193,7 +215,66 @@ impl<D: Device> SessionOver<Staged<D>> {
             × HasPublished D.Device (device_below self.new) bytes
             × IsFound (letters_in self.old) bytes P) }
     {
-        self.package.commit()
+        if self.has_failed() {
+            return Err(Error::Failed);
+        }
+        if self.is_sound() {
+            return self.flush_and_publish();
+        }
+        self.publish()
+    }
+
+    // Publishes a sound package. What keeps it from being flushed leaves a package to which to go back.
+    fn flush_and_publish(&mut self) -> Result<(), Error>
+        requires live { is_failed self.old ≡ false }
+        requires sound { is_sound self.old ≡ true }
+        ensures follows { Follows asked.commit (told_of result) self.old self.new }
+        ensures published { OnOk result ((P : Packed) → PackageHolds (package_in self.old) P
+            → IsTrue (is_sound self.old) → (bytes : List ℕ)
+            × HasPublished D.Device (device_below self.new) bytes
+            × IsFound (letters_in self.old) bytes P) }
+    {
+        match self.write_out() {
+            Ok(()) => self.publish(),
+            Err(error) => Err(error),
+        }
+    }
+
+    // Publishes what was flushed. A fault may have cut this off in the midst of writing, so that nothing is known to which to go back.
+    fn publish(&mut self) -> Result<(), Error>
+        requires { is_failed self.old ≡ false }
+        ensures follows { Follows asked.commit (told_of result) self.old self.new }
+        ensures published { OnOk result ((P : Packed) → PackageHolds (package_in self.old) P
+            → IsTrue (is_sound self.old) → (bytes : List ℕ)
+            × HasPublished D.Device (device_below self.new) bytes
+            × IsFound (letters_in self.old) bytes P) }
+    {
+        let published = self.package.commit();
+        self.has_base = published.is_ok();
+        published
+    }
+
+    /// Goes back to the package that was committed last, or else to the one that was opened, also after a fault: what was changed since is
+    /// gone, and all is read again. `NotFound` in a new session before its first commit, or `Failed` where that has failed; `Failed`, too,
+    /// where a fault has cut a commit off in the midst of writing: then nothing is changed. `Memory` and `Device`: then all is as it was, or the
+    /// session has failed, and may be rolled back again. Of a package that isn't sound nothing was changed, so nothing is read. Nothing is
+    /// written, and nothing is published.
+    pub fn roll_back(&mut self) -> Result<(), Error>
+        ensures { Follows asked.roll_back (told_of result) self.old self.new }
+    {
+        if !self.is_sound() {
+            if self.has_failed() {
+                return Err(Error::Failed);
+            }
+            return Ok(());
+        }
+        if !self.has_base {
+            if self.has_failed() {
+                return Err(Error::Failed);
+            }
+            return Err(Error::NotFound);
+        }
+        self.package.roll_back()
     }
 
     /// The device, with what was committed.

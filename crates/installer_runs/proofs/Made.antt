@@ -1,5 +1,5 @@
 -- A package that is made on a device.
-use Rattle.std.proofs.Common.{◌≡◌, ◌<◌, ◌-◌, ◌^◌, ◌∙◌, ℕ, Bool, List, [], Ok, Err, Result, Some, false, true, ◌≤◌, ap, inl, inr, refl, subst, sym, ⊎_elim}
+use Rattle.std.proofs.Common.{◌≡◌, ◌<◌, ◌-◌, ◌^◌, ◌∙◌, ℕ, Bool, List, [], Ok, Err, Result, None, Some, false, true, ◌≤◌, ap, inl, inr, refl, subst, sym, ⊎_elim}
 use Rattle.std.specs.Prelude.{IfErr, IsTrue, OnOk}
 use Rattle.cfb_medium.specs.Calls.{IsFaultUnless}
 use Rattle.cfb_medium.specs.Versions.{stream_len_mask}
@@ -10,10 +10,10 @@ use Rattle.cfb_medium.specs.declared.medium.ReadMedium as medium
 use Rattle.cfb_tree.specs.Names.{Letters}
 use Rattle.command_file.specs.Request as asked
 use Rattle.installer.proofs.Stopping.{survives_then}
-use Rattle.installer.specs.Course.{fails, failed, marks_as, refuses, running, stays, steps, Course, Goes, IsFault as IsUndoneFault, IsUndone, Mark, StepAs}
+use Rattle.installer.specs.Course.{fails, failed, marks_as, refuses, rolls, running, stays, steps, Course, Goes, IsFault as IsUndoneFault, IsUndone, Mark, StepAs}
 use Rattle.installer.specs.Reply.{Reply}
 use Rattle.installer.specs.Reply as told
-use Rattle.installer.specs.Sessions.{beginning, device_below, is_sound, letters_in, package_in, IsAt}
+use Rattle.installer.specs.Sessions.{beginning, device_below, is_sound, letters_in, package_in, StandsAt}
 use Rattle.installer.specs.Step.{told_of}
 use Rattle.installer.specs.Refusals.{IsCounted, IsCreateRefusal}
 use Rattle.installer.specs.Survival.{IsFound, Survives}
@@ -49,18 +49,19 @@ commit_undone : (letters : Letters) (start end : Course) (e : Error) → start.p
 commit_undone letters start end e run sound (steps was step committed after same counted) =
     let done = subst (λ (b : Bool). StepAs b letters start.held asked.commit (told.refused e) end.held) sound step in
     let never : told.refused e ≡ told.done = done.1 in absurd (cc)
-commit_undone letters start end e run sound (stays f was is undone page same counted) = undone_as start end e f is undone
-commit_undone letters start end e run sound (fails f was is undone read same counted) = undone_as start end e f is undone
-commit_undone letters start end e run sound (refuses was is same) = (let never : running ≡ failed = sym run ∙ was in absurd (cc))
+commit_undone letters start end e run sound (stays f was is undone page same base counted) = undone_as start end e f is undone
+commit_undone letters start end e run sound (fails f was is undone read same base counted) = undone_as start end e f is undone
+commit_undone letters start end e run sound (refuses was own is same) = (let never : running ≡ failed = sym run ∙ was in absurd (cc))
+commit_undone letters start end e run sound (rolls back goes) = absurd (cc back)
 
 module _ {D : Type 0} {g : Ghosts D} {h : medium.Ghosts (Staged D g)} (letters : Letters) (it : SessionOver (Staged D g) h) (old new : D) (result : Result (Unit {0}) Error) (compared : letters_in it ≡ letters)
-    (sound : is_sound it ≡ true) (P : Packed) (is_new : IsNew Installer P) (fit : PackageIsFit P) (at : IsAt (package_in it) (beginning it P)) (leads : CommitsLast result it new) where
+    (sound : is_sound it ≡ true) (P : Packed) (is_new : IsNew Installer P) (fit : PackageIsFit P) (at : StandsAt it (beginning it None P)) (leads : CommitsLast result it new) where
   pub made_on : recovered (g.content old) ≡ Some [] → OnOk result (MakesOn letters g old new)
   made_on empty = on result leads.published
     where
       on : (r : Result (Unit {0}) Error) → OnOk r ((Q : Packed) → PackageHolds (package_in it) Q → IsTrue (is_sound it) → (bytes : List ℕ) × HasPublished g (device_below leads.last) bytes × IsFound (letters_in it) bytes Q) → OnOk r (MakesOn letters g old new)
       on (Ok u) published =
-          let own = published P (at.held refl) sound in record {
+          let own = published P (at.place.held refl) sound in record {
             empty = empty;
             held = P;
             is_new = is_new;
@@ -73,16 +74,16 @@ module _ {D : Type 0} {g : Ghosts D} {h : medium.Ghosts (Staged D g)} (letters :
   pub made_survives : Survives letters g old (device_below it) [] → (marks : List Mark) × AreOfNew marks × Survives letters g old new marks
   made_survives begun =
       let marks = marks_as (is_sound it) P asked.commit (told_of result) in
-      let own : Survives letters g (device_below it) (device_below leads.last) marks = subst (λ (l : Letters). Survives l g (device_below it) (device_below leads.last) marks) compared (leads.follows.survives (beginning it P) at) in
+      let own : Survives letters g (device_below it) (device_below leads.last) marks = subst (λ (l : Letters). Survives l g (device_below it) (device_below leads.last) marks) compared (leads.follows.survives (beginning it None P) at) in
       let there : Survives letters g (device_below it) new marks = subst (λ (d : D). Survives letters g (device_below it) d marks) (sym leads.given) own in
       (marks, new_marks P is_new (is_sound it) (told_of result), survives_then letters g old (device_below it) new [] marks begun there)
 
   -- the commit of a new package was refused: by a fault, and a failure of the device was counted
   pub made_refused : ((m : Staged D g) → h.failures m ≡ g.failures (device_of m)) → Survives letters g old (device_below it) [] → IfErr result (IsCreateRefusal letters g old new)
-  made_refused counts begun = on result leads.follows.by_rule.goes
+  made_refused counts begun = on result leads.follows.goes
     where
       start : Course
-      start = beginning it P
+      start = beginning it None P
 
       fault : (e : Error) (end : Course) → IsUndone start asked.commit e end → IsUndoneFault start asked.commit e end
       fault e end undone = ⊎_elim (λ fault. fault) (λ much. absurd (new_is_short Installer P is_new (stream_len_mask much.1.0) (mask_wide much.1.0) much.1.1)) undone
@@ -111,12 +112,12 @@ module _ {D : Type 0} {g : Ghosts D} {h : medium.Ghosts (Staged D g)} (letters :
               let last : end.failures ≡ g.failures new = here ∙ sym (ap (λ (d : D). g.failures d) leads.given) in
               subst (λ (n : ℕ). n < g.failures new) first (subst (λ (n : ℕ). start.failures < n) last (device.1 (subst (λ (n : ℕ). n < 2 ^ 64 - 1) (sym first) few)))
 
-      on : (r : Result (Unit {0}) Error) → ((c : Course) → IsAt (package_in it) c → (end : Course) × Goes (letters_in it) c asked.commit (told_of r) end × IsAt (package_in leads.last) end) → IfErr r (IsCreateRefusal letters g old new)
+      on : (r : Result (Unit {0}) Error) → ((c : Course) → StandsAt it c → (end : Course) × Goes (letters_in it) c asked.commit (told_of r) end × StandsAt leads.last end) → IfErr r (IsCreateRefusal letters g old new)
       on (Ok u) goes = tt
       on (Err e) goes =
           let went = goes start at in
           let undone = fault e went.0 (commit_undone (letters_in it) start went.0 e refl sound went.1) in
           record {
             kind = inr (inr (inr (inl (kind e went.0 undone))));
-            fault = (counted e went.0 (went.2.failures ∙ counts (medium_in (file_in (package_in leads.last)))) undone, fresh e went.0 undone);
+            fault = (counted e went.0 (went.2.place.failures ∙ counts (medium_in (file_in (package_in leads.last)))) undone, fresh e went.0 undone);
           }

@@ -1,5 +1,5 @@
 -- A run on a device, from recovery on.
-use Rattle.std.proofs.Common.{◌≡◌, ◌↔◌, ℕ, Bool, false, true, List, [], take, refl, sym, subst, IsTrue, None, Some}
+use Rattle.std.proofs.Common.{◌≡◌, ◌↔◌, ℕ, Bool, false, true, List, [], take, refl, sym, subst, IsTrue, Some}
 use Rattle.cfb_medium.specs.Calls.{IsFaultUnless}
 use Rattle.cfb_medium.specs.declared.error.Error.{Error}
 use Rattle.cfb_medium.specs.declared.medium.ReadMedium as medium
@@ -7,7 +7,7 @@ use Rattle.cfb_tree.specs.Names.{Letters}
 use Rattle.command_file.specs.Request.{Request}
 use Rattle.installer.proofs.Stopping.{survives_then}
 use Rattle.installer.specs.Course.{Mark, Runs, running}
-use Rattle.installer.specs.Sessions.{beginning, device_below, is_sound, letters_in, package_in, IsAt}
+use Rattle.installer.specs.Sessions.{beginning, device_below, is_sound, letters_in, StandsAt}
 use Rattle.installer.specs.Survival.{Survives}
 use Rattle.installer.specs.declared.session.SessionOver.{SessionOver}
 use Rattle.installer_runs.specs.Runs.{Leads, RunsOn}
@@ -32,9 +32,9 @@ runs_none g letters P requests e old new failures fault survives = record {
   unopened = λ f is. subst (IsFaultUnless ⊥) (same e f is) fault;
   replies = [];
   marks = [];
-  start = record { held = P; committed = None; failures = failures; phase = running; sound = true };
-  end = record { held = P; committed = None; failures = failures; phase = running; sound = true };
-  begins = record { held = refl; none = refl; phase = refl; sound = refl };
+  start = record { held = P; base = Some P; failures = failures; phase = running; sound = true };
+  end = record { held = P; base = Some P; failures = failures; phase = running; sound = true };
+  begins = record { held = refl; based = refl; phase = refl; sound = refl };
   runs = (refl, refl);
   survives = survives;
 }
@@ -49,19 +49,19 @@ module _ {D : Type 0} {g : Ghosts D} {h : medium.Ghosts (Staged D g)} (letters :
       let here : Survives letters g (device_below it) (device_below leads.last) marks = subst (λ (l : Letters). Survives l g (device_below it) (device_below leads.last) marks) compared own in
       survives_then letters g old (device_below it) new [] marks begun (subst (λ (d : D). Survives letters g (device_below it) d marks) (sym leads.given) here)
 
-  pub runs_on : (P : Packed) → IsAt (package_in it) (beginning it P) → is_sound it ≡ true → RunsOn letters g P requests ending old new
+  pub runs_on : (P : Packed) → StandsAt it (beginning it (Some P) P) → is_sound it ≡ true → RunsOn letters g P requests ending old new
   runs_on P at sound =
-      let on = leads.along.follow.ran (beginning it P) at in
+      let on = leads.along.follow.ran (beginning it (Some P) P) at in
       record {
         count = leads.along.count;
         whole = leads.along.whole;
         unopened = λ e is. absurd (leads.along.opened e is);
         replies = leads.along.replies;
         marks = on.1;
-        start = beginning it P;
+        start = beginning it (Some P) P;
         end = on.0;
-        begins = record { held = refl; none = refl; phase = refl; sound = sound };
-        runs = subst (λ (l : Letters). Runs l (beginning it P) (take leads.along.count requests) leads.along.replies on.1 on.0) compared on.2;
+        begins = record { held = refl; based = refl; phase = refl; sound = sound };
+        runs = subst (λ (l : Letters). Runs l (beginning it (Some P) P) (take leads.along.count requests) leads.along.replies on.1 on.0) compared on.2;
         survives = survives_behind on.1 on.4;
       }
 

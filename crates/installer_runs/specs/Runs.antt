@@ -1,5 +1,5 @@
 -- What a run on a device does.
-use Rattle.std.specs.Prelude.{◌≡◌, ℕ, true, None, take, List}
+use Rattle.std.specs.Prelude.{◌≡◌, ℕ, true, Some, take, List}
 use Rattle.cfb_medium.specs.Calls.{IsFaultUnless}
 use Rattle.cfb_medium.specs.declared.error.Error.{Error}
 use Rattle.cfb_medium.specs.declared.medium.ReadMedium as medium
@@ -17,10 +17,10 @@ use Rattle.msi_meaning.specs.Package.{Packed}
 use Rattle.staged.specs.declared.device.Device.{Ghosts}
 use Rattle.staged.specs.declared.staged.Staged.{Staged}
 
--- a course that begins with a sound package, of which nothing was committed yet
+-- a course that begins with a sound package, to which a roll back leads
 pub record Begins (start : Course) (P : Packed) : Type 0 where
   pub held : start.held ≡ P
-  pub none : start.committed ≡ None
+  pub based : start.base ≡ Some P
   pub phase : start.phase ≡ running
   pub sound : start.sound ≡ true
 

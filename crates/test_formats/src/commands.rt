@@ -111,6 +111,7 @@ fn word_of(command: &Command) -> &'static str {
         Command::Codepage => "codepage",
         Command::Flush => "flush",
         Command::Commit => "commit",
+        Command::RollBack => "roll back",
         _ => "other",
     }
 }

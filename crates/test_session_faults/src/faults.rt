@@ -88,6 +88,7 @@ fn refuses_all(alloc: Global, session: &mut Session<FailingDevice>) -> Result<()
     refuses(alloc, session, insert(alloc, "T", 3)?)?;
     refuses(alloc, session, select(alloc, "T")?)?;
     refuses(alloc, session, Command::Commit)?;
+    refuses(alloc, session, Command::RollBack)?;
     wants(has_failed(session), "a session that has failed")
 }
 

@@ -3,6 +3,7 @@
 
 mod commands;
 mod faults;
+mod going_back;
 mod session_calls;
 mod stops;
 
@@ -10,5 +11,6 @@ use anyhow::Result;
 
 fn main(rt: HostRuntime) -> Result<()> {
     faults::print(&rt)?;
+    going_back::print(&rt)?;
     stops::print(&rt)
 }

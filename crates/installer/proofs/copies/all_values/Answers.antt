@@ -1,6 +1,5 @@
-use Rattle.std.proofs.Common.{◌≡◌, ◌∙◌, ◌++◌, List, [], ◌∷◌, map, ap, sym, append_assoc, append-nil}
+use Rattle.std.proofs.Common.{◌∙◌, ◌++◌, [], ◌∷◌, map, ap, sym, append_assoc, append-nil}
 use Rattle.std.proofs.lemmas.List.{map-append}
-use Rattle.std.specs.Prelude.{Vec}
 use Rattle.msi_tables.specs.RowsLeft.{rows_left}
 use Rattle.msi_values.specs.Datum.{data_of}
 use Rattle.installer.proofs.copies.all_values.Goals as goal

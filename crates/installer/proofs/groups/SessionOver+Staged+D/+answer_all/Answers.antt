@@ -1,4 +1,4 @@
-use Rattle.std.proofs.Common.{◌∷◌, ◌∙◌, [], ap, map, refl, sym, length}
+use Rattle.std.proofs.Common.{◌∷◌, ◌∙◌, [], ap, map, refl, sym}
 use Rattle.std.proofs.lemmas.List.{map-append}
 use Rattle.command_file.specs.Said.{said}
 use Rattle.installer.proofs.Running.{answered_none, answered_one, answered_then, otherwise, rest_of, some_left}

@@ -8,20 +8,20 @@ use Rattle.installer.proofs.groups.SessionOver+Staged+D.insert_all.Goals as goal
 pub returns-in-Ok-clause-done : goal.returns-in-Ok-clause-done
 returns-in-Ok-clause-done g c =
     let d = g.met.D.Device in
-    let follows = follows_quietly d.counts_now (λ a b r. sym (d.rests_keeps a b r).as_honest) (λ a b r. (d.rests_keeps a b r).counted) d.rests_leaves (λ m. record { device = d.rests_refl _; failed = refl }) (λ a b k. k.device) _ _ c.args.self.now _ refl c.in-Ok.ensures in
+    let follows = follows_quietly d.counts_now d.rests_keeps d.rests_leaves (λ m. record { device = d.rests_refl _; failed = refl }) (λ a b k. k.device) (λ a b k. k.failed) _ _ c.args.self.now _ refl refl c.in-Ok.ensures in
     done_all said c.args.self.now c.insert_joined.new.self (insert_name c.in-Some.insert) (insert_rows c.in-Some.insert) (sym c.has_failed.ensures ∙ c.if-has_failed.false) (sym c.is_sound.ensures ∙ c.if-not-is_sound.false)
     c.args.commands.now c.in-Some.ensures.0 c.requires.some c.in-Some.ensures.1 c.in-Some.ensures.2 follows
 
 pub returns-then-has_failed-2-clause-failed : goal.returns-then-has_failed-2-clause-failed
 returns-then-has_failed-2-clause-failed g c =
     let d = g.met.D.Device in
-    let follows = follows_quietly d.counts_now (λ a b r. sym (d.rests_keeps a b r).as_honest) (λ a b r. (d.rests_keeps a b r).counted) d.rests_leaves (λ m. record { device = d.rests_refl _; failed = refl }) (λ a b k. k.device) _ _ c.args.self.now _ refl c.in-Err.ensures in
+    let follows = follows_quietly d.counts_now d.rests_keeps d.rests_leaves (λ m. record { device = d.rests_refl _; failed = refl }) (λ a b k. k.device) (λ a b k. k.failed) _ _ c.args.self.now _ refl refl c.in-Err.ensures in
     first_failed said c.args.self.now c.insert_joined.new.self (insert_name c.in-Some.insert) (insert_rows c.in-Some.insert) (sym c.has_failed.ensures ∙ c.if-has_failed.false) (sym c.is_sound.ensures ∙ c.if-not-is_sound.false)
     c.in-Err.error c.args.commands.now c.in-Some.ensures.0 c.requires.some c.in-Some.ensures.1 follows (sym c.has_failed-in-Err.ensures ∙ c.if-has_failed-2.true)
 
 pub returns-clause-done : goal.returns-clause-done
 returns-clause-done g c =
     let d = g.met.D.Device in
-    let follows = follows_quietly d.counts_now (λ a b r. sym (d.rests_keeps a b r).as_honest) (λ a b r. (d.rests_keeps a b r).counted) d.rests_leaves (λ m. record { device = d.rests_refl _; failed = refl }) (λ a b k. k.device) _ _ c.args.self.now _ refl c.in-Err.ensures in
+    let follows = follows_quietly d.counts_now d.rests_keeps d.rests_leaves (λ m. record { device = d.rests_refl _; failed = refl }) (λ a b k. k.device) (λ a b k. k.failed) _ _ c.args.self.now _ refl refl c.in-Err.ensures in
     goes_on_from c.args.self.now c.insert_joined.new.self (insert_name c.in-Some.insert) (insert_rows c.in-Some.insert) (sym c.has_failed.ensures ∙ c.if-has_failed.false) (sym c.is_sound.ensures ∙ c.if-not-is_sound.false)
     c.in-Err.error follows (sym c.has_failed-in-Err.ensures ∙ c.if-has_failed-2.false)

@@ -3,10 +3,9 @@ use Rattle.std.proofs.lemmas.List.{nil_from_length}
 use Rattle.std.specs.Prelude.{IsTrue, Some}
 use Rattle.cfb_tree.specs.LetterViews.{letters_of}
 use Rattle.msi.specs.Creating.{IsNewRefusal}
-use Rattle.staged.specs.Staged.{device_of, staged_bytes, Continues}
-use Rattle.installer.proofs.Begun.{began_counted, began_survives, begins_at, device_is_fault, malformed_or_fault, new_refused, recovered_fresh}
+use Rattle.staged.specs.Staged.{device_of, staged_bytes}
+use Rattle.installer.proofs.Begun.{began_counted, began_survives, begins_new, device_is_fault, malformed_or_fault, new_refused, recovered_fresh}
 use Rattle.installer.proofs.Going.{package_live}
-use Rattle.installer.proofs.Recovering.{never_recovered}
 use Rattle.installer.proofs.Stopping.{survives_alike}
 use Rattle.installer.proofs.session.SessionOver+Staged+D.create.Goals as goal
 
@@ -61,7 +60,7 @@ returns-in-Ok-create-clause-began g c = λ honest.
     let same : length (staged_bytes c.len.new.self) ≡ 0 = ap length (c.len.ensures.bytes before) ∙ none in
     let held = made.holds after (omega (arith, same)) in
     let live = package_live c.in-Ok-create.package made.live (sym on.failed ∙ c.in-Ok.ensures.sound) in
-    (c.in-Ok.ensures.bytes honest ∙ ap (λ bytes. Some bytes) empty, held.0, held.1, held.2, begins_at _ held.0 live held.3)
+    (c.in-Ok.ensures.bytes honest ∙ ap (λ bytes. Some bytes) empty, held.0, held.1, held.2, begins_new _ held.0 live held.3 refl)
 
 pub returns-in-Err-create-clause-survives : goal.returns-in-Err-create-clause-survives
 returns-in-Err-create-clause-survives g c =

@@ -1,13 +1,16 @@
-use Rattle.std.proofs.Common.{◌∙◌, ◌≡◌, inl, inr, refl, subst, sym, ⊎_elim}
+use Rattle.std.proofs.Common.{◌∙◌, ap, inl, inr, refl, subst, sym, ⊎_elim}
 use Rattle.std.specs.Prelude.{IsTrue}
 use Rattle.cfb_medium.specs.Calls.{IsFaultUnless}
 use Rattle.cfb_tree.specs.LetterViews.{letters_of}
 use Rattle.msi.proofs.OpenAgain.{held_again}
+use Rattle.msi.specs.Committing.{HoldsSound}
 use Rattle.msi.specs.Opened.{IsOpenedPackage}
-use Rattle.staged.specs.Staged.{device_of, staged_bytes, Continues}
-use Rattle.installer.proofs.Begun.{began_counted, began_survives, begins_at, malformed_or_fault, reopen_fault, same_bytes}
+use Rattle.msi_meaning.specs.Opening.{may_use}
+use Rattle.staged.specs.Staged.{device_of, staged_bytes}
+use Rattle.installer.proofs.Based.{held_sound, settled_published}
+use Rattle.installer.proofs.Begun.{began_counted, began_survives, begins_found, malformed_or_fault, reopen_fault, same_bytes}
+use Rattle.installer.proofs.Following.{published_yet}
 use Rattle.installer.proofs.Going.{package_live}
-use Rattle.installer.proofs.Recovering.{never_recovered}
 use Rattle.installer.proofs.Stopping.{survives_alike}
 use Rattle.installer.proofs.session.SessionOver+Staged+D.open.Goals as goal
 
@@ -31,7 +34,24 @@ pub returns-in-Ok-open-clause-began : goal.returns-in-Ok-open-clause-began
 returns-in-Ok-open-clause-began g c = λ P held.
     let d = g.met.D.Device in
     let on = c.in-Ok-open.ensures.opens.continues c.in-Ok.medium (record { device = d.rests_refl _; failed = refl }) in
-    begins_at _ P (package_live c.in-Ok-open.package c.in-Ok-open.ensures.opens.live (sym on.failed ∙ c.in-Ok.ensures.sound)) held
+    let it = c.in-Ok-open.package in
+    let medium = c.in-Ok.medium in
+    let bytes = staged_bytes medium in
+    let kept = d.rests_keeps (device_of medium) _ on.device in
+    let before : IsTrue (g.D.Device.honest (device_of medium)) = subst IsTrue (sym kept.as_honest) held.file.honest in
+    let first : IsTrue (g.D.Device.honest c.args.device) = subst IsTrue c.in-Ok.ensures.honest before in
+    let opened = c.in-Ok-open.ensures.opened before in
+    let live = package_live it c.in-Ok-open.ensures.opens.live (sym on.failed ∙ c.in-Ok.ensures.sound) in
+    begins_found _ P live held refl (λ sound. record {
+      honest = held.file.honest;
+      live = sym on.failed ∙ c.in-Ok.ensures.sound;
+      usable = held.usable;
+      bytes = bytes;
+      published = published_yet d.counts_now d.rests_keeps d.rests_leaves (device_of medium) _ bytes on.device before
+          (settled_published g.D.Device (device_of medium) bytes (c.in-Ok.ensures.settled first) (c.in-Ok.ensures.home first));
+      found = λ fit. subst (λ l. HoldsSound l bytes P) (sym opened.compared)
+          (held_sound (letters_of c.args.letters) bytes it opened (ap may_use (sym opened.compared) ∙ held.usable) sound (c.in-Ok-open.ensures.opens.bytes before) P held);
+    })
 
 pub returns-in-Ok-open-clause-opened : goal.returns-in-Ok-open-clause-opened
 returns-in-Ok-open-clause-opened g c = λ honest.

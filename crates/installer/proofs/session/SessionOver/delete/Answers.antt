@@ -7,5 +7,5 @@ use Rattle.installer.proofs.session.SessionOver.delete.Goals as goal
 pub returns : goal.returns
 returns g c =
     let G = g.met.F.ReadMedium in
-    answers_changes G.continues_refl G.continues_keeps c.args.self.now _ c.requires (λ P Q answer. Deletes P (delete_name c.args.delete.now) (delete_condition c.args.delete.now) Q answer) _ _ c.delete_rows.result refl (λ P Q answer made. inl (answer, made, refl))
+    answers_changes G.continues_refl G.continues_keeps c.args.self.now _ c.requires refl (λ P Q answer. Deletes P (delete_name c.args.delete.now) (delete_condition c.args.delete.now) Q answer) _ _ c.delete_rows.result refl (λ P Q answer made. inl (answer, made, refl))
     c.delete_rows.ensures.changes c.delete_rows.ensures.goes_on c.delete_rows.ensures.cause (may_fill c.delete_rows.result refl) c.answer_of.ensures

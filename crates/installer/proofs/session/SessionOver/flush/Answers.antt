@@ -1,8 +1,4 @@
-use Rattle.std.proofs.Common.{refl}
-use Rattle.installer.proofs.Answering.{answers_writes}
 use Rattle.installer.proofs.session.SessionOver.flush.Goals as goal
 
 pub returns : goal.returns
-returns g c =
-    let G = g.met.F.ReadMedium in
-    answers_writes G.continues_refl G.continues_keeps c.args.self.now _ c.requires _ c.flush.result c.flush.ensures.writes c.flush.ensures.goes_on c.flush.ensures.cause c.answer_of.ensures
+returns g c = rw c.answer_of.ensures c.write_out.ensures.quiet

@@ -12,5 +12,5 @@ use Rattle.installer.proofs.session.SessionOver.remove_signature.Goals as goal
 pub returns : goal.returns
 returns g c =
     let G = g.met.F.ReadMedium in
-    answers_changes G.continues_refl G.continues_keeps c.args.self.now _ c.requires (Makes (λ P. Ok (unsigned (letters_in c.args.self.now) P))) _ _ c.remove_digital_signature.result refl (λ P Q answer made. inl (becomes (Ok (unsigned (letters_in c.args.self.now) P)) P Q answer made))
+    answers_changes G.continues_refl G.continues_keeps c.args.self.now _ c.requires refl (Makes (λ P. Ok (unsigned (letters_in c.args.self.now) P))) _ _ c.remove_digital_signature.result refl (λ P Q answer made. inl (becomes (Ok (unsigned (letters_in c.args.self.now) P)) P Q answer made))
     c.remove_digital_signature.ensures.changes c.remove_digital_signature.ensures.goes_on c.remove_digital_signature.ensures.cause (IfErr-weaker c.remove_digital_signature.result IsRemovalError _ (λ e kind full. absurd (removal_fits e kind full)) c.remove_digital_signature.ensures.kinds) c.answer_of.ensures

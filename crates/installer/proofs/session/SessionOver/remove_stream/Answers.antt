@@ -11,5 +11,5 @@ use Rattle.installer.proofs.session.SessionOver.remove_stream.Goals as goal
 pub returns : goal.returns
 returns g c =
     let G = g.met.F.ReadMedium in
-    answers_changes G.continues_refl G.continues_keeps c.args.self.now _ c.requires (Makes (λ P. stream_removed (letters_in c.args.self.now) P c.args.name.now)) _ _ c.remove_stream.result refl (λ P Q answer made. inl (becomes (stream_removed (letters_in c.args.self.now) P c.args.name.now) P Q answer made))
+    answers_changes G.continues_refl G.continues_keeps c.args.self.now _ c.requires refl (Makes (λ P. stream_removed (letters_in c.args.self.now) P c.args.name.now)) _ _ c.remove_stream.result refl (λ P Q answer made. inl (becomes (stream_removed (letters_in c.args.self.now) P c.args.name.now) P Q answer made))
     c.remove_stream.ensures.changes c.remove_stream.ensures.goes_on c.remove_stream.ensures.cause (IfErr-weaker c.remove_stream.result IsRemovalError _ (λ e kind full. absurd (removal_fits e kind full)) c.remove_stream.ensures.kinds) c.answer_of.ensures

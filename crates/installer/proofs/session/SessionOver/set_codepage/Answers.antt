@@ -9,6 +9,6 @@ pub returns : goal.returns
 returns g c =
     let G = g.met.F.ReadMedium in
     let told = c.set_database_codepage.ensures in
-    answers_in_memory G.continues_refl G.continues_keeps c.args.self.now _ c.requires (setting_page c.args.page) _ _ c.set_database_codepage.result refl
+    answers_in_memory G.continues_refl G.continues_keeps c.args.self.now _ c.requires refl (setting_page c.args.page) _ _ c.set_database_codepage.result refl
     (λ P Q answer made. inl (made.0, ap told_of made.1)) told.changes told.file
     (permission_own (is_failed c.args.self.now) (is_sound c.args.self.now) c.set_database_codepage.result c.requires told.answer) c.answer_of.ensures

@@ -1,4 +1,4 @@
-use Rattle.std.proofs.Common.{inl, refl}
+use Rattle.std.proofs.Common.{refl}
 use Rattle.installer.proofs.Answering.{answers_changes, may_fill}
 use Rattle.cfb.specs.Views.{mini_of}
 use Rattle.cfb_fat.specs.Tables.{version_of}
@@ -12,5 +12,5 @@ use Rattle.installer.proofs.session.SessionOver.write_stream.Goals as goal
 pub returns : goal.returns
 returns g c =
     let G = g.met.F.ReadMedium in
-    answers_changes G.continues_refl G.continues_keeps c.args.self.now _ c.requires (Makes (written_within (letters_in c.args.self.now) (most_bytes (file_in (package_in c.args.self.now))) c.args.name.now c.args.bytes.now)) _ _ c.put_stream.result refl (λ P Q answer made. written_so (letters_in c.args.self.now) (version_of (allocator_of (mini_of (file_in (package_in c.args.self.now))))) c.args.name.now c.args.bytes.now P Q answer made)
+    answers_changes G.continues_refl G.continues_keeps c.args.self.now _ c.requires refl (Makes (written_within (letters_in c.args.self.now) (most_bytes (file_in (package_in c.args.self.now))) c.args.name.now c.args.bytes.now)) _ _ c.put_stream.result refl (λ P Q answer made. written_so (letters_in c.args.self.now) (version_of (allocator_of (mini_of (file_in (package_in c.args.self.now))))) c.args.name.now c.args.bytes.now P Q answer made)
     c.put_stream.ensures.changes c.put_stream.ensures.goes_on c.put_stream.ensures.cause (may_fill c.put_stream.result refl) c.answer_of.ensures
