@@ -1,18 +1,10 @@
 -- Where a stream that gets other bytes is refused as full.
-use Rattle.std.proofs.Common.{◌≡◌, ◌⊎◌, inl, inr, ℕ, ◌+◌, ◌-◌, ◌<◌, List, length, sym, subst, ◌∙◌}
-use Rattle.std.specs.Prelude.{nat_eq, Option}
-use Rattle.std.specs.List.{count_by}
-use Rattle.cfb_chains.specs.ChainCalls.{IsInvalidPlace}
-use Rattle.cfb_chains.specs.Positions.{sectors_for}
-use Rattle.cfb_fat.specs.Tables.{fat_of, version_of}
-use Rattle.cfb_medium.specs.Calls.{IsFaultUnless}
+use Rattle.std.proofs.Common.{◌≡◌, ◌⊎◌, inl, inr, ℕ, ◌+◌, ◌-◌, ◌<◌, length, ◌∙◌}
+use Rattle.std.specs.Prelude.{Option}
 use Rattle.cfb_medium.specs.declared.error.Error.{Error}
 use Rattle.cfb_medium.specs.declared.error.Error.TheVariants.{Full}
 use Rattle.cfb_medium.specs.declared.medium.ReadMedium.{Ghosts}
-use Rattle.cfb_medium.specs.declared.version.Version.{Version}
-use Rattle.cfb_mini.specs.Views.{allocator_of}
 use Rattle.cfb_owners.specs.Owners.{Owners}
-use Rattle.cfb_sectors.specs.Sectors.{free, greatest_regular}
 use Rattle.cfb_tree.specs.Paths.{Path}
 use Rattle.cfb_tree.specs.Tree.{Tree}
 use Rattle.cfb_writing.proofs.Stretching.{lacks_resting}
@@ -21,13 +13,6 @@ use Rattle.cfb.specs.Streams.{IsWant}
 use Rattle.cfb.specs.Views.{mini_of, FileRests}
 use Rattle.cfb.specs.Writing.{FindsWritten, LacksRoomAt}
 use Rattle.cfb.specs.declared.compound_file.CompoundFile.{CompoundFile}
-
--- a place that isn't there is no want of numbers
-pub never_room : (e : Error) → IsFaultUnless ⊥ e ⊎ IsInvalidPlace e → e ≡ Full → ⊥
-never_room e why is = elim why [
-  | inl fault ↦ subst (IsFaultUnless ⊥) is fault
-  | inr place ↦ elim place [ inl broken ↦ absurd (cc) | inr input ↦ absurd (cc) ]
-]
 
 module _ {F : Type 0} {g : Ghosts F} where
   -- nor is a stream that isn't found

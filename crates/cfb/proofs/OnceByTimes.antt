@@ -21,7 +21,3 @@ once_by_times (x ∷ xs) few (suc k) zero inside there same =
     let here = times_here x xs in let later = times_at xs k x (omega (arith, inside)) same in let most = few x in absurd (omega (arith, here, later, most))
 once_by_times (x ∷ xs) few (suc k) (suc l) inside there same =
     ap suc (once_by_times xs (λ n. let more = times_rest n x xs in let most = few n in omega (arith, more, most)) k l (omega (arith, inside)) (omega (arith, there)) same)
-
-pub times_append : (n : ℕ) (xs ys : List ℕ) → times n (xs ++ ys) ≡ times n xs + times n ys
-times_append n [] ys = omega arith
-times_append n (x ∷ xs) ys = let rest = times_append n xs ys in omega (arith, rest)

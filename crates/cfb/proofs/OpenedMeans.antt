@@ -34,7 +34,9 @@ use Rattle.cfb_soundness.proofs.Judged.{judged_from_sound}
 use Rattle.cfb_soundness.proofs.Refilling.{entries_same}
 use Rattle.cfb_live.specs.Live.{live_of, MeansLive}
 use Rattle.cfb.proofs.OpenedFiles.{lies_so}
-use Rattle.cfb.proofs.OnceByTimes.{once_by_times, times_append}
+use Rattle.cfb.proofs.OnceByTimes.{once_by_times}
+use Rattle.cfb_soundness.proofs.Taking.{times_append}
+use Rattle.cfb_siblings.proofs.Lists.{all_parts}
 
 -- a directory with a root has a sector
 has_sector : (bytes : List ℕ) (l : Layout) → slice_get (directory bytes l) 0 ≡ Some l.root → 0 < length l.directory_sectors
@@ -54,10 +56,6 @@ below_all count [] all k inside = absurd (omega (arith, inside))
 below_all count (x ∷ xs) all zero inside = all.0
 below_all count (x ∷ xs) all (suc k) inside = below_all count xs all.1 k (omega (arith, inside))
 
-front : (P : ℕ → Type 0) (xs ys : List ℕ) → AllByRecursion P (xs ++ ys) → AllByRecursion P xs × AllByRecursion P ys
-front P [] ys all = (tt, all)
-front P (x ∷ xs) ys all = let rest = front P xs ys all.1 in ((all.0, rest.0), rest.1)
-
 -- the tables of a sound file can be changed
 module _ (bytes : List ℕ) (l : Layout) (letters : Letters) (tree : Tree) (s : IsSoundBy l letters bytes tree) where
   abbrev count : ℕ
@@ -71,11 +69,11 @@ module _ (bytes : List ℕ) (l : Layout) (letters : Letters) (tree : Tree) (s : 
       let f = l.fat_sectors in
       let d = l.difat_sectors in
       let size = length-replicate count false in
-      let five = front P (f ++ d ++ l.directory_sectors ++ l.mini_fat_sectors ++ l.mini_stream_sectors) judged.sectors judged.can.there in
-      let four = front P (f ++ d ++ l.directory_sectors ++ l.mini_fat_sectors) l.mini_stream_sectors five.0 in
-      let three = front P (f ++ d ++ l.directory_sectors) l.mini_fat_sectors four.0 in
-      let two = front P (f ++ d) l.directory_sectors three.0 in
-      let difat = front P f d two.0 in
+      let five = all_parts P (f ++ d ++ l.directory_sectors ++ l.mini_fat_sectors ++ l.mini_stream_sectors) judged.sectors judged.can.there in
+      let four = all_parts P (f ++ d ++ l.directory_sectors ++ l.mini_fat_sectors) l.mini_stream_sectors five.0 in
+      let three = all_parts P (f ++ d ++ l.directory_sectors) l.mini_fat_sectors four.0 in
+      let two = all_parts P (f ++ d) l.directory_sectors three.0 in
+      let difat = all_parts P f d two.0 in
       let named = ap length laid.fat_named.1 in
       let longest = length-difat l.version bytes l.difat_sectors laid.header.whole in
       let sum = length-append l.fat_sectors (replicate laid.fat_named.0 free) in

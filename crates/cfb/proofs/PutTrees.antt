@@ -1,12 +1,9 @@
 -- A stream that is made, and then gets its bytes.
 use Rattle.std.proofs.Common.{◌≡◌, ℕ, ◌<◌, Bool, true, false, List, [], ◌∷◌, ◌++◌, length, refl, ap, sym, subst, ◌∙◌, arith}
 use Rattle.std.specs.Prelude.{if◌then◌else◌, is_some, None, Option, Some}
-use Rattle.std.specs.Ordering.{is_eq, is_lt, ordering_reverse}
-use Rattle.std.specs.declared.cmp.Ordering.{Ordering}
-use Rattle.std.specs.declared.cmp.Ordering.TheVariants.{Equal, Greater, Less}
+use Rattle.std.specs.Ordering.{is_lt}
 use Rattle.cfb_entries.specs.Others.{HasFreePlace}
-use Rattle.cfb_entries.proofs.Others.{added_stands}
-use Rattle.cfb_live.proofs.NewPlaces.{path_is}
+use Rattle.cfb_entries.proofs.Others.{added_stands, eq_self, path_is}
 use Rattle.cfb_meaning.specs.TreeRules.{create_new_stream, done, is_stream_found, made, on_storage, on_stream, refused, tree_step, Answer, Outcome}
 use Rattle.cfb_medium.specs.declared.error.Error.{Error}
 use Rattle.cfb_medium.specs.declared.error.Error.TheVariants.{AlreadyExists, InvalidInput}
@@ -19,11 +16,6 @@ use Rattle.cfb_tree.specs.Paths.{Path}
 use Rattle.cfb_tree.specs.Tree.{nothing, storage, stream, Content, Facts, Tree}
 use Rattle.cfb_tree.proofs.NameOrder.{name_cmp_total}
 use Rattle.cfb.specs.Putting.{put_over, putting, rewriting}
-
-eq_self : (o : Ordering) → o ≡ ordering_reverse o → is_eq o ≡ true
-eq_self Less is = absurd (cc)
-eq_self Equal is = refl
-eq_self Greater is = absurd (cc)
 
 abbrev answered : Outcome → Answer
 answered outcome = outcome.1

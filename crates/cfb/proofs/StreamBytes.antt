@@ -1,9 +1,8 @@
 -- Where a stream lies by the tables in memory it has the bytes that those of the file mean.
 use native.Mathlib.Decide.{dec_lt}
 use mathlib.Core.Logic.{dite}
-use Rattle.std.proofs.Common.{◌≡◌, ◌∙◌, ℕ, ◌+◌, ◌*◌, ◌<◌, ◌≤◌, List, [], ◌∷◌, length, take, suc, zero, IsTrue, ap, arith, subst, sym, inl, inr, ◌⊎◌, length-take}
+use Rattle.std.proofs.Common.{◌≡◌, ◌∙◌, ℕ, ◌+◌, ◌*◌, ◌<◌, ◌≤◌, List, [], ◌∷◌, length, take, suc, IsTrue, ap, arith, subst, sym, inl, inr, ◌⊎◌, length-take}
 use Rattle.std.specs.List.{flat_map, AllByRecursion}
-use Rattle.std.specs.Prelude.{slice_index}
 use Rattle.cfb_medium.specs.Versions.{sector_len}
 use Rattle.cfb_medium.specs.declared.medium.ReadMedium.{Ghosts}
 use Rattle.cfb_sectors.specs.Header.{mini_cutoff}
@@ -22,23 +21,17 @@ use Rattle.cfb_mini.proofs.MiniParts.{length-mini_joined}
 use Rattle.cfb_mini.proofs.Parts.{parts_are}
 use Rattle.cfb_meaning.specs.Means.{fat, mini_fat, mini_sector, mini_stream, HasBytes, Layout}
 use Rattle.cfb_opening.specs.Opened.{MemoryShows}
-use Rattle.cfb_opening.proofs.CutChains.{chain_of_cut, cut_in_file, cut_of_chain}
+use Rattle.cfb_opening.proofs.CutChains.{cut_in_file, cut_of_chain}
 use Rattle.cfb_streams.specs.Content.{HasContent}
 use Rattle.cfb_streams.specs.Streams.{joined_in, len_in, sectors_in as sectors_of, HasSectorsOf, IsOfLevel, StreamLiesIn}
 use Rattle.cfb_streams.specs.declared.opening.StreamLinks.{StreamLinks}
 use Rattle.cfb_streams.specs.declared.opening.StreamLinks.TheVariants.{Short, Long}
+use Rattle.cfb_live.proofs.Freed.{inside_all}
+use Rattle.cfb_fat.proofs.CutChains.{chain_of_cut}
 
 all_inside : (len : ℕ) (ids : List ℕ) → AreInside len ids → AllByRecursion (λ n. 64 * n + 64 ≤ len) ids
 all_inside len [] inside = tt
 all_inside len (x ∷ ids) inside = (inside 0 (omega arith), all_inside len ids (λ k below. inside (suc k) (omega (arith, below))))
-
-inside_all : (len : ℕ) (ids : List ℕ) → AllByRecursion (λ n. 64 * n + 64 ≤ len) ids → AreInside len ids
-inside_all len [] all = λ k below. absurd (omega (arith, below))
-inside_all len (x ∷ ids) (here, rest) = by_place (inside_all len ids rest)
-  where
-    by_place : AreInside len ids → (k : ℕ) → k < length (x ∷ ids) → 64 * slice_index (x ∷ ids) k + 64 ≤ len
-    by_place later zero below = here
-    by_place later (suc k) below = later k (omega (arith, below))
 
 -- a stream has as many bytes as it says
 pub content_len : {F : Type 0} {g : Ghosts F} (it : MiniAllocator F g) (links : StreamLinks) (len : ℕ) (content : List ℕ) → HasContent it links len content → length content ≡ len

@@ -3,7 +3,7 @@ use Rattle.std.proofs.Common.{◌≡◌, ℕ, ◌<◌, ◌≤◌, List, sym, sub
 use Rattle.cfb_chains.specs.Changes.{HaveEntry}
 use Rattle.cfb_entries.specs.Rules.{names_in}
 use Rattle.cfb_fat.specs.Tables.{fat_of}
-use Rattle.cfb_live.proofs.Freed.{is_long, is_short, one_chain, own_minis}
+use Rattle.cfb_live.proofs.Freed.{is_long, is_short, own_minis}
 use Rattle.cfb_live.proofs.Standing.{stands_of}
 use Rattle.cfb_live.specs.Freeing.{AreGivenUp, FreesAt}
 use Rattle.cfb_live.specs.Live as live
@@ -23,6 +23,7 @@ use Rattle.cfb.specs.Doing.{FileMeans}
 use Rattle.cfb.specs.Removing.{GivesUpStream}
 use Rattle.cfb.specs.Views.{letters_in, mini_of}
 use Rattle.cfb.specs.declared.compound_file.CompoundFile.{CompoundFile}
+use Rattle.cfb_sectors.proofs.OneChain.{chain_unique}
 
 -- the sectors in which a stream lies are those that it owns
 module _ {F : Type 0} {g : Ghosts F} (letters : Letters) (it : MiniAllocator F g) (tree : Tree) (m : live.MeansLive letters it tree) (id : ℕ) (e : Entry) (content : List ℕ) (has : HasStream (live_of it) m.who id e content) where
@@ -30,14 +31,14 @@ module _ {F : Type 0} {g : Ghosts F} (letters : Letters) (it : MiniAllocator F g
   own_short minis lies below =
       let s = stands_of letters it tree m in
       let at = is_short it m.who s id e content has below in
-      one_chain (mini_fat_of it) e.start (m.who.minis (stream_owner id)) minis
+      chain_unique (mini_fat_of it) e.start (m.who.minis (stream_owner id)) minis
       (subst (λ n. Chain (mini_fat_of it) n (m.who.minis (stream_owner id))) (sym at.1) (own_minis it m.who s (stream_owner id)).linked) (lies.short below).0
 
   own_long : (sectors : List ℕ) → StreamLiesIn it e.start e.size sectors → mini_cutoff ≤ e.size → m.who.sectors (stream_owner id) ≡ sectors
   own_long sectors lies up =
       let table = fat_of (allocator_of it) in
       let at = is_long it m.who (stands_of letters it tree m) id e content has up in
-      one_chain table e.start (m.who.sectors (stream_owner id)) sectors
+      chain_unique table e.start (m.who.sectors (stream_owner id)) sectors
       (subst (λ n. Chain table n (m.who.sectors (stream_owner id))) (sym at.1) (m.owners.owned.linked (stream_owner id))) (lies.long up).0
 
 pub given_up_so : {F : Type 0} {g : Ghosts F} (old new : CompoundFile F g) (text : List ℕ) (tree : Tree) (m : FileMeans old tree) → FreesAt (letters_in old) (names_in text) (mini_of old) (mini_of new) m.live.who → GivesUpStream old new text

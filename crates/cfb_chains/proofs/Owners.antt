@@ -97,7 +97,7 @@ free_none table start ids [] chain were = tt
 free_none table start ids (n ∷ more) chain were = (in_use table start ids n chain were.0, free_none table start ids more chain were.1)
 
 -- a number is in a list or not
-is_among : (xs : List ℕ) (n : ℕ) → IsNoneOf xs n ⊎ ((k : ℕ) × (k < length xs) × (get_or xs k 0 ≡ n))
+pub is_among : (xs : List ℕ) (n : ℕ) → IsNoneOf xs n ⊎ ((k : ℕ) × (k < length xs) × (get_or xs k 0 ≡ n))
 is_among [] n = inl (λ k below same. absurd (omega (arith, below)))
 is_among (x ∷ xs) n =
     ⊎_elim

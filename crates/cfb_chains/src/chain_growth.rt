@@ -123,8 +123,8 @@ impl<'a, H: GrowsChains> Chain<'a, H> {
     // Takes in sectors until there are so many, where the table can be changed and has a chain from the last sector on. Those
     // taken in before an error stay.
     pub(crate) fn grow_to(&mut self, count: usize) -> Result<(), Error>
-        requires live { H.failed (holder_of self.old) ≡ false }
-        requires ready { IsTrue (H.orderly (holder_of self.old)) × HasEnd H.fat self.old }
+        requires ready { (H.failed (holder_of self.old) ≡ false)
+            × IsTrue (H.orderly (holder_of self.old)) × HasEnd H.fat self.old }
         requires more { length (sectors_of self.old) ≤ count }
         ensures grows { Lengthens H.GrowsChains self.old (sectors_of self.new)
             (holder_of self.new) }

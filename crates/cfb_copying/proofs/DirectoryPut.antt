@@ -14,22 +14,22 @@ use Rattle.cfb_chains.proofs.ChainWriting.{length-joined}
 use Rattle.cfb_directory.specs.Entries.{entries_in}
 use Rattle.cfb_fat.specs.Tables.{bytes_of, fat_of, tables_of, version_of}
 use Rattle.cfb_fat.specs.declared.allocator.Allocator.{Allocator}
-use Rattle.cfb_live.proofs.Freed.{one_chain}
 use Rattle.cfb_owned.specs.Chains.{content_of, len_of, HasChain}
 use Rattle.cfb_owners.specs.Owners.{directory_owner}
 use Rattle.cfb_tree.specs.EntryViews.{entry_in}
 use Rattle.cfb_tree.specs.declared.entry.DirEntry.{DirEntry}
 use Rattle.cfb_copying.specs.Making.{IsMade}
 use Rattle.cfb_copying.specs.Steps.{FillSectors}
-use Rattle.cfb_copying.proofs.Pieces.{sectors_again}
 use Rattle.cfb_copying.proofs.PutChains.{linked_of}
+use Rattle.cfb_chains.proofs.Extending.{whole_sectors}
+use Rattle.cfb_sectors.proofs.OneChain.{chain_unique}
 
 module _ (v : Version) (es : List DirEntry) (content : List ℕ) (fills : FillSectors v (entries_in es)) (size : length content ≡ length es * 128) where
   pub content_whole : length content ≡ fills.count * sector_len v
   content_whole = size ∙ ap (λ n. n * 128) (sym (length-map es entry_in)) ∙ fills.whole
 
   pub sectors_needed : (w : Version) (len n : ℕ) → len ≡ length content → w ≡ v → n ≡ sectors_for w len → n ≡ fills.count
-  sectors_needed w len n is same needs = needs ∙ ap (λ u. sectors_for u len) same ∙ ap (sectors_for v) (is ∙ content_whole) ∙ sectors_again v fills.count
+  sectors_needed w len n is same needs = needs ∙ ap (λ u. sectors_for u len) same ∙ ap (sectors_for v) (is ∙ content_whole) ∙ whole_sectors v fills.count
 
   long : (links : Links) → links_version links ≡ v → length (ids_of links) ≡ fills.count → len_of links ≡ length content
   long links version many = ap (λ u. length (ids_of links) * sector_len u) version ∙ ap (λ n. n * sector_len v) many ∙ sym content_whole
@@ -47,7 +47,7 @@ module _ {F : Type 0} {g : Ghosts F} (m : ℕ) (a : Allocator F g) (own bytes : 
   has_first = subst (IsLinked (fat_of a)) mine (made.owned.linked directory_owner)
 
   pub first_sector : (links : Links) → Chain (fat_of a) 1 (ids_of links) → ids_of links ≡ 1 ∷ []
-  first_sector links chain = one_chain (fat_of a) 1 (ids_of links) (1 ∷ []) chain has_first
+  first_sector links chain = chain_unique (fat_of a) 1 (ids_of links) (1 ∷ []) chain has_first
 
   pub directory_has : (links : Links) → Chain (fat_of a) 1 (ids_of links) → links_version links ≡ version_of a → HasChain a links
   directory_has links chain version = record {

@@ -1,8 +1,7 @@
 -- A chain more in a file in the making.
-use Rattle.std.proofs.Common.{◌≡◌, ℕ, inl, inr, false, IsTrue, List, [], ◌∷◌, ◌++◌, length-append, append-nil, ap, sym, subst, ◌∙◌, arith, ⊎_elim}
+use Rattle.std.proofs.Common.{◌≡◌, ℕ, inl, inr, false, IsTrue, List, [], ◌∷◌, ◌++◌, append-nil, ap, sym, subst, ◌∙◌, arith, ⊎_elim}
 use Rattle.std.specs.Prelude.{nat_eq, true, if◌then◌else◌}
 use Rattle.std.proofs.lemmas.Bool.Decides.{eqb_tells}
-use Rattle.std.proofs.lemmas.List.{get_or_append_left}
 use Rattle.cfb_medium.specs.Bytes.{overwritten}
 use Rattle.cfb_medium.specs.declared.version.Version.{Version}
 use Rattle.cfb_medium.specs.declared.medium.ReadMedium.{Ghosts}
@@ -23,6 +22,7 @@ use Rattle.cfb_copying.specs.Making.{with_list, IsMade}
 use Rattle.cfb_copying.proofs.Pieces.{whole_still}
 use Rattle.cfb_copying.proofs.Tight.{tight_then}
 use Rattle.cfb_mini.proofs.Headers.{header_stays, u32_same, KeepsFront}
+use Rattle.cfb_chains.proofs.Beside.{none_first}
 
 same_test : (k : ℕ) → nat_eq k k ≡ true
 same_test k = grind arith
@@ -39,9 +39,6 @@ at_other key xs lists k other = ap (λ b. if b then xs else lists k) (other_test
 both_whole : (v : Version) (bytes xs ys : List ℕ) → AreWhole v bytes xs → AreWhole v bytes ys → AreWhole v bytes (xs ++ ys)
 both_whole v bytes [] ys first second = second
 both_whole v bytes (x ∷ xs) ys first second = (first.0, both_whole v bytes xs ys first.1 second)
-
-none_in_front : (xs ys : List ℕ) (n : ℕ) → IsNoneOf (xs ++ ys) n → IsNoneOf xs n
-none_in_front xs ys n none k below same = let size = length-append xs ys in none k (omega (arith, below, size)) (get_or_append_left xs ys 0 k below ∙ same)
 
 -- a change that spares the header's front keeps what it says
 front_kept : (S : List ℕ → ℕ → List ℕ) (a b : Seen) (touched : List ℕ) → Leaves S [] touched a b → KeepsFront 68 a.bytes b.bytes
@@ -81,7 +78,7 @@ module _ {F : Type 0} {g : Ghosts F} where
             (eqb_tells k key));
         tight = tight_then S [] (own key ++ more) key (seen_of a) (seen_of b) own later made.tight becomes.leaves
             (λ n loose. subst (λ l. IsNoneOf l n) (at_key key ids own ∙ all) loose)
-            (λ n loose. none_in_front (own key) more n (subst (λ l. IsNoneOf l n) (at_key key ids own ∙ all) loose))
+            (λ n loose. none_first (own key) more n (subst (λ l. IsNoneOf l n) (at_key key ids own ∙ all) loose))
             (λ k other. at_other key ids own k other);
       }
 

@@ -6,7 +6,6 @@ use Rattle.std.proofs.Math.Seq.{take-add}
 use Rattle.cfb_medium.specs.Bytes.{overwritten}
 use Rattle.cfb_medium.specs.Versions.{sector_len}
 use Rattle.cfb_medium.specs.declared.version.Version.{Version}
-use Rattle.cfb_medium.specs.declared.version.Version.TheVariants.{V3, V4}
 use Rattle.cfb_medium.specs.declared.medium.ReadMedium.{Ghosts}
 use Rattle.cfb_sectors.specs.Sectors.{joined, sector}
 use Rattle.cfb_chains.specs.Behind.{AreWhole}
@@ -27,6 +26,7 @@ use Rattle.cfb_sectors.specs.declared.initial.SectorInit.{SectorInit}
 use Rattle.cfb_owned.proofs.Owning.{becomes_then, none_behind_all}
 use Rattle.cfb_owned.proofs.WrittenParts.{over_then}
 use Rattle.cfb_copying.specs.Chains.{CopiesChain}
+use Rattle.cfb_chains.proofs.Extending.{whole_sectors}
 
 -- bytes as many as there are, over all of them
 pub over_whole : (old xs : List ℕ) → length xs ≡ length old → overwritten old 0 xs ≡ xs
@@ -41,14 +41,9 @@ pub whole_still : (v : Version) (ids old new : List ℕ) → length old ≤ leng
 whole_still v [] old new longer all = tt
 whole_still v (n ∷ ids) old new longer all = ((let first = all.0 in omega (arith, first, longer)), whole_still v ids old new longer all.1)
 
--- whole sectors' bytes need just these
-pub sectors_again : (v : Version) (n : ℕ) → sectors_for v (n * sector_len v) ≡ n
-sectors_again V3 n = omega arith
-sectors_again V4 n = omega arith
-
 -- a chain that got as many sectors as another has as many bytes
 pub as_long : (v w : Version) (n m : ℕ) → m ≡ sectors_for w (n * sector_len v) → w ≡ v → m * sector_len w ≡ n * sector_len v
-as_long v w n m is same = ap (λ u. m * sector_len u) same ∙ ap (λ k. k * sector_len v) (is ∙ ap (λ u. sectors_for u (n * sector_len v)) same ∙ sectors_again v n)
+as_long v w n m is same = ap (λ u. m * sector_len u) same ∙ ap (λ k. k * sector_len v) (is ∙ ap (λ u. sectors_for u (n * sector_len v)) same ∙ whole_sectors v n)
 
 module _ {F : Type 0} {g : Ghosts F} where
   -- a file that was only read has the chain, with its bytes

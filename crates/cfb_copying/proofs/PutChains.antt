@@ -13,12 +13,12 @@ use Rattle.cfb_chains.specs.declared.links.Links.{Links}
 use Rattle.cfb_fat.specs.Tables.{bytes_of, fat_of, has_failed_here, tables_of, version_of}
 use Rattle.cfb_fat.specs.declared.allocator.Allocator.{Allocator}
 use Rattle.cfb_live.specs.Doing.{IsFault}
-use Rattle.cfb_live.proofs.Freed.{one_chain}
 use Rattle.cfb_owned.specs.Chains.{content_of, GoesOn, HasChain, HasLinks}
 use Rattle.cfb_copying.specs.Chains.{CopiesChain, IsCopyFault}
 use Rattle.cfb_copying.specs.Making.{with_list, IsMade}
 use Rattle.cfb_copying.specs.Steps.{CanPut}
 use Rattle.cfb_copying.proofs.Made.{made_more}
+use Rattle.cfb_sectors.proofs.OneChain.{chain_unique}
 
 -- an error of a copy that is none of a place is a fault
 pub fault_of : (e : Error) → (IsInvalidPlace e → ⊥) → IsCopyFault e → IsFault e
@@ -56,5 +56,5 @@ module _ {F : Type 0} {g : Ghosts F} {T : Type 0} {h : Ghosts T} (a : Allocator 
   pub chain_put : (c : Allocator T h) (from before links : Links) → Chain (fat_of a) start (ids_of from) → ids_of before ≡ [] → GoesOn b c → has_failed_here c ≡ false
       → CopiesChain (content_of a from) b c before links → IsMade d m c (with_list key (ids_of links) own) (with_list key (joined (version_of a) (bytes_of a) ids) bytes)
   chain_put c from before links chain empty goes live copied =
-      subst (λ l. IsMade d m c (with_list key (ids_of links) own) (with_list key (joined (version_of a) (bytes_of a) l) bytes)) (one_chain (fat_of a) start (ids_of from) ids chain can.chain)
+      subst (λ l. IsMade d m c (with_list key (ids_of links) own) (with_list key (joined (version_of a) (bytes_of a) l) bytes)) (chain_unique (fat_of a) start (ids_of from) ids chain can.chain)
       (made_more d m b c before links own bytes key (content_of a from) can.made (can.none ∙ sym empty) goes live copied)

@@ -9,6 +9,7 @@ use Rattle.cfb_tree.specs.Directory.{kind_stream, none, some, Entry, HasName, Si
 use Rattle.cfb_owners.specs.Held.{HoldsAt}
 use Rattle.cfb_copying.specs.Copied.{IsLongAmong, Restarts}
 use Rattle.cfb_copying.proofs.Tight.{one_is_not_none, one_or_none}
+use Rattle.cfb_siblings.proofs.Lists.{all_parts}
 
 -- an entry that is found has one value
 found_one : (es : List Entry) (id : ℕ) (e f : Entry) → slice_get es id ≡ Some e → slice_get es id ≡ Some f → e ≡ f
@@ -46,11 +47,6 @@ module _ (es later : List Entry) (ids : List ℕ) (own : ℕ → List ℕ) (h : 
       let next = again id e found in
       some (record e { start = next.0 }) before after small next.1 (siblings_again e.left before left) (siblings_again e.right after right) is
 
--- a test of each number of a list
-split_numbers : (P : ℕ → Type 0) (xs ys : List ℕ) → AllByRecursion P (xs ++ ys) → AllByRecursion P xs × AllByRecursion P ys
-split_numbers P [] ys all = (tt, all)
-split_numbers P (x ∷ xs) ys all = let rest = split_numbers P xs ys all.1 in ((all.0, rest.0), rest.1)
-
 module _ (es later : List Entry) (ids : List ℕ) (own : ℕ → List ℕ) (h : Restarts es ids own later) (Q : ℕ → Type 0) (Reads Reads' : ℕ → Entry → List ℕ → Type 0)
     (so : (id : ℕ) (e : Entry) (start : ℕ) (bytes : List ℕ) → Q id → slice_get es id ≡ Some e → e.kind ≡ kind_stream → slice_get later id ≡ Some (record e { start = start }) → Reads id e bytes → Reads' id (record e { start = start }) bytes) where
   pub holds_again : (content : Content) (list all : List ℕ) → AllByRecursion Q all → HoldsAt es Reads list content all → HoldsAt later Reads' list content all
@@ -70,7 +66,7 @@ module _ (es later : List Entry) (ids : List ℕ) (own : ℕ → List ℕ) (h : 
       )
   holds_again (storage name facts' inside more) list all facts (e, id, others, children, within, rest, is, whole, at, siblings, in_it, then) =
       let here = subst (AllByRecursion Q) whole facts in
-      let both = split_numbers Q within rest here.1 in
+      let both = all_parts Q within rest here.1 in
       let next = again es later ids own h id e at.found in (
         record e { start = next.0 },
         id,

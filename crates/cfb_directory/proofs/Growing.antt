@@ -34,6 +34,7 @@ use Rattle.cfb_directory.specs.declared.directory.Directory.{Directory}
 use Rattle.cfb_directory.proofs.EntryBytes.{entries_behind, unused_entries}
 use Rattle.cfb_directory.proofs.Setting.{has_directory, is_directory, length-content}
 use Rattle.cfb_chains.proofs.Owners.{chain_left, leaves_then, none_of_nothing}
+use Rattle.cfb_owned.proofs.Owning.{none_behind_all}
 
 -- what was written is there
 back : (b : List ℕ) (p x : ℕ) (xs : List ℕ) → filled_part (overwritten b p (x ∷ xs)) p (length (x ∷ xs)) ≡ x ∷ xs
@@ -51,10 +52,6 @@ back b p x xs =
 pub word_there : (b : List ℕ) (p n : ℕ) → filled_part (overwritten b p (to_le_bytes w32 n)) p 4 ≡ to_le_bytes w32 n
 word_there b p n = back b p _ _
 
-none_of_second : (xs s more : List ℕ) → AreNoneOf xs (s ++ more) → AreNoneOf xs more
-none_of_second xs [] more none = none
-none_of_second xs (n ∷ s) more none = none_of_second xs s more none.1
-
 module _ (S : List ℕ → ℕ → List ℕ) where
   -- a chain that became longer, and a change of the header behind that
   pub becomes_counted : (ws ids more : List ℕ) (a m b : Seen) → Becomes S [] ids more (ids ++ more) a m → AreNoneOf m.tables (ids ++ more) → Leaves S ws [] m b → Becomes S ws ids more (ids ++ more) a b
@@ -64,7 +61,7 @@ module _ (S : List ℕ → ℕ → List ℕ) where
       record {
         leaves = subst (λ l. Leaves S ws l a b) (append-nil (ids ++ more)) (leaves_then S [] ws (ids ++ more) [] a m b h.leaves leaves);
         were_free = h.were_free;
-        spare = none_of_second b.tables ids more left.1;
+        spare = none_behind_all b.tables ids more left.1;
         linked = left.0;
         among = h.among;
       }

@@ -1,31 +1,13 @@
 -- What a list of siblings holds, in parts.
 use Rattle.std.proofs.Common.{◌≡◌, ℕ, List, [], ◌∷◌, ◌++◌, refl, sym, ◌∙◌, ap, subst, append_assoc}
-use Rattle.cfb_tree.specs.Tree.{Content, nothing, stream, storage, child_names}
+use Rattle.cfb_tree.specs.Tree.{Content, nothing, stream, storage}
 use Rattle.cfb_tree.specs.Directory.{Entry, Holds}
-use Rattle.cfb_tree.specs.Objects.{Object, a_stream, a_storage, before, name_of, joined_contents, IsObject}
-
-pub joined_assoc : (a b c : Content) → joined_contents (joined_contents a b) c ≡ joined_contents a (joined_contents b c)
-joined_assoc nothing b c = refl
-joined_assoc (stream n s x l) b c = ap (λ y. stream n s x y) (joined_assoc l b c)
-joined_assoc (storage n f i l) b c = ap (λ y. storage n f i y) (joined_assoc l b c)
+use Rattle.cfb_tree.specs.Objects.{Object, a_stream, a_storage, before, joined_contents, IsObject}
 
 pub joined_nothing : (a : Content) → joined_contents a nothing ≡ a
 joined_nothing nothing = refl
 joined_nothing (stream n s x l) = ap (λ y. stream n s x y) (joined_nothing l)
 joined_nothing (storage n f i l) = ap (λ y. storage n f i y) (joined_nothing l)
-
-pub joined_before : (o : Object) (b c : Content) → joined_contents (before o b) c ≡ before o (joined_contents b c)
-joined_before (a_stream n s x) b c = refl
-joined_before (a_storage n f i) b c = refl
-
-pub names_joined : (a b : Content) → child_names (joined_contents a b) ≡ child_names a ++ child_names b
-names_joined nothing b = refl
-names_joined (stream n s x l) b = ap (λ y. n ∷ y) (names_joined l b)
-names_joined (storage n f i l) b = ap (λ y. n ∷ y) (names_joined l b)
-
-pub names_before : (o : Object) (c : Content) → child_names (before o c) ≡ name_of o ∷ child_names c
-names_before (a_stream n s x) c = refl
-names_before (a_storage n f i) c = refl
 
 module _ (directory : List Entry) (Reads : Entry → List ℕ → Type 0) where
   -- siblings in two parts

@@ -15,8 +15,10 @@ use Rattle.cfb_tree.proofs.NamesRead.{all_append}
 use Rattle.cfb_tree.proofs.OneContent.{name_unique, Some_same}
 use Rattle.cfb_directory.specs.Walk.{child_at}
 use Rattle.cfb_directory.specs.Taken.{IsTakenIn, IsBehind, IsAhead, IsFit}
-use Rattle.cfb_directory.proofs.Lists.{all_parts, all_map, sorted_parts, sorted_around, sorted_between}
-use Rattle.cfb_directory.proofs.Joining.{names_joined, names_before, halves, headed, join, head}
+use Rattle.cfb_directory.proofs.Lists.{sorted_parts, sorted_around, sorted_between}
+use Rattle.cfb_directory.proofs.Joining.{halves, headed, join, head}
+use Rattle.cfb_siblings.proofs.Joining.{names_before, names_joined}
+use Rattle.cfb_siblings.proofs.Lists.{all_map, all_parts}
 
 module _ (letters : Letters) (directory : List Entry) where
   -- the name comes behind that of the entry, where there is one

@@ -30,7 +30,7 @@ eq_equal Less is = absurd (cc)
 eq_equal Equal is = refl
 eq_equal Greater is = absurd (cc)
 
-eq_self : (o : Ordering) → o ≡ ordering_reverse o → is_eq o ≡ true
+pub eq_self : (o : Ordering) → o ≡ ordering_reverse o → is_eq o ≡ true
 eq_self Less is = absurd (cc)
 eq_self Equal is = refl
 eq_self Greater is = absurd (cc)
@@ -39,7 +39,7 @@ both_true : (a b : Bool) → (a && b) ≡ true → (a ≡ true) × (b ≡ true)
 both_true true b is = (refl, is)
 both_true false b is = absurd (cc)
 
-path_is : (path : Path) → 0 < length path → path_to (parent_of path) (last_of path) ≡ path
+pub path_is : (path : Path) → 0 < length path → path_to (parent_of path) (last_of path) ≡ path
 path_is [] some = absurd (omega (arith, some))
 path_is (name ∷ []) some = refl
 path_is (name ∷ next ∷ names) some =

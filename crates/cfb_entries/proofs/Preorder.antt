@@ -1,7 +1,7 @@
 -- A walk over a tree of entries, each storage before what it holds.
-use Rattle.std.proofs.Common.{◌≡◌, ℕ, ◌+◌, ◌<◌, ◌≤◌, ◌||◌, Bool, true, false, suc, zero, List, [], ◌∷◌, ◌++◌, length, length-append, map, refl, sym, ◌∙◌, ap, subst, append_assoc, append-nil, arith, reverse}
+use Rattle.std.proofs.Common.{◌≡◌, ℕ, ◌+◌, ◌<◌, ◌≤◌, ◌||◌, false, suc, zero, List, [], ◌∷◌, ◌++◌, length, length-append, map, refl, sym, ◌∙◌, ap, subst, append_assoc, append-nil, arith, reverse}
 use Rattle.std.specs.Prelude.{slice_get, Some, None, nat_eq}
-use Rattle.std.specs.List.{AllByRecursion, IsDistinct, list_any}
+use Rattle.std.specs.List.{AllByRecursion, IsDistinct}
 use Rattle.std.proofs.lemmas.Grind.{reverse_onto}
 use Rattle.std.proofs.lemmas.List.{length-map, map-append}
 use Rattle.std.proofs.lemmas.Option.{slice_get_within}
@@ -21,6 +21,7 @@ use Rattle.cfb_entries.specs.Listed.{Listed, listed, listed_at, prefix_of_listed
 use Rattle.cfb_entries.proofs.Texts.{prefix_more}
 use Rattle.cfb_entries.specs.Walk.{pending_at}
 use Rattle.cfb_entries.specs.declared.walking.Pending.{Pending}
+use Rattle.cfb_siblings.proofs.Bounds.{member_below}
 
 reverse_cons : {A : Type 0} (x : A) (xs : List A) → reverse (x ∷ xs) ≡ reverse xs ++ x ∷ []
 reverse_cons x xs = reverse_onto xs x []
@@ -53,14 +54,6 @@ pub last_got : (L : List Listed) (l : Listed) (k : ℕ) → k ≡ length L → s
 last_got [] l k is = subst (λ n. slice_get (l ∷ []) n ≡ Some l) (sym is) refl
 last_got (x ∷ L) l zero is = absurd (omega (arith, is))
 last_got (x ∷ L) l (suc k) is = last_got L l k (omega (arith, is))
-
-member_below : (q n : ℕ) (ids : List ℕ) → AllByRecursion (λ k. k < n) ids → list_any (nat_eq q) ids ≡ true → q < n
-member_below q n [] h m = absurd (cc)
-member_below q n (id ∷ ids) h m = either (nat_eq q id) refl m (member_below q n ids h.1)
-  where
-    either : (b : Bool) → nat_eq q id ≡ b → (b || list_any (nat_eq q) ids) ≡ true → (list_any (nat_eq q) ids ≡ true → q < n) → q < n
-    either true same any rest = let is : q ≡ id = grind arith in omega (arith, h.0, is)
-    either false other any rest = rest any
 
 module _ (directory : List Entry) where
   all_within : (c : Content) (ids all : List ℕ) → Holds directory HasSize ids c all → AllByRecursion (λ k. k < length directory) all

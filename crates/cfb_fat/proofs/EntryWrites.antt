@@ -1,15 +1,14 @@
 -- Entries of the FAT are written in the sectors that hold it, and then set in memory.
-use Rattle.std.proofs.Common.{◌≡◌, ℕ, ◌+◌, ◌*◌, ◌/◌, ◌%◌, ◌<◌, ◌≤◌, ◌^◌, ◌⊎◌, inl, inr, false, List, [], ◌∷◌, length, length-take, get_or, zero, suc, refl, ap, sym, subst, ◌∙◌, arith, ⊎_elim, IsTrue}
+use Rattle.std.proofs.Common.{◌≡◌, ℕ, ◌+◌, ◌*◌, ◌/◌, ◌%◌, ◌<◌, ◌≤◌, ◌^◌, ◌⊎◌, false, List, [], ◌∷◌, length, length-take, get_or, refl, ap, sym, subst, ◌∙◌, arith, ⊎_elim, IsTrue}
 use Rattle.std.specs.Int.{w32, to_le_bytes}
 use Rattle.std.proofs.Math.ListN.{set}
-use Rattle.std.proofs.lemmas.Bool.Decides.{eqb_tells}
 use Rattle.std.proofs.lemmas.List.{ext_get_or}
 use Rattle.cfb_medium.specs.Bytes.{overwritten}
 use Rattle.cfb_medium.specs.declared.medium.ReadMedium.{Ghosts}
 use Rattle.cfb_sectors.specs.Held.{bytes_of, count_of, has_failed_here, version_of, Changes, IsHonest}
 use Rattle.cfb_sectors.specs.Sectors.{fat_in, free, sector_start}
 use Rattle.cfb_sectors.specs.declared.sectors.Sectors.{Sectors}
-use Rattle.cfb_chains.specs.Changes.{AreOnce, DifferAt, HaveEntry, IsBeside, IsNoneOf}
+use Rattle.cfb_chains.specs.Changes.{AreOnce, DifferAt, HaveEntry, IsBeside}
 use Rattle.cfb_runs.specs.Freeing.{FreesFirst}
 use Rattle.cfb_fat.specs.Changing.{fat_here, WritesEntries}
 use Rattle.cfb_fat.proofs.EntryChanges.{differ_none, one_is}
@@ -18,22 +17,7 @@ use Rattle.cfb_fat.proofs.FatEntries.{length-fat_in, per}
 use Rattle.cfb_fat.proofs.ListedStays.{entry_aside, listed_still, longer_over, told_in}
 use Rattle.cfb_fat.proofs.Listing.{header_whole}
 use Rattle.cfb_fat.proofs.Packed.{IsPacked}
-
--- a number is in a list or not
-is_among : (xs : List ℕ) (n : ℕ) → IsNoneOf xs n ⊎ ((k : ℕ) × (k < length xs) × (get_or xs k 0 ≡ n))
-is_among [] n = inl (λ k below same. absurd (omega (arith, below)))
-is_among (x ∷ xs) n =
-    ⊎_elim
-    (λ same. inr (0, omega arith, same.1))
-    (λ differ. ⊎_elim
-    (λ none. inl (not_here differ.1 none))
-    (λ found. inr (suc found.0, (let b = found.1 in omega (arith, b)), found.2))
-    (is_among xs n))
-    (eqb_tells x n)
-  where
-    not_here : (x ≡ n → ⊥) → IsNoneOf xs n → IsNoneOf (x ∷ xs) n
-    not_here differ none zero below same = differ same
-    not_here differ none (suc k) below same = none k (omega (arith, below)) same
+use Rattle.cfb_chains.proofs.Owners.{is_among}
 
 -- the same entries are the same in the table in memory and in that of the sectors
 pub same_freed : (ids fat now here then : List ℕ) → fat ≡ here → FreesFirst (length ids) ids fat now → DifferAt ids here then → HaveEntry free then ids → now ≡ then

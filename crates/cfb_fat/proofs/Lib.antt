@@ -1,4 +1,5 @@
 pub mod Appended
+pub mod CutChains
 pub mod DifatChains
 pub mod Entering
 pub mod EntryChanges

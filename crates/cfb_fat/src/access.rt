@@ -11,22 +11,29 @@ ghost use Rattle.cfb_medium.specs.declared.error.Error.TheVariants.{Failed, Inva
 ghost use Rattle.cfb_sectors.specs.Held.{count_of, IsRefused, LiesIn};
 ghost use Rattle.cfb_sectors.specs.SectorViews.{part_len, part_position, part_start};
 ghost use Rattle.cfb_sectors.specs.Sectors.{filled_part, sector, sector_start};
-ghost use Rattle.std.specs.Prelude.{false, length, true, IfErr, IfOk, IsErrOf, IsTrue, OnErr, OnOk, [], ◌∷◌, ◌*◌, ◌+◌, ◌<◌, ◌^◌, ◌↔◌, ◌≡◌, ◌≤◌, ◌⊎◌};
+ghost use Rattle.std.specs.Prelude.{false, length, true, IfErr, IfOk, IsErrOf, IsTrue, OnErr, OnOk, ℕ, [], ◌∷◌, ◌*◌, ◌+◌, ◌<◌, ◌^◌, ◌↔◌, ◌≡◌, ◌≤◌, ◌⊎◌};
 
 use crate::Allocator;
 use crate::difat::{FAT_COUNT, FAT_COUNT_END, FIRST_DIFAT_SECTOR, HEADER_END};
 use cfb_medium::{Error, Medium, ReadMedium, Version};
 use cfb_sectors::{ChangesSectors, HasSectors, Part};
 
-// Whether a part of the file has no byte of a sector.
-fn is_apart(version: Version, sector_id: u32, place: u64, count: usize) -> bool
+// The first and the last number, of those that 32 bits have, of a sector that a part of the file meets: it has a byte of the sector, or, of
+// no bytes, lies within. The first is above the last where there is none.
+fn sectors_met(version: Version, place: u64, count: usize) -> (u32, u32)
     requires { place + count < 2 ^ 63 }
-    ensures { IsTrue result ↔ ((sector_start version sector_id + sector_len version ≤ place)
-        ⊎ (place + count ≤ sector_start version sector_id)) }
+    ensures { (s : ℕ) → s < 2 ^ 32 → ((sector_start version s + sector_len version ≤ place)
+        ⊎ (place + count ≤ sector_start version s)) ↔ ((s < result.0) ⊎ (result.1 < s)) }
 {
     let len = version.sector_len() as u64;
-    let start = (u64::from(sector_id) + 1) * len;
-    start + len <= place || place + count as u64 <= start
+    // (the header stands in front of sector 0)
+    let first = (place / len).saturating_sub(1);
+    let behind = (place + count as u64 + len - 1) / len;
+    if behind < 2 || first > u64::from(u32::MAX) {
+        return (1, 0);
+    }
+    let last = u64::min(behind - 2, u64::from(u32::MAX));
+    (first as u32, last as u32)
 }
 
 // Whether a part of the file has no byte of these sectors.
@@ -34,12 +41,13 @@ fn is_beside(version: Version, sector_ids: &[u32], place: u64, count: usize) -> 
     requires { place + count < 2 ^ 63 }
     ensures { IsTrue result ↔ IsBeside version sector_ids.now place count }
 {
+    let (first, last) = sectors_met(version, place, count);
+    let mut is_met = false;
     for sector_id in sector_ids {
-        if !is_apart(version, *sector_id, place, count) {
-            return false;
-        }
+        // (without a way out, so that many are compared at once)
+        is_met |= first <= *sector_id && *sector_id <= last;
     }
-    true
+    !is_met
 }
 
 // Whether a part of the file has no byte of what the header says of the tables.

@@ -81,8 +81,7 @@ impl<F: Medium> Allocator<F> {
 
     // Writes an entry of the FAT, and sets it in memory. After a fault it has failed.
     pub(crate) fn set_entry(&mut self, sector_id: u32, entry: u32) -> Result<(), Error>
-        requires live { has_failed_here self.old ≡ false }
-        requires orderly { IsTrue (orderly_of self.old) }
+        requires ready { (has_failed_here self.old ≡ false) × IsTrue (orderly_of self.old) }
         requires there { sector_id < length (fat_of self.old) }
         requires room { HasRun self.old sector_id entry }
         ensures changes { ChangesFat (sector_id ∷ []) self.old self.new }

@@ -9,7 +9,6 @@ use Rattle.cfb_sectors.specs.Sectors.{sector_start, Chain}
 use Rattle.cfb_tree.specs.Directory.{kind_stream, Entry}
 use Rattle.cfb_tree.proofs.OneContent.{Some_same}
 use Rattle.cfb_mini.specs.Minis.{AreInside}
-use Rattle.cfb_owners.proofs.CutChains.{chain_of_cut}
 use Rattle.cfb_soundness.specs.Uses.{HasMiniSectors, HasSectors, Tables}
 use Rattle.cfb_findings.specs.Avail.{mini_start}
 use Rattle.cfb_findings.specs.Broken.{AreBroken, IsWhole}
@@ -17,15 +16,13 @@ use Rattle.cfb_findings.specs.Findings.{is_long, is_short}
 use Rattle.cfb_findings.specs.Minis.{minis_there}
 use Rattle.cfb_findings.specs.Noted.{IsNoted}
 use Rattle.cfb_findings.specs.Rooms.{IsHeld}
+use Rattle.cfb_fat.proofs.CutChains.{chain_of_cut}
 
 long_kind : (e : Entry) → true ≡ is_long e → (e.kind ≡ kind_stream) × (mini_cutoff ≤ e.size)
 long_kind e is = (grind (arith, nat_tests), grind (arith, nat_tests))
 
 short_kind : (e : Entry) → true ≡ is_short e → (e.kind ≡ kind_stream) × (e.size < mini_cutoff)
 short_kind e is = (grind (arith, nat_tests), grind (arith, nat_tests))
-
-neither : (e : Entry) → false ≡ is_long e → false ≡ is_short e → e.kind ≡ kind_stream → ⊥
-neither e long short is = grind (arith, nat_tests)
 
 module _ (t : Tables) (id : ℕ) (e : Entry) (found : slice_get t.entries id ≡ Some e) where
   pub long_whole : true ≡ is_long e → IsHeld t.fat (sector_len t.version) (sector_start t.version) t.file_len e.start e.size ↔ IsWhole t id
@@ -124,7 +121,7 @@ pub whole_there : (t : Tables) (id : ℕ) → IsWhole t id → id < length t.ent
 whole_there t id whole = let h = whole.2 in slice_get_within t.entries id h.entry h.found
 
 pub neither_stream : (e : Entry) → false ≡ is_long e → false ≡ is_short e → e.kind ≡ kind_stream → ⊥
-neither_stream e long short is = neither e long short is
+neither_stream e long short is = grind (arith, nat_tests)
 
 -- what is found one entry on
 pub broken_more : (t : Tables) (xs : List ℕ) (id : ℕ) (old new : List ℕ) → AreBroken t xs old → IsNoted (IsWhole t id) id old new → AreBroken t (xs ++ (id ∷ [])) new

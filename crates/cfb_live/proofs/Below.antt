@@ -11,7 +11,7 @@ use Rattle.cfb_siblings.specs.Places.{path_to}
 use Rattle.cfb_siblings.proofs.Leading.{last_of_path, parent_of_path}
 use Rattle.cfb_siblings.proofs.Naming.{child_here, without_here}
 use Rattle.cfb_live.specs.WholeRemoval.{HasEmptyStorage, HasStorage}
-use Rattle.cfb_live.proofs.NewPlaces.{path_is}
+use Rattle.cfb_entries.proofs.Others.{path_is}
 
 -- how many objects a content has, at all depths
 abbrev pub size : Content → ℕ

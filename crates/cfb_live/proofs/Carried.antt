@@ -17,7 +17,7 @@ pub record Carries (s t : LiveFile) (who now : Owners) : Type 0 where
   pub minis : now.minis ≡ who.minis
   pub joined : (k : ℕ) → mini_stream_owner ≤ k → joined s.version t.bytes (who.sectors k) ≡ joined s.version s.bytes (who.sectors k)
 
-all_there : (few many : ℕ) (places : List ℕ) → few ≤ many → AllByRecursion (λ p. p < few) places → AllByRecursion (λ p. p < many) places
+pub all_there : (few many : ℕ) (places : List ℕ) → few ≤ many → AllByRecursion (λ p. p < few) places → AllByRecursion (λ p. p < many) places
 all_there few many [] most all = tt
 all_there few many (p ∷ places) most all = ((let first = all.0 in omega (arith, first, most)), all_there few many places most all.1)
 

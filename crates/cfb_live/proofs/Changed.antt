@@ -144,7 +144,7 @@ set_keeps xs id e f found kind start size k x at =
     (eqb_tells id k)
 
 -- nothing is asked where the bytes that are read stay
-keeps_all : (Reads : Entry → List ℕ → Type 0) (directory : List Entry) (id : ℕ) (ids : List ℕ) → KeepBytes Reads Reads directory id ids
+pub keeps_all : (Reads : Entry → List ℕ → Type 0) (directory : List Entry) (id : ℕ) (ids : List ℕ) → KeepBytes Reads Reads directory id ids
 keeps_all Reads directory id [] = tt
 keeps_all Reads directory id (k ∷ ids) = ((λ other e bytes found reads. reads), keeps_all Reads directory id ids)
 

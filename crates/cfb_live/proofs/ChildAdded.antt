@@ -1,7 +1,7 @@
 -- The tree that a live file means after an entry was added, of an object without content.
 use Rattle.std.proofs.Common.{◌≡◌, ℕ, ◌<◌, ◌⊎◌, inl, inr, true, false, List, [], ◌∷◌, length, take, zero, suc, ap, sym, subst, ◌∙◌, ⊎_elim, arith}
 use Rattle.std.specs.Prelude.{nat_eq, slice_get, slice_index_or, IfSome, Option, Some}
-use Rattle.std.specs.List.{AllByRecursion, IsDistinct}
+use Rattle.std.specs.List.{AllByRecursion}
 use Rattle.std.proofs.lemmas.Bool.Decides.{eqb_tells}
 use Rattle.cfb_chains.specs.Changes.{IsNoneOf}
 use Rattle.cfb_sectors.specs.Sectors.{end_of_chain}
@@ -23,6 +23,7 @@ use Rattle.cfb_owners.proofs.UsesOfEntries.{all_from, all_one, one_not_none}
 use Rattle.cfb_live.proofs.Carried.{Carries}
 use Rattle.cfb_live.proofs.Changed.{moved_stream}
 use Rattle.cfb_live.proofs.Streams.{bytes_from, no_bytes, reads, reads_means}
+use Rattle.cfb_siblings.proofs.Coloring.{root_apart}
 
 pub none_of : (xs : List ℕ) (n : ℕ) → (IsOneOf xs n → ⊥) → IsNoneOf xs n
 none_of [] n never k below same = absurd (omega (arith, below))
@@ -37,10 +38,6 @@ pub one_apart : (xs : List ℕ) (n : ℕ) → IsOneOf xs n → IsApart n xs → 
 one_apart [] n one apart = one
 one_apart (x ∷ xs) n (inl same) apart = let test = apart.0 in let wrong : nat_eq n x ≡ true = grind (arith, same) in let never : true ≡ false = sym wrong ∙ test in absurd (cc)
 one_apart (x ∷ xs) n (inr later) apart = one_apart xs n later apart.1
-
-pub zero_apart : (ids : List ℕ) → IsDistinct nat_eq (0 ∷ ids) → IsApart 0 ids
-unfolding IsDistinct
-zero_apart ids once = once.0
 
 module _ (s t : LiveFile) (who now : Owners) (letters : Letters) (tree later : Tree) (h : MeansHeld s who letters tree) (c : Carries s t who now) (root : Entry) (kept : Kept t now root)
     (e : Entry) (path : Path) (id : ℕ) (more : HoldsOneMore letters (ReadBy (reads s who)) s.entries t.entries later h.ids path id) (adds : AddsAt s.entries t.entries e id) (small : e.size ≡ 0) (starts : e.kind ≡ kind_stream → e.start ≡ end_of_chain) where
@@ -57,10 +54,10 @@ module _ (s t : LiveFile) (who now : Owners) (letters : Letters) (tree later : T
   idle = h.unused id (λ among. among.0 (none_of h.ids id is_new))
 
   old_zero : IsOneOf h.ids 0 → ⊥
-  old_zero one = one_apart h.ids 0 one (zero_apart h.ids h.once)
+  old_zero one = one_apart h.ids 0 one (root_apart h.ids h.once)
 
   new_zero : IsOneOf more.holds.ids 0 → ⊥
-  new_zero one = one_apart more.holds.ids 0 one (zero_apart more.holds.ids more.holds.once)
+  new_zero one = one_apart more.holds.ids 0 one (root_apart more.holds.ids more.holds.once)
 
   -- where an entry of the new tree comes from
   from : (k : ℕ) → IsOneOf more.holds.ids k → (k ≡ id) ⊎ IsOneOf h.ids k

@@ -1,7 +1,7 @@
 -- The way down by links to children, to an object that holds nothing.
-use Rattle.std.proofs.Common.{◌≡◌, ◌≢◌, ℕ, ◌+◌, ◌<◌, ◌≤◌, ◌||◌, Bool, true, false, List, [], ◌∷◌, ◌++◌, length, length-append, refl, ap, sym, subst, ◌∙◌, arith}
-use Rattle.std.specs.Prelude.{nat_eq, slice_get, None, Some}
-use Rattle.std.specs.List.{list_any, AllByRecursion}
+use Rattle.std.proofs.Common.{◌≡◌, ◌≢◌, ℕ, ◌+◌, ◌<◌, ◌≤◌, ◌||◌, Bool, List, [], ◌∷◌, ◌++◌, length, length-append, refl, ap, sym, subst, ◌∙◌, arith}
+use Rattle.std.specs.Prelude.{slice_get, None, Some}
+use Rattle.std.specs.List.{AllByRecursion}
 use Rattle.std.specs.Ordering.{ordering_reverse}
 use Rattle.std.specs.declared.cmp.Ordering.{Ordering}
 use Rattle.std.specs.declared.cmp.Ordering.TheVariants.{Equal, Greater, Less}
@@ -23,19 +23,12 @@ use Rattle.cfb_tree.proofs.NameOrder.{name_cmp_total}
 use Rattle.cfb_tree.proofs.NamesRead.{all_append}
 use Rattle.cfb_tree.proofs.OneContent.{Some_same}
 use Rattle.cfb_live.specs.WholeRemoval.{HasEmptyStorage, IsLeafAt}
+use Rattle.cfb_siblings.proofs.Bounds.{member_below}
 
 pub equal_self : (o : Ordering) → o ≡ ordering_reverse o → o ≡ Equal
 equal_self Less is = absurd (cc)
 equal_self Equal is = refl
 equal_self Greater is = absurd (cc)
-
-member_below : (q n : ℕ) (ids : List ℕ) → AllByRecursion (λ k. k < n) ids → list_any (nat_eq q) ids ≡ true → q < n
-member_below q n [] h m = absurd (cc)
-member_below q n (id ∷ ids) h m = either (nat_eq q id) refl m (member_below q n ids h.1)
-  where
-    either : (b : Bool) → nat_eq q id ≡ b → (b || list_any (nat_eq q) ids) ≡ true → (list_any (nat_eq q) ids ≡ true → q < n) → q < n
-    either true same any rest = let is : q ≡ id = grind arith in omega (arith, h.0, is)
-    either false other any rest = rest any
 
 module _ (directory : List Entry) (Reads : Entry → List ℕ → Type 0) where
   all_within : (c : Content) (ids all : List ℕ) → Holds directory Reads ids c all → AllByRecursion (λ k. k < length directory) all

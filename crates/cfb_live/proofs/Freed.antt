@@ -9,7 +9,6 @@ use Rattle.cfb_medium.specs.declared.medium.ReadMedium.{Ghosts}
 use Rattle.cfb_sectors.specs.Header.{mini_cutoff, IsHeader}
 use Rattle.cfb_sectors.specs.Sectors.{free, sector, Chain}
 use Rattle.cfb_chains.specs.Changes.{HaveEntry}
-use Rattle.cfb_sectors.proofs.Chains.{chain_short}
 use Rattle.cfb_chains.specs.Owned.{Becomes, Moves, Owned, Stays}
 use Rattle.cfb_chains.proofs.Owners.{other_left, owned_changed}
 use Rattle.cfb_fat.specs.Orderly.{AreBelow}
@@ -31,12 +30,6 @@ use Rattle.cfb_live.specs.Freeing.{FreesStream, Stands}
 use Rattle.cfb_live.specs.Live.{live_of}
 use Rattle.cfb_live.proofs.KeptNow.{kept_now}
 use Rattle.cfb_live.proofs.Strays.{long_strays, short_strays}
-use Rattle.cfb_live.proofs.Streams.{chain_is}
-
--- a table has one chain from a start
-pub one_chain : (table : List ℕ) (start : ℕ) (xs ys : List ℕ) → Chain table start xs → Chain table start ys → xs ≡ ys
-one_chain table start xs ys first second =
-    sym (chain_is table (length table) start xs first (chain_short table start xs first)) ∙ chain_is table (length table) start ys second (chain_short table start ys second)
 
 -- the sectors of a chain have entries
 pub chain_below : (table : List ℕ) (start : ℕ) (xs : List ℕ) → Chain table start xs → AreBelow (length table) xs
@@ -47,7 +40,7 @@ chain_below table start (x ∷ xs) (is, regular, next, found, rest) = by_place (
     by_place later zero below = slice_get_within table x next (subst (λ s. slice_get table s ≡ Some next) (sym is) found)
     by_place later (suc k) below = later k (omega (arith, below))
 
-inside_all : (len : ℕ) (ids : List ℕ) → AllByRecursion (λ n. 64 * n + 64 ≤ len) ids → AreInside len ids
+pub inside_all : (len : ℕ) (ids : List ℕ) → AllByRecursion (λ n. 64 * n + 64 ≤ len) ids → AreInside len ids
 inside_all len [] all = λ k below. absurd (omega (arith, below))
 inside_all len (x ∷ ids) (here, rest) = by_place (inside_all len ids rest)
   where

@@ -4,7 +4,7 @@ use Rattle.std.specs.Borrow.{Bor}
 use Rattle.std.specs.Prelude.{None, Some}
 use Rattle.cfb_meaning.specs.TreeRules.{done, refused, tree_step}
 use Rattle.cfb_medium.specs.declared.error.Error.TheVariants.{AlreadyExists, InvalidInput, NotFound}
-use Rattle.cfb_siblings.specs.Places.{path_of, path_to}
+use Rattle.cfb_siblings.specs.Places.{path_of}
 use Rattle.cfb_tree.specs.Changes.{added, last_of, parent_of}
 use Rattle.cfb_tree.specs.Names.{is_name, Letters}
 use Rattle.cfb_tree.specs.Objects.{a_storage, a_stream, object_at, Object}
@@ -35,16 +35,6 @@ last_is (name ∷ next ∷ names) other some =
     let one : suc (suc n) - 1 ≡ suc n = omega arith in
     let two : suc n - 1 ≡ n = omega arith in
     last_is (next ∷ names) other (omega arith) ∙ ap (λ k. chars (get_or (next ∷ names) k other).now) two ∙ ap (λ k. chars (get_or (name ∷ next ∷ names) k other).now) (sym one)
-
-pub path_is : (path : Path) → 0 < length path → path_to (parent_of path) (last_of path) ≡ path
-path_is [] some = absurd (omega (arith, some))
-path_is (name ∷ []) some = refl
-path_is (name ∷ next ∷ names) some =
-    let n = length names in
-    let one : suc (suc n) - 1 ≡ suc n = omega arith in
-    let two : suc n - 1 ≡ n = omega arith in
-    ap (λ k. take k (name ∷ next ∷ names) ++ last_of (next ∷ names) ∷ []) one ∙ ap (λ k. name ∷ (take k (next ∷ names) ++ last_of (next ∷ names) ∷ [])) (sym two)
-    ∙ ap (λ l. name ∷ l) (path_is (next ∷ names) (omega arith))
 
 -- a name that isn't valid
 pub invalid_is : (b : Bool) → (IsTrue b → ⊥) → b ≡ false

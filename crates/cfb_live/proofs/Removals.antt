@@ -13,14 +13,12 @@ use Rattle.cfb_tree.specs.Paths.{Path}
 use Rattle.cfb_tree.specs.Tree.{Content, Facts, Tree}
 use Rattle.cfb_tree.proofs.OneContent.{Some_same}
 use Rattle.cfb_live.proofs.FactRules.{MatchObject}
-use Rattle.cfb_live.proofs.NewPlaces.{last_is, length-path, path_is}
-
-from_none : (letters : Letters) (path : Path) → object_from letters None path ≡ None
-from_none letters [] = refl
-from_none letters (name ∷ names) = refl
+use Rattle.cfb_live.proofs.NewPlaces.{last_is, length-path}
+use Rattle.cfb_entries.proofs.Others.{path_is}
+use Rattle.cfb_siblings.proofs.Following.{object_from_none}
 
 from_joined : (letters : Letters) (xs : Path) (o : Option Object) (ys : Path) → object_from letters o (xs ++ ys) ≡ object_from letters (object_from letters o xs) ys
-from_joined letters xs None ys = from_none letters (xs ++ ys) ∙ sym (ap (λ o. object_from letters o ys) (from_none letters xs) ∙ from_none letters ys)
+from_joined letters xs None ys = object_from_none letters (xs ++ ys) ∙ sym (ap (λ o. object_from letters o ys) (object_from_none letters xs) ∙ object_from_none letters ys)
 from_joined letters [] (Some o) ys = refl
 from_joined letters (x ∷ xs) (Some o) ys = from_joined letters xs (child letters (inside_of o) x) ys
 
@@ -57,11 +55,6 @@ module _ (letters : Letters) (tree : Tree) (path : Path) where
 -- the root is no stream
 pub step_root : (letters : Letters) (tree : Tree) (path : Path) → path ≡ [] → (tree_step letters tree (remove_stream path)).1 ≡ refused InvalidInput
 step_root letters tree path is = subst (λ p. (tree_step letters tree (remove_stream p)).1 ≡ refused InvalidInput) (sym is) refl
-
--- the path of no names
-pub no_names : (names : List (Bor (List ℕ))) → length names ≡ 0 → path_of names ≡ []
-no_names [] none = refl
-no_names (name ∷ names) none = absurd (omega (arith, none))
 
 -- names are those of the last one's parent, and the last one
 pub last_path : (names : List (Bor (List ℕ))) (other : Bor (List ℕ)) → 0 < length names → path_to (parent_of (path_of names)) (chars (get_or names (length names - 1) other).now) ≡ path_of names

@@ -36,11 +36,12 @@ use Rattle.cfb_live.specs.Live.{live_of, MeansLive}
 use Rattle.cfb_live.specs.Strays.{ComesToMean}
 use Rattle.cfb_live.proofs.Carried.{carries_then}
 use Rattle.cfb_live.proofs.Changed.{moved_stream_but}
-use Rattle.cfb_live.proofs.ChildAdded.{apart_or, none_of, one_apart, zero_apart}
+use Rattle.cfb_live.proofs.ChildAdded.{apart_or, none_of, one_apart}
 use Rattle.cfb_live.proofs.Directories.{carries, has_owners, kept_later, owners_now}
 use Rattle.cfb_live.proofs.Made.{spare_words}
 use Rattle.cfb_live.proofs.Strays.{directory_strays, strays_then}
 use Rattle.cfb_live.proofs.Streams.{bytes_from, reads, reads_means}
+use Rattle.cfb_siblings.proofs.Coloring.{root_apart}
 
 one_middle : (front : List ℕ) (n : ℕ) (back : List ℕ) → IsOneOf (front ++ n ∷ back) n
 one_middle [] n back = inl refl
@@ -55,7 +56,7 @@ among letters Reads directory tree h (first ∷ names) id some leads =
 
 -- an entry that is in a tree is no root
 pub below_root : (letters : Letters) (Reads : Entry → List ℕ → Type 0) (directory : List Entry) (tree : Tree) (h : HoldsTree letters Reads directory tree) (id : ℕ) → IsOneOf h.ids id → id ≡ 0 → ⊥
-below_root letters Reads directory tree h id one is = one_apart h.ids 0 (subst (IsOneOf h.ids) is one) (zero_apart h.ids h.once)
+below_root letters Reads directory tree h id one is = one_apart h.ids 0 (subst (IsOneOf h.ids) is one) (root_apart h.ids h.once)
 
 -- a stream in the tree has its bytes in what its entry owns
 pub stream_there : (s : LiveFile) (who : Owners) (letters : Letters) (tree : Tree) (h : MeansHeld s who letters tree) (id : ℕ) (e : Entry) → IsOneOf h.ids id → slice_get s.entries id ≡ Some e → e.kind ≡ kind_stream → (content : List ℕ) × HasStream s who id e content
@@ -73,10 +74,10 @@ module _ (s t : LiveFile) (who now : Owners) (letters : Letters) (tree later : T
   old_part k one = all_one (IsPart s.entries (HasStream s who)) h.ids k (each_part s.entries (HasStream s who) tree.content h.children h.ids h.holds) one
 
   old_zero : IsOneOf h.ids 0 → ⊥
-  old_zero one = one_apart h.ids 0 one (zero_apart h.ids h.once)
+  old_zero one = one_apart h.ids 0 one (root_apart h.ids h.once)
 
   new_zero : IsOneOf less.holds.ids 0 → ⊥
-  new_zero one = one_apart less.holds.ids 0 one (zero_apart less.holds.ids less.holds.once)
+  new_zero one = one_apart less.holds.ids 0 one (root_apart less.holds.ids less.holds.once)
 
   -- an entry of the new tree was in the old one
   from : (k : ℕ) → IsOneOf less.holds.ids k → IsOneOf h.ids k

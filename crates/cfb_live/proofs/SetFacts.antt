@@ -32,7 +32,7 @@ use Rattle.cfb_live.proofs.Standing.{stands_of}
 use Rattle.cfb_live.proofs.Strays.{directory_strays, strays_same}
 use Rattle.cfb_live.proofs.Streams.{reads}
 
-set_same : (xs : List Entry) (id : ℕ) (e : Entry) → slice_get xs id ≡ Some e → xs ≡ slice_set xs id e
+pub set_same : (xs : List Entry) (id : ℕ) (e : Entry) → slice_get xs id ≡ Some e → xs ≡ slice_set xs id e
 set_same [] id e found = refl
 set_same (x ∷ xs) zero e found = ap (λ y. y ∷ xs) (Some_same found)
 set_same (x ∷ xs) (suc id) e found = ap (λ l. x ∷ l) (set_same xs id e found)

@@ -29,10 +29,10 @@ use Rattle.cfb_live.specs.Freeing.{FreesStream}
 use Rattle.cfb_live.specs.Live.{live_of, MeansLive}
 use Rattle.cfb_live.specs.Strays.{ComesToMean}
 use Rattle.cfb_live.specs.Removing.{IsChildAt}
-use Rattle.cfb_live.proofs.NewPlaces.{path_is}
 use Rattle.cfb_live.proofs.Removed.{among, below_root, removed_comes}
 use Rattle.cfb_live.proofs.SetFacts.{means_held, means_ids}
 use Rattle.cfb_live.proofs.Streams.{reads}
+use Rattle.cfb_entries.proofs.Others.{path_is}
 
 -- a stream, or a storage without a child, has no entries inside
 leaf_inside : (directory : List Entry) (Reads : Entry → List ℕ → Type 0) (id : ℕ) (o : Object) (own : List ℕ) → ((e : Entry) → slice_get directory id ≡ Some e → (e.kind ≡ kind_stream → ⊥) → e.child ≡ no_entry)

@@ -9,7 +9,7 @@ use Rattle.cfb_tree.specs.Names.{Letters}
 use Rattle.cfb_tree.specs.Paths.{Path}
 use Rattle.cfb_tree.proofs.OneContent.{Some_same}
 use Rattle.cfb_live.specs.WholeRemoval.{IsWayTo, KeepsWay}
-use Rattle.cfb_live.proofs.NewPlaces.{path_is}
+use Rattle.cfb_entries.proofs.Others.{path_is}
 
 no_names : (path : Path) → length path ≡ 0 → path ≡ []
 no_names [] is = refl

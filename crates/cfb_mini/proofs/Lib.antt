@@ -14,6 +14,7 @@ pub mod MiniOwners
 pub mod MiniParts
 pub mod MiniSteps
 pub mod MiniWrites
+pub mod Padded
 pub mod Parts
 pub mod Resting
 pub mod Results

@@ -32,6 +32,7 @@ use Rattle.cfb_mini.proofs.Entries.{content_len}
 use Rattle.cfb_mini.proofs.Keeping.{pick, pick_mine, pick_other}
 use Rattle.cfb_mini.proofs.KeptFile.{file_rests, file_same, file_then}
 use Rattle.cfb_mini.proofs.Strays.{leaves_resting, stray_same}
+use Rattle.cfb_fat.proofs.Joining.{all_append}
 
 -- a table that became longer has the chains that it had
 entry_stays : (old new : List ℕ) (n x : ℕ) → length old ≤ length new → ((k : ℕ) → k < length old → get_or new k 0 ≡ get_or old k 0) → slice_get old n ≡ Some x → slice_get new n ≡ Some x
@@ -69,10 +70,6 @@ free_appended old new count n is past below =
     let spot : length old + (n - length old) ≡ n = omega (arith, past) in
     ap (λ l. get_or l n 0) is ∙ ap (λ i. get_or (old ++ replicate count free) i 0) (sym spot) ∙ get_or-append-add old (replicate count free) (n - length old) 0
     ∙ get_or-replicate count (n - length old) free 0 (omega (arith, size, all, past, below))
-
-all_behind : (P : ℕ → Type 0) (xs : List ℕ) (x : ℕ) → AllByRecursion P xs → P x → AllByRecursion P (xs ++ x ∷ [])
-all_behind P [] x h p = (p, tt)
-all_behind P (y ∷ xs) x h p = (h.0, all_behind P xs x h.1 p)
 
 pub all_less : (m n : ℕ) (xs : List ℕ) → m ≤ n → AllByRecursion (λ k. 64 * k + 64 ≤ m) xs → AllByRecursion (λ k. 64 * k + 64 ≤ n) xs
 all_less m n [] less h = tt
@@ -211,8 +208,8 @@ module _ {F : Type 0} {g : Ghosts F} where
       record {
         taken = h.taken ++ x ∷ [];
         minis_are = k.minis_are ∙ ap (λ l. l ++ x ∷ []) h.minis_are ∙ append_assoc minis h.taken (x ∷ []);
-        were_free = all_behind (IsFreeIn (mini_fat_of a)) h.taken x h.were_free (was_free (mini_fat_of a) (mini_fat_of b) mid x h.numbers h.linked k.was_free.found);
-        inside = all_behind (λ n. 64 * n + 64 ≤ mini_stream_len c) h.taken x (subst (λ m. AllByRecursion (λ n. 64 * n + 64 ≤ m) h.taken) (sym len) h.inside) (subst (λ m. 64 * x + 64 ≤ m) (sym len) k.was_free.inside);
+        were_free = all_append (IsFreeIn (mini_fat_of a)) h.taken x h.were_free (was_free (mini_fat_of a) (mini_fat_of b) mid x h.numbers h.linked k.was_free.found);
+        inside = all_append (λ n. 64 * n + 64 ≤ mini_stream_len c) h.taken x (subst (λ m. AllByRecursion (λ n. 64 * n + 64 ≤ m) h.taken) (sym len) h.inside) (subst (λ m. 64 * x + 64 ≤ m) (sym len) k.was_free.inside);
         linked = k.changes.becomes.linked;
         numbers = record {
           size = omega (arith, mid_size, new_size);

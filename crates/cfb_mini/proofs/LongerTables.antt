@@ -9,7 +9,6 @@ use Rattle.cfb_medium.specs.Numbers.{numbers, u32_at}
 use Rattle.cfb_medium.specs.Versions.{sector_len}
 use Rattle.cfb_medium.specs.declared.medium.ReadMedium.{Ghosts}
 use Rattle.cfb_medium.specs.declared.version.Version.{Version}
-use Rattle.cfb_medium.specs.declared.version.Version.TheVariants.{V3, V4}
 use Rattle.cfb_sectors.specs.Copies.{copies}
 use Rattle.cfb_sectors.specs.Initial.{initial}
 use Rattle.cfb_sectors.specs.Sectors.{end_of_chain, fat_in, free, joined, sector}
@@ -35,6 +34,7 @@ use Rattle.cfb_owned.proofs.Owning.{none_behind_all}
 use Rattle.cfb_mini.specs.FatGrowth.{mini_fat_words, GrowsTable, LacksMore, TellsMiniFat}
 use Rattle.cfb_mini.specs.NumberViews.{numbers_of}
 use Rattle.cfb_mini.specs.declared.mini_fat.MiniFat.{MiniFat}
+use Rattle.cfb_chains.proofs.Extending.{whole_sectors}
 
 -- two numbers of the header were written
 pub told_by : (old mid new : List ℕ) (x y : ℕ) → x < 2 ^ 32 → y < 2 ^ 32 → mid ≡ overwritten old 60 (to_le_bytes w32 x) → new ≡ overwritten mid 64 (to_le_bytes w32 y) → (u32_at new 60 ≡ x) × (u32_at new 64 ≡ y)
@@ -44,15 +44,10 @@ told_by old mid new x y small_x small_y is_mid is_new =
       header_word new 64 16 refl (omega (arith, long)) ∙ ap (λ l. word l 16) is_new ∙ word_written mid 16 y small_y,
     )
 
--- so many sectors need just their bytes
-pub sectors_exact : (v : Version) (n : ℕ) → sectors_for v (n * sector_len v) ≡ n
-sectors_exact V3 n = omega arith
-sectors_exact V4 n = omega arith
-
 -- the bytes of one sector more
 pub bytes_of_sectors : (v : Version) (ids now : List ℕ) (len : ℕ) → now ≡ ids → len ≡ sector_len v → sectors_for v ((length now + 1) * len) ≡ length ids + 1
 bytes_of_sectors v ids now len same is =
-    ap (λ n. sectors_for v ((n + 1) * len)) (ap length same) ∙ ap (λ n. sectors_for v ((length ids + 1) * n)) is ∙ sectors_exact v (length ids + 1)
+    ap (λ n. sectors_for v ((n + 1) * len)) (ap length same) ∙ ap (λ n. sectors_for v ((length ids + 1) * n)) is ∙ whole_sectors v (length ids + 1)
 
 pub front_of : (xs ys : List ℕ) (n : ℕ) → n ≡ length xs → take n (xs ++ ys) ≡ xs
 front_of xs ys n is = ap (λ k. take k (xs ++ ys)) is ∙ take-append_seam xs ys

@@ -1,10 +1,6 @@
 -- What calls answered, told of together.
 use Rattle.std.proofs.Common.{◌≡◌, ◌⊎◌, Bool, false, true, refl, inl, inr, ⊎_elim}
-use Rattle.std.specs.Prelude.{Result, Ok, Err, OnErr, OnOk}
-
-pub both_ok : {T E : Type 0} (r : Result T E) (P Q R : Type 0) → (P → Q → R) → OnOk r P → OnOk r Q → OnOk r R
-both_ok (Ok x) P Q R f p q = f p q
-both_ok (Err e) P Q R f p q = tt
+use Rattle.std.specs.Prelude.{Result, Ok, Err, OnErr}
 
 pub on_err : {T E : Type 0} (r : Result T E) (P Q : Type 0) → (P → Q) → OnErr r P → OnErr r Q
 on_err (Ok x) P Q f p = tt

@@ -4,7 +4,7 @@ use Rattle.std.specs.Prelude.{Err, IfOk, Ok, OnOk, Result, slice_index, slice_in
 use Rattle.std.specs.List.{AllByRecursion}
 use Rattle.std.proofs.lemmas.Bool.Decides.{leb_tells}
 use Rattle.std.proofs.lemmas.Grind.{flat_map-append}
-use Rattle.std.proofs.lemmas.List.{ext_get_or, get_or-append_right, get_or-replicate, get_or-take, get_or_append_left, get_or_past, length-replicate, length-take-le}
+use Rattle.std.proofs.lemmas.List.{ext_get_or, get_or-append_right, get_or-take, get_or_append_left, length-take-le}
 use Rattle.cfb_medium.specs.Bytes.{overwritten}
 use Rattle.cfb_medium.specs.Versions.{sector_len}
 use Rattle.cfb_medium.specs.declared.medium.ReadMedium.{Ghosts}
@@ -13,7 +13,7 @@ use Rattle.cfb_chains.specs.Changes.{IsNoneOf}
 use Rattle.cfb_chains.specs.LinkViews.{links_version}
 use Rattle.cfb_chains.specs.Owned.{Stays}
 use Rattle.cfb_chains.proofs.ChainWriting.{length_within}
-use Rattle.cfb_chains.proofs.Overwriting.{get_before, get_filled, get_written, length-filled}
+use Rattle.cfb_chains.proofs.Overwriting.{get_before, get_written}
 use Rattle.cfb_fat.specs.Seeing.{seen_of}
 use Rattle.cfb_fat.specs.Tables.{version_of}
 use Rattle.cfb_fat.specs.declared.allocator.Allocator.{Allocator}
@@ -29,6 +29,7 @@ use Rattle.cfb_mini.proofs.KeptFile.{file_then}
 use Rattle.cfb_mini.proofs.Longer.{lengthened_owners, now_other, own_now, stream_size}
 use Rattle.cfb_mini.proofs.MiniParts.{length-mini_joined}
 use Rattle.cfb_mini_chains.specs.MiniGrowing.{MiniAppends}
+use Rattle.cfb_mini.proofs.Padded.{joined_padded, sector_padded}
 
 -- what holds of bytes that a call took holds of so many as it tells
 pub took : {E : Type 0} (r : Result ℕ E) (P : ℕ → List ℕ → Type 0) (bytes : List ℕ) (k : ℕ) → k ≤ length bytes → OnOk r (P (length (take k bytes)) (take k bytes)) → IfOk r (λ n. n ≡ length (take k bytes)) → IfOk r (λ n. P n (take n bytes))
@@ -36,30 +37,6 @@ took (Ok n) P bytes k few p is =
     let size = length-take-le k bytes few in
     subst (λ m. P m (take m bytes)) (sym (is ∙ size)) (subst (λ m. P m (take k bytes)) size p)
 took (Err e) P bytes k few p is = tt
-
-abbrev zeros : ℕ → List ℕ
-zeros count = replicate count 0
-
--- zeros behind a list are what it lacks
-zero_at : (count i : ℕ) → get_or (zeros count) i 0 ≡ 0
-zero_at count i = ⊎_elim (λ past. get_or_past (zeros count) i 0 (let size = length-replicate {A = ℕ} count 0 in let p = past.1 in omega (arith, size, p))) (λ below. get_or-replicate count i 0 0 below.1) (leb_tells count i)
-
-get_padded : (xs : List ℕ) (count k : ℕ) → get_or (xs ++ zeros count) k 0 ≡ get_or xs k 0
-get_padded xs count k =
-    ⊎_elim
-    (λ past. get_or-append_right xs (zeros count) (length xs) k 0 refl past.1 ∙ zero_at count (k - length xs) ∙ sym (get_or_past xs k 0 past.1))
-    (λ below. get_or_append_left xs (zeros count) 0 k below.1)
-    (leb_tells (length xs) k)
-
-sector_padded : (xs : List ℕ) (count n : ℕ) → mini_sector (xs ++ zeros count) n ≡ mini_sector xs n
-sector_padded xs count n =
-    ext_get_or 0 _ _ (length-filled (xs ++ zeros count) (64 * n) 64 ∙ sym (length-filled xs (64 * n) 64)) (λ i below.
-    let within : i < 64 = let size = length-filled (xs ++ zeros count) (64 * n) 64 in omega (arith, below, size) in
-    get_filled (xs ++ zeros count) (64 * n) 64 i within ∙ get_padded xs count (64 * n + i) ∙ sym (get_filled xs (64 * n) 64 i within))
-
-joined_padded : (xs : List ℕ) (count : ℕ) (minis : List ℕ) → mini_joined (xs ++ zeros count) minis ≡ mini_joined xs minis
-joined_padded xs count [] = refl
-joined_padded xs count (n ∷ minis) = ap (λ l. l ++ mini_joined (xs ++ zeros count) minis) (sector_padded xs count n) ∙ ap (λ l. mini_sector xs n ++ l) (joined_padded xs count minis)
 
 -- bytes that lie over all behind a front
 over_rest : (xs ys bytes : List ℕ) (at : ℕ) → at ≡ length xs → length bytes ≡ length ys → overwritten (xs ++ ys) at bytes ≡ xs ++ bytes

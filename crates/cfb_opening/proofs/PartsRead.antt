@@ -18,9 +18,10 @@ use Rattle.cfb_meaning.specs.Means.{directory, directory_count, fat, IsLaidOut, 
 use Rattle.cfb_meaning.proofs.OneTree.{filled_unique}
 use Rattle.cfb_opening.specs.Opened.{CanOpen}
 use Rattle.cfb_opening.specs.Tables.{AreTables, IsExactFor}
-use Rattle.cfb_opening.proofs.CutChains.{chain_of_cut, cut_in_file, cut_of_chain}
+use Rattle.cfb_opening.proofs.CutChains.{cut_in_file, cut_of_chain}
 use Rattle.cfb_opening.proofs.TablesRead.{difat_chain_of, lists_of, version_is}
 use Rattle.cfb_opening.proofs.TreesTaken.{all_colored, opens_by, taken_as, OpensBy}
+use Rattle.cfb_fat.proofs.CutChains.{chain_of_cut}
 
 module _ (b : List ℕ) (h : HeaderFields) (header : HasFields h b) (ds : List ℕ) (stop : ℕ) (fs memory : List ℕ) (tables : AreTables h.version b ds stop fs memory) where
   abbrev table : List ℕ

@@ -1,21 +1,11 @@
 -- A chain of the FAT cut to the file is a chain of the whole FAT, and its sectors are in the file and in use.
-use Rattle.std.proofs.Common.{◌≡◌, ◌≢◌, ℕ, ◌<◌, List, [], ◌∷◌, length, take, sym, subst, arith, zero, suc, length-take}
+use Rattle.std.proofs.Common.{◌≡◌, ◌≢◌, ℕ, ◌<◌, List, [], ◌∷◌, length, take, sym, subst, arith, suc, length-take}
 use Rattle.std.specs.Prelude.{slice_get, Some}
 use Rattle.cfb_medium.specs.declared.version.Version.{Version}
 use Rattle.cfb_sectors.specs.Sectors.{free, sectors_in, AreInFile, Chain, IsInFile}
 use Rattle.cfb_fat.specs.Orderly.{AreBelow}
 use Rattle.cfb_fat.proofs.DifatChains.{below_in_file, in_file_below}
 use Rattle.std.proofs.lemmas.Option.{slice_get_within}
-
-pub get_of_cut : (n : ℕ) (table : List ℕ) (i x : ℕ) → slice_get (take n table) i ≡ Some x → slice_get table i ≡ Some x
-get_of_cut zero table i x found = absurd (cc)
-get_of_cut (suc n) [] i x found = found
-get_of_cut (suc n) (y ∷ table) zero x found = found
-get_of_cut (suc n) (y ∷ table) (suc i) x found = get_of_cut n table i x found
-
-pub chain_of_cut : (n : ℕ) (table : List ℕ) (start : ℕ) (ids : List ℕ) → Chain (take n table) start ids → Chain table start ids
-chain_of_cut n table start [] is = is
-chain_of_cut n table start (x ∷ ids) (is, regular, next, found, rest) = (is, regular, next, get_of_cut n table start next found, chain_of_cut n table next ids rest)
 
 -- no chain starts at a sector that is marked "free"
 pub start_used : (table : List ℕ) (start : ℕ) (ids : List ℕ) → Chain table start ids → start ≢ free

@@ -14,9 +14,10 @@ use Rattle.cfb_owners.specs.Owners.{directory_owner, first_of, mini_fat_owner, m
 use Rattle.cfb_owners.specs.LiveFile.{LiveFile}
 use Rattle.cfb_owners.specs.Kept.{layout_of, Kept}
 use Rattle.cfb_owners.specs.Held.{HasStream, MeansHeld}
-use Rattle.cfb_owners.proofs.CutChains.{below_are_in_file, chain_in_file, chain_of_cut}
+use Rattle.cfb_owners.proofs.CutChains.{below_are_in_file, chain_in_file}
 use Rattle.cfb_fat.proofs.ListsNow.{chain_now, entries_now, stops_now}
 use Rattle.cfb_owners.proofs.HoldsById.{holds_so}
+use Rattle.cfb_fat.proofs.CutChains.{chain_of_cut}
 
 module _ (s : LiveFile) (who : Owners) (root : Entry) (ids : List ℕ) (kept : Kept s who root) where
   -- an owner's sectors are a chain of the bytes' FAT, and in the file

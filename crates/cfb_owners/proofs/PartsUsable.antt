@@ -16,9 +16,10 @@ use Rattle.cfb_meaning.specs.Sound.{in_file, in_mini_stream, IsUsable}
 use Rattle.cfb_owners.specs.Owners.{first_of, Owners}
 use Rattle.cfb_owners.specs.LiveFile.{tables_of, LiveFile}
 use Rattle.cfb_owners.specs.Kept.{layout_of, Kept}
-use Rattle.cfb_owners.proofs.CutChains.{get_of_cut, start_used}
+use Rattle.cfb_owners.proofs.CutChains.{start_used}
 use Rattle.cfb_owners.proofs.MeansIs.{in_stream}
 use Rattle.cfb_owners.proofs.UsedParts.{used_by}
+use Rattle.cfb_fat.proofs.CutChains.{get_of_cut}
 
 module _ (s : LiveFile) (who : Owners) (root : Entry) (ids : List ℕ) (kept : Kept s who root) where
   sector_usable : (n x : ℕ) → slice_get s.fat n ≡ Some x → x ≢ free → IsUsable s.bytes (layout_of s who root ids) (in_file n)

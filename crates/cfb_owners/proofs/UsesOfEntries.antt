@@ -1,5 +1,5 @@
 -- What each entry uses, of the list of all uses of a sound file.
-use Rattle.std.proofs.Common.{◌≡◌, ◌≢◌, ℕ, ◌<◌, List, [], ◌∷◌, ◌++◌, map, length, take, cond, true, false, arith, zero, suc, refl, ap, sym, subst, ◌∙◌, ⊎_elim}
+use Rattle.std.proofs.Common.{◌≡◌, ◌≢◌, ℕ, ◌<◌, List, [], ◌∷◌, ◌++◌, map, length, take, cond, true, false, arith, suc, refl, ap, sym, subst, ◌∙◌, ⊎_elim}
 use Rattle.std.specs.Prelude.{nat_eq, slice_get, Some, ◌⊎◌}
 use mathlib.Core.Logic.{inl, inr}
 use Rattle.std.specs.List.{flat_map, AllByRecursion, IsDistinct}
@@ -16,6 +16,7 @@ use Rattle.cfb_meaning.specs.Sound.{in_file, in_mini_stream, EntryUses, IsUsable
 use Rattle.cfb_owners.specs.Owners.{first_of}
 use Rattle.cfb_owners.proofs.PartsApart.{all_split}
 use Rattle.cfb_owners.proofs.KeysOfParts.{minis_among, minis_of_map, minis_of_sectors, sectors_among, sectors_of_map, sectors_of_minis, IsOneOf}
+use Rattle.cfb_fat.proofs.CutChains.{get_in_cut}
 
 equal_tests : (x y : ℕ) → x ≡ y → nat_eq x y ≡ true
 equal_tests x y same = grind arith
@@ -45,12 +46,6 @@ all_of_key P f (x ∷ ks) k all (inr later) = all_of_key P f ks k (all_split P (
 flat_same : (f g : ℕ → List Part) (ks : List ℕ) → AllByRecursion (λ k. f k ≡ g k) ks → flat_map f ks ≡ flat_map g ks
 flat_same f g [] all = refl
 flat_same f g (k ∷ ks) all = ap (λ xs. xs ++ flat_map f ks) all.0 ∙ ap (λ xs. g k ++ xs) (flat_same f g ks all.1)
-
-get_in_cut : (n : ℕ) (table : List ℕ) (i x : ℕ) → i < n → slice_get table i ≡ Some x → slice_get (take n table) i ≡ Some x
-get_in_cut zero table i x below found = absurd (omega arith)
-get_in_cut (suc n) [] i x below found = found
-get_in_cut (suc n) (y ∷ table) zero x below found = found
-get_in_cut (suc n) (y ∷ table) (suc i) x below found = get_in_cut n table i x (omega (arith, below)) found
 
 cut_chain : (v : Version) (b table : List ℕ) (start : ℕ) (xs : List ℕ) → Chain table start xs → AreInFile v b xs → Chain (take (sectors_in v (length b)) table) start xs
 cut_chain v b table start [] is there = is

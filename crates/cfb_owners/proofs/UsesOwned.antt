@@ -16,12 +16,12 @@ use Rattle.cfb_meaning.specs.Sound.{in_file, AreApart, IsSoundBy, IsUsable, Part
 use Rattle.cfb_chains.specs.Owned.{Owned}
 use Rattle.cfb_owners.specs.Owners.{Owners}
 use Rattle.cfb_owners.specs.LiveFile.{live_file}
-use Rattle.cfb_owners.proofs.CutChains.{get_of_cut}
 use Rattle.cfb_owners.proofs.PartsApart.{all_split, nothing_differs, Differ}
 use Rattle.cfb_owners.proofs.KeysOfParts.{keys_differ, minis_among, none_of_minis, none_of_sectors, sectors_among, sectors_of_map, IsOneOf}
 use Rattle.cfb_owners.proofs.UsesOfEntries.{all_of_key, entry_fits, sectors_fit, in_or_nothing, nothing_fits, use_at, uses_joined, uses_of, Fits}
 use Rattle.cfb_owners.proofs.UsedParts.{all_keys, key_of}
 use Rattle.cfb_owners.proofs.HoldsById.{kinds}
+use Rattle.cfb_fat.proofs.CutChains.{get_of_cut}
 
 -- what the tables use, the directory, the mini FAT, the mini stream, and each entry
 abbrev pub by_key : Layout → (ℕ → List Part) → ℕ → List Part

@@ -17,7 +17,7 @@ siblings_within directory id ids (some e before after fits found left right whol
     (all_append (λ k. k < length directory) before (id ∷ after) (siblings_within directory e.left before left)
     (slice_get_within directory id e found, siblings_within directory e.right after right))
 
-member_below : (q n : ℕ) (ids : List ℕ) → AllByRecursion (λ k. k < n) ids → list_any (nat_eq q) ids ≡ true → q < n
+pub member_below : (q n : ℕ) (ids : List ℕ) → AllByRecursion (λ k. k < n) ids → list_any (nat_eq q) ids ≡ true → q < n
 member_below q n [] h m = absurd (cc)
 member_below q n (id ∷ ids) h m = either (nat_eq q id) refl m (member_below q n ids h.1)
   where

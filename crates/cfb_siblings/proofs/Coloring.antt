@@ -112,7 +112,7 @@ colored_more old new ids ids' n only once keeps fresh h = for_members (IsColored
       ]
     ])
 
-root_apart : (ids : List ℕ) → IsDistinct nat_eq (0 ∷ ids) → IsApart 0 ids
+pub root_apart : (ids : List ℕ) → IsDistinct nat_eq (0 ∷ ids) → IsApart 0 ids
 unfolding IsDistinct
 root_apart ids once = once.0
 

@@ -15,7 +15,7 @@ use Rattle.cfb_siblings.specs.Places.{path_of, HasEntry, IsOwner, LeadsTo, IsSto
 use Rattle.cfb_siblings.proofs.Frames.{either_same}
 use Rattle.cfb_siblings.proofs.Spots.{spot}
 
-object_from_none : (letters : Letters) (path : Path) → object_from letters None path ≡ None
+pub object_from_none : (letters : Letters) (path : Path) → object_from letters None path ≡ None
 object_from_none letters [] = refl
 object_from_none letters (name ∷ names) = refl
 

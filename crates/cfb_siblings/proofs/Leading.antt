@@ -7,10 +7,7 @@ use Rattle.cfb_tree.specs.Directory.{Entry}
 use Rattle.cfb_tree.specs.Objects.{Object, inside_of, child, object_from}
 use Rattle.cfb_tree.specs.Changes.{parent_of, last_of}
 use Rattle.cfb_siblings.specs.Places.{IsChild, LeadsTo, path_to}
-
-object_from_none : (letters : Letters) (path : Path) → object_from letters None path ≡ None
-object_from_none letters [] = refl
-object_from_none letters (name ∷ names) = refl
+use Rattle.cfb_siblings.proofs.Following.{object_from_none}
 
 pub object_from_last : (letters : Letters) (o : Option Object) (above : Path) (wanted : List ℕ)
     → object_from letters o (path_to above wanted) ≡ object_from letters (object_from letters o above) (wanted ∷ [])

@@ -18,8 +18,9 @@ use Rattle.cfb_soundness.specs.Places.{places_of}
 use Rattle.cfb_soundness.specs.Uses.{mini_start, AreInUse, EntryHas, HasMiniSectors, HasSectors, Tables}
 use Rattle.cfb_soundness.proofs.Taking.{all_mapped}
 use Rattle.cfb_soundness.proofs.MiniPlaces.{mini_place, sector_places}
-use Rattle.cfb_owners.proofs.CutChains.{chain_of_cut, get_of_cut, start_used}
+use Rattle.cfb_owners.proofs.CutChains.{start_used}
 use Rattle.cfb_owners.proofs.KeysOfParts.{minis_among, minis_of_map, minis_of_sectors, sectors_among, sectors_of_map, sectors_of_minis}
+use Rattle.cfb_fat.proofs.CutChains.{chain_of_cut, get_in_cut, get_of_cut}
 
 -- the tables that memory has of a file of these bytes, laid out so: the FAT is cut to the file's sectors
 abbrev pub told : List ℕ → Layout → Tables
@@ -32,12 +33,6 @@ told bytes l = record {
   entries = directory bytes l;
   file_len = length bytes;
 }
-
-get_in_cut : (n : ℕ) (table : List ℕ) (i x : ℕ) → i < n → slice_get table i ≡ Some x → slice_get (take n table) i ≡ Some x
-get_in_cut zero table i x below found = absurd (omega (arith, below))
-get_in_cut (suc n) [] i x below found = found
-get_in_cut (suc n) (y ∷ table) zero x below found = found
-get_in_cut (suc n) (y ∷ table) (suc i) x below found = get_in_cut n table i x (omega (arith, below)) found
 
 pub chain_used : (table : List ℕ) (start : ℕ) (ids : List ℕ) → Chain table start ids → AreInUse table ids
 chain_used table start [] is = tt

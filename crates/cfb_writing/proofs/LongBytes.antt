@@ -3,7 +3,7 @@ use Rattle.std.proofs.Common.{◌≡◌, ℕ, ◌+◌, ◌-◌, ◌*◌, ◌/◌
 use Rattle.std.specs.Prelude.{min}
 use Rattle.std.specs.List.{range_with_len, AllByRecursion}
 use Rattle.std.proofs.lemmas.Bool.Decides.{leb_tells}
-use Rattle.std.proofs.lemmas.List.{ext_get_or, get_or-append_right, get_or-replicate, get_or-take, get_or_append_left, get_or_past, length-replicate}
+use Rattle.std.proofs.lemmas.List.{ext_get_or, get_or-append_right, get_or-take, get_or_append_left, get_or_past, length-replicate}
 use Rattle.std.proofs.lemmas.List.FromFn.{get_or-range_with_len, length-range_with_len}
 use Rattle.cfb_medium.specs.Bytes.{overwritten}
 use Rattle.cfb_medium.specs.Versions.{sector_len}
@@ -16,6 +16,7 @@ use Rattle.cfb_owned.specs.Chains.{place_of}
 use Rattle.cfb_sectors.specs.Copies.{copies}
 use Rattle.cfb_sectors.specs.Sectors.{joined, places, sector, sector_start}
 use Rattle.cfb_writing.specs.Streams.{resized}
+use Rattle.cfb_mini.proofs.Padded.{get_padded, zero_at, zeros}
 
 -- what holds of each element, by its index
 pub all_by_index : (P : ℕ → Type 0) (xs : List ℕ) → ((k : ℕ) → k < length xs → P (get_or xs k 0)) → AllByRecursion P xs
@@ -26,21 +27,6 @@ pub all_at : (P : ℕ → Type 0) (xs : List ℕ) (k : ℕ) → AllByRecursion P
 all_at P [] k all below = absurd (omega (arith, below))
 all_at P (x ∷ xs) zero all below = all.0
 all_at P (x ∷ xs) (suc k) all below = all_at P xs k all.1 (omega (arith, below))
-
--- so many zeros
-abbrev pub zeros : ℕ → List ℕ
-zeros count = replicate count 0
-
-pub zero_at : (count i : ℕ) → get_or (zeros count) i 0 ≡ 0
-zero_at count i = ⊎_elim (λ past. get_or_past (zeros count) i 0 (let size = length-replicate {A = ℕ} count 0 in let p = past.1 in omega (arith, size, p))) (λ below. get_or-replicate count i 0 0 below.1) (leb_tells count i)
-
--- so many zeros are read behind a list's end
-pub get_padded : (xs : List ℕ) (count k : ℕ) → get_or (xs ++ zeros count) k 0 ≡ get_or xs k 0
-get_padded xs count k =
-    ⊎_elim
-    (λ past. get_or-append_right xs (zeros count) (length xs) k 0 refl past.1 ∙ zero_at count (k - length xs) ∙ sym (get_or_past xs k 0 past.1))
-    (λ below. get_or_append_left xs (zeros count) 0 k below.1)
-    (leb_tells (length xs) k)
 
 pub get_taken : (xs : List ℕ) (n k : ℕ) → n ≤ k → get_or (take n xs) k 0 ≡ 0
 get_taken xs n k past = get_or_past (take n xs) k 0 (let size = length-take n xs in omega (arith, size, past))

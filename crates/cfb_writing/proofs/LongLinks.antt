@@ -8,7 +8,6 @@ use Rattle.cfb_chains.proofs.ChainWriting.{length-joined, length_within}
 use Rattle.cfb_fat.specs.Tables.{bytes_of, fat_of, version_of}
 use Rattle.cfb_live.specs.Freeing.{Stands}
 use Rattle.cfb_live.specs.Live.{live_of}
-use Rattle.cfb_live.proofs.Freed.{one_chain}
 use Rattle.cfb_medium.specs.Bytes.{overwritten}
 use Rattle.cfb_medium.specs.Versions.{sector_len}
 use Rattle.cfb_medium.specs.declared.medium.ReadMedium.{Ghosts}
@@ -25,6 +24,7 @@ use Rattle.cfb_tree.specs.Directory.{Entry}
 use Rattle.cfb_writing.specs.Moving.{MovesLong}
 use Rattle.cfb_writing.proofs.LongBytes.{take_over}
 use Rattle.cfb_writing.proofs.LongStreams.{fits_in, longer_then, version_then}
+use Rattle.cfb_sectors.proofs.OneChain.{chain_unique}
 
 all_more : (few many : ℕ) (xs : List ℕ) → few ≤ many → AllByRecursion (λ p. p < few) xs → AllByRecursion (λ p. p < many) xs
 all_more few many [] most all = tt
@@ -68,7 +68,7 @@ module _ {F : Type 0} {g : Ghosts F} where
       let lay = (has.long up).1 in
       let own = who.sectors (stream_owner id) in
       let chain : Chain (fat_of (allocator_of it)) e.start own = subst (λ n. Chain (fat_of (allocator_of it)) n own) (sym lay.start) (m.kept.owned.linked (stream_owner id)) in
-      one_chain (fat_of (allocator_of it)) e.start own (ids_of links) chain (lies.long up).0
+      chain_unique (fat_of (allocator_of it)) e.start own (ids_of links) chain (lies.long up).0
 
   -- a long stream was written over
   pub long_over : (old new : MiniAllocator F g) (who : Owners) (id : ℕ) (e : Entry) (content : List ℕ) (links : Links) (at : ℕ) (bytes : List ℕ) → HasStream (live_of old) who id e content → mini_cutoff ≤ e.size

@@ -23,9 +23,10 @@ use Rattle.cfb_sectors.specs.declared.initial.SectorInit.TheVariants.{Zero}
 use Rattle.cfb_tree.specs.Directory.{Entry}
 use Rattle.cfb_writing.specs.Moving.{Houses, MovesLong}
 use Rattle.cfb_writing.specs.Streams.{resized}
-use Rattle.cfb_writing.proofs.LongBytes.{length-resized, place_there, places_there, resized_is, zeros}
+use Rattle.cfb_writing.proofs.LongBytes.{length-resized, place_there, places_there, resized_is}
 use Rattle.cfb_writing.proofs.Others.{others_then}
 use Rattle.cfb_writing.proofs.Stretching.{cut_bytes, cut_places, grown_bytes, lengthened_bytes, lengthened_places, room_for, stretched_bytes, stretched_places, tight_for, whole_for}
+use Rattle.cfb_mini.proofs.Padded.{zeros}
 
 -- a stream has no more bytes than its sectors
 pub fits_in : (n : ℕ) (content all : List ℕ) → content ≡ take n all → length content ≡ n → n ≤ length all

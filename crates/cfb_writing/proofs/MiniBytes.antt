@@ -16,22 +16,12 @@ use Rattle.cfb_mini.proofs.Parts.{parts_are}
 use Rattle.cfb_owned.specs.Chains.{place_of}
 use Rattle.cfb_sectors.specs.Sectors.{places, sector_start}
 use Rattle.cfb_writing.specs.Streams.{resized}
-use Rattle.cfb_writing.proofs.LongBytes.{all_by_index, get_padded, get_places, length-places, length-resized, zeros}
+use Rattle.cfb_writing.proofs.LongBytes.{all_by_index, get_places, length-places, length-resized}
+use Rattle.cfb_mini.proofs.Padded.{zeros}
 
 -- the parts of 64 bytes of a list, at these mini sectors
 abbrev pub parts_of : List ℕ → List ℕ → List ℕ
 parts_of xs minis = flat_map (λ n. slice_range xs (64 * n) (64 * n + 64)) minis
-
--- a mini sector is the same where zeros follow the mini stream
-sector_padded : (xs : List ℕ) (count n : ℕ) → mini_sector (xs ++ zeros count) n ≡ mini_sector xs n
-sector_padded xs count n =
-    ext_get_or 0 _ _ (length-filled (xs ++ zeros count) (64 * n) 64 ∙ sym (length-filled xs (64 * n) 64)) (λ i below.
-    let within : i < 64 = let size = length-filled (xs ++ zeros count) (64 * n) 64 in omega (arith, below, size) in
-    get_filled (xs ++ zeros count) (64 * n) 64 i within ∙ get_padded xs count (64 * n + i) ∙ sym (get_filled xs (64 * n) 64 i within))
-
-pub joined_padded : (xs : List ℕ) (count : ℕ) (minis : List ℕ) → mini_joined (xs ++ zeros count) minis ≡ mini_joined xs minis
-joined_padded xs count [] = refl
-joined_padded xs count (n ∷ minis) = ap (λ l. l ++ mini_joined (xs ++ zeros count) minis) (sector_padded xs count n) ∙ ap (λ l. mini_sector xs n ++ l) (joined_padded xs count minis)
 
 -- parts of a front
 part_front : (xs ys : List ℕ) (n : ℕ) → 64 * n + 64 ≤ length xs → slice_range (xs ++ ys) (64 * n) (64 * n + 64) ≡ slice_range xs (64 * n) (64 * n + 64)

@@ -41,7 +41,8 @@ use Rattle.cfb_tree.specs.Directory.{kind_root, Entry}
 use Rattle.cfb_tree.proofs.OneContent.{Some_same}
 use Rattle.cfb_writing.specs.Moving.{CarriesOthers, Moves, MovesRoot}
 use Rattle.cfb_writing.proofs.LongBytes.{all_at, all_by_index, length-places}
-use Rattle.cfb_writing.proofs.MiniBytes.{joined_padded, parts_front, parts_of, places_both}
+use Rattle.cfb_writing.proofs.MiniBytes.{parts_front, parts_of, places_both}
+use Rattle.cfb_mini.proofs.Padded.{joined_padded}
 
 more_bytes : (v : Version) (a b c : ℕ) → c ≡ a + b → a * sector_len v ≤ c * sector_len v
 more_bytes V3 a b c is = omega (arith, is)

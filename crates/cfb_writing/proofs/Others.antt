@@ -9,10 +9,7 @@ use Rattle.cfb_owners.specs.LiveFile.{LiveFile}
 use Rattle.cfb_owners.specs.Owners.{mini_stream_owner, stream_owner, Owners}
 use Rattle.cfb_live.specs.Freeing.{CarriesBut}
 use Rattle.cfb_writing.specs.Moving.{CarriesOthers}
-
-all_there : (few many : ℕ) (places : List ℕ) → few ≤ many → AllByRecursion (λ p. p < few) places → AllByRecursion (λ p. p < many) places
-all_there few many [] most all = tt
-all_there few many (p ∷ places) most all = ((let first = all.0 in omega (arith, first, most)), all_there few many places most all.1)
+use Rattle.cfb_live.proofs.Carried.{all_there}
 
 -- what lies in a file lies in a longer one
 pub lies_still : (old new : List ℕ) (e f : Entry) (ids ids' bytes bytes' all all' content : List ℕ) → length old ≤ length new → f.start ≡ e.start → f.size ≡ e.size → ids' ≡ ids → bytes' ≡ bytes → all' ≡ all

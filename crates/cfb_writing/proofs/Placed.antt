@@ -1,5 +1,5 @@
 -- A stream whose sectors were changed, and whose entry tells of them then.
-use Rattle.std.proofs.Common.{◌≡◌, ℕ, ◌+◌, ◌<◌, ◌≤◌, ◌⊎◌, inl, false, List, [], ◌∷◌, zero, suc, refl, ap, sym, subst, ◌∙◌, arith, IsTrue}
+use Rattle.std.proofs.Common.{◌≡◌, ℕ, ◌+◌, ◌<◌, ◌≤◌, ◌⊎◌, inl, false, List, [], ◌∷◌, refl, ap, sym, subst, ◌∙◌, arith, IsTrue}
 use Rattle.std.specs.Prelude.{slice_get, slice_set, Some}
 use Rattle.cfb_chains.specs.LinkViews.{ids_of, links_version}
 use Rattle.cfb_chains.specs.declared.links.Links.{Links}
@@ -46,6 +46,7 @@ use Rattle.cfb_writing.proofs.LongLinks.{long_links}
 use Rattle.cfb_writing.proofs.Others.{carries_others, others_then}
 use Rattle.cfb_writing.proofs.Rewritten.{found_rewritten, held_rewritten, mid_same, not_zero, stream_entry, StreamEntry, StreamFound}
 use Rattle.cfb_writing.proofs.ShortLinks.{short_links}
+use Rattle.cfb_live.proofs.SetFacts.{set_same}
 
 -- where all streams stay, those of others do
 any_others : (key : ℕ) (s t : LiveFile) (who now : Owners) → Carries s t who now → CarriesBut key s t who now
@@ -217,11 +218,6 @@ module _ {F : Type 0} {g : Ghosts F} (letters : Letters) (old mid new : MiniAllo
   placed_minis links mine below e found =
       let one : f ≡ e = Some_same (sym new_at ∙ found) in
       subst (λ (x : Entry). StreamLiesIn new x.start x.size (minis_of links) × IsOfLevel new x.size (Short links)) one (short_links new now stands_new id f content' links has_now below mine)
-
-set_same : (xs : List Entry) (id : ℕ) (e : Entry) → slice_get xs id ≡ Some e → xs ≡ slice_set xs id e
-set_same [] id e found = refl
-set_same (x ∷ xs) zero e found = ap (λ y. y ∷ xs) (Some_same found)
-set_same (x ∷ xs) (suc id) e found = ap (λ l. x ∷ l) (set_same xs id e found)
 
 module _ {F : Type 0} {g : Ghosts F} (letters : Letters) (old new : MiniAllocator F g) (tree : Tree) (path : Path) (id : ℕ) (content content' : List ℕ) (at : IsStreamAt letters old tree path id content)
     (moved : Moves id old new at.means.who) (has : HasStream (live_of new) moved.now id (entry_of letters old tree path id content at).entry content') where

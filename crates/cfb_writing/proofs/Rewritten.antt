@@ -23,8 +23,8 @@ use Rattle.cfb_owners.specs.Owners.{stream_owner, Owners}
 use Rattle.cfb_owners.proofs.HoldsById.{each_part, holds_so, holds_with, IsPart}
 use Rattle.cfb_owners.proofs.KeysOfParts.{IsOneOf}
 use Rattle.cfb_owners.proofs.UsesOfEntries.{all_from, all_one, one_not_none}
-use Rattle.cfb_live.proofs.Changed.{tree_held, tree_ids}
-use Rattle.cfb_live.proofs.ChildAdded.{apart_or, none_of, one_apart, zero_apart}
+use Rattle.cfb_live.proofs.Changed.{keeps_all, tree_held, tree_ids}
+use Rattle.cfb_live.proofs.ChildAdded.{apart_or, none_of, one_apart}
 use Rattle.cfb_live.proofs.NewPlaces.{stream_of}
 use Rattle.cfb_live.proofs.Removals.{kind_of_object}
 use Rattle.cfb_live.proofs.Removed.{among, stream_there}
@@ -32,6 +32,7 @@ use Rattle.cfb_live.proofs.Streams.{bytes_from, reads, reads_means, reads_so, st
 use Rattle.cfb_writing.specs.Moving.{CarriesOthers, MovesRoot}
 use Rattle.cfb_writing.proofs.Links.{differ, leads_still, links_refl, links_set, place_links, KeepLinks}
 use Rattle.cfb_writing.proofs.Others.{other_stays}
+use Rattle.cfb_siblings.proofs.Coloring.{root_apart}
 
 -- the root is no stream
 pub below_root : (letters : Letters) (tree : Tree) (path : Path) (name : List ℕ) (bits : ℕ) (content : List ℕ) → object_at letters tree path ≡ Some (a_stream name bits content) → 0 < length path
@@ -95,12 +96,9 @@ kinded_ids : (s : LiveFile) (who : Owners) (letters : Letters) (tree : Tree) (h 
 unfolding kinded
 kinded_ids s who letters tree h = refl
 
-keep_all : (Reads : Entry → List ℕ → Type 0) (directory : List Entry) (id : ℕ) (ids : List ℕ) → KeepBytes Reads Reads directory id ids
-keep_all Reads directory id ids = all_from _ ids (λ k one other e bytes found it. it)
-
 module _ (s : LiveFile) (who : Owners) (letters : Letters) (tree : Tree) (h : MeansHeld s who letters tree) (mid : List Entry) (moved : MovesRoot s.entries mid) where
   pub not_zero : (k : ℕ) → IsOneOf h.ids k → k ≡ 0 → ⊥
-  not_zero k one is = one_apart h.ids 0 (subst (IsOneOf h.ids) is one) (zero_apart h.ids h.once)
+  not_zero k one is = one_apart h.ids 0 (subst (IsOneOf h.ids) is one) (root_apart h.ids h.once)
 
   pub mid_same : (k : ℕ) (x : Entry) → (k ≡ 0 → ⊥) → slice_get s.entries k ≡ Some x → slice_get mid k ≡ Some x
   mid_same k x other found =
@@ -126,7 +124,7 @@ module _ (s : LiveFile) (who : Owners) (letters : Letters) (tree : Tree) (h : Me
       (λ it.
       let r : Entry = record it.0 { start = it.1; size = it.2 } in
       let facts : r.facts ≡ tree.root = ap (λ (x : Entry). x.facts) (Some_same (sym it.3 ∙ h.kept.root_found)) ∙ h.facts in
-      let did = edited letters (StreamReads s who) (StreamReads s who) s.entries tree r held [] 0 (λ o. o) (root_object tree) it.0 refl refl it.3 (place_links it.0 it.1 it.2) (refl, facts, refl) (keep_all (StreamReads s who) s.entries 0 held.ids) in
+      let did = edited letters (StreamReads s who) (StreamReads s who) s.entries tree r held [] 0 (λ o. o) (root_object tree) it.0 refl refl it.3 (place_links it.0 it.1 it.2) (refl, facts, refl) (keeps_all (StreamReads s who) s.entries 0 held.ids) in
       subst (λ l. HoldsOn letters (StreamReads s who) l tree h.ids) (sym it.4) (record { holds = did.holds; ids_are = did.ids_are ∙ ids }))
       moved
 

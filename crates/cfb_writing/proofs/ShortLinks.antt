@@ -2,7 +2,7 @@
 use Rattle.std.proofs.Common.{◌≡◌, ℕ, ◌*◌, ◌<◌, ◌≤◌, List, length, ap, sym, subst, ◌∙◌, arith}
 use Rattle.cfb_live.specs.Freeing.{Stands}
 use Rattle.cfb_live.specs.Live.{live_of}
-use Rattle.cfb_live.proofs.Freed.{one_chain, own_minis}
+use Rattle.cfb_live.proofs.Freed.{own_minis}
 use Rattle.cfb_medium.specs.declared.medium.ReadMedium.{Ghosts}
 use Rattle.cfb_mini.specs.LinkViews.{minis_of}
 use Rattle.cfb_mini.specs.Minis.{AreInside}
@@ -19,6 +19,7 @@ use Rattle.cfb_streams.specs.declared.opening.StreamLinks.TheVariants.{Short}
 use Rattle.cfb_tree.specs.Directory.{Entry}
 use Rattle.cfb_writing.proofs.LongStreams.{fits_in}
 use Rattle.cfb_writing.proofs.ShortStreams.{held_is}
+use Rattle.cfb_sectors.proofs.OneChain.{chain_unique}
 
 module _ {F : Type 0} {g : Ghosts F} where
   -- the stream lies in the mini sectors that it owns
@@ -45,4 +46,4 @@ module _ {F : Type 0} {g : Ghosts F} where
       let lay = (has.short below).1 in
       let own = who.minis (stream_owner id) in
       let chain : Chain (mini_fat_of it) e.start own = subst (λ n. Chain (mini_fat_of it) n own) (sym lay.start) (own_minis it who m (stream_owner id)).linked in
-      one_chain (mini_fat_of it) e.start own (minis_of links) chain (lies.short below).0
+      chain_unique (mini_fat_of it) e.start own (minis_of links) chain (lies.short below).0

@@ -28,7 +28,8 @@ use Rattle.cfb_sectors.specs.Sectors.{free, greatest_regular}
 use Rattle.cfb_sectors.specs.declared.initial.SectorInit.TheVariants.{Zero}
 use Rattle.cfb_writing.specs.Sizes.{sectors_of_stream}
 use Rattle.cfb_writing.specs.Streams.{IsPastNumbers, LacksRoom}
-use Rattle.cfb_writing.proofs.LongBytes.{copies_zero, get_grown, get_taken, get_zeros, joined_front, place_kept, place_new, zero_at, zeros}
+use Rattle.cfb_writing.proofs.LongBytes.{copies_zero, get_grown, get_taken, get_zeros, joined_front, place_kept, place_new}
+use Rattle.cfb_mini.proofs.Padded.{zero_at, zeros}
 
 -- so many sectors hold so many bytes
 pub room_for : (v : Version) (len : ℕ) → len ≤ sectors_for v len * sector_len v

@@ -22,9 +22,10 @@ use Rattle.cfb_sectors.specs.Sectors.{joined, places}
 use Rattle.cfb_sectors.specs.declared.initial.SectorInit.TheVariants.{Zero}
 use Rattle.cfb_writing.specs.Moving.{MovesLong, TakesLong}
 use Rattle.cfb_writing.specs.Streams.{resized}
-use Rattle.cfb_writing.proofs.LongBytes.{get_grown, get_zeros, length-resized, place_new, places_there, resized_is, zeros}
+use Rattle.cfb_writing.proofs.LongBytes.{get_grown, get_zeros, length-resized, place_new, places_there, resized_is}
 use Rattle.cfb_writing.proofs.LongStreams.{long_then, longer_then, version_then}
 use Rattle.cfb_writing.proofs.Stretching.{grown_bytes, room_for}
+use Rattle.cfb_mini.proofs.Padded.{zeros}
 
 -- bytes over zeros
 taken_bytes : (x0 x1 x2 bytes : List ℕ) (n m len : ℕ) → x0 ≡ [] → x1 ≡ take n x0 ++ zeros m → x2 ≡ overwritten x1 0 bytes → (k : ℕ) → k < len → get_or x2 k 0 ≡ get_or bytes k 0

@@ -1,6 +1,5 @@
 -- What a recovery makes of torn files.
-use Rattle.std.proofs.Common.{inl, inr, ⊎_elim, ◌≡◌, ℕ, ◌+◌, ◌-◌, ◌*◌, ◌/◌, ◌%◌, ◌<◌, ◌≤◌, min, nat_lt, ◌==◌, ◌&&◌, Bool, true, false, cond, List, [], ◌∷◌, length, get_or, drop, Option, Some, None, is_some, refl, sym, ◌∙◌, ap, arith, subst}
-use Rattle.std.specs.Prelude.{IsTrue}
+use Rattle.std.proofs.Common.{inl, inr, ⊎_elim, ◌≡◌, ℕ, ◌+◌, ◌-◌, ◌*◌, ◌/◌, ◌%◌, ◌<◌, ◌≤◌, min, nat_lt, ◌==◌, ◌&&◌, Bool, true, false, cond, List, [], ◌∷◌, length, get_or, drop, Option, Some, None, refl, sym, ◌∙◌, ap, arith, subst}
 use Rattle.std.proofs.lemmas.Bool.{cases_lt, cases_eq, and_parts, and_from, cond-true, cond-false}
 use Rattle.std.proofs.lemmas.List.{same_lists, get_or-take, get_or-drop}
 use Rattle.staged.specs.Pages.{page_at, HoldsPage, Covers, byte_in, laid_over}
@@ -11,19 +10,13 @@ use Rattle.staged.specs.declared.pages.Page.{Page}
 use Rattle.staged.proofs.Laid.{length_laid, get_laid}
 use Rattle.staged.proofs.Leads.{leads_true, leads_from}
 use Rattle.staged.specs.Steps.{GivesEither}
+use Rattle.staged.proofs.Homed.{nothing}
 
 -- a file over which some of these pages may have been written, in part or whole, each cut at the length
 pub record TornPages (file : List ℕ) (pages : List Page) (len : ℕ) (now : List ℕ) : Type 0 where
   pub no_shorter : length file ≤ length now
   pub no_longer : length now ≤ len
   pub apart : (at : ℕ) → at < length file → page_at pages (at / 512) ≡ None → get_or now at 0 ≡ get_or file at 0
-
-nothing : (pages : List Page) (n : ℕ) → page_at pages n ≡ None → HoldsPage pages n → ⊥
-nothing pages n none held = by_case (page_at pages n) none held
-  where
-    by_case : (p : Option (List ℕ)) → p ≡ None → IsTrue (is_some p) → ⊥
-    by_case None is some = cc
-    by_case (Some page) is some = cc
 
 same_byte : (p : Option (List ℕ)) (k a b : ℕ) → (p ≡ None → a ≡ b) → byte_in p k a ≡ byte_in p k b
 same_byte None k a b h = h refl

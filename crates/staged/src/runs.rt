@@ -56,8 +56,8 @@ fn goes_on(pages: &Pages, number: u64, count: u32) -> bool
 
 /// The runs of the pages, behind a head. The buffer has room for all pages.
 pub fn write_runs<D: Device>(device: &mut D, pages: &Pages, buffer: &mut [u8]) -> Result<(), Error>
-    requires few { length (listed pages.now) ≤ 2 ^ 54 }
-    requires small { (number : ℕ) → HoldsPage (listed pages.now) number → number < 2 ^ 55 }
+    requires numbers { (length (listed pages.now) ≤ 2 ^ 54) × ((number : ℕ)
+        → HoldsPage (listed pages.now) number → number < 2 ^ 55) }
     requires room { 0 < length (listed pages.now)
         → 12 + 512 * length (listed pages.now) ≤ length buffer.old }
     requires headed { IsTrue (D.honest device.old) → 25 ≤ length (D.content device.old).log }
@@ -68,12 +68,11 @@ pub fn write_runs<D: Device>(device: &mut D, pages: &Pages, buffer: &mut [u8]) -
         → OnOk result ((D.content device.new).home ≡ (D.content device.old).home) }
     ensures head { IsTrue (D.honest device.old)
         → OnOk result (take 25 (D.content device.new).log ≡ take 25 (D.content device.old).log) }
-    ensures whole { IsTrue (D.honest device.old)
-        → OnOk result (has_runs true (run_count (listed pages.now))
-        (drop 25 (D.content device.new).log) ≡ true) }
     ensures written { IsTrue (D.honest device.old)
-        → OnOk result (pages_of_runs true (run_count (listed pages.now))
-        (drop 25 (D.content device.new).log) ≡ listed pages.now) }
+        → OnOk result ((has_runs true (run_count (listed pages.now))
+        (drop 25 (D.content device.new).log) ≡ true)
+        × (pages_of_runs true (run_count (listed pages.now))
+        (drop 25 (D.content device.new).log) ≡ listed pages.now)) }
     ensures steps { Steps D.Device Which.Log BehindGate device.old device.new }
     ensures home_writes { OnOk result (D.writes device.new Which.Home
         ≡ D.writes device.old Which.Home) }

@@ -10,9 +10,10 @@ use Rattle.cfb_fat.specs.Growing.{IsLean}
 use Rattle.cfb_owned.specs.Chains.{content_of, RunsOut}
 use Rattle.cfb_owned.proofs.Leaning.{keeps_lean}
 use Rattle.cfb_owned.proofs.GoingOn.{goes_cause, goes_then}
-use Rattle.cfb_copying.proofs.Pieces.{as_long, chain_copied, sectors_again}
+use Rattle.cfb_copying.proofs.Pieces.{as_long, chain_copied}
 use Rattle.cfb_copying.proofs.PutChains.{not_full}
 use Rattle.cfb_copying.proofs.chains.copy_chain.Goals as goal
+use Rattle.cfb_chains.proofs.Extending.{whole_sectors}
 
 pub returns-in-Err-copy_bytes-clause-goes_on : goal.returns-in-Err-copy_bytes-clause-goes_on
 returns-in-Err-copy_bytes-clause-goes_on g c = goes_then _ _ _ c.in_default.ensures.goes_on c.in-Err-copy_bytes.ensures.goes_on
@@ -36,7 +37,7 @@ returns-clause-copied g c = λ has chain.
     let ids = ids_of c.set_chain_len.new.links in
     let one = length-joined (version_of s) (bytes_of s) from in
     let many : sectors_for (links_version c.args.to.now) c.chain_len.result ≡ length from =
-    ap (λ n. sectors_for (links_version c.args.to.now) n) c.chain_len.ensures.len ∙ ap (λ v. sectors_for v (length from * sector_len (links_version c.args.from.now))) c.requires.version ∙ sectors_again (links_version c.args.from.now) (length from) in
+    ap (λ n. sectors_for (links_version c.args.to.now) n) c.chain_len.ensures.len ∙ ap (λ v. sectors_for v (length from * sector_len (links_version c.args.from.now))) c.requires.version ∙ whole_sectors (links_version c.args.from.now) (length from) in
     let long : length from * sector_len (links_version c.args.from.now) ≡ length ids * sector_len (links_version c.set_chain_len.new.links) =
     sym (as_long (links_version c.args.from.now) (links_version c.set_chain_len.new.links) (length from) (length ids)
     (c.in_default.ensures.size ∙ ap (λ n. sectors_for (links_version c.args.to.now) n) c.chain_len.ensures.len ∙ ap (λ v. sectors_for v (length from * sector_len (links_version c.args.from.now))) (sym c.in_default.ensures.version))
@@ -47,7 +48,7 @@ returns-clause-copied g c = λ has chain.
 
 -- as many sectors as the other chain has
 wanted : (v w : Version) (len count : ℕ) → len ≡ count * sector_len w → v ≡ w → sectors_for v len ≡ count
-wanted v w len count is same = ap (sectors_for v) is ∙ ap (λ u. sectors_for u (count * sector_len w)) same ∙ sectors_again w count
+wanted v w len count is same = ap (sectors_for v) is ∙ ap (λ u. sectors_for u (count * sector_len w)) same ∙ whole_sectors w count
 
 pub returns-in-Err-clause-stopped : goal.returns-in-Err-clause-stopped
 returns-in-Err-clause-stopped g c = λ full.

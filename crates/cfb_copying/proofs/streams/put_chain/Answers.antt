@@ -4,10 +4,10 @@ use Rattle.cfb_medium.specs.declared.error.Error.TheVariants.{Full}
 use Rattle.cfb_chains.specs.LinkViews.{ids_of}
 use Rattle.cfb_fat.specs.Growing.{IsLean}
 use Rattle.cfb_fat.specs.Tables.{fat_of}
-use Rattle.cfb_live.proofs.Freed.{one_chain}
 use Rattle.cfb_owned.specs.Chains.{RunsOut}
 use Rattle.cfb_copying.proofs.PutChains.{chain_put, fault_of, source_has, target_has}
 use Rattle.cfb_copying.proofs.streams.put_chain.Goals as goal
+use Rattle.cfb_sectors.proofs.OneChain.{chain_unique}
 
 pub returns-in-Err-clause-refused : goal.returns-in-Err-clause-refused
 returns-in-Err-clause-refused g c = λ directory mini_fat key own bytes ids can.
@@ -47,7 +47,7 @@ returns-in-Err-copy_chain-clause-stopped g c = λ full ids chain.
     let from = ids_of c.in-Ok.links in
     let error : c.in-Err-copy_chain.error ≡ Full = cc in
     let none : length (ids_of c.in-Ok-new.links) ≡ 0 = ap length (c.in-Ok-new.ensures.links.1 ∙ c.new.ensures.items) in
-    let same = one_chain (fat_of a) c.args.start from ids c.in-Ok.ensures.chain chain in
+    let same = chain_unique (fat_of a) c.args.start from ids c.in-Ok.ensures.chain chain in
     subst (λ l. RunsOut {g = g.T.ReadMedium} 0 (length l) b) same (subst (λ n. RunsOut {g = g.T.ReadMedium} n (length from) b) none (c.in-Err-copy_chain.ensures.stopped (ap Err error)))
 
 pub returns-clause-lean : goal.returns-clause-lean
@@ -57,6 +57,6 @@ returns-clause-lean g c = λ ids chain others lean.
     let d = c.copy_chain.new.target in
     let from = ids_of c.in-Ok.links in
     let none : length (ids_of c.in-Ok-new.links) ≡ 0 = ap length (c.in-Ok-new.ensures.links.1 ∙ c.new.ensures.items) in
-    let same = one_chain (fat_of a) c.args.start from ids c.in-Ok.ensures.chain chain in
+    let same = chain_unique (fat_of a) c.args.start from ids c.in-Ok.ensures.chain chain in
     let zero : others + length (ids_of c.in-Ok-new.links) ≡ others = omega (arith, none) in
     subst (λ l. IsLean {g = g.T.ReadMedium} d (others + length l)) same (c.in_default.ensures.lean (omega (arith, none)) others (subst (IsLean {g = g.T.ReadMedium} b) (sym zero) lean))

@@ -11,8 +11,9 @@ use Rattle.cfb_directory.proofs.Inserted.{object_lost}
 use Rattle.cfb_live.proofs.FactRules.{object_kind}
 use Rattle.cfb_live.proofs.NewPlaces.{last_is, length-path, parent_is, stream_of}
 use Rattle.cfb_live.proofs.Objects.{object_there}
-use Rattle.cfb_live.proofs.Removals.{last_path, no_names, none_below_none, none_below_stream}
+use Rattle.cfb_live.proofs.Removals.{last_path, none_below_none, none_below_stream}
 use Rattle.cfb_live.proofs.finding.find_child.Goals as goal
+use Rattle.cfb_entries.proofs.Telling.{no_names}
 
 pub returns-then-count-eq0-clause-refused : goal.returns-then-count-eq0-clause-refused
 returns-then-count-eq0-clause-refused c = λ reads tree h. inr (refl, no_names c.args.names.now (let none = c.if-count-eq0.true in grind (arith, none)))

@@ -4,8 +4,8 @@ use Rattle.cfb_directory.specs.Views as directory
 use Rattle.cfb_fat.specs.Tables.{fat_of, version_of}
 use Rattle.cfb_mini.specs.Views.{allocator_of}
 use Rattle.cfb_sectors.specs.Sectors.{Chain}
-use Rattle.cfb_live.proofs.Freed.{one_chain}
 use Rattle.cfb_live.proofs.freeing.free_long.Goals as goal
+use Rattle.cfb_sectors.proofs.OneChain.{chain_unique}
 
 pub returns-in-Err-free_chain-clause-refused : goal.returns-in-Err-free_chain-clause-refused
 returns-in-Err-free_chain-clause-refused g c = λ wrong own key h starts orderly.
@@ -13,7 +13,7 @@ returns-in-Err-free_chain-clause-refused g c = λ wrong own key h starts orderly
     let links = c.in-Ok.links in
     let same : c.allocator-2.result.now ≡ allocator_of it = c.allocator-2.ensures ∙ ap directory.allocator_of c.directory-2.ensures in
     c.in-Err-free_chain.ensures.refused wrong own key h
-    (one_chain (fat_of (allocator_of it)) c.args.start (own key) (ids_of links) (subst (λ n. Chain (fat_of (allocator_of it)) n (own key)) (sym starts) (h.owned.linked key))
+    (chain_unique (fat_of (allocator_of it)) c.args.start (own key) (ids_of links) (subst (λ n. Chain (fat_of (allocator_of it)) n (own key)) (sym starts) (h.owned.linked key))
     (subst (λ x. Chain (fat_of x) c.args.start (ids_of links)) same c.in-Ok.ensures.chain))
     (c.in-Ok.ensures.version ∙ ap version_of same) orderly
 
@@ -23,6 +23,6 @@ returns-clause-freed g c = λ own key h past starts.
     let links = c.in-Ok.links in
     let same : c.allocator-2.result.now ≡ allocator_of it = c.allocator-2.ensures ∙ ap directory.allocator_of c.directory-2.ensures in
     c.in_default.ensures.freed own key h past
-    (one_chain (fat_of (allocator_of it)) c.args.start (own key) (ids_of links) (subst (λ n. Chain (fat_of (allocator_of it)) n (own key)) (sym starts) (h.owned.linked key))
+    (chain_unique (fat_of (allocator_of it)) c.args.start (own key) (ids_of links) (subst (λ n. Chain (fat_of (allocator_of it)) n (own key)) (sym starts) (h.owned.linked key))
     (subst (λ x. Chain (fat_of x) c.args.start (ids_of links)) same c.in-Ok.ensures.chain))
     (c.in-Ok.ensures.version ∙ ap version_of same)

@@ -3,8 +3,9 @@ use Rattle.cfb_mini.specs.Changing.{Frees}
 use Rattle.cfb_mini.specs.LinkViews.{minis_of}
 use Rattle.cfb_mini.specs.Views.{mini_fat_of}
 use Rattle.cfb_sectors.specs.Sectors.{Chain}
-use Rattle.cfb_live.proofs.Freed.{chain_below, one_chain}
+use Rattle.cfb_live.proofs.Freed.{chain_below}
 use Rattle.cfb_live.proofs.freeing.free_short.Goals as goal
+use Rattle.cfb_sectors.proofs.OneChain.{chain_unique}
 
 pub returns-in-Err-free_mini_chain-clause-refused : goal.returns-in-Err-free_mini_chain-clause-refused
 returns-in-Err-free_mini_chain-clause-refused g c = λ wrong own minis h chain starts.
@@ -16,5 +17,5 @@ returns-clause-freed g c = λ own minis h chain starts.
     let it = c.args.mini.now in
     let new = c.free_mini_chain.new.self in
     let same : minis_of c.in-Ok.links ≡ minis =
-    one_chain (mini_fat_of it) c.args.start (minis_of c.in-Ok.links) minis c.in-Ok.ensures.chain (subst (λ n. Chain (mini_fat_of it) n minis) (sym starts) chain.linked) in
+    chain_unique (mini_fat_of it) c.args.start (minis_of c.in-Ok.links) minis c.in-Ok.ensures.chain (subst (λ n. Chain (mini_fat_of it) n minis) (sym starts) chain.linked) in
     subst (λ l. Frees l it new own) same (c.in_default.ensures.freed own h)

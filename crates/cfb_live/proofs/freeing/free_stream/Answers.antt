@@ -2,7 +2,6 @@ use Rattle.std.proofs.Common.{◌≡◌, ◌<◌, ◌≤◌, ap, sym, ◌∙◌,
 use Rattle.std.specs.Prelude.{slice_get, Some}
 use Rattle.cfb_directory.specs.Views.{entries_held}
 use Rattle.cfb_mini.specs.Views.{directory_of}
-use Rattle.cfb_mini.proofs.Results.{both_ok}
 use Rattle.cfb_owners.specs.Owners.{stream_owner}
 use Rattle.cfb_sectors.specs.Header.{mini_cutoff}
 use Rattle.cfb_tree.specs.Directory.{Entry}
@@ -10,13 +9,14 @@ use Rattle.cfb_tree.specs.EntryViews.{entry_in}
 use Rattle.cfb_tree.proofs.OneContent.{Some_same}
 use Rattle.cfb_live.proofs.Freed.{freed_long, freed_short, is_long, is_short, own_minis}
 use Rattle.cfb_live.proofs.freeing.free_stream.Goals as goal
+use Rattle.cfb_directory.proofs.Results.{two_ok}
 
 pub returns-then-entry-from-clause-freed : goal.returns-then-entry-from-clause-freed
 returns-then-entry-from-clause-freed g c =
     let it = c.args.mini.now in
     let id = c.args.id in
     let new = c.free_short.new.mini in
-    both_ok c.free_short.result _ _ _
+    two_ok c.free_short.result _ _ _
     (λ did live who e content m found has.
     let told : slice_get (entries_held (directory_of it)) id ≡ Some (entry_in c.dir_entry-entry.result.now) = ap (λ d. slice_get (entries_held d) id) (sym c.directory.ensures) ∙ c.dir_entry-entry.ensures in
     let same : entry_in c.dir_entry-entry.result.now ≡ e = Some_same (sym told ∙ found) in
@@ -42,7 +42,7 @@ returns-clause-freed g c =
     let it = c.args.mini.now in
     let id = c.args.id in
     let new = c.free_long.new.mini in
-    both_ok c.free_long.result _ _ _
+    two_ok c.free_long.result _ _ _
     (λ did live who e content m found has.
     let told : slice_get (entries_held (directory_of it)) id ≡ Some (entry_in c.dir_entry-entry.result.now) = ap (λ d. slice_get (entries_held d) id) (sym c.directory.ensures) ∙ c.dir_entry-entry.ensures in
     let same : entry_in c.dir_entry-entry.result.now ≡ e = Some_same (sym told ∙ found) in

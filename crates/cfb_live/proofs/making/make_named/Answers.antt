@@ -11,11 +11,12 @@ use Rattle.cfb_mini.specs.Views.{directory_of}
 use Rattle.cfb_live.specs.Live.{live_of}
 use Rattle.cfb_live.specs.Making.{IsFreePlace}
 use Rattle.cfb_live.specs.Parents.{MakesAt}
-use Rattle.cfb_live.proofs.NewPlaces.{last_is, length-path, path_is}
+use Rattle.cfb_live.proofs.NewPlaces.{last_is, length-path}
 use Rattle.cfb_live.proofs.Resting.{keeps_refl}
 use Rattle.cfb_live.proofs.SetFacts.{means_held}
 use Rattle.cfb_live.proofs.Streams.{reads}
 use Rattle.cfb_live.proofs.making.make_named.Goals as goal
+use Rattle.cfb_entries.proofs.Others.{path_is}
 
 abbrev no_name : Bor (List ℕ)
 no_name = record { ref_ptr = (0, 0); now = [] }

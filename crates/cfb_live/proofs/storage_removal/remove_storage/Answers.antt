@@ -17,13 +17,14 @@ use Rattle.cfb_live.specs.Live.{live_of}
 use Rattle.cfb_live.specs.Strays.{ComesToMean}
 use Rattle.cfb_live.specs.Removing.{IsChildAt}
 use Rattle.cfb_live.proofs.EmptyStorages.{empty_inside, full_inside, step_emptied, step_full, step_is_stream, step_no_storage, step_root_stays}
-use Rattle.cfb_live.proofs.NewPlaces.{length-path, path_is, stream_of}
+use Rattle.cfb_live.proofs.NewPlaces.{length-path, stream_of}
 use Rattle.cfb_live.proofs.Removals.{kind_of_object}
 use Rattle.cfb_live.proofs.Resting.{keeps_refl}
 use Rattle.cfb_live.proofs.SetFacts.{means_held}
 use Rattle.cfb_live.proofs.Streams.{reads}
 use Rattle.cfb_live.proofs.Taken.{leaf_at}
 use Rattle.cfb_live.proofs.storage_removal.remove_storage.Goals as goal
+use Rattle.cfb_entries.proofs.Others.{path_is}
 
 pub returns-in-Err-find_child-clause-does : goal.returns-in-Err-find_child-clause-does
 returns-in-Err-find_child-clause-does g c = record {

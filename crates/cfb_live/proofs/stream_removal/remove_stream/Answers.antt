@@ -16,7 +16,7 @@ use Rattle.cfb_mini.specs.Views.{directory_of}
 use Rattle.cfb_live.specs.Live.{live_of}
 use Rattle.cfb_live.specs.Strays.{ComesToMean}
 use Rattle.cfb_live.specs.Removing.{IsChildAt}
-use Rattle.cfb_live.proofs.NewPlaces.{length-path, path_is, storage_of, stream_of}
+use Rattle.cfb_live.proofs.NewPlaces.{length-path, storage_of, stream_of}
 use Rattle.cfb_live.proofs.Removals.{kind_of_object, step_missing, step_removed, step_root, step_storage}
 use Rattle.cfb_live.proofs.Resting.{keeps_refl}
 use Rattle.cfb_live.proofs.SetFacts.{means_held}
@@ -24,6 +24,7 @@ use Rattle.cfb_live.proofs.Streams.{reads}
 use Rattle.cfb_live.proofs.Removed.{stream_held}
 use Rattle.cfb_live.proofs.Taken.{leaf_at, leaf_one}
 use Rattle.cfb_live.proofs.stream_removal.remove_stream.Goals as goal
+use Rattle.cfb_entries.proofs.Others.{path_is}
 
 pub returns-in-Err-find_child-clause-does : goal.returns-in-Err-find_child-clause-does
 returns-in-Err-find_child-clause-does g c = record {

@@ -13,12 +13,13 @@ use Rattle.cfb_live.specs.Strays.{ComesToMean}
 use Rattle.cfb_live.specs.Removing.{IsChildAt}
 use Rattle.cfb_live.proofs.Below.{emptied_root}
 use Rattle.cfb_live.proofs.Emptied.{emptied_leaf, emptied_there}
-use Rattle.cfb_live.proofs.NewPlaces.{length-path, path_is}
-use Rattle.cfb_live.proofs.Removals.{no_names}
+use Rattle.cfb_live.proofs.NewPlaces.{length-path}
 use Rattle.cfb_live.proofs.SetFacts.{means_held}
 use Rattle.cfb_live.proofs.Strays.{strays_same}
 use Rattle.cfb_live.proofs.Streams.{reads}
 use Rattle.cfb_live.proofs.whole_removal.take_emptied.Goals as goal
+use Rattle.cfb_entries.proofs.Others.{path_is}
+use Rattle.cfb_entries.proofs.Telling.{no_names}
 
 pub returns-then-is_empty-clause-taken : goal.returns-then-is_empty-clause-taken
 returns-then-is_empty-clause-taken g c = λ tree m empty.

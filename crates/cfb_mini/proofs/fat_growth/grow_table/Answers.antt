@@ -9,9 +9,10 @@ use Rattle.cfb_owned.specs.Chains.{LacksSectors}
 use Rattle.cfb_owned.proofs.GoingOn.{goes_cause, goes_then}
 use Rattle.cfb_mini.specs.NumberViews.{numbers_of}
 use Rattle.cfb_mini.proofs.LongerTables.{bytes_of_sectors, front_of, grows_is}
-use Rattle.cfb_mini.proofs.Results.{both_ok, on_err}
+use Rattle.cfb_mini.proofs.Results.{on_err}
 use Rattle.cfb_mini.proofs.fat_growth.grow_table.Goals as goal
 use Rattle.cfb_mini.proofs.fat_growth.grow_table.Goals.{then-is_failed-2, else-is_failed-2}
+use Rattle.cfb_directory.proofs.Results.{two_ok}
 
 pub returns-in-Err-set_chain_len-clause-kept : goal.returns-in-Err-set_chain_len-clause-kept
 returns-in-Err-set_chain_len-clause-kept g c = λ live. (
@@ -42,7 +43,7 @@ returns-clause-grows g c =
     let each : c.sector_len-each.result ≡ sector_len v = c.sector_len-each.ensures ∙ ap sector_len c.version.ensures in
     let goes = c.set_chain_len.ensures.goes_on in
     let did = c.in_default-set_chain_len.ensures in
-    both_ok c.tell_header.result _ _ _
+    two_ok c.tell_header.result _ _ _
     (λ leaves told chain.
     let honest = subst IsTrue (sym goes.honest) chain.has.honest in
     grows_is a m b x _ (sectors_for v ((length c.sector_ids.result.now + 1) * c.sector_len-each.result)) (bytes_of_sectors v (ids_of x.links) c.sector_ids.result.now c.sector_len-each.result c.sector_ids.ensures each)

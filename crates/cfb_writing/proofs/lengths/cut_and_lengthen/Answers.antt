@@ -8,10 +8,10 @@ use Rattle.cfb_mini.specs.Views.{allocator_of}
 use Rattle.cfb_owned.specs.Chains.{Overwrites, Resizes}
 use Rattle.cfb_owned.proofs.GoingOn.{fails_go_on, goes_cause, goes_then}
 use Rattle.cfb_sectors.specs.declared.initial.SectorInit.TheVariants.{Zero}
-use Rattle.cfb_writing.proofs.LongBytes.{zeros}
 use Rattle.cfb_writing.proofs.LongStreams.{stretched}
 use Rattle.cfb_writing.proofs.Stretching.{never_past}
 use Rattle.cfb_writing.proofs.lengths.cut_and_lengthen.Goals as goal
+use Rattle.cfb_mini.proofs.Padded.{zeros}
 
 pub returns-in-Err-zero_tail-clause-refused : goal.returns-in-Err-zero_tail-clause-refused
 returns-in-Err-zero_tail-clause-refused g c = λ wrong who id m is version.

@@ -8,13 +8,13 @@ use Rattle.cfb_fat.specs.Seeing.{seen_of}
 use Rattle.cfb_fat.specs.Tables.{fat_of, orderly_of, version_of}
 use Rattle.cfb_mini.specs.Views.{allocator_of}
 use Rattle.cfb_mini.proofs.Keeping.{own_chain}
-use Rattle.cfb_mini.proofs.Results.{both_ok}
 use Rattle.cfb_owned.specs.Chains.{GoesOn, HasChain, LacksSectors, Resizes}
 use Rattle.cfb_owners.specs.Owners.{stream_owner}
 use Rattle.cfb_sectors.specs.Sectors.{free, sector}
 use Rattle.cfb_sectors.specs.declared.initial.SectorInit.TheVariants.{Zero}
 use Rattle.cfb_writing.proofs.LongChains.{lost_free, moves_long}
 use Rattle.cfb_writing.proofs.lengths.resize_chain.Goals as goal
+use Rattle.cfb_directory.proofs.Results.{two_ok}
 
 pub returns-clause-resized : goal.returns-clause-resized
 returns-clause-resized g c =
@@ -24,7 +24,7 @@ returns-clause-resized g c =
     let same = c.allocator_mut.ensures.value in
     let b = c.set_chain_len.new.allocator in
     let count = sectors_for (links_version links) c.args.len in
-    both_ok c.set_chain_len.result _ _ _
+    two_ok c.set_chain_len.result _ _ _
     (λ did live who id m is version.
     let grown : Resizes Zero count (allocator_of it) b links after = subst (λ x. Resizes Zero count x b links after) same (did (subst (λ x. HasChain x links) (sym same) (own_chain it who.sectors (stream_owner id) links m.owners is version))) in
     let becomes : Becomes (sector (version_of (allocator_of it))) [] (who.sectors (stream_owner id)) grown.more (ids_of after) (seen_of (allocator_of it)) (seen_of b) =

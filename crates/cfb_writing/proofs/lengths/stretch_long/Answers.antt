@@ -1,11 +1,11 @@
 use Rattle.std.proofs.Common.{subst, ◌∙◌, ap}
 use Rattle.cfb_chains.specs.Positions.{sectors_for}
 use Rattle.cfb_mini.specs.Views.{allocator_of}
-use Rattle.cfb_mini.proofs.Results.{both_ok}
 use Rattle.cfb_owned.specs.Chains.{Resizes}
 use Rattle.cfb_sectors.specs.declared.initial.SectorInit.TheVariants.{Zero}
 use Rattle.cfb_writing.proofs.LongStreams.{cut}
 use Rattle.cfb_writing.proofs.lengths.stretch_long.Goals as goal
+use Rattle.cfb_directory.proofs.Results.{two_ok}
 
 pub returns-then-len-size-clause-stretched : goal.returns-then-len-size-clause-stretched
 returns-then-len-size-clause-stretched g c =
@@ -13,7 +13,7 @@ returns-then-len-size-clause-stretched g c =
     let m1 = c.resize_chain.new.mini in
     let links0 = c.args.links.now in
     let links1 = c.resize_chain.new.links in
-    both_ok c.resize_chain.result _ _ _
+    two_ok c.resize_chain.result _ _ _
     (λ did count who id e content m has size up more is version.
     let one = did who id m is version in
     cut m0 who id c.args.size links0 e content has size up is c.args.len more m1 links1 c.if-len-size.true

@@ -5,13 +5,13 @@ use Rattle.cfb_fat.specs.Seeing.{seen_of}
 use Rattle.cfb_fat.specs.Tables.{fat_of, version_of}
 use Rattle.cfb_mini.specs.Views.{allocator_of}
 use Rattle.cfb_mini.proofs.Keeping.{own_chain}
-use Rattle.cfb_mini.proofs.Results.{both_ok}
 use Rattle.cfb_mini.proofs.Strays.{none_left_out}
 use Rattle.cfb_owned.specs.Chains.{GoesOn, HasChain, Overwrites}
 use Rattle.cfb_owners.specs.Owners.{stream_owner}
 use Rattle.cfb_sectors.specs.Sectors.{sector}
 use Rattle.cfb_writing.proofs.LongChains.{moves_long}
 use Rattle.cfb_writing.proofs.overwriting.overwrite_long.Goals as goal
+use Rattle.cfb_directory.proofs.Results.{two_ok}
 
 pub returns-clause-written : goal.returns-clause-written
 returns-clause-written g c =
@@ -19,7 +19,7 @@ returns-clause-written g c =
     let links = c.args.links.now in
     let same = c.allocator_mut.ensures.value in
     let b = c.overwrite_chain.new.allocator in
-    both_ok c.overwrite_chain.result _ _ _
+    two_ok c.overwrite_chain.result _ _ _
     (λ did live who id m is version.
     let over : Overwrites c.args.at c.args.bytes.now (allocator_of it) b links = subst (λ x. Overwrites c.args.at c.args.bytes.now x b links) same (did (subst (λ x. HasChain x links) (sym same) (own_chain it who.sectors (stream_owner id) links m.owners is version))) in
     let becomes : Becomes (sector (version_of (allocator_of it))) [] (who.sectors (stream_owner id)) [] (ids_of links) (seen_of (allocator_of it)) (seen_of b) =

@@ -29,7 +29,7 @@ returns-clause-written g c = λ honest.
     let named : HasHead (g.D.Device.content c.write_head.new.device).log c.args.len (run_count pages) = subst (λ (n : ℕ). HasHead (g.D.Device.content c.write_head.new.device).log c.args.len n) c.count_runs.ensures.value shown in
     let done = c.in_ok-write_runs.ensures in
     on_ok c.sync.result _ (subst (λ (f : Files). IsWrittenLog f.log pages c.args.len) (sym (c.sync.ensures.reads.same h2))
-    (whole_log (g.D.Device.content c.write_head.new.device).log (g.D.Device.content c.write_runs.new.device).log pages c.args.len named (done.head h1) (done.whole h1) (done.written h1)))
+    (whole_log (g.D.Device.content c.write_head.new.device).log (g.D.Device.content c.write_runs.new.device).log pages c.args.len named (done.head h1) (done.written h1).0 (done.written h1).1))
 
 pub returns-clause-steps : goal.returns-clause-steps
 returns-clause-steps g c =

@@ -26,7 +26,7 @@ goes_on-requires g c =
     let k = c.loop-number.invariant.0 in
     let here = page_here entries k (page c.in-Some.number.now c.in-Some.bytes.now) none (c.in-Some.number.now, c.in-Some.bytes.now) c.next.new.self (c.loop-number.invariant.1 ∙ c.in-Some.ensures.steps) refl in
     let held = held_at (listed c.args.pages.now) k none (rises_listed entries c.args.pages.now.ordered) here.0 in
-    c.requires.small c.in-Some.number.now (subst (λ (p : Page). HoldsPage (listed c.args.pages.now) p.number) (sym here.1) held)
+    c.requires.numbers.1 c.in-Some.number.now (subst (λ (p : Page). HoldsPage (listed c.args.pages.now) p.number) (sym here.1) held)
 
 pub put_page-requires : goal.put_page-requires
 put_page-requires g c =
@@ -107,7 +107,7 @@ overflow_add-number g c =
     let entries = c.args.pages.now.entries.entries in
     let k = c.loop-number.invariant.0 in
     let here = page_here entries k (page c.in-Some.number.now c.in-Some.bytes.now) none (c.in-Some.number.now, c.in-Some.bytes.now) c.next.new.self (c.loop-number.invariant.1 ∙ c.in-Some.ensures.steps) refl in
-    let e : c.in-Some.number.now < 2 ^ 55 = c.requires.small c.in-Some.number.now (subst (λ (p : Page). HoldsPage (listed c.args.pages.now) p.number) (sym here.1) (held_at (listed c.args.pages.now) k none (rises_listed entries c.args.pages.now.ordered) here.0)) in
+    let e : c.in-Some.number.now < 2 ^ 55 = c.requires.numbers.1 c.in-Some.number.now (subst (λ (p : Page). HoldsPage (listed c.args.pages.now) p.number) (sym here.1) (held_at (listed c.args.pages.now) k none (rises_listed entries c.args.pages.now.ordered) here.0)) in
     omega arith
 
 pub overflow_sub-number : goal.overflow_sub-number
@@ -143,7 +143,7 @@ loop-number-preserved-then-not-goes_on g c =
     let room : 12 + 512 * length pages ≤ length c.args.buffer.now = c.requires.room (omega arith) in
     let fits : 12 + 512 * count ≤ length before = omega arith in
     let number : c.in-Some.number.now ≡ (get_or pages k none).number = ap (λ (p : Page). p.number) here.1 in
-    let small : c.in-Some.number.now < 2 ^ 55 = c.requires.small c.in-Some.number.now (subst (λ (p : Page). HoldsPage (listed c.args.pages.now) p.number) (sym here.1) (held_at (listed c.args.pages.now) k none (rises_listed entries c.args.pages.now.ordered) here.0)) in
+    let small : c.in-Some.number.now < 2 ^ 55 = c.requires.numbers.1 c.in-Some.number.now (subst (λ (p : Page). HoldsPage (listed c.args.pages.now) p.number) (sym here.1) (held_at (listed c.args.pages.now) k none (rises_listed entries c.args.pages.now.ordered) here.0)) in
     let goes : (is_some (page_at pages (c.in-Some.number.now + 1)) && nat_lt (count + 1) 4294967295) ≡ false = sym c.goes_on.ensures ∙ c.if-not-goes_on.true in
     let out : (is_some (page_at pages ((get_or pages k none).number + 1)) && nat_lt (count + 1) 4294967295) ≡ false = subst (λ (p : Page). (is_some (page_at pages (p.number + 1)) && nat_lt (count + 1) 4294967295) ≡ false) here.1 goes in
     let kept = pasted_before before c.in-Some.bytes.now after _ fits c.put_page.ensures.pasted in
@@ -183,21 +183,15 @@ returns-clause-head g c = λ honest.
     let inv = c.loop-number.invariant.3 in
     (stands_read (g.D.Device.content c.args.device.now).log (g.D.Device.content c.loop-number.device).log c.loop-number.place c.loop-number.invariant.2 (c.requires.headed honest) inv.gathered.good (inv.stands honest)).0
 
-pub returns-clause-whole : goal.returns-clause-whole
-returns-clause-whole g c = λ honest.
-    let inv = c.loop-number.invariant.3 in
-    let pages = listed c.args.pages.now in
-    let all = gathered_all pages c.loop-number.invariant.0 c.loop-number.count c.loop-number.buffer c.loop-number.invariant.2 (no_entry c.args.pages.now.entries.entries c.loop-number.invariant.0 (c.loop-number.invariant.1 ∙ c.in-None.ensures.steps.0)) inv.gathered in
-    subst (λ (n : ℕ). has_runs true n (drop 25 (g.D.Device.content c.loop-number.device).log) ≡ true) all.1
-    (stands_read (g.D.Device.content c.args.device.now).log (g.D.Device.content c.loop-number.device).log c.loop-number.place c.loop-number.invariant.2 (c.requires.headed honest) inv.gathered.good (inv.stands honest)).1
-
 pub returns-clause-written : goal.returns-clause-written
 returns-clause-written g c = λ honest.
     let inv = c.loop-number.invariant.3 in
     let pages = listed c.args.pages.now in
     let all = gathered_all pages c.loop-number.invariant.0 c.loop-number.count c.loop-number.buffer c.loop-number.invariant.2 (no_entry c.args.pages.now.entries.entries c.loop-number.invariant.0 (c.loop-number.invariant.1 ∙ c.in-None.ensures.steps.0)) inv.gathered in
-    subst (λ (n : ℕ). pages_of_runs true n (drop 25 (g.D.Device.content c.loop-number.device).log) ≡ pages) all.1
-    ((stands_read (g.D.Device.content c.args.device.now).log (g.D.Device.content c.loop-number.device).log c.loop-number.place c.loop-number.invariant.2 (c.requires.headed honest) inv.gathered.good (inv.stands honest)).2 ∙ all.0)
+    let read = stands_read (g.D.Device.content c.args.device.now).log (g.D.Device.content c.loop-number.device).log c.loop-number.place c.loop-number.invariant.2 (c.requires.headed honest) inv.gathered.good (inv.stands honest) in (
+      subst (λ (n : ℕ). has_runs true n (drop 25 (g.D.Device.content c.loop-number.device).log) ≡ true) all.1 read.1,
+      subst (λ (n : ℕ). pages_of_runs true n (drop 25 (g.D.Device.content c.loop-number.device).log) ≡ pages) all.1 (read.2 ∙ all.0),
+    )
 
 pub returns-clause-log_writes : goal.returns-clause-log_writes
 returns-clause-log_writes g c =

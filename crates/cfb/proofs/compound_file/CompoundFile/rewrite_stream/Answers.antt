@@ -12,8 +12,9 @@ use Rattle.cfb_writing.specs.Streams.{resized}
 use Rattle.cfb.specs.Putting.{IsRefusedRewriting}
 use Rattle.cfb.specs.Views.{mini_of}
 use Rattle.cfb.proofs.Rewriting.{fits_yet, found_answers, not_found, not_found_answers, not_written, overwritten_all, overwritten_whole, place_or_full, place_refused, was_written}
-use Rattle.cfb.proofs.Fullness.{full_at, never_full, never_room}
+use Rattle.cfb.proofs.Fullness.{full_at, never_full}
 use Rattle.cfb.proofs.compound_file.CompoundFile.rewrite_stream.Goals as goal
+use Rattle.cfb_copying.proofs.PutChains.{not_full}
 
 pub returns-in-Err-clause-puts : goal.returns-in-Err-clause-puts
 returns-in-Err-clause-puts g c =
@@ -98,7 +99,7 @@ pub returns-in-Err-clause-full : goal.returns-in-Err-clause-full
 returns-in-Err-clause-full g c = λ full live. absurd (never_full c.args.self.now c.in-Err.error c.in-Err.ensures.error (let is : c.in-Err.error ≡ Full = cc in is))
 
 pub returns-in-Err-overwrite_bytes-clause-full : goal.returns-in-Err-overwrite_bytes-clause-full
-returns-in-Err-overwrite_bytes-clause-full g c = λ full live. absurd (never_room c.in-Err-overwrite_bytes.error c.in-Err-overwrite_bytes.ensures.answers.fault (let is : c.in-Err-overwrite_bytes.error ≡ Full = cc in is))
+returns-in-Err-overwrite_bytes-clause-full g c = λ full live. absurd (not_full c.in-Err-overwrite_bytes.error c.in-Err-overwrite_bytes.ensures.answers.fault (let is : c.in-Err-overwrite_bytes.error ≡ Full = cc in is))
 
 pub returns-in-Err-extend_bytes-clause-full : goal.returns-in-Err-extend_bytes-clause-full
 returns-in-Err-extend_bytes-clause-full g c = λ full live tree m.

@@ -25,7 +25,7 @@ invariant_of-self-2 g c =
     let size = ap length is ∙ length-set (entries_of it.fat) c.args.sector_id c.args.entry in
     record {
       same = λ live honest. is ∙ entered it.sectors.version c.write_number.new.sectors.version _ _ fs it.difat_sectors.items (entries_of it.fat) _ _ c.args.sector_id c.args.entry _ _
-          did.changes.version did.count each (get_or_read fs _ _ below c.index-holder.ensures 0) (did.changes.bytes live (subst IsTrue did.changes.honest honest)) (it.orderly c.requires.orderly).once
+          did.changes.version did.count each (get_or_read fs _ _ below c.index-holder.ensures 0) (did.changes.bytes live (subst IsTrue did.changes.honest honest)) (it.orderly c.requires.ready.1).once
           c.requires.there (it.inside (did.changes.live live)) it.whole c.ranges.entry.fits (it.same (did.changes.live live) (subst IsTrue did.changes.honest honest));
       there = λ live k inside. subst (λ n. slice_index fs k < n) (sym did.count) (it.there (did.changes.live live) k inside);
       inside = λ live. let most = it.inside (did.changes.live live) in omega (arith, size, did.count, most);
@@ -34,13 +34,13 @@ invariant_of-self-2 g c =
       orderly = λ now. order_stays _ _ _ _ (entries_of it.fat) _ fs it.difat_sectors.items did.changes.version did.count size (it.orderly now);
       listed = λ live honest.
           let was = subst IsTrue did.changes.honest honest in
-          let order = it.orderly c.requires.orderly in
-          let had = (it.listed (did.changes.live live) was).0 c.requires.orderly in
+          let order = it.orderly c.requires.ready.1 in
+          let had = (it.listed (did.changes.live live) was).0 c.requires.ready.1 in
           let aside = entry_aside it.sectors.version it.difat_sectors.items fs (to_le_bytes w32 c.args.entry) c.args.sector_id _ _ refl each below (get_or_read fs _ _ below c.index-holder.ensures 0) order.once in
           let both = listed_still it.sectors.version c.write_number.new.sectors.version (bytes_of it.sectors) (bytes_of c.write_number.new.sectors) (to_le_bytes w32 c.args.entry) it.difat_sectors.items fs _ it.sectors.num_sectors c.write_number.new.sectors.num_sectors
           did.changes.version did.count (did.changes.bytes live was) (it.sectors.counted (did.changes.live live) was) (c.write_number.new.sectors.counted live honest) order.some aside.0 aside.1 in (
             λ now. (order_stays _ _ _ _ (entries_of it.fat) _ fs it.difat_sectors.items did.changes.version did.count size order, ∥∥₁_map had.1 both.0),
-            λ has. c.requires.orderly,
+            λ has. c.requires.ready.1,
           );
     }
 
@@ -62,7 +62,7 @@ returns-clause-changes g c =
       live = did.changes.live;
       fat = λ live. subst (DifferAt (c.args.sector_id ∷ []) (entries_of it.fat)) (sym c.set.ensures.entries) (differ_at (entries_of it.fat) c.args.sector_id c.args.entry);
       longer = λ live honest. longer_over (bytes_of it.sectors) (bytes_of c.write_number.new.sectors) (to_le_bytes w32 c.args.entry) _ (did.changes.bytes live honest);
-      told = λ live honest. let order = it.orderly c.requires.orderly in
+      told = λ live honest. let order = it.orderly c.requires.ready.1 in
           told_in it.sectors.version (bytes_of it.sectors) (bytes_of c.write_number.new.sectors) (to_le_bytes w32 c.args.entry) it.difat_sectors.items fs _ _ (did.changes.bytes live honest)
           (header_whole it.sectors.version (bytes_of it.sectors) it.sectors.num_sectors (it.sectors.counted (did.changes.live live) honest) order.some);
       beside = λ live honest. others_stay it.sectors.version _ _ fs c.args.sector_id c.args.entry _ _ each (get_or_read fs _ _ below c.index-holder.ensures 0) below (did.changes.bytes live honest);

@@ -3,9 +3,10 @@ use Rattle.cfb_fat.specs.Tables.{orderly_of, AllRests}
 use Rattle.cfb_owned.specs.Chains.{GoesOn, HasChain, Resizes}
 use Rattle.cfb_sectors.specs.declared.initial.SectorInit.TheVariants.{Zero}
 use Rattle.cfb_mini.proofs.Keeping.{frees_chain_is, own_chain, rests_is}
-use Rattle.cfb_mini.proofs.Results.{both_ok, on_err}
+use Rattle.cfb_mini.proofs.Results.{on_err}
 use Rattle.std.proofs.Common.{inl, inr, ⊎_elim}
 use Rattle.cfb_mini.proofs.mini_allocator.MiniAllocator.free_chain.Goals as goal
+use Rattle.cfb_directory.proofs.Results.{two_ok}
 
 pub returns-clause-freed : goal.returns-clause-freed
 returns-clause-freed g c =
@@ -14,7 +15,7 @@ returns-clause-freed g c =
     let after = c.free_chain.new.links in
     let same = c.allocator_mut.ensures.value in
     let b = c.free_chain.new.allocator in
-    both_ok c.free_chain.result _ _ _
+    two_ok c.free_chain.result _ _ _
     (λ did none own key h past is version. frees_chain_is key it b links after own h past is (subst (λ x. GoesOn x b) same c.free_chain.ensures.goes_on) c.allocator_mut.ensures.kept none
     (subst (λ x. Resizes Zero 0 x b links after) same (did (subst (λ x. HasChain x links) (sym same) (own_chain it own key links h is version)))))
     c.free_chain.ensures.freed c.free_chain.ensures.emptied

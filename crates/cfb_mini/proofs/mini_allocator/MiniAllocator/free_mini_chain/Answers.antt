@@ -4,15 +4,16 @@ use Rattle.cfb_owned.specs.Chains.{GoesOn, HasChain}
 use Rattle.cfb_mini.specs.NumberWrites.{Enters}
 use Rattle.cfb_mini.specs.LinkViews.{minis_of}
 use Rattle.cfb_mini.proofs.Keeping.{fat_chain, frees_is, rests_is}
-use Rattle.cfb_mini.proofs.Results.{both_err, both_ok}
+use Rattle.cfb_mini.proofs.Results.{both_err}
 use Rattle.cfb_mini.proofs.mini_allocator.MiniAllocator.free_mini_chain.Goals as goal
+use Rattle.cfb_directory.proofs.Results.{two_ok}
 
 pub returns-clause-freed : goal.returns-clause-freed
 returns-clause-freed g c =
     let it = c.args.self.now in
     let same = c.allocator_mut.ensures.value in
     let b = c.free_minis.new.allocator in
-    both_ok c.free_minis.result _ _ _
+    two_ok c.free_minis.result _ _ _
     (λ enters freed own h. frees_is (minis_of c.args.links.now) it b c.free_minis.new.mini_fat own h (subst (λ x. GoesOn x b) same c.free_minis.ensures.goes_on) c.allocator_mut.ensures.kept c.free_minis.ensures.lies
     (subst (λ x. Enters (minis_of c.args.links.now) x b it.mini_fat c.free_minis.new.mini_fat) same (enters (subst (λ x. HasChain x it.mini_fat.links) (sym same) (fat_chain it own h)))) freed)
     c.free_minis.ensures.enters c.free_minis.ensures.freed
