@@ -5,7 +5,8 @@ use msi::{Defect, Package, defects};
 use msi_adopting::adopt;
 use msi_columns::Column;
 use msi_findings::{
-    Miscount, miscounts, misnamed_tables, misplaced_objects, unread_tables, unused_texts,
+    Miscount, miscounts, misnamed_tables, misplaced_objects, misshapen_validation,
+    unkept_properties, unkept_texts, unread_tables, unused_texts,
 };
 use msi_parts::{PackageParts, table_named};
 use msi_pool::StringRef;
@@ -14,7 +15,6 @@ use msi_schema::validation_columns;
 use msi_store::read_parts;
 use msi_tables::Table;
 use msi_texts::decode;
-use msi_unkept::{misshapen_validation, unkept_properties, unkept_texts};
 use serde_json::Value as Json;
 use std::alloc::{AllocError, Global};
 use std::fs::File;

@@ -1,4 +1,0 @@
-pub mod Kept
-pub mod ReadParts
-pub mod SetParts
-pub mod Shapes

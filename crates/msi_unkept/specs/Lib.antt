@@ -1,2 +1,0 @@
-pub mod Unkept
-pub mod Misshapen
