@@ -1,8 +1,7 @@
 //! The words that the program takes.
 ghost use Rattle.std.specs.Prelude.{◌≡◌, codes, true, false, IfOk, IfErr, map, string_bytes};
-ghost use Rattle.clap.specs.Words.{app_of, kind_of, rule_of, takes, with_rule, with_subcommand, HasMatchesOf};
-ghost use Rattle.clap.specs.declared.Command.TheViews.{out-Command as fields_of};
-ghost use Rattle.command_words.specs.Words.{adopted, bare, checked, exported, log_option, msidb, on_package, path, run, shown, sourced, streams_shown, summary_shown, table_shown, two_paths, with_files, with_log, with_looks, without_run};
+ghost use Rattle.clap.specs.Words.{app_of, kind_of, new_app, new_rule, rule_of, takes, with_rule, with_subcommand, HasMatchesOf};
+ghost use Rattle.command_words.specs.Words.{adopted, bare, checked, exported, flag, log_option, msidb, on_package, path, run, shown, sourced, streams_shown, summary_shown, table_shown, two_paths, with_files, with_log, with_looks, without_run};
 
 use clap::error::ErrorKind;
 use clap::{Arg, ArgAction, ArgMatches, Command, Error};
@@ -17,13 +16,37 @@ const STATUSES: &str =
 
 // Adds an argument.
 fn add<'a>(command: Command<'a>, argument: Arg<'a>) -> Result<Command<'a>, AllocError>
-    requires whole { (fields_of command).has_globals ≡ false }
-    requires local { argument.global ≡ false }
-    ensures app { IfOk result (λ c. app_of c
+    requires { argument.global ≡ false }
+    ensures { IfOk result (λ c. app_of c
         ≡ with_rule (app_of command.entry) (rule_of argument.entry)) }
-    ensures local { IfOk result (λ c. (fields_of c).has_globals ≡ false) }
 {
     command.arg(argument)
+}
+
+// A word, with no arguments yet.
+fn word<'a>(alloc: Global, name: &'a str, about: &'a str, example: &'a str) -> Command<'a>
+    ensures { app_of result ≡ new_app name.entry.now }
+{
+    Command::new(alloc, name).about(about).after_help(example)
+}
+
+// A path that may be missing.
+fn optional<'a>(alloc: Global, id: &'a str, help: &'a str) -> Arg<'a>
+    ensures rule { rule_of result ≡ new_rule id.entry.now }
+    ensures local { result.global ≡ false }
+{
+    Arg::new(alloc, id).help(help)
+}
+
+// A word behind two hyphens, which nothing follows.
+fn flag_of<'a>(alloc: Global, id: &'a str, help: &'a str) -> Arg<'a>
+    ensures rule { rule_of result ≡ flag id.entry.now }
+    ensures local { result.global ≡ false }
+{
+    Arg::new(alloc, id)
+        .long(id)
+        .action(ArgAction::SetTrue)
+        .help(help)
 }
 
 // A path that must be there.
@@ -51,20 +74,21 @@ fn with_paths<'a>(
     about: &'a str,
     example: &'a str,
 ) -> Result<Command<'a>, AllocError>
-    ensures app { IfOk result (λ c. app_of c ≡ on_package name.entry.now) }
-    ensures local { IfOk result (λ c. (fields_of c).has_globals ≡ false) }
+    ensures { IfOk result (λ c. app_of c ≡ on_package name.entry.now) }
 {
-    let log = Arg::new(alloc, "LOG").help(
+    let command = word(alloc, name, about, example);
+    let first = add(command, needed(alloc, "PACKAGE", "The package"))?;
+    let log = optional(
+        alloc,
+        "LOG",
         "Its log, by which a commit survives a stop; the same as behind `--log`",
     );
-    let command = Command::new(alloc, name).about(about).after_help(example);
-    let first = add(command, needed(alloc, "PACKAGE", "The package"))?;
     let second = add(first, log)?;
     add(second, log_behind(alloc))
 }
 
 // What stands behind the help of the word that runs commands: an example of each op.
-fn help_on_commands() -> &'static str {
+fn help_on_commands<'a>() -> &'a str {
     r#"Example: msidb run setup.msi commands.json
 Prints an answer for each command, a line of JSON each. A log that isn't there is made, once the package was found to be a sound one.
 A command file has a command of these, or several:
@@ -94,157 +118,180 @@ Status: 0 done, 1 a command was refused by a rule, 2 the command file was refuse
 
 // The word that runs commands, with the paths of a package and of a command file.
 fn with_commands<'a>(alloc: Global) -> Result<Command<'a>, AllocError>
-    ensures app { IfOk result (λ c. app_of c ≡ two_paths) }
-    ensures local { IfOk result (λ c. (fields_of c).has_globals ≡ false) }
+    ensures { IfOk result (λ c. app_of c ≡ two_paths) }
 {
-    let command = Command::new(alloc, "run")
-        .about("Runs the commands of a file")
-        .override_usage(
-            "msidb run [--log <LOG>] <PACKAGE> <COMMANDS>\n       msidb run <PACKAGE> <LOG> <COMMANDS>",
-        )
-        .after_help(help_on_commands());
+    let command = word(
+        alloc,
+        "run",
+        "Runs the commands of a file",
+        help_on_commands(),
+    )
+    .override_usage(
+        "msidb run [--log <LOG>] <PACKAGE> <COMMANDS>\n       msidb run <PACKAGE> <LOG> <COMMANDS>",
+    );
+    let first = add(command, needed(alloc, "PACKAGE", "The package"))?;
     let commands = needed(
         alloc,
         "COMMANDS",
         "The command file: a JSON array of objects, each with its `op`",
     );
-    add(
-        add(command, needed(alloc, "PACKAGE", "The package"))?,
-        commands,
-    )
+    add(first, commands)
 }
 
 // The same with the log: in front of the command file, which is then the last path, or behind its option.
 fn with_run<'a>(alloc: Global) -> Result<Command<'a>, AllocError>
-    ensures app { IfOk result (λ c. app_of c ≡ run) }
-    ensures local { IfOk result (λ c. (fields_of c).has_globals ≡ false) }
+    ensures { IfOk result (λ c. app_of c ≡ run) }
 {
+    let command = with_commands(alloc)?;
     let last = Arg::new(alloc, "LAST").hide(true);
-    let first = add(with_commands(alloc)?, last)?;
+    let first = add(command, last)?;
     add(first, log_behind(alloc))
+}
+
+// What stands behind the help of the word that shows a package.
+fn help_on_show<'a>() -> &'a str {
+    "Example: msidb show setup.msi Property\nPrints a line of JSON for each part that is asked for, or for all but the tree; a table's rows stand behind its columns. Nothing is written.\nStatus: 0 done, 1 no table has the name, 3 the file is no package, or a part of it can't be read."
 }
 
 // The word that shows a package, with the path of a file and the name of a table.
 fn with_table<'a>(alloc: Global) -> Result<Command<'a>, AllocError>
-    ensures app { IfOk result (λ c. app_of c ≡ table_shown) }
-    ensures local { IfOk result (λ c. (fields_of c).has_globals ≡ false) }
+    ensures { IfOk result (λ c. app_of c ≡ table_shown) }
 {
-    let table = Arg::new(alloc, "TABLE").help("The table of this name, its columns and rows");
-    let command = Command::new(alloc, "show")
-        .about("Shows what a package of any maker holds")
-        .after_help(
-            "Example: msidb show setup.msi Property\nPrints a line of JSON for each part that is asked for, or for all but the tree; a table's rows stand behind its columns. Nothing is written.\nStatus: 0 done, 1 no table has the name, 3 the file is no package, or a part of it can't be read.",
-        );
-    add(add(command, needed(alloc, "FILE", "The package"))?, table)
+    let command = word(
+        alloc,
+        "show",
+        "Shows what a package of any maker holds",
+        help_on_show(),
+    );
+    let first = add(command, needed(alloc, "FILE", "The package"))?;
+    let table = optional(
+        alloc,
+        "TABLE",
+        "The table of this name, its columns and rows",
+    );
+    add(first, table)
 }
 
 // The same with a flag for the summary.
 fn with_summary<'a>(alloc: Global) -> Result<Command<'a>, AllocError>
-    ensures app { IfOk result (λ c. app_of c ≡ summary_shown) }
-    ensures local { IfOk result (λ c. (fields_of c).has_globals ≡ false) }
+    ensures { IfOk result (λ c. app_of c ≡ summary_shown) }
 {
-    let summary = Arg::new(alloc, "summary")
-        .long("summary")
-        .action(ArgAction::SetTrue)
-        .help("The properties of the summary");
-    add(with_table(alloc)?, summary)
+    let command = with_table(alloc)?;
+    let summary = flag_of(alloc, "summary", "The properties of the summary");
+    add(command, summary)
 }
 
 // The same with one for the streams.
 fn with_streams<'a>(alloc: Global) -> Result<Command<'a>, AllocError>
-    ensures app { IfOk result (λ c. app_of c ≡ streams_shown) }
-    ensures local { IfOk result (λ c. (fields_of c).has_globals ≡ false) }
+    ensures { IfOk result (λ c. app_of c ≡ streams_shown) }
 {
-    let streams = Arg::new(alloc, "streams")
-        .long("streams")
-        .action(ArgAction::SetTrue)
-        .help("The streams that hold no tables, with lengths and SHA-256");
-    add(with_summary(alloc)?, streams)
+    let command = with_summary(alloc)?;
+    let streams = flag_of(
+        alloc,
+        "streams",
+        "The streams that hold no tables, with lengths and SHA-256",
+    );
+    add(command, streams)
 }
 
 // The same with one for the tree.
 fn with_file<'a>(alloc: Global) -> Result<Command<'a>, AllocError>
-    ensures app { IfOk result (λ c. app_of c ≡ shown) }
-    ensures local { IfOk result (λ c. (fields_of c).has_globals ≡ false) }
+    ensures { IfOk result (λ c. app_of c ≡ shown) }
 {
-    let tree = Arg::new(alloc, "tree")
-        .long("tree")
-        .action(ArgAction::SetTrue)
-        .help("The tree of the compound file, which need be no package: storages and streams");
-    add(with_streams(alloc)?, tree)
+    let command = with_streams(alloc)?;
+    let tree = flag_of(
+        alloc,
+        "tree",
+        "The tree of the compound file, which need be no package: storages and streams",
+    );
+    add(command, tree)
+}
+
+// What stands behind the help of the word that judges a package.
+fn help_on_check<'a>() -> &'a str {
+    "Example: msidb check setup.msi\nPrints a line for each rule of a sound package that this one breaks, and behind it one for each text, table, object, stream or sector at fault, where these are known; for a sound one, nothing. Nothing is written.\nStatus: 0 sound, 1 not, 3 the file is no package, or can't be read."
 }
 
 // The word that judges a package, with the path of a file.
 fn with_judged<'a>(alloc: Global) -> Result<Command<'a>, AllocError>
-    ensures app { IfOk result (λ c. app_of c ≡ checked) }
-    ensures local { IfOk result (λ c. (fields_of c).has_globals ≡ false) }
+    ensures { IfOk result (λ c. app_of c ≡ checked) }
 {
-    let command = Command::new(alloc, "check")
-        .about("Tells which rules a package of any maker breaks")
-        .after_help(
-            "Example: msidb check setup.msi\nPrints a line for each rule of a sound package that this one breaks, and behind it one for each text, table, object, stream or sector at fault, where these are known; for a sound one, nothing. Nothing is written.\nStatus: 0 sound, 1 not, 3 the file is no package, or can't be read.",
-        );
+    let command = word(
+        alloc,
+        "check",
+        "Tells which rules a package of any maker breaks",
+        help_on_check(),
+    );
     add(command, needed(alloc, "FILE", "The package"))
+}
+
+// What stands behind the help of the word that exports a package.
+fn help_on_export<'a>() -> &'a str {
+    "Example: msidb export setup.msi setup\nWrites each table as TABLE.idt, as Windows Installer exports it, and each other stream to _Streams.\nIn names of files each byte but letters, digits, `_`, `-` and a dot that isn't the first stands as % and two digits.\nStatus: 0 done, 3 the file is no package, or not all could be read and written."
 }
 
 // The word that exports a package, with the paths of a file and of a folder.
 fn with_folder<'a>(alloc: Global) -> Result<Command<'a>, AllocError>
-    ensures app { IfOk result (λ c. app_of c ≡ exported) }
-    ensures local { IfOk result (λ c. (fields_of c).has_globals ≡ false) }
+    ensures { IfOk result (λ c. app_of c ≡ exported) }
 {
-    let command = Command::new(alloc, "export")
-        .about("Writes what a package of any maker holds to files of a new folder")
-        .after_help(
-            "Example: msidb export setup.msi setup\nWrites each table as TABLE.idt, as Windows Installer exports it, and each other stream to _Streams.\nIn names of files each byte but letters, digits, `_`, `-` and a dot that isn't the first stands as % and two digits.\nStatus: 0 done, 3 the file is no package, or not all could be read and written.",
-        );
+    let command = word(
+        alloc,
+        "export",
+        "Writes what a package of any maker holds to files of a new folder",
+        help_on_export(),
+    );
+    let first = add(command, needed(alloc, "FILE", "The package"))?;
     let folder = needed(
         alloc,
         "FOLDER",
         "The folder, which is made and must not be there",
     );
-    add(add(command, needed(alloc, "FILE", "The package"))?, folder)
+    add(first, folder)
+}
+
+// What stands behind the help of the word that adopts a package.
+fn help_on_adopt<'a>() -> &'a str {
+    "Example: msidb adopt setup.msi other.msi\nMakes the package, and the log setup.msi.log. It holds what the other one does, and counts each text as often as cells use it. A package\nthat breaks further rules isn't adopted: they are told as `check` tells them, and nothing is made. The other package is only read.\nTables can be made and dropped only where there is a table _Validation: with --validation a package without one gets an empty one.\nStatus: 0 done, 1 rules are broken, 3 the other file is no package, or there is a package already."
 }
 
 // The word that adopts a package, with the paths of both.
 fn with_source<'a>(alloc: Global) -> Result<Command<'a>, AllocError>
-    ensures app { IfOk result (λ c. app_of c ≡ sourced) }
-    ensures local { IfOk result (λ c. (fields_of c).has_globals ≡ false) }
+    ensures { IfOk result (λ c. app_of c ≡ sourced) }
 {
-    let command = Command::new(alloc, "adopt")
-        .about("Makes a package that can be changed of one whose texts are counted otherwise")
-        .after_help(
-            "Example: msidb adopt setup.msi other.msi\nMakes the package, and the log setup.msi.log. It holds what the other one does, and counts each text as often as cells use it. A package\nthat breaks further rules isn't adopted: they are told as `check` tells them, and nothing is made. The other package is only read.\nTables can be made and dropped only where there is a table _Validation: with --validation a package without one gets an empty one.\nStatus: 0 done, 1 rules are broken, 3 the other file is no package, or there is a package already.",
-        );
+    let command = word(
+        alloc,
+        "adopt",
+        "Makes a package that can be changed of one whose texts are counted otherwise",
+        help_on_adopt(),
+    );
+    let first = add(
+        command,
+        needed(alloc, "PACKAGE", "The package that is made"),
+    )?;
     let source = needed(
         alloc,
         "SOURCE",
         "The package of any maker, which is only read",
     );
-    let first = add(
-        add(
-            command,
-            needed(alloc, "PACKAGE", "The package that is made"),
-        )?,
-        source,
-    )?;
-    add(first, log_behind(alloc))
+    let second = add(first, source)?;
+    add(second, log_behind(alloc))
 }
 
 // The same with a flag for an empty _Validation.
 fn with_adoption<'a>(alloc: Global) -> Result<Command<'a>, AllocError>
-    ensures app { IfOk result (λ c. app_of c ≡ adopted) }
-    ensures local { IfOk result (λ c. (fields_of c).has_globals ≡ false) }
+    ensures { IfOk result (λ c. app_of c ≡ adopted) }
 {
-    let validation = Arg::new(alloc, "validation")
-        .long("validation")
-        .action(ArgAction::SetTrue)
-        .help("An empty table _Validation, where there is none");
-    add(with_source(alloc)?, validation)
+    let command = with_source(alloc)?;
+    let validation = flag_of(
+        alloc,
+        "validation",
+        "An empty table _Validation, where there is none",
+    );
+    add(command, validation)
 }
 
 fn root<'a>(alloc: Global) -> Result<Command<'a>, AllocError>
-    ensures app { IfOk result (λ c. app_of c ≡ bare) }
-    ensures local { IfOk result (λ c. (fields_of c).has_globals ≡ false) }
+    ensures { IfOk result (λ c. app_of c ≡ bare) }
 {
     Command::new(alloc, "msidb")
         .about("Windows Installer databases that survive a stop at any moment")
@@ -255,71 +302,65 @@ fn root<'a>(alloc: Global) -> Result<Command<'a>, AllocError>
         .bin_name("msidb")
 }
 
+// Adds a word.
 fn with<'a>(command: Command<'a>, part: Command<'a>) -> Result<Command<'a>, AllocError>
-    requires whole { (fields_of command).has_globals ≡ false }
-    requires part { (fields_of part).has_globals ≡ false }
-    ensures app { IfOk result (λ c. app_of c
+    ensures { (app_of part.entry).top.is_plain ≡ true → IfOk result (λ c. app_of c
         ≡ with_subcommand (app_of command.entry) (app_of part.entry).top) }
-    ensures local { IfOk result (λ c. (fields_of c).has_globals ≡ false) }
 {
     command.subcommand(part)
 }
 
 // The words that make a package and that finish its commits.
 fn on_files<'a>(alloc: Global) -> Result<Command<'a>, AllocError>
-    ensures app { IfOk result (λ c. app_of c ≡ without_run) }
-    ensures local { IfOk result (λ c. (fields_of c).has_globals ≡ false) }
+    ensures { IfOk result (λ c. app_of c ≡ without_run) }
 {
+    let bare = root(alloc)?;
     let create = with_paths(
         alloc,
         "create",
         "Makes a new package and commits it",
         "Example: msidb create setup.msi\nMakes the package, and the log setup.msi.log. Where the package is there already it is left, with status 3; so is a file that is named as the log and is none.",
     )?;
+    let first = with(bare, create)?;
     let recover = with_paths(
         alloc,
         "recover",
         "Finishes a commit that a stop cut short",
         "Example: msidb recover setup.msi\nPrints `closed` where there was nothing to do, else `applied` and how many pages were written.",
     )?;
-    let bare = root(alloc)?;
-    let first = with(bare, create)?;
     with(first, recover)
 }
 
 // And those that run commands and list names.
 fn on_packages<'a>(alloc: Global) -> Result<Command<'a>, AllocError>
-    ensures app { IfOk result (λ c. app_of c ≡ with_log) }
-    ensures local { IfOk result (λ c. (fields_of c).has_globals ≡ false) }
+    ensures { IfOk result (λ c. app_of c ≡ with_log) }
 {
+    let bare = on_files(alloc)?;
     let run = with_run(alloc)?;
+    let first = with(bare, run)?;
     let list = with_paths(
         alloc,
         "list",
         "Lists the tables and the streams",
         "Example: msidb list setup.msi\nPrints the names of the tables, and those of the streams that hold no tables, a JSON list on a line each. A commit that a stop cut short is finished first.",
     )?;
-    let bare = on_files(alloc)?;
-    let first = with(bare, run)?;
     with(first, list)
 }
 
 // And those on a package that is only read.
 fn on_looks<'a>(alloc: Global) -> Result<Command<'a>, AllocError>
-    ensures app { IfOk result (λ c. app_of c ≡ with_looks) }
-    ensures local { IfOk result (λ c. (fields_of c).has_globals ≡ false) }
+    ensures { IfOk result (λ c. app_of c ≡ with_looks) }
 {
-    let show = with_file(alloc)?;
-    let check = with_judged(alloc)?;
     let bare = on_packages(alloc)?;
+    let show = with_file(alloc)?;
     let first = with(bare, show)?;
+    let check = with_judged(alloc)?;
     with(first, check)
 }
 
 // And the one that writes a package to files.
 fn on_exports<'a>(alloc: Global) -> Result<Command<'a>, AllocError>
-    ensures app { IfOk result (λ c. app_of c ≡ with_files) }
-    ensures local { IfOk result (λ c. (fields_of c).has_globals ≡ false) }
+    ensures { IfOk result (λ c. app_of c ≡ with_files) }
 {
     let export = with_folder(alloc)?;
     let bare = on_looks(alloc)?;

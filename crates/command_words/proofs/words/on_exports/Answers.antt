@@ -1,10 +1,8 @@
-use Rattle.std.proofs.Common.{ap₂, ◌∙◌}
+use Rattle.std.proofs.Common.{ap, ap₂, ◌∙◌}
 use Rattle.std.proofs.lemmas.Result.{IfOk-weaker}
-use Rattle.clap.specs.Words.{App, with_subcommand}
+use Rattle.command_words.proofs.Joined.{is_plain, joined}
 use Rattle.command_words.proofs.words.on_exports.Goals as goal
 
-abbrev joined : App → App → App
-joined a b = with_subcommand a b.top
-
-pub returns-clause-app : goal.returns-clause-app
-returns-clause-app c = IfOk-weaker c.with.result _ _ (λ r h. h ∙ ap₂ joined c.in_ok-bare.ensures.app c.in_ok-export.ensures.app) c.with.ensures.app
+pub returns : goal.returns
+returns c =
+    IfOk-weaker c.with.result _ _ (λ r h. h ∙ ap₂ joined c.in_ok-bare.ensures c.in_ok-export.ensures) (c.with.ensures (ap is_plain c.in_ok-export.ensures))
