@@ -12,6 +12,7 @@ use Rattle.cfb_medium.specs.declared.error.Error.{Error}
 use Rattle.cfb_medium.specs.declared.error.Error.TheVariants.{Device, Failed, Memory, NotFound}
 use Rattle.cfb_medium.specs.declared.medium.ReadMedium.{Ghosts}
 use Rattle.cfb_mini.specs.Views.{allocator_of}
+use Rattle.cfb_tree.proofs.OneContent.{Some_same}
 use Rattle.command_file.specs.Request as asked
 use Rattle.command_file.specs.Request.{is_roll_back}
 use Rattle.command_file.specs.Said.{said}
@@ -30,7 +31,7 @@ use Rattle.staged.specs.Staged.{device_of}
 use Rattle.staged.specs.declared.device.Device as device
 use Rattle.staged.specs.declared.staged.Staged.{Staged}
 use Rattle.installer.proofs.Answering.{told_error}
-use Rattle.installer.proofs.Based.{some_sound}
+use Rattle.installer.proofs.Based.{base_of, some_sound}
 use Rattle.installer.proofs.Faults.{fault_kinds}
 use Rattle.installer.proofs.Following.{marks_other, published_on, still}
 use Rattle.installer.proofs.Going.{package_live}
@@ -45,16 +46,9 @@ use Rattle.installer.specs.Sessions.{condition_of, device_below, has_base, is_fa
 use Rattle.installer.specs.Step.{told_of}
 use Rattle.installer.specs.declared.session.SessionOver.{SessionOver}
 
-some_of : (base : Option Packed) → is_some base ≡ true → (B : Packed) × (base ≡ Some B)
-some_of (Some B) is = (B, refl)
-some_of None is = absurd (cc)
-
 none_of : (base : Option Packed) → is_some base ≡ false → base ≡ None
 none_of (Some B) is = absurd (cc)
 none_of None is = refl
-
-same_some : (P Q : Packed) → ◌≡◌ {A = Option Packed} (Some P) (Some Q) → P ≡ Q
-same_some P Q is = cc is
 
 second_true : (a b : Bool) → b ≡ true → a || b ≡ true
 second_true true b is = refl
@@ -88,7 +82,7 @@ module _ {D : Type 0} {g : device.Ghosts D} {h : Ghosts (Staged D g)}
           sound = refl;
           behaves = behaves;
           still = λ _. stay;
-          survives = λ start at. rw (marks_other start.sound start.held asked.roll_back reply refl) stay;
+          survives = λ start at. rw (marks_other start.sound start.held asked.roll_back reply (phase_of (is_failed it)) refl) stay;
         }
 
     pub follows_over : is_failed it ≡ true → (is_sound it ≡ true → has_base it ≡ false) → Follows asked.roll_back (told.refused Failed) it it
@@ -160,7 +154,7 @@ module _ {D : Type 0} {g : device.Ghosts D} {h : Ghosts (Staged D g)}
       more = (let one = at.place.failures in let two = keeps.counted in omega (arith, one, two))
 
       base : (B : Packed) × (start.base ≡ Some B)
-      base = some_of start.base (at.based ∙ some)
+      base = base_of start.base (at.based ∙ some)
 
       published : IsPublished old base.0
       published = at.base is_start_sound base.0 base.1
@@ -171,7 +165,7 @@ module _ {D : Type 0} {g : device.Ghosts D} {h : Ghosts (Staged D g)}
       -- of the package to which it leads
       of_base : (Holds : Packed → Type 0) → (HoldsSound (letters_in old) published.bytes base.0 → Holds base.0) → (B : Packed) → start.base ≡ Some B → PackageIsFit B → Holds B
       of_base Holds each B is fit =
-          let same = same_some base.0 B (sym base.1 ∙ is) in
+          let same = Some_same (sym base.1 ∙ is) in
           subst Holds same (each (published.found (subst (λ (P : Packed). PackageIsFit P) (sym same) fit)))
 
       goes_back : lower.GoesBack (λ m. HasPublished g (device_of m)) (package_in old) (package_in new) → (end : Course) × GoesBack start told.done end × StandsAt new end
@@ -249,5 +243,5 @@ module _ {D : Type 0} {g : device.Ghosts D} {h : Ghosts (Staged D g)}
           counted = keeps.counted;
         };
         still = λ _. still counts_now rests_keeps rests_leaves (letters_in old) (device_below old) (device_below new) rests;
-        survives = λ start at. rw (marks_other start.sound start.held asked.roll_back (told_of result) refl) (still counts_now rests_keeps rests_leaves (letters_in old) (device_below old) (device_below new) rests);
+        survives = λ start at. rw (marks_other start.sound start.held asked.roll_back (told_of result) (phase_of (is_failed new)) refl) (still counts_now rests_keeps rests_leaves (letters_in old) (device_below old) (device_below new) rests);
       }

@@ -1,6 +1,6 @@
 -- What a roll back finds.
-use Rattle.std.proofs.Common.{◌≡◌, ◌∙◌, ℕ, List, IsTrue, ap, subst, sym}
-use Rattle.std.specs.Prelude.{Some, true}
+use Rattle.std.proofs.Common.{◌≡◌, ◌∙◌, ℕ, List, IsTrue, Option, None, ap, refl, subst, sym}
+use Rattle.std.specs.Prelude.{is_some, Some, true}
 use Rattle.cfb.proofs.LiveMeaning.{holds_meant}
 use Rattle.cfb_meaning.proofs.OneTree.{tree_unique}
 use Rattle.cfb_meaning.specs.Means.{Means}
@@ -19,7 +19,12 @@ use Rattle.staged.specs.Files.{Files}
 use Rattle.staged.specs.Log.{recovered}
 use Rattle.staged.specs.Settled.{HasPublished, IsSettled}
 use Rattle.staged.specs.declared.device.Device as device
-use Rattle.installer.proofs.Recovering.{closed_home}
+use Rattle.staged.proofs.Torn.{closed_gives}
+
+-- the package to which a roll back leads, where there is one
+pub base_of : (base : Option Packed) → is_some base ≡ true → (B : Packed) × (base ≡ Some B)
+base_of (Some B) is = (B, refl)
+base_of None is = absurd (cc)
 
 -- a package that was opened and judged sound is one that its bytes hold
 module _ {F : Type 0} {g : Ghosts F} (letters : Letters) (bytes : List ℕ) (it : Package F g) (opened : IsOpenedPackage letters bytes it) (usable : may_use letters ≡ true) (sound : IsTrue (sound_in it)) where
@@ -54,5 +59,5 @@ pub settled_published : {D : Type 0} (g : device.Ghosts D) (d : D) (bytes : List
 settled_published g d bytes settled home = record {
   home = home;
   closed = settled.closed;
-  left = λ left now. subst (λ (files : Files). recovered files ≡ Some bytes) (sym (settled.kept left now)) (closed_home (g.content d) settled.closed ∙ ap Some home);
+  left = λ left now. subst (λ (files : Files). recovered files ≡ Some bytes) (sym (settled.kept left now)) (closed_gives (g.content d) settled.closed ∙ ap Some home);
 }

@@ -15,6 +15,7 @@ use Rattle.msi.specs.Committing.{HoldsSound}
 use Rattle.msi.specs.Opened.{IsRefused, PackageHolds}
 use Rattle.msi_meaning.specs.Opening.{may_use}
 use Rattle.msi_meaning.specs.Package.{Packed}
+use Rattle.msi_stored.specs.Reading.{IsOpeningError}
 use Rattle.staged.specs.Device.{DeviceRests}
 use Rattle.staged.specs.Files.{Files}
 use Rattle.staged.specs.Log.{logged, recovered, MalformedLog}
@@ -56,6 +57,11 @@ module _ {D : Type 0} (g : device.Ghosts D) (old : D) where
   pub counted_later : (mid new : D) (e : Error) → g.failures old ≤ g.failures mid → (e ≡ Device → g.failures mid < 2 ^ 64 - 1 → g.failures mid < g.failures new) → g.failures mid ≤ g.failures new
       → IsCounted g old new e
   counted_later mid new e first count second = λ is less. faults (g.failures old) (g.failures mid) (g.failures new) less first second (count is)
+
+-- what refuses a recovery may refuse an opening
+pub recovery_kinds : (e : Error) → (e ≡ InvalidData) ⊎ (e ≡ Device) → IsOpeningError e
+recovery_kinds e (inl malformed) = inr (inl malformed)
+recovery_kinds e (inr device) = inl (subst (IsFaultUnless ⊥) (sym device) tt)
 
 pub device_is_fault : (e : Error) → e ≡ Device → IsFault e
 device_is_fault e is = subst IsFault (sym is) (inl tt)

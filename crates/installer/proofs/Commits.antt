@@ -1,7 +1,7 @@
 -- How a commit goes.
 use Rattle.std.proofs.Common.{◌≡◌, ◌⊎◌, ◌≤◌, ◌∙◌, ℕ, Bool, IsTrue, List, Some, None, [], ap, false, inl, inr, refl, subst, sym, true, ⊎_elim}
 use Rattle.std.proofs.lemmas.Bool.{both_ways}
-use Rattle.std.specs.Prelude.{Err, IfErr, Ok, OnOk, Option, Result, is_ok}
+use Rattle.std.specs.Prelude.{Err, IfErr, Ok, OnErr, OnOk, Result, is_ok, is_some, not, ◌&&◌, ◌||◌}
 use Rattle.cfb.specs.Publishing.{medium_in}
 use Rattle.cfb.specs.Views.{mini_of}
 use Rattle.cfb_fat.specs.Tables.{HasCauseBelow}
@@ -11,23 +11,25 @@ use Rattle.cfb_medium.specs.declared.error.Error.TheVariants.{Failed}
 use Rattle.cfb_medium.specs.declared.medium.ReadMedium.{Ghosts}
 use Rattle.cfb_mini.specs.Views.{allocator_of}
 use Rattle.cfb_tree.specs.Names.{Letters}
+use Rattle.cfb_tree.proofs.OneContent.{Some_same}
 use Rattle.command_file.specs.Request as asked
 use Rattle.msi.specs.Committing.{PackageCommits}
 use Rattle.msi.specs.Opened.{file_in, PackageHolds}
 use Rattle.msi_meaning.specs.Package.{Packed}
+use Rattle.staged.specs.Device.{DeviceRests}
 use Rattle.staged.specs.Files.{Files}
 use Rattle.staged.specs.Settled.{HasPublished}
 use Rattle.staged.specs.Staged.{device_of}
 use Rattle.staged.specs.declared.device.Device as device
 use Rattle.staged.specs.declared.staged.Staged.{Staged}
 use Rattle.installer.proofs.Begun.{begins_at}
-use Rattle.installer.proofs.Following.{commit_survives}
+use Rattle.installer.proofs.Following.{commit_survives, published_on, still}
 use Rattle.installer.proofs.Going.{by_sound, medium_live, more, undone}
 use Rattle.installer.proofs.Together.{behaves_before, goes_before, never_both, stands_by, StandsStill}
-use Rattle.installer.proofs.Stopping.{survives_then}
+use Rattle.installer.proofs.Stopping.{survives_rest, survives_then}
 use Rattle.installer.proofs.Writing.{not_err, step_commit, unsaved, untouched}
 use Rattle.installer.specs.Behaviour.{BehavesOnce, Condition}
-use Rattle.installer.specs.Course.{fails, marks_of, refuses, rolls, running, stays, steps, Course, Goes, StepAs}
+use Rattle.installer.specs.Course.{failed, fails, marks_of, refuses, rolls, running, stays, steps, Course, Goes, StepAs}
 use Rattle.installer.specs.Follows.{AnswersQuietly, Follows}
 use Rattle.installer.specs.Reply.{Reply}
 use Rattle.installer.specs.Reply as told
@@ -49,25 +51,46 @@ flushed : (letters : Letters) (sound : Bool) (P Q : Packed) → StepAs sound let
 flushed letters true P Q step = step.0
 flushed letters false P Q step = step.0
 
-same_some : (P Q : Packed) → ◌≡◌ {A = Option Packed} (Some P) (Some Q) → P ≡ Q
-same_some P Q is = cc is
-
 -- a commit that was cut off leaves nothing to which to go back
-cut_off : (letters : Letters) (start end : Course) (e : Error) → start.phase ≡ running → Goes letters start asked.commit (told.refused e) end → Goes letters start asked.commit (told.refused e) (record end { base = None })
-cut_off letters start end e was (steps run step base yet sound counted) = absurd (no_step letters start.sound start.held end.held e step)
-cut_off letters start end e was (stays f run is undone page same base counted) = stays f run is undone page (ap (λ (c : Course). record c { base = None }) same) (inr (refl, refl)) counted
-cut_off letters start end e was (fails f run is undone unread same base counted) = fails f run is undone unread (ap (λ (c : Course). record c { base = None }) same) (inr (refl, refl)) counted
-cut_off letters start end e was (refuses run other is same) = absurd (never_both start.phase was run)
-cut_off letters start end e was (rolls back goes) = absurd (cc back)
+cut_off : (letters : Letters) (start end : Course) (e : Error) → start.phase ≡ running → end.phase ≡ failed → Goes letters start asked.commit (told.refused e) end
+    → Goes letters start asked.commit (told.refused e) (record end { base = None })
+cut_off letters start end e was broken (steps run step base yet sound counted) = absurd (no_step letters start.sound start.held end.held e step)
+cut_off letters start end e was broken (stays f run is undone page same counted) = absurd (never_both end.phase (ap (λ (c : Course). c.phase) same ∙ was) broken)
+cut_off letters start end e was broken (fails f run is undone unread same base counted) = fails f run is undone unread (ap (λ (c : Course). record c { base = None }) same) (inr (refl, refl)) counted
+cut_off letters start end e was broken (refuses run other is same) = absurd (never_both start.phase was run)
+cut_off letters start end e was broken (rolls back goes) = absurd (cc back)
+
+-- one after which the session goes on leaves that to which a roll back leads
+refusal_keeps : (letters : Letters) (start end : Course) (e : Error) → start.phase ≡ running → end.phase ≡ running → Goes letters start asked.commit (told.refused e) end
+    → (end.base ≡ start.base) × (end.sound ≡ start.sound)
+refusal_keeps letters start end e was lives (steps run step base yet sound counted) = absurd (no_step letters start.sound start.held end.held e step)
+refusal_keeps letters start end e was lives (stays f run is undone page same counted) = (ap (λ (c : Course). c.base) same, ap (λ (c : Course). c.sound) same)
+refusal_keeps letters start end e was lives (fails f run is undone unread same base counted) = absurd (never_both end.phase lives (ap (λ (c : Course). c.phase) same))
+refusal_keeps letters start end e was lives (refuses run other is same) = absurd (never_both start.phase was run)
+refusal_keeps letters start end e was lives (rolls back goes) = absurd (cc back)
+
+-- whether there is a package to which to go back, after a commit: by whether the session has failed, there was one, and the commit was done
+abbrev has_base_after : Bool → Bool → Bool → Bool
+has_base_after broken was done = not broken && (was || done)
+
+after_done : (f was : Bool) → f ≡ false → has_base_after f was true ≡ true
+after_done true was is = absurd (cc)
+after_done false true is = refl
+after_done false false is = refl
+
+after_refusal : (f was : Bool) → f ≡ false → has_base_after f was false ≡ was
+after_refusal true was is = absurd (cc)
+after_refusal false true is = refl
+after_refusal false false is = refl
+
+after_cut : (f was : Bool) → f ≡ true → has_base_after f was false ≡ false
+after_cut true was is = refl
+after_cut false was is = absurd (cc)
 
 -- what keeps a flush from being done keeps the commit from being begun
 as_commit : (letters : Letters) (start end : Course) (e : Error) → Goes letters start asked.flush (told.refused e) end → Goes letters start asked.commit (told.refused e) end
 as_commit letters start end e (steps run step base yet sound counted) = absurd (no_flush letters start.sound start.held end.held e step)
-as_commit letters start end e (stays f run is undone page same base counted) = stays f run is undone refl same (kept _ _ _ base) counted
-  where
-    kept : (A B C : Type 0) → A ⊎ ((false ≡ true) × B) → A ⊎ C
-    kept A B C (inl a) = inl a
-    kept A B C (inr b) = absurd (cc b.0)
+as_commit letters start end e (stays f run is undone page same counted) = stays f run is undone refl same counted
 as_commit letters start end e (fails f run is undone unread same base counted) = fails f run is undone refl same (kept _ _ _ base) counted
   where
     kept : (A B C : Type 0) → A ⊎ ((false ≡ true) × B) → A ⊎ C
@@ -80,8 +103,28 @@ commit_behaves : (old new : Condition) (reply : Reply) → BehavesOnce old asked
 commit_behaves old new reply b = record { ended = b.ended; live = b.live; device = b.device; reading = λ is. absurd (cc is); codepage = λ _ is. absurd (cc is); unsound = λ _ _ is. absurd (cc is); sound = b.sound; counted = b.counted }
 
 module _ {D : Type 0} {g : device.Ghosts D} {h : Ghosts (Staged D g)} where
-  module _ (refl_continues : (m : Staged D g) → h.continues m m) (honest_is : (m : Staged D g) → h.honest m ≡ g.honest (device_of m)) (old new : SessionOver (Staged D g) h) (live : is_failed old ≡ false) where
-    pub publish_goes : (r : Result (Unit {0}) Error) → has_base new ≡ is_ok r → PackageCommits (λ m. HasPublished g (device_of m)) r (package_in old) (package_in new)
+  module _ (counts_now : (d : D) (t : ℕ) (left : Files) → t ≤ g.moment d → g.may_leave d left → g.left_since d t left)
+      (rests_keeps : (a b : D) → g.rests a b → DeviceRests g.honest g.content g.writes g.failures a b) (rests_leaves : (a b : D) → g.rests a b → LeavesOnly g.moment g.left_since a b (g.may_leave a))
+      (refl_continues : (m : Staged D g) → h.continues m m) (rests : (a b : Staged D g) → h.continues a b → g.rests (device_of a) (device_of b)) (as_failed : (a b : Staged D g) → h.continues a b → h.failed a ≡ h.failed b)
+      (honest_is : (m : Staged D g) → h.honest m ≡ g.honest (device_of m)) (old new : SessionOver (Staged D g) h) (live : is_failed old ≡ false) where
+    -- by what was refused the medium went on, where the session does
+    went_on : (e : Error) → PackageCommits (λ m. HasPublished g (device_of m)) (Err e) (package_in old) (package_in new) → is_failed new ≡ false → h.continues (medium_in (file_in (package_in old))) (medium_in (file_in (package_in new)))
+    went_on e commits lives =
+        let from = medium_in (file_in (package_in old)) in
+        ⊎_elim (λ broken. absurd (both_ways (is_failed new) lives broken)) (λ goes. goes.continues from (refl_continues from)) commits.quiet
+
+    -- so nothing was published
+    pub unpublished : (r : Result (Unit {0}) Error) → PackageCommits (λ m. HasPublished g (device_of m)) r (package_in old) (package_in new)
+        → OnErr r (phase_of (is_failed new) ≡ running → Survives (letters_in old) g (device_below old) (device_below new) [])
+    unpublished (Ok u) commits = tt
+    unpublished (Err e) commits = λ runs.
+        still counts_now rests_keeps rests_leaves (letters_in old) (device_below old) (device_below new) (rests (medium_in (file_in (package_in old))) (medium_in (file_in (package_in new))) (went_on e commits (lives (is_failed new) runs)))
+      where
+        lives : (b : Bool) → phase_of b ≡ running → b ≡ false
+        lives true runs = absurd (cc runs)
+        lives false runs = refl
+
+    pub publish_goes : (r : Result (Unit {0}) Error) → has_base new ≡ has_base_after (is_failed new) (has_base old) (is_ok r) → PackageCommits (λ m. HasPublished g (device_of m)) r (package_in old) (package_in new)
         → h.failures (medium_in (file_in (package_in old))) ≤ h.failures (medium_in (file_in (package_in new)))
         → IfErr r (HasCauseBelow (allocator_of (mini_of (file_in (package_in old)))) (allocator_of (mini_of (file_in (package_in new)))))
         → (start : Course) → StandsAt old start → (end : Course) × Goes (letters_in old) start asked.commit (told_of r) end × StandsAt new end
@@ -94,10 +137,10 @@ module _ {D : Type 0} {g : device.Ghosts D} {h : Ghosts (Staged D g)} where
           steps now (step_commit (letters_in old) start.sound start.held) refl now refl (more (package_in old) (package_in new) start at.place live counted commits.seen.1),
           record {
             place = record { phase = now ∙ ap phase_of (sym commits.live.1); held = λ _. kept; failures = refl; sound = at.place.sound ∙ sym commits.seen.1 };
-            based = sym based;
+            based = sym (based ∙ after_done (is_failed new) (has_base old) commits.live.1);
             base = λ sound B is.
                 let done = commits.done start.held holds (sym at.place.sound ∙ sound) in
-                subst (λ (P : Packed). IsPublished new P) (same_some start.held B is) (record {
+                subst (λ (P : Packed). IsPublished new P) (Some_same is) (record {
                   honest = subst IsTrue (honest_is (medium_in (file_in (package_in new)))) done.holds.file.honest;
                   live = medium_live (package_in new) commits.live.1;
                   usable = done.holds.usable;
@@ -113,15 +156,30 @@ module _ {D : Type 0} {g : device.Ghosts D} {h : Ghosts (Staged D g)} where
         let went = ⊎_elim
         (λ sound. undone (package_in old) (package_in new) start at.place live counted commits.seen.1 asked.commit e refl
         (unsaved refl_continues (package_in old) (package_in new) start at.place live asked.commit refl (λ is. is) e cause (commits.refused start.held holds (sym at.place.sound ∙ sound))) commits.rests)
-        (λ unsound. absurd (not_err (commits.unsound live (sym at.place.sound ∙ unsound)).0)) (by_sound start.sound) in (
+        (λ unsound. absurd (not_err (commits.unsound live (sym at.place.sound ∙ unsound)).0)) (by_sound start.sound) in
+        ⊎_elim
+        (λ broken. (
           record went.0 { base = None },
-          cut_off (letters_in old) start went.0 e now went.1,
+          cut_off (letters_in old) start went.0 e now (went.2.phase ∙ ap phase_of broken) went.1,
           record {
             place = record { phase = went.2.phase; held = went.2.held; failures = went.2.failures; sound = went.2.sound };
-            based = sym based;
+            based = sym (based ∙ after_cut (is_failed new) (has_base old) broken);
             base = λ _ B is. absurd (cc is);
           },
-        )
+        ))
+        (λ lives.
+        let kept = refusal_keeps (letters_in old) start went.0 e now (went.2.phase ∙ ap phase_of lives) went.1 in
+        let from = medium_in (file_in (package_in old)) in
+        let to = medium_in (file_in (package_in new)) in
+        let on = went_on e commits lives in (
+          went.0,
+          went.1,
+          record {
+            place = went.2;
+            based = ap is_some kept.0 ∙ at.based ∙ sym (based ∙ after_refusal (is_failed new) (has_base old) lives);
+            base = λ sound B is. published_on counts_now rests_keeps rests_leaves old new B (rests from to on) (as_failed from to on) commits.seen.0 (at.base (sym kept.1 ∙ sound) B (sym kept.0 ∙ is));
+          },
+        )) (by_sound (is_failed new))
 
   -- a flush before it leaves the session as it was
   pub flush_stands : (old mid : SessionOver (Staged D g) h) → is_failed old ≡ false → is_failed mid ≡ false → is_sound old ≡ true → Follows asked.flush told.done old mid → StandsStill old mid
@@ -129,7 +187,7 @@ module _ {D : Type 0} {g : device.Ghosts D} {h : Ghosts (Staged D g)} where
     where
       held : (start end : Course) → StandsAt old start → StandsAt mid end → Goes (letters_in old) start asked.flush told.done end → (start.failures ≤ end.failures) × (end.held ≡ start.held)
       held start end at there (steps run step base yet alike counted) = (counted, flushed (letters_in old) start.sound start.held end.held step)
-      held start end at there (stays e run is undone page same base counted) = absurd (cc is)
+      held start end at there (stays e run is undone page same counted) = absurd (cc is)
       held start end at there (fails e run is undone unread same base counted) = absurd (cc is)
       held start end at there (refuses run other is same) = absurd (cc is)
       held start end at there (rolls back goes) = absurd (cc back)
@@ -142,7 +200,7 @@ module _ {D : Type 0} {g : device.Ghosts D} {h : Ghosts (Staged D g)} where
     where
       kept : (end : Course) → Goes (letters_in old) (beginning old None P) asked.flush told.done end → end.held ≡ P
       kept end (steps run step base yet alike counted) = flushed (letters_in old) (is_sound old) P end.held step
-      kept end (stays e run is undone page same base counted) = absurd (cc is)
+      kept end (stays e run is undone page same counted) = absurd (cc is)
       kept end (fails e run is undone unread same base counted) = absurd (cc is)
       kept end (refuses run other is same) = absurd (cc is)
       kept end (rolls back goes) = absurd (cc back)
@@ -172,7 +230,7 @@ module _ {D : Type 0} {g : device.Ghosts D} {h : Ghosts (Staged D g)} where
           later = l.later;
           each = λ given since. inl (since.0, l.each since.0 since.1, since.2);
           before = λ t given le since. ⊎_elim (λ past. inl (since.0, past, since.2)) (λ now. inr (inl (since.0, now, since.2))) (l.before t since.0 le since.1);
-        }) tt other
+        }) tt other (phase_of (is_failed mid)) (λ _. survives_rest (letters_in old) g counts_now (device_below old) (device_below mid) honest counted l)
         );
   }
 
@@ -190,6 +248,6 @@ module _ {D : Type 0} {g : device.Ghosts D} {h : Ghosts (Staged D g)} where
     still = λ unsound. absurd (both_ways (is_sound old) unsound s.is_sound_then);
     survives = λ start at.
         let there = s.place start at in
-        let own = subst (λ (l : Letters). Survives l g (device_below mid) (device_below new) (marks_of start asked.commit reply)) s.letters (follows.survives (record start { failures = there.0 }) there.2) in
-        survives_then (letters_in old) g (device_below old) (device_below mid) (device_below new) [] (marks_of start asked.commit reply) there.3 own;
+        let own = subst (λ (l : Letters). Survives l g (device_below mid) (device_below new) (marks_of start asked.commit reply (phase_of (is_failed new)))) s.letters (follows.survives (record start { failures = there.0 }) there.2) in
+        survives_then (letters_in old) g (device_below old) (device_below mid) (device_below new) [] (marks_of start asked.commit reply (phase_of (is_failed new))) there.3 own;
   }

@@ -1,7 +1,7 @@
 -- How one command of a session goes, over a device.
 use Rattle.std.proofs.Common.{◌≡◌, ◌⊎◌, ◌≤◌, ◌∷◌, ◌∙◌, ℕ, Bool, List, [], Some, ap, false, inl, inr, refl, subst, sym, true, ⊎_elim}
 use Rattle.std.proofs.lemmas.Bool.{both_ways}
-use Rattle.std.specs.Prelude.{Err, IfErr, IsErrOf, IsTrue, Ok, OnOk, Option, Result, is_some}
+use Rattle.std.specs.Prelude.{Err, IfErr, IsTrue, Ok, OnErr, OnOk, Option, Result, is_some}
 use Rattle.cfb.specs.Publishing.{medium_in}
 use Rattle.cfb.specs.Views as file
 use Rattle.cfb.specs.Views.{mini_of}
@@ -30,7 +30,8 @@ use Rattle.staged.specs.declared.staged.Staged.{Staged}
 use Rattle.installer.proofs.Answering.{behaves_ended}
 use Rattle.installer.proofs.Going.{base_other}
 use Rattle.installer.proofs.Stopping.{survives_commit, survives_rest}
-use Rattle.installer.specs.Course.{fails, marks_as, refuses, rolls, stays, steps, Course, Goes, KeepsBase}
+use Rattle.installer.specs.Course.{fails, marks_as, refuses, rolls, stays, steps, Course, Goes, KeepsBase, Phase}
+use Rattle.installer.specs.Course as phase
 use Rattle.installer.specs.Follows.{AnswersQuietly, Follows}
 use Rattle.installer.specs.Reply.{Reply}
 use Rattle.installer.specs.Reply as told
@@ -39,17 +40,29 @@ use Rattle.installer.specs.Step.{told_of}
 use Rattle.installer.specs.Survival.{gives, given_since, IsFound, IsGiven, Survives}
 use Rattle.installer.specs.declared.session.SessionOver.{SessionOver}
 
-pub marks_other : (b : Bool) (held : Packed) (request : Request) (reply : Reply) → is_commit request ≡ false → marks_as b held request reply ≡ []
-marks_other false held request reply other = refl
-marks_other true held asked.commit reply other = absurd (cc)
-marks_other true held request reply other = refl
+pub marks_other : (b : Bool) (held : Packed) (request : Request) (reply : Reply) (left : Phase) → is_commit request ≡ false → marks_as b held request reply left ≡ []
+marks_other false held request reply left other = refl
+marks_other true held asked.commit reply left other = absurd (cc)
+marks_other true held request reply left other = refl
 
-pub marks_none : (b : Bool) (held : Packed) (request : Request) → marks_as b held request (told.refused Failed) ≡ []
-marks_none false held request = refl
-marks_none true held asked.commit = refl
-marks_none true held request = refl
+pub marks_none : (b : Bool) (held : Packed) (request : Request) (left : Phase) → marks_as b held request (told.refused Failed) left ≡ []
+marks_none false held request left = refl
+marks_none true held asked.commit left = refl
+marks_none true held request left = refl
 
-pub marks_refused : (held : Packed) (e : Error) → (e ≡ Failed → ⊥) → marks_as true held asked.commit (told.refused e) ≡ record { held = held; done = false } ∷ []
+-- one that is refused where the session goes on
+marks_unbegun : (held : Packed) (e : Error) → marks_as true held asked.commit (told.refused e) phase.running ≡ []
+marks_unbegun held Failed = refl
+marks_unbegun held InvalidInput = refl
+marks_unbegun held Memory = refl
+marks_unbegun held Device = refl
+marks_unbegun held Full = refl
+marks_unbegun held InvalidData = refl
+marks_unbegun held NotFound = refl
+marks_unbegun held AlreadyExists = refl
+marks_unbegun held UnexpectedEof = refl
+
+pub marks_refused : (held : Packed) (e : Error) → (e ≡ Failed → ⊥) → marks_as true held asked.commit (told.refused e) phase.failed ≡ record { held = held; done = false } ∷ []
 marks_refused held Failed other = absurd (other refl)
 marks_refused held InvalidInput other = refl
 marks_refused held Memory other = refl
@@ -74,7 +87,7 @@ base_kept start end request other (inr cut) = absurd (both_ways (is_commit reque
 pub kept_quiet : (letters : Letters) (start end : Course) (request : Request) (reply : Reply) → is_commit request ≡ false → is_roll_back request ≡ false → Goes letters start request reply end
     → (end.base ≡ start.base) × (end.sound ≡ start.sound)
 kept_quiet letters start end request reply other unrolled (steps run step base yet sound counted) = (base ∙ base_other start request reply other, sound)
-kept_quiet letters start end request reply other unrolled (stays e run is undone page same base counted) = (base_kept start end request other base, ap (λ (c : Course). c.sound) same)
+kept_quiet letters start end request reply other unrolled (stays e run is undone page same counted) = (ap (λ (c : Course). c.base) same, ap (λ (c : Course). c.sound) same)
 kept_quiet letters start end request reply other unrolled (fails e run is undone unread same base counted) = (base_kept start end request other base, ap (λ (c : Course). c.sound) same)
 kept_quiet letters start end request reply other unrolled (refuses run own is same) = (ap (λ (c : Course). c.base) same, ap (λ (c : Course). c.sound) same)
 kept_quiet letters start end request reply other unrolled (rolls back goes) = absurd (both_ways (is_roll_back request) unrolled back)
@@ -135,7 +148,7 @@ module _ {D : Type 0} {g : device.Ghosts D} {h : Ghosts (Staged D g)}
           sound = answers.by_rule.sound;
           behaves = answers.behaves;
           still = λ unsound. still counts_now rests_keeps rests_leaves (letters_in old) (device_below old) (device_below new) rested;
-          survives = λ start at. rw (marks_other start.sound start.held request reply other) (still counts_now rests_keeps rests_leaves (letters_in old) (device_below old) (device_below new) rested);
+          survives = λ start at. rw (marks_other start.sound start.held request reply (phase_of (is_failed new)) other) (still counts_now rests_keeps rests_leaves (letters_in old) (device_below old) (device_below new) rested);
         }
 
 -- a command after a fault
@@ -147,7 +160,7 @@ failed_follows it request stay failed own = record {
   sound = refl;
   behaves = behaves_ended it request failed;
   still = λ _. stay;
-  survives = λ start at. rw (marks_none start.sound start.held request) stay;
+  survives = λ start at. rw (marks_none start.sound start.held request (phase_of (is_failed it))) stay;
 }
 
 module _ {D : Type 0} {g : device.Ghosts D} (counts_now : (d : D) (t : ℕ) (left : Files) → t ≤ g.moment d → g.may_leave d left → g.left_since d t left) where
@@ -155,10 +168,12 @@ module _ {D : Type 0} {g : device.Ghosts D} (counts_now : (d : D) (t : ℕ) (lef
   pub commit_survives : (letters : Letters) (a b : D) (P : Packed) (result : Result (Unit {0}) Error) → g.honest b ≡ g.honest a → g.failures a ≤ g.failures b
       → (IsTrue (g.honest a) → LeavesOnly g.moment (given_since g) a b (λ given. gives g a given ⊎ IsGiven (λ bytes. IsFound letters bytes P) given))
       → OnOk result ((bytes : List ℕ) × ((left : Files) → g.may_leave b left → recovered left ≡ Some bytes) × IsFound letters bytes P)
-      → IfErr result (λ e. e ≡ Failed → ⊥) → Survives letters g a b (marks_as true P asked.commit (told_of result))
-  commit_survives letters a b P (Ok u) honest counted leaves published other =
+      → IfErr result (λ e. e ≡ Failed → ⊥) → (left : Phase) → OnErr result (left ≡ phase.running → Survives letters g a b [])
+      → Survives letters g a b (marks_as true P asked.commit (told_of result) left)
+  commit_survives letters a b P (Ok u) honest counted leaves published other left unbegun =
       survives_commit letters g counts_now a b (record { held = P; done = true }) honest counted leaves (inr (λ _ left now. (published.0, published.1 left now, published.2)))
-  commit_survives letters a b P (Err e) honest counted leaves published other =
+  commit_survives letters a b P (Err e) honest counted leaves published other phase.running unbegun = rw (marks_unbegun P e) (unbegun refl)
+  commit_survives letters a b P (Err e) honest counted leaves published other phase.failed unbegun =
       rw (marks_refused P e other) (survives_commit letters g counts_now a b (record { held = P; done = false }) honest counted leaves (inl refl))
 
 -- ---- commits
@@ -168,10 +183,6 @@ pub not_failed_error : {F : Type 0} {g : Ghosts F} (refl_continues : (m : F) →
     → IfErr r (HasCauseBelow (allocator_of (mini_of (file_in old))) (allocator_of (mini_of (file_in new)))) → IfErr r (λ e. e ≡ Failed → ⊥)
 not_failed_error refl_continues old new (Ok u) live cause = tt
 not_failed_error refl_continues old new (Err e) live cause = λ is. both_ways (failed_in old) live ((cause (medium_in (file_in old)) (refl_continues (medium_in (file_in old)))).earlier is)
-
--- a commit of a package that has failed
-pub failed_result : (r : Result (Unit {0}) Error) → IsErrOf r Failed → told_of r ≡ told.refused Failed
-failed_result r is = ap told_of is
 
 -- bytes that are found of a package that was held, where they were published
 pub published_found : {F : Type 0} {g : Ghosts F} (has_published : F → List ℕ → Type 0) (old new : Package F g) (r : Result (Unit {0}) Error) → PackageCommits has_published r old new

@@ -145,7 +145,7 @@ module _ {F : Type 0} {g : Ghosts F} (old new : Package F g) (start : Course) (a
       ))
       (λ now. (
         with_held start.held,
-        stays e was refl (is (with_held start.held) refl) (not_codepage request unread) refl (inl refl) more,
+        stays e was refl (is (with_held start.held) refl) (not_codepage request unread) refl more,
         held_at start.held now (⊎_elim (λ failed. absurd (both_ways (failed_in new) now failed)) (λ keeps. keeps.holds start.held held_here) kept),
       )) (by_sound (failed_in new))
     where
@@ -162,7 +162,7 @@ module _ {F : Type 0} {g : Ghosts F} (old new : Package F g) (start : Course) (a
   -- it met a fault, and the package stays
   pub lost : (request : Request) (e : Error) → is_codepage request ≡ false → IsUndone start request e (with_held start.held) → failed_in new ≡ false → PackageHolds new start.held
       → Leads new letters start request (told.refused e)
-  lost request e other is now held = (with_held start.held, stays e was refl is other refl (inl refl) more, held_at start.held now held)
+  lost request e other is now held = (with_held start.held, stays e was refl is other refl more, held_at start.held now held)
 
 -- the step of a sound package, or of any where the command reads
 pub step_of_sound : (letters : Letters) (sound : Bool) (P Q : Packed) (request : Request) (reply : Reply) → sound ≡ true → Step letters P request reply Q → StepAs sound letters P request reply Q

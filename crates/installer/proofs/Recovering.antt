@@ -16,10 +16,6 @@ recovers_by (OpenLog len pages) old new answer by = ap Some (sym by.home)
 pub recovers_home : (old new : Files) (answer : Recovered) → Recovers old new answer → recovered old ≡ Some new.home
 recovers_home old new answer by = recovers_by (logged old) old new answer by
 
--- a closed log leaves the home file
-pub closed_home : (files : Files) → logged files ≡ ClosedLog → recovered files ≡ Some files.home
-closed_home files closed = ap (recovered_by files) closed
-
 -- beside a malformed log a recovery gives nothing
 pub never_recovered : (files : Files) (bytes : List ℕ) → logged files ≡ MalformedLog → recovered files ≡ Some bytes → ⊥
 never_recovered files bytes malformed given =

@@ -11,7 +11,7 @@ use Rattle.staged.specs.declared.device.Device as device
 use Rattle.staged.specs.declared.staged.Staged.{Staged}
 use Rattle.installer.proofs.Stopping.{survives_then}
 use Rattle.installer.specs.Behaviour.{Behaves, Condition}
-use Rattle.installer.specs.Course.{Course, Mark, Runs, marks_of}
+use Rattle.installer.specs.Course.{Course, Mark, Phase, Runs, marks_of}
 use Rattle.installer.specs.Follows.{AreAnswered, FollowAll, Follows}
 use Rattle.installer.specs.Reply.{Reply}
 use Rattle.installer.specs.Sessions.{condition_of, device_below, letters_in}
@@ -27,7 +27,7 @@ runs_then letters start mid end (r ∷ rs) second (p ∷ ps) later own marks a b
   a.1 ++ marks,
   a.2,
   runs_then letters a.0 mid end rs second ps later a.1 marks a.3 b,
-  ap (λ ms. ms ++ marks) a.4 ∙ append_assoc (marks_of start r p) a.1 marks,
+  ap (λ ms. ms ++ marks) a.4 ∙ append_assoc (marks_of start r p a.0.phase) a.1 marks,
 )
 runs_then letters start mid end [] second (p ∷ ps) later own marks a b = absurd a
 runs_then letters start mid end (r ∷ rs) second [] later own marks a b = absurd a
@@ -46,7 +46,9 @@ module _ {D : Type 0} {g : device.Ghosts D} {h : Ghosts (Staged D g)} where
   follow_one request reply old new follows = record {
     ran = λ start at.
         let on = follows.goes start at in
-        (on.0, marks_of start request reply, (on.0, [], on.1, (refl, refl), sym (append-nil (marks_of start request reply))), on.2, follows.survives start at);
+        let marks = marks_of start request reply on.0.phase in
+        let own = subst (λ (p : Phase). Survives (letters_in old) g (device_below old) (device_below new) (marks_of start request reply p)) (sym on.2.place.phase) (follows.survives start at) in
+        (on.0, marks, (on.0, [], on.1, (refl, refl), sym (append-nil marks)), on.2, own);
     letters = follows.letters;
     behaves = (condition_of new, follows.behaves, refl);
     still = follows.still;

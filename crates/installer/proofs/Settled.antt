@@ -1,11 +1,12 @@
 -- Runs that are settled by their commands.
 use Rattle.std.proofs.Common.{◌≡◌, ◌⊎◌, ◌||◌, ◌∙◌, ◌++◌, Bool, List, None, Some, [], ◌∷◌, ap, ap₂, false, inl, inr, not, refl, subst, sym, true, ⊎_elim}
 use Rattle.std.proofs.lemmas.Bool.{both_ways}
-use Rattle.std.specs.Prelude.{bytes_eq, filter, is_none, is_some, ℕ, Option, Result, Ok, Err}
+use Rattle.std.specs.Prelude.{bytes_eq, filter, is_none, ℕ, Result, Ok, Err}
 use Rattle.cfb_medium.specs.declared.error.Error.{Error}
 use Rattle.cfb_medium.specs.declared.error.Error.TheVariants.{AlreadyExists}
 use Rattle.cfb_meaning.specs.TreeRules.{Object}
 use Rattle.cfb_tree.specs.Names.{Letters}
+use Rattle.cfb_tree.proofs.OneContent.{Some_same}
 use Rattle.command_file.specs.Request.{Request, is_changing, is_roll_back}
 use Rattle.command_file.specs.Request as command
 use Rattle.msi_changes.specs.Changes.{deleted, inserted, updated}
@@ -17,8 +18,9 @@ use Rattle.msi_tables.specs.Rows.{IsStored, Row}
 use Rattle.msi_tables.specs.Schema.{columns_columns, columns_name, tables_columns, tables_name, validation_name}
 use Rattle.msi_tables.specs.Table.{IsStoredByKeys}
 use Rattle.msi_texts.specs.Results.{unless_not, ◌>>=◌}
+use Rattle.installer.proofs.Based.{base_of}
 use Rattle.installer.proofs.Once.{step_once}
-use Rattle.installer.specs.Course.{base_after, over, fails, broken, unchanged, baseless, led, marks_as, marks_of, refuses, rolls, stays, steps, Course, Goes, GoesBack, IsTooMuch, KeepsBase, IsUndone, Mark, Runs, StepAs}
+use Rattle.installer.specs.Course.{base_after, over, fails, broken, unchanged, baseless, led, marks_as, marks_of, refuses, rolls, stays, steps, Course, Goes, GoesBack, IsTooMuch, KeepsBase, IsUndone, Mark, Phase, Runs, StepAs}
 use Rattle.installer.specs.Reply.{Reply}
 use Rattle.installer.specs.Reply as told
 use Rattle.installer.specs.Step.{PackageBecomes, Reads, Step}
@@ -56,7 +58,7 @@ not_back request reply back by = let never : true ≡ false = sym by ∙ ap not 
 went : (letters : Letters) (old new : Course) (request : Request) (reply : Reply) → Goes letters old request reply new → is_by_rule request reply ≡ true
     → StepAs old.sound letters old.held request reply new.held × (new.sound ≡ old.sound)
 went letters old new request reply (steps run step base yet sound counted) by = (step, sound)
-went letters old new request reply (stays e run is undone other same base counted) by = absurd (not_by_rule request reply e is (outside old new request e undone) by)
+went letters old new request reply (stays e run is undone other same counted) by = absurd (not_by_rule request reply e is (outside old new request e undone) by)
 went letters old new request reply (fails e run is undone unread same base counted) by = absurd (not_by_rule request reply e is (outside old new request e undone) by)
 went letters old new request reply (refuses run other is same) by = absurd (not_by_rule request reply _ is refl by)
 went letters old new request reply (rolls back goes) by = absurd (not_back request reply back by)
@@ -162,13 +164,9 @@ keeps_as : (letters : Letters) (P Q : Packed) (request : Request) (r : Reply) (s
 keeps_as letters P Q request r true h = step_keeps letters P Q request r h
 keeps_as letters P Q request r false h = keeps_unsound letters P Q request r (is_changing request) refl h
 
-based : (base : Option Packed) → is_some base ≡ true → (B : Packed) × (base ≡ Some B)
-based (Some B) is = (B, refl)
-based None is = absurd (cc)
-
 goes_keep : (letters : Letters) (old new : Course) (request : Request) (r : Reply) → is_roll_back request ≡ false → Goes letters old request r new → new.held.storages ≡ old.held.storages
 goes_keep letters old new request r other (steps run step base yet sound counted) = keeps_as letters old.held new.held request r old.sound step
-goes_keep letters old new request r other (stays e run is undone page same base counted) = ap (λ (c : Course). c.held.storages) same
+goes_keep letters old new request r other (stays e run is undone page same counted) = ap (λ (c : Course). c.held.storages) same
 goes_keep letters old new request r other (fails e run is undone unread same base counted) = ap (λ (c : Course). c.held.storages) same
 goes_keep letters old new request r other (refuses run unrolled is same) = ap (λ (c : Course). c.held.storages) same
 goes_keep letters old new request r other (rolls back goes) = absurd (both_ways (is_roll_back request) other back)
@@ -183,7 +181,7 @@ runs_keep letters start end (q ∷ qs) [] marks on runs = absurd runs
 
 back_keeps : (old new : Course) (r : Reply) → IsBasedOn old.held.storages old → GoesBack old r new → new.held.storages ≡ old.held.storages
 back_keeps old new r on (led sound is some held same counted) =
-    let b = based old.base some in
+    let b = base_of old.base some in
     let k = on sound b.0 b.1 in
     ap (λ (p : Packed). p.storages) (held b.0 b.1 k.0) ∙ k.1
 back_keeps old new r on (unchanged sound run is same counted) = ap (λ (c : Course). c.held.storages) same
@@ -204,25 +202,22 @@ fit_first [] second are = (tt, are)
 fit_first (m ∷ first) second are = let rest = fit_first first second are.1 in ((are.0, rest.0), rest.1)
 
 -- the base of a course after a request is that of before, or what was committed
-after_based : (old : Course) (q : Request) (r : Reply) → old.sound ≡ true → AreFit (marks_of old q r) → (B : Packed) → base_after old q r ≡ Some B
+after_based : (old : Course) (q : Request) (r : Reply) (left : Phase) → old.sound ≡ true → AreFit (marks_of old q r left) → (B : Packed) → base_after old q r ≡ Some B
     → (old.base ≡ Some B) ⊎ (PackageIsFit B × (B.storages ≡ old.held.storages))
-after_based old command.commit told.done sound fits B is =
-    let one : AreFit (marks_as true old.held command.commit told.done) = subst (λ b. AreFit (marks_as b old.held command.commit told.done)) sound fits in
-    let same : old.held ≡ B = some_of is in
+after_based old command.commit told.done left sound fits B is =
+    let one : AreFit (marks_as true old.held command.commit told.done left) = subst (λ b. AreFit (marks_as b old.held command.commit told.done left)) sound fits in
+    let same : old.held ≡ B = Some_same is in
     inr (subst (λ (P : Packed). PackageIsFit P) same one.0, ap (λ (p : Packed). p.storages) (sym same))
-  where
-    some_of : {X : Type 0} {x y : X} → Some x ≡ Some y → x ≡ y
-    some_of is = cc
-after_based old q r sound fits B is = inl is
+after_based old q r left sound fits B is = inl is
 
 undone_based : (old new : Course) (q : Request) → KeepsBase old q new → (B : Packed) → new.base ≡ Some B → {Holds : Type 0} → (old.base ≡ Some B → Holds) → Holds
 undone_based old new q (inl kept) B b each = each (sym kept ∙ b)
 undone_based old new q (inr cut) B b each = let never : None ≡ Some B = sym cut.1 ∙ b in absurd (cc never)
 
-goes_based : (letters : Letters) (old new : Course) (q : Request) (r : Reply) → AreFit (marks_of old q r) → IsBasedOn old.held.storages old → Goes letters old q r new → IsBasedOn old.held.storages new
+goes_based : (letters : Letters) (old new : Course) (q : Request) (r : Reply) → AreFit (marks_of old q r new.phase) → IsBasedOn old.held.storages old → Goes letters old q r new → IsBasedOn old.held.storages new
 goes_based letters old new q r fits on (steps run step base yet sound counted) = λ is B b. ⊎_elim
-    (λ before. on (sym sound ∙ is) B before) (λ now. now) (after_based old q r (sym sound ∙ is) fits B (sym base ∙ b))
-goes_based letters old new q r fits on (stays e run is undone page same base counted) = λ s B b. undone_based old new q base B b (on (sym (ap (λ (c : Course). c.sound) same) ∙ s) B)
+    (λ before. on (sym sound ∙ is) B before) (λ now. now) (after_based old q r new.phase (sym sound ∙ is) fits B (sym base ∙ b))
+goes_based letters old new q r fits on (stays e run is undone page same counted) = λ s B b. on (sym (ap (λ (c : Course). c.sound) same) ∙ s) B (sym (ap (λ (c : Course). c.base) same) ∙ b)
 goes_based letters old new q r fits on (fails e run is undone unread same base counted) = λ s B b. undone_based old new q base B b (on (sym (ap (λ (c : Course). c.sound) same) ∙ s) B)
 goes_based letters old new q r fits on (refuses run unrolled is same) = λ s B b. on (sym (ap (λ (c : Course). c.sound) same) ∙ s) B (sym (ap (λ (c : Course). c.base) same) ∙ b)
 goes_based letters old new q r fits on (rolls back goes) = let both = back_based old new r goes in λ s B b. on (sym both.1 ∙ s) B (sym both.0 ∙ b)
@@ -234,7 +229,7 @@ goes_storing letters old new q r on goes = by (is_roll_back q) refl goes
     by false is goes = goes_keep letters old new q r is goes
     by true is (rolls back goes) = back_keeps old new r on goes
     by true is (steps run step base yet sound counted) = keeps_as letters old.held new.held q r old.sound step
-    by true is (stays e run told undone page same base counted) = ap (λ (c : Course). c.held.storages) same
+    by true is (stays e run told undone page same counted) = ap (λ (c : Course). c.held.storages) same
     by true is (fails e run told undone unread same base counted) = ap (λ (c : Course). c.held.storages) same
     by true is (refuses run unrolled told same) = ap (λ (c : Course). c.held.storages) same
 
@@ -242,7 +237,7 @@ pub runs_storing : (letters : Letters) (start end : Course) (requests : List Req
     → Runs letters start requests replies marks end → end.held.storages ≡ start.held.storages
 runs_storing letters start end [] [] marks on fits runs = ap (λ (c : Course). c.held.storages) runs.1
 runs_storing letters start end (q ∷ qs) (r ∷ rs) marks on fits runs =
-    let both = fit_first (marks_of start q r) runs.1 (subst (λ ms. AreFit ms) runs.4 fits) in
+    let both = fit_first (marks_of start q r runs.0.phase) runs.1 (subst (λ ms. AreFit ms) runs.4 fits) in
     let same = goes_storing letters start runs.0 q r on runs.2 in
     let next = subst (λ s. IsBasedOn s runs.0) (sym same) (goes_based letters start runs.0 q r both.0 on runs.2) in
     runs_storing letters runs.0 end qs rs runs.1 next both.1 runs.3 ∙ same

@@ -3,12 +3,12 @@ use Rattle.std.proofs.Common.{◌≡◌, ◌⊎◌, inl, inr, ⊎_elim, ◌≤�
 use Rattle.cfb_medium.specs.Stops.{LeavesOnly}
 use Rattle.cfb_tree.specs.Names.{Letters}
 use Rattle.staged.proofs.Leaving.{leaves_then}
+use Rattle.staged.proofs.Torn.{closed_gives}
 use Rattle.staged.specs.Files.{Files}
 use Rattle.staged.specs.Log.{recovered}
 use Rattle.staged.specs.Settled.{IsSettled}
 use Rattle.staged.specs.Steps.{GivesAlike}
 use Rattle.staged.specs.declared.device.Device.{Ghosts}
-use Rattle.installer.proofs.Recovering.{closed_home}
 use Rattle.installer.specs.Course.{Mark}
 use Rattle.installer.specs.History.{Event, returned, stopped, Happen}
 use Rattle.installer.specs.Survival.{MayBeFound, begun, IsFound, IsGiven, AllGive, AnyList, gives, given_since, listed, Survives}
@@ -162,7 +162,7 @@ module _ (letters : Letters) where
         → IsTrue (g.honest d) → AllGive lists (gives g d) → Happen letters g d events marks last → IsSettled g last → MayBeFound letters lists marks (g.content last).home
     home_found shows d events marks last lists honest all happen settled =
         let home = (g.content last).home in
-        let one = survive d events marks last lists honest all happen (Some home) (g.content last, shows last (honest_last d events marks last honest happen), closed_home (g.content last) settled.closed) in
+        let one = survive d events marks last lists honest all happen (Some home) (g.content last, shows last (honest_last d events marks last honest happen), closed_gives (g.content last) settled.closed) in
         subst (MayBeFound letters lists marks) (some_same one.0 home (sym one.1)) one.2
 
 pub own_list : {D : Type 0} (g : Ghosts D) (d : D) → AllGive AnyList (gives g d) → AllGive (listed g d) (gives g d)

@@ -1,8 +1,9 @@
 -- What an edit of a summary does to a package.
-use Rattle.std.proofs.Common.{◌≡◌, ◌∙◌, ℕ, Bool, ap, false, inl, inr, refl, subst, sym, true}
+use Rattle.std.proofs.Common.{◌≡◌, ◌∙◌, ℕ, ap, false, inl, inr, refl, subst, sym, true}
 use Rattle.std.specs.Prelude.{Err, IfErr, None, Ok, Option, Result, Some, IsTrue}
 use Rattle.cfb_medium.specs.declared.error.Error.{Error}
 use Rattle.cfb_medium.specs.declared.medium.ReadMedium.{Ghosts}
+use Rattle.msi.proofs.Permitted.{permitted}
 use Rattle.msi.proofs.Summed.{holds_summed, one_section_held}
 use Rattle.msi.specs.Changing.{failed_in, permission, PackageChanges}
 use Rattle.msi.specs.Lending.{summed_up, with_summary}
@@ -32,12 +33,6 @@ sections_stay (set_arch value) s = refl
 sections_stay (set_languages value) s = refl
 sections_stay (set_keywords value) s = refl
 sections_stay (set_page p) s = refl
-
--- a package that may be changed has not failed, and is sound
-permitted : (failed sound : Bool) → permission failed sound ≡ Ok tt → (failed ≡ false) × (sound ≡ true)
-permitted true sound is = absurd (cc)
-permitted false true is = (refl, refl)
-permitted false false is = absurd (cc)
 
 module _ {F : Type 0} {g : Ghosts F} (it : Package F g) (may : permission (failed_in it) (sound_in it) ≡ Ok tt) (change : Edit) where
   sound : IsTrue (sound_in it)

@@ -51,17 +51,17 @@ module _ (letters : Letters) (name : List ℕ) (end : Course) (goes_on : end.pha
   goes_to start rows Mid was alike based fewer done =
       steps was (step_of_sound letters start.sound start.held Mid (asked.insert name rows) told.done (sym alike ∙ sound) (Ok tt, done, refl)) based goes_on alike fewer
 
-  no_marks : (b : Bool) (P : Packed) (rows : List (List Datum)) (reply : Reply) → [] ≡ marks_as b P (asked.insert name rows) reply ++ []
-  no_marks b P rows reply = sym (ap (λ ms. ms ++ []) (marks_other b P (asked.insert name rows) reply refl))
+  no_marks : (b : Bool) (P : Packed) (rows : List (List Datum)) (reply : Reply) (left : Phase) → [] ≡ marks_as b P (asked.insert name rows) reply left ++ []
+  no_marks b P rows reply left = sym (ap (λ ms. ms ++ []) (marks_other b P (asked.insert name rows) reply left refl))
 
   runs_on : (P : Packed) (groups : List (List (List Datum))) → InsertsEach P name groups end.held → Runs letters (with_held P) (inserts_of name groups) (all_done (inserts_of name groups)) [] end
   runs_on P [] is = (refl, ap with_held is)
-  runs_on P (rows ∷ more) is = (with_held is.0, [], goes_to (with_held P) rows is.0 goes_on refl refl (omega arith) is.1, runs_on is.0 more is.2, no_marks end.sound P rows told.done)
+  runs_on P (rows ∷ more) is = (with_held is.0, [], goes_to (with_held P) rows is.0 goes_on refl refl (omega arith) is.1, runs_on is.0 more is.2, no_marks end.sound P rows told.done end.phase)
 
   runs_done : (start : Course) (rows : List (List Datum)) (more : List (List (List Datum))) → start.phase ≡ running → end.sound ≡ start.sound → end.base ≡ start.base → start.failures ≤ end.failures
       → InsertsEach start.held name (rows ∷ more) end.held → Runs letters start (inserts_of name (rows ∷ more)) (all_done (inserts_of name (rows ∷ more))) [] end
   runs_done start rows more was alike based fewer is =
-      (with_held is.0, [], goes_to start rows is.0 was alike based fewer is.1, runs_on is.0 more is.2, no_marks start.sound start.held rows told.done)
+      (with_held is.0, [], goes_to start rows is.0 was alike based fewer is.1, runs_on is.0 more is.2, no_marks start.sound start.held rows told.done end.phase)
 
 -- each but the last finds the session as it was
 behaves_done : (old new : Condition) (name : List ℕ) (all rows : List (List Datum)) (more : List (List (List Datum))) → old.failed ≡ false → old.sound ≡ true → BehavesOnce old (asked.insert name all) told.done new
@@ -136,7 +136,7 @@ module _ (letters : Letters) (start : Course) (n : ℕ) (fewer : start.failures 
 
   pub goes_before : (request : Request) (reply : Reply) (end : Course) → start.phase ≡ running → Goes letters later request reply end → Goes letters start request reply end
   goes_before request reply end was (steps phase step based after sound counted) = steps was step (based ∙ base_alike request reply) after sound (omega (arith, counted, fewer))
-  goes_before request reply end was (stays e phase is undone page same base counted) = stays e was is (undone_before request e end counted undone) page same base (omega (arith, counted, fewer))
+  goes_before request reply end was (stays e phase is undone page same counted) = stays e was is (undone_before request e end counted undone) page same (omega (arith, counted, fewer))
   goes_before request reply end was (fails e phase is undone reads same base counted) = fails e was is (undone_before request e end counted undone) reads same base (omega (arith, counted, fewer))
   goes_before request reply end was (refuses phase other is same) = absurd (never_both start.phase was phase)
   goes_before request reply end was (rolls back goes) = rolls back (back_before reply end was goes)
@@ -218,7 +218,7 @@ module _ {D : Type 0} {g : device.Ghosts D} {h : Ghosts (Staged D g)} where
             based = ap is_some (sym same.0) ∙ on.2.based;
             base = λ is B b. on.2.base (same.1 ∙ is) B (same.0 ∙ b);
           },
-          subst (λ ms. Survives (letters_in old) g (device_below old) (device_below new) ms) (marks_other start.sound start.held request reply other) (follows.survives start at),
+          subst (λ ms. Survives (letters_in old) g (device_below old) (device_below new) ms) (marks_other start.sound start.held request reply (phase_of (is_failed new)) other) (follows.survives start at),
         );
     live = live;
     live_yet = lives;
@@ -230,7 +230,7 @@ module _ {D : Type 0} {g : device.Ghosts D} {h : Ghosts (Staged D g)} where
 
   module _ (old new : SessionOver (Staged D g) h) (name : List ℕ) (all : List (List Datum)) (live : is_failed old ≡ false) (sound : is_sound old ≡ true) where
     no_marks_left : (reply : Reply) → Follows (asked.insert name all) reply old new → (start : Course) → StandsAt old start → Survives (letters_in old) g (device_below old) (device_below new) []
-    no_marks_left reply follows start at = subst (λ ms. Survives (letters_in old) g (device_below old) (device_below new) ms) (marks_other start.sound start.held (asked.insert name all) reply refl) (follows.survives start at)
+    no_marks_left reply follows start at = subst (λ ms. Survives (letters_in old) g (device_below old) (device_below new) ms) (marks_other start.sound start.held (asked.insert name all) reply (phase_of (is_failed new)) refl) (follows.survives start at)
 
     -- ---- refused, and the session lives
 
@@ -238,7 +238,7 @@ module _ {D : Type 0} {g : device.Ghosts D} {h : Ghosts (Staged D g)} where
     held_yet e start end at there lives (steps phase step based after alike counted) =
         let it = as_sound (letters_in old) start.sound start.held end.held (asked.insert name all) (told.refused e) (at.place.sound ∙ sound) step in
         (counted, refused_keeps start.held end.held name all e it.0 it.2 it.1)
-    held_yet e start end at there lives (stays f phase is undone page same base counted) = (counted, ap (λ (c : Course). c.held) same)
+    held_yet e start end at there lives (stays f phase is undone page same counted) = (counted, ap (λ (c : Course). c.held) same)
     held_yet e start end at there lives (fails f phase is undone reads same base counted) = absurd (never_both end.phase (was_running new end lives there) (ap (λ (c : Course). c.phase) same))
     held_yet e start end at there lives (refuses phase other is same) = absurd (never_both start.phase (was_running old start live at) phase)
     held_yet e start end at there lives (rolls back goes) = absurd (cc back)
@@ -255,7 +255,7 @@ module _ {D : Type 0} {g : device.Ghosts D} {h : Ghosts (Staged D g)} where
     goes_first : (e : Error) (rows : List (List Datum)) (start end : Course) → StandsAt new end → is_failed new ≡ true → start.phase ≡ running → Goes (letters_in old) start (asked.insert name all) (told.refused e) end
         → Goes (letters_in old) start (asked.insert name rows) (told.refused e) end
     goes_first e rows start end there ended was (steps phase step based after alike counted) = absurd (never_both end.phase after (there.place.phase ∙ ap phase_of ended))
-    goes_first e rows start end there ended was (stays f phase is undone page same base counted) = absurd (never_both end.phase (ap (λ (c : Course). c.phase) same ∙ was) (there.place.phase ∙ ap phase_of ended))
+    goes_first e rows start end there ended was (stays f phase is undone page same counted) = absurd (never_both end.phase (ap (λ (c : Course). c.phase) same ∙ was) (there.place.phase ∙ ap phase_of ended))
     goes_first e rows start end there ended was (fails f phase is undone reads same base counted) = fails f phase is undone refl same base counted
     goes_first e rows start end there ended was (refuses phase other is same) = refuses phase refl is same
     goes_first e rows start end there ended was (rolls back goes) = absurd (cc back)
@@ -267,7 +267,7 @@ module _ {D : Type 0} {g : device.Ghosts D} {h : Ghosts (Staged D g)} where
       sound = follows.sound;
       behaves = other_rows (condition_of old) (condition_of new) name all rows (told.refused e) follows.behaves;
       still = follows.still;
-      survives = λ start at. rw (marks_other start.sound start.held (asked.insert name rows) (told.refused e) refl) (no_marks_left (told.refused e) follows start at);
+      survives = λ start at. rw (marks_other start.sound start.held (asked.insert name rows) (told.refused e) (phase_of (is_failed new)) refl) (no_marks_left (told.refused e) follows start at);
     }
 
   -- ---- done
@@ -280,7 +280,7 @@ module _ {D : Type 0} {g : device.Ghosts D} {h : Ghosts (Staged D g)} where
         let inserts = subst (λ a. Inserts start.held name (joined_rows (rows ∷ more)) end.held a) (done_so it.0 it.2) it.1 in
         let texts = ((at.place.held phase).sound sound).1.counted in
         runs_done (letters_in old) name end after (alike ∙ at.place.sound ∙ sound) start rows more phase alike based counted (each start.held texts name rows more end.held inserts)
-    runs_all start end at (stays e phase is undone page same base counted) = absurd (cc is)
+    runs_all start end at (stays e phase is undone page same counted) = absurd (cc is)
     runs_all start end at (fails e phase is undone reads same base counted) = absurd (cc is)
     runs_all start end at (refuses phase other is same) = absurd (cc is)
     runs_all start end at (rolls back goes) = absurd (cc back)

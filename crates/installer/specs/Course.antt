@@ -23,7 +23,7 @@ pub data Phase : Type 0 where
 pub record Course : Type 0 where
   pub held : Packed
   -- to which a roll back leads: that of the last commit that was answered Ok, else the one that was opened; none where there is no such
-  -- one, or once a commit was cut off by a fault
+  -- one, or once a commit was cut off by a fault from which the session failed
   pub base : Option Packed
   -- how often the device has failed
   pub failures : ℕ
@@ -71,7 +71,7 @@ base_after old request reply = old.base
 abbrev pub IsUndone : Course → Request → Error → Course → Type 0
 IsUndone old request e new = IsFault old request e new ⊎ ((e ≡ InvalidInput) × IsTooMuch old.held request)
 
--- what leads back stays, unless a commit was cut off
+-- what leads back stays where the session fails, unless that cut a commit off
 abbrev pub KeepsBase : Course → Request → Course → Type 0
 KeepsBase old request new = (new.base ≡ old.base) ⊎ ((is_commit request ≡ true) × (new.base ≡ None))
 
@@ -92,34 +92,36 @@ pub data GoesBack (old : Course) (reply : Reply) (new : Course) : Type 0 where
   broken : (e : Error) → old.sound ≡ true → is_some old.base ≡ true → reply ≡ told.refused e → OfFit old.base (λ B. IsFault old command.roll_back e new)
       → (new ≡ record old { failures = new.failures }) ⊎ (new ≡ record old { failures = new.failures; phase = failed }) → old.failures ≤ new.failures → GoesBack old reply new
 
--- One command: its step; or it is undone, and the package stays; or by that the session fails, which no command that reads meets; a session
--- that has failed refuses; and a roll back goes back. No failure of the device is counted back.
+-- One command: its step; or it is undone, and all stays; or by that the session fails, which no command that reads meets; a session that
+-- has failed refuses; and a roll back goes back. No failure of the device is counted back.
 pub data Goes (letters : Letters) (old : Course) (request : Request) (reply : Reply) (new : Course) : Type 0 where
   steps : old.phase ≡ running → StepAs old.sound letters old.held request reply new.held → new.base ≡ base_after old request reply
       → new.phase ≡ running → new.sound ≡ old.sound → old.failures ≤ new.failures → Goes letters old request reply new
   stays : (e : Error) → old.phase ≡ running → reply ≡ told.refused e → IsUndone old request e new → is_codepage request ≡ false
-      → new ≡ record old { failures = new.failures; base = new.base } → KeepsBase old request new → old.failures ≤ new.failures → Goes letters old request reply new
+      → new ≡ record old { failures = new.failures } → old.failures ≤ new.failures → Goes letters old request reply new
   fails : (e : Error) → old.phase ≡ running → reply ≡ told.refused e → IsUndone old request e new → is_reading request ≡ false
       → new ≡ record old { failures = new.failures; base = new.base; phase = failed } → KeepsBase old request new → old.failures ≤ new.failures → Goes letters old request reply new
   refuses : old.phase ≡ failed → is_roll_back request ≡ false → reply ≡ told.refused Failed → new ≡ old → Goes letters old request reply new
   rolls : is_roll_back request ≡ true → GoesBack old reply new → Goes letters old request reply new
 
--- The commit that this command begins, unless the session has failed before. One of a package that isn't sound writes nothing.
-abbrev pub marks_as : Bool → Packed → Request → Reply → List Mark
-marks_as false held request reply = []
-marks_as true held command.commit told.done = record { held = held; done = true } ∷ []
-marks_as true held command.commit (told.refused Failed) = []
-marks_as true held command.commit reply = record { held = held; done = false } ∷ []
-marks_as true held request reply = []
+-- The commit that this command begins, by the phase that it leaves, unless the session has failed before. One of a package that isn't sound
+-- publishes nothing, and neither does one that is refused where the session goes on.
+abbrev pub marks_as : Bool → Packed → Request → Reply → Phase → List Mark
+marks_as false held request reply phase = []
+marks_as true held command.commit told.done phase = record { held = held; done = true } ∷ []
+marks_as true held command.commit (told.refused Failed) phase = []
+marks_as true held command.commit reply running = []
+marks_as true held command.commit reply failed = record { held = held; done = false } ∷ []
+marks_as true held request reply phase = []
 
-abbrev pub marks_of : Course → Request → Reply → List Mark
-marks_of old request reply = marks_as old.sound old.held request reply
+abbrev pub marks_of : Course → Request → Reply → Phase → List Mark
+marks_of old request reply phase = marks_as old.sound old.held request reply phase
 
 -- one reply for each request, with the commits that they begin
 abbrev pub Runs : Letters → Course → List Request → List Reply → List Mark → Course → Type 0
 Runs letters old [] [] marks new = (marks ≡ []) × (new ≡ old)
 Runs letters old (request ∷ requests) (reply ∷ replies) marks new =
     (mid : Course) × (later : List Mark) × Goes letters old request reply mid × Runs letters mid requests replies later new
-    × (marks ≡ marks_of old request reply ++ later)
+    × (marks ≡ marks_of old request reply mid.phase ++ later)
 Runs letters old [] (reply ∷ replies) marks new = ⊥
 Runs letters old (request ∷ requests) [] marks new = ⊥

@@ -11,7 +11,7 @@ use Rattle.staged.specs.declared.staged.Staged.{Staged}
 use Rattle.installer.specs.Behaviour.{Behaves, BehavesOnce}
 use Rattle.installer.specs.Course.{Course, Goes, Mark, Runs, marks_of}
 use Rattle.installer.specs.Reply.{Reply}
-use Rattle.installer.specs.Sessions.{condition_of, device_below, has_base, is_sound, letters_in, package_in, IsAt, StandsAt}
+use Rattle.installer.specs.Sessions.{condition_of, device_below, has_base, is_failed, is_sound, letters_in, package_in, phase_of, IsAt, StandsAt}
 use Rattle.installer.specs.Survival.{Survives}
 use Rattle.installer.specs.declared.session.SessionOver.{SessionOver}
 
@@ -39,7 +39,7 @@ module _ {D : Type 0} {g : device.Ghosts D} {h : Ghosts (Staged D g)} where
     pub sound : is_sound new ≡ is_sound old
     pub behaves : BehavesOnce (condition_of old) request reply (condition_of new)
     pub still : is_sound old ≡ false → Survives (letters_in old) g (device_below old) (device_below new) []
-    pub survives : (start : Course) → StandsAt old start → Survives (letters_in old) g (device_below old) (device_below new) (marks_of start request reply)
+    pub survives : (start : Course) → StandsAt old start → Survives (letters_in old) g (device_below old) (device_below new) (marks_of start request reply (phase_of (is_failed new)))
 
   -- THE COMMANDS WERE RUN in order, with a reply for each: from where the session is in its course it goes along them by their rules, and what
   -- a stop leaves is told with the commits that they begin; whatever the device and the file, they behave; and where the package isn't sound

@@ -8,6 +8,7 @@ use Rattle.cfb_tree.specs.Names.{Letters}
 use Rattle.msi.specs.Changing.{IsChangeError}
 use Rattle.msi.specs.Opened.{IsRefused}
 use Rattle.msi_meaning.specs.Opening.{may_use}
+use Rattle.msi_stored.specs.Reading.{IsOpeningError}
 use Rattle.staged.specs.Log.{recovered, logged, MalformedLog}
 use Rattle.staged.specs.declared.device.Device.{Ghosts}
 
@@ -36,4 +37,6 @@ pub record IsCreateRefusal (letters : Letters) {D : Type 0} (g : Ghosts D) (old 
 pub record IsOpenRefusal (letters : Letters) {D : Type 0} (g : Ghosts D) (old new : D) (e : Error) : Type 0 where
   pub kind : IsTrue (g.honest old) → IsMalformed g old new e ⊎ (IsFaultUnless ⊥ e
       ⊎ ((bytes : List ℕ) × (recovered (g.content old) ≡ Some bytes) × IsRefused letters bytes e))
+  -- on any device
+  pub told : IsOpeningError e
   pub counted : IsCounted g old new e

@@ -16,7 +16,7 @@ ghost use Rattle.msi_meaning.specs.Package.{Packed};
 ghost use Rattle.msi_meaning.specs.declared.kind.PackageType.TheVariants.{Installer};
 ghost use Rattle.staged.specs.Log.{logged, recovered, MalformedLog};
 ghost use Rattle.staged.specs.Settled.{HasPublished, IsSettled};
-ghost use Rattle.std.specs.Prelude.{◌≡◌, ℕ, List, [], None, Some, false, map, true, IfErr, IfOk, IsTrue, MatchResult, OnOk};
+ghost use Rattle.std.specs.Prelude.{◌≡◌, ◌&&◌, ◌||◌, ℕ, List, [], None, Some, false, map, not, true, IfErr, IfOk, IsTrue, MatchResult, OnOk};
 ghost use Rattle.cfb_medium.specs.Calls.{Extends, IsFaultUnless};
 
 use crate::Answer;
@@ -61,7 +61,7 @@ impl<F: Medium> SessionOver<F> {
 }
 
 impl<D: Device> SessionOver<Staged<D>> {
-    ghost use Rattle.installer.specs.Sessions.{beginning, device_below, is_failed, is_sound, letters_in, package_in, StandsAt};
+    ghost use Rattle.installer.specs.Sessions.{beginning, device_below, has_base, is_failed, is_sound, letters_in, package_in, StandsAt};
 
     /// Recovers, and begins a new installer package on an empty home file, whose names are compared under the letter table; nothing
     /// is committed. `InvalidData` for a malformed log, which leaves both files; `AlreadyExists` where the home file isn't empty;
@@ -207,7 +207,7 @@ impl<D: Device> SessionOver<Staged<D>> {
 
     /// Publishes the package: after `Ok` the log is closed, and whatever a stop leaves, a recovery gives bytes that hold it, where it can
     /// be written as it is; of a package that isn't sound nothing is written. `Failed` where the session has failed before; else as
-    /// `Package::commit` is refused: then either all is as it was, or the session has failed.
+    /// `Package::commit` is refused: then either all is as it was and nothing was published, or the session has failed.
     pub fn commit(&mut self) -> Result<(), Error>
         ensures follows { Follows asked.commit (told_of result) self.old self.new }
         ensures published { OnOk result ((P : Packed) → PackageHolds (package_in self.old) P
@@ -240,7 +240,8 @@ impl<D: Device> SessionOver<Staged<D>> {
         }
     }
 
-    // Publishes what was flushed. A fault may have cut this off in the midst of writing, so that nothing is known to which to go back.
+    // Publishes what was flushed. Where that fails the session a fault may have cut it off in the midst of writing, so that nothing is known
+    // to which to go back.
     fn publish(&mut self) -> Result<(), Error>
         requires { is_failed self.old ≡ false }
         ensures follows { Follows asked.commit (told_of result) self.old self.new }
@@ -250,8 +251,17 @@ impl<D: Device> SessionOver<Staged<D>> {
             × IsFound (letters_in self.old) bytes P) }
     {
         let published = self.package.commit();
-        self.has_base = published.is_ok();
+        let is_done = published.is_ok();
+        let has_base = self.has_base_after(is_done);
+        self.has_base = has_base;
         published
+    }
+
+    // Whether there is a package to which to go back, after a commit that was done or not.
+    fn has_base_after(&self, is_done: bool) -> bool
+        ensures { result ≡ (not (is_failed self.now) && (has_base self.now || is_done)) }
+    {
+        !self.has_failed() && (self.has_base || is_done)
     }
 
     /// Goes back to the package that was committed last, or else to the one that was opened, also after a fault: what was changed since is

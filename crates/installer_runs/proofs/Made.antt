@@ -10,10 +10,10 @@ use Rattle.cfb_medium.specs.declared.medium.ReadMedium as medium
 use Rattle.cfb_tree.specs.Names.{Letters}
 use Rattle.command_file.specs.Request as asked
 use Rattle.installer.proofs.Stopping.{survives_then}
-use Rattle.installer.specs.Course.{fails, failed, marks_as, refuses, rolls, running, stays, steps, Course, Goes, IsFault as IsUndoneFault, IsUndone, Mark, StepAs}
+use Rattle.installer.specs.Course.{fails, failed, marks_as, refuses, rolls, running, stays, steps, Course, Goes, IsFault as IsUndoneFault, IsUndone, Mark, Phase, StepAs}
 use Rattle.installer.specs.Reply.{Reply}
 use Rattle.installer.specs.Reply as told
-use Rattle.installer.specs.Sessions.{beginning, device_below, is_sound, letters_in, package_in, StandsAt}
+use Rattle.installer.specs.Sessions.{beginning, device_below, is_failed, is_sound, letters_in, package_in, phase_of, StandsAt}
 use Rattle.installer.specs.Step.{told_of}
 use Rattle.installer.specs.Refusals.{IsCounted, IsCreateRefusal}
 use Rattle.installer.specs.Survival.{IsFound, Survives}
@@ -38,18 +38,19 @@ use Rattle.staged.specs.declared.staged.Staged.{Staged}
 undone_as : (start end : Course) (e f : Error) → told.refused e ≡ told.refused f → IsUndone start asked.commit f end → IsUndone start asked.commit e end
 undone_as start end e f is undone = let same : f ≡ e = cc in subst (λ (x : Error). IsUndone start asked.commit x end) same undone
 
-new_marks : (P : Packed) → IsNew Installer P → (b : Bool) (reply : Reply) → AreOfNew (marks_as b P asked.commit reply)
-new_marks P new false reply = no_mark (λ m. IsNew Installer m.held)
-new_marks P new true told.done = one_mark (record { held = P; done = true }) (λ m. IsNew Installer m.held) new
-new_marks P new true (told.refused Failed) = no_mark (λ m. IsNew Installer m.held)
-new_marks P new true reply = one_mark (record { held = P; done = false }) (λ m. IsNew Installer m.held) new
+new_marks : (P : Packed) → IsNew Installer P → (b : Bool) (reply : Reply) (left : Phase) → AreOfNew (marks_as b P asked.commit reply left)
+new_marks P new false reply left = no_mark (λ m. IsNew Installer m.held)
+new_marks P new true told.done left = one_mark (record { held = P; done = true }) (λ m. IsNew Installer m.held) new
+new_marks P new true (told.refused Failed) left = no_mark (λ m. IsNew Installer m.held)
+new_marks P new true reply running = no_mark (λ m. IsNew Installer m.held)
+new_marks P new true reply failed = one_mark (record { held = P; done = false }) (λ m. IsNew Installer m.held) new
 
 -- a commit of a sound package that was refused is undone by a fault
 commit_undone : (letters : Letters) (start end : Course) (e : Error) → start.phase ≡ running → start.sound ≡ true → Goes letters start asked.commit (told.refused e) end → IsUndone start asked.commit e end
 commit_undone letters start end e run sound (steps was step committed after same counted) =
     let done = subst (λ (b : Bool). StepAs b letters start.held asked.commit (told.refused e) end.held) sound step in
     let never : told.refused e ≡ told.done = done.1 in absurd (cc)
-commit_undone letters start end e run sound (stays f was is undone page same base counted) = undone_as start end e f is undone
+commit_undone letters start end e run sound (stays f was is undone page same counted) = undone_as start end e f is undone
 commit_undone letters start end e run sound (fails f was is undone read same base counted) = undone_as start end e f is undone
 commit_undone letters start end e run sound (refuses was own is same) = (let never : running ≡ failed = sym run ∙ was in absurd (cc))
 commit_undone letters start end e run sound (rolls back goes) = absurd (cc back)
@@ -73,10 +74,11 @@ module _ {D : Type 0} {g : Ghosts D} {h : medium.Ghosts (Staged D g)} (letters :
 
   pub made_survives : Survives letters g old (device_below it) [] → (marks : List Mark) × AreOfNew marks × Survives letters g old new marks
   made_survives begun =
-      let marks = marks_as (is_sound it) P asked.commit (told_of result) in
+      let left = phase_of (is_failed leads.last) in
+      let marks = marks_as (is_sound it) P asked.commit (told_of result) left in
       let own : Survives letters g (device_below it) (device_below leads.last) marks = subst (λ (l : Letters). Survives l g (device_below it) (device_below leads.last) marks) compared (leads.follows.survives (beginning it None P) at) in
       let there : Survives letters g (device_below it) new marks = subst (λ (d : D). Survives letters g (device_below it) d marks) (sym leads.given) own in
-      (marks, new_marks P is_new (is_sound it) (told_of result), survives_then letters g old (device_below it) new [] marks begun there)
+      (marks, new_marks P is_new (is_sound it) (told_of result) left, survives_then letters g old (device_below it) new [] marks begun there)
 
   -- the commit of a new package was refused: by a fault, and a failure of the device was counted
   pub made_refused : ((m : Staged D g) → h.failures m ≡ g.failures (device_of m)) → Survives letters g old (device_below it) [] → IfErr result (IsCreateRefusal letters g old new)

@@ -11,7 +11,7 @@ use Rattle.cfb_fat.specs.Tables.{has_failed, has_failed_here, HasCauseBelow}
 use Rattle.cfb_live.specs.Doing.{IsFault}
 use Rattle.cfb_medium.specs.Calls.{Extends, IsFaultUnless, Keeps}
 use Rattle.cfb_medium.specs.declared.error.Error.{Error}
-use Rattle.cfb_medium.specs.declared.error.Error.TheVariants.{Failed, InvalidInput}
+use Rattle.cfb_medium.specs.declared.error.Error.TheVariants.{Failed, Full, InvalidInput}
 use Rattle.cfb_medium.specs.declared.medium.ReadMedium.{Ghosts}
 use Rattle.cfb_mini.specs.Views.{allocator_of}
 use Rattle.cfb_tree.specs.Names.{Letters}
@@ -35,6 +35,10 @@ use Rattle.msi.specs.declared.package.Package.{Package}
 both_written : (m w : Bool) → not m && w ≡ true → (m ≡ false) × (w ≡ true)
 both_written true w is = absurd (cc)
 both_written false w is = (refl, is)
+
+-- no fault is want of room
+pub never_full : (r : Result (Unit {0}) Error) → IfErr r (IsFaultUnless ⊥) → r ≡ Err Full → ⊥
+never_full r fault is = subst (λ (r : Result (Unit {0}) Error). IfErr r (IsFaultUnless ⊥)) is fault
 
 -- what holds whatever is answered
 pub on_ok : {A : Type 0} (r : Result (Unit {0}) Error) → A → OnOk r A
@@ -174,12 +178,15 @@ module _ {F : Type 0} {g : Ghosts F} where
     saved_writes (Err e) s = sound_writes (Err e) tt tt s.refused s.rests s.seen
 
 -- what lives has not failed by itself
-pub here_live : {F : Type 0} {g : Ghosts F} (it : Package F g) → failed_in it ≡ false → has_failed_here (allocator_of (mini_of (file_in it))) ≡ false
-here_live {F} {g} it live = first (has_failed_here (allocator_of (mini_of (file_in it)))) (g.failed (medium_in (file_in it))) live
+pub file_lives : {F : Type 0} {g : Ghosts F} (file : CompoundFile F g) → has_failed (allocator_of (mini_of file)) ≡ false → has_failed_here (allocator_of (mini_of file)) ≡ false
+file_lives {F} {g} file live = first (has_failed_here (allocator_of (mini_of file))) (g.failed (medium_in file)) live
   where
     first : (a b : Bool) → a || b ≡ false → a ≡ false
     first true b is = absurd (cc)
     first false b is = refl
+
+pub here_live : {F : Type 0} {g : Ghosts F} (it : Package F g) → failed_in it ≡ false → has_failed_here (allocator_of (mini_of (file_in it))) ≡ false
+here_live it live = file_lives (file_in it) live
 
 pub now_live : (A B : Type 0) (r : Result (Unit {0}) Error) → OnOk r (A × B) → OnOk r B
 now_live A B (Ok u) both = both.1

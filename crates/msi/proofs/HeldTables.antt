@@ -6,6 +6,7 @@ use Rattle.std.specs.declared.alloc.Global.{Global}
 use Rattle.std.proofs.lemmas.Bool.{and_parts}
 use Rattle.std.proofs.lemmas.Bool.Decides.{nat_tests}
 use Rattle.msi_pool.specs.declared.stringref.ValueRef.{ValueRef}
+use Rattle.msi_store.proofs.Found.{option_then}
 use Rattle.msi_tables.specs.Held.{rows_held}
 use Rattle.std.proofs.lemmas.List.Elements.{All-head, All-tail}
 use Rattle.cfb_tree.specs.Names.{Letters}
@@ -21,10 +22,6 @@ use Rattle.msi_parts.specs.Whole.{IsWhole, Wide}
 use Rattle.msi_stored.specs.Stored.{AreTables, rows_in}
 use Rattle.msi_tables.specs.Rows.{Row, kinds_of, max_rows, numbers_from, row_at, row_count, rows_of}
 use Rattle.msi_tables.specs.Table.{Heading, Table, table_named}
-
-pub option_then : {A B C : Type 0} (f : A → B) (h : B → C) (o : Option A) → option_map (λ a. h (f a)) o ≡ option_map h (option_map f o)
-option_then f h None = refl
-option_then f h (Some a) = refl
 
 some_value : {A : Type 0} (d : A) (o : Option A) (x y : A) → o ≡ Some x → o ≡ Some y → x ≡ y
 some_value d o x y ex ey = ap (λ o. unwrap_or o d) (sym ex ∙ ey)
@@ -84,11 +81,6 @@ tables_whole letters tree long ts read name = by (table_named ts name) refl
         subst (λ n. Wide n t.rows) (length-map t.columns (λ c. c.kind))
         (rows_whole long (kinds_of t.columns) (unwrap_or (table_stream letters (objects tree.content) t.name) []) t.rows
         (of_found (λ t. rows_in letters tree (heading long t) ≡ Some t.rows) ts name t read e))
-
--- the names of tables are those of their headings
-pub names_same : (long : Bool) (ts : List Table) → map (λ h. h.name) (map (heading long) ts) ≡ map (λ t. t.name) ts
-names_same long [] = refl
-names_same long (t ∷ ts) = ap (λ ns. t.name ∷ ns) (names_same long ts)
 
 -- each row has so many cells where a test of each says so
 pub rows_are_wide : (n : ℕ) (rows : List (Vec ValueRef Global)) → list_all (λ row. length row.items == n) rows ≡ true → Wide n (rows_held rows)

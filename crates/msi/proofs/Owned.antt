@@ -18,10 +18,7 @@ use Rattle.msi_meaning.specs.Streams.{document_summary_name, is_special, signatu
 use Rattle.msi_texts.specs.StreamName.{is_marked}
 use Rattle.msi_texts.specs.StreamName.{name_of as decoded_name}
 use Rattle.msi_streams.proofs.Marks.{key_of_same, marked_alike, same_of_key}
-
-either : (a b : Bool) → a || b ≡ true → (a ≡ true) ⊎ (b ≡ true)
-either true b e = inl refl
-either false b e = inr e
+use Rattle.msi_streams.proofs.Stored.{either}
 
 behind : (a b : Bool) → b ≡ true → a || b ≡ true
 behind true b e = refl

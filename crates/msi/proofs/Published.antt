@@ -16,6 +16,7 @@ use Rattle.cfb_owned.specs.Chains.{GoesOn}
 use Rattle.cfb_sectors.specs.Held.{LeavesOldOrBytes}
 use Rattle.cfb_tree.specs.Tree.{Tree}
 use Rattle.msi_meaning.specs.Package.{Packed, Packs}
+use Rattle.msi_parts.proofs.Judging.{or_false}
 use Rattle.msi_stored.specs.Shown.{bytes_in}
 use Rattle.staged.proofs.Leaving.{leaves_then, leaves_told}
 use Rattle.msi.proofs.Changed.{DifferByFile, failed_too, keeps_held}
@@ -26,10 +27,6 @@ use Rattle.msi.specs.Opened.{PackageHolds, file_in, pool_in, sound_in}
 use Rattle.msi.specs.Steps.{PackageIsSaved, SavesMemory}
 use Rattle.msi.specs.declared.package.Package.{Package}
 
-neither : (a b : Bool) → a || b ≡ false → (a ≡ false) × (b ≡ false)
-neither true b is = absurd (cc)
-neither false b is = (refl, is)
-
 module _ {F : Type 0} {g : Ghosts F} (has_published : F → List ℕ → Type 0) where
   pub failed_commits : (it : Package F g) → failed_in it ≡ true → PackageCommits has_published (Err Failed) it it
   failed_commits it is = record {
@@ -39,6 +36,7 @@ module _ {F : Type 0} {g : Ghosts F} (has_published : F → List ℕ → Type 0)
     live = tt;
     refused = λ P h sound. inl (inl tt);
     rests = inr (record { holds = λ P h. h });
+    quiet = inl is;
     seen = (refl, refl);
   }
 
@@ -50,19 +48,21 @@ module _ {F : Type 0} {g : Ghosts F} (has_published : F → List ℕ → Type 0)
     live = (live, live);
     refused = tt;
     rests = tt;
+    quiet = tt;
     seen = (refl, refl);
   }
 
   module _ (old mid : Package F g) (live : failed_in old ≡ false) (sound : sound_in old ≡ true) where
     -- pool and summary weren't written
-    pub unsaved_commits : (e : Error) → SavesMemory (Err e) old mid → PackageCommits has_published (Err e) old mid
-    unsaved_commits e s = record {
+    pub unsaved_commits : (e : Error) → SavesMemory (Err e) old mid → GoesOn (allocator_of (mini_of (file_in old))) (allocator_of (mini_of (file_in mid))) → PackageCommits has_published (Err e) old mid
+    unsaved_commits e s goes = record {
       failed = λ yes. let never : true ≡ false = sym yes ∙ live in absurd (cc);
       unsound = λ no wrong. let never : true ≡ false = sym sound ∙ wrong in absurd (cc);
       done = tt;
       live = tt;
       refused = s.refused;
       rests = elim s.rests [ inl failed ↦ inl failed | inr keeps ↦ inr (keeps sound) ];
+      quiet = inr goes;
       seen = s.seen;
     }
 
@@ -105,10 +105,11 @@ module _ {F : Type 0} {g : Ghosts F} (has_published : F → List ℕ → Type 0)
         live = (
           live,
           ap₂ (λ a b. a || b) (live_here (sound_of (file_in mid)) refl publishes (λ is. (rests s.live.1 is).1))
-              (alike ∙ before ∙ (neither (has_failed_here (allocator_of (mini_of (file_in old)))) (g.failed (medium_in (file_in old))) live).1),
+              (alike ∙ before ∙ (or_false (has_failed_here (allocator_of (mini_of (file_in old)))) (g.failed (medium_in (file_in old))) live).1),
         );
         refused = tt;
         rests = tt;
+        quiet = tt;
         seen = (d.letters ∙ s.seen.0, d.sound ∙ s.seen.1);
       }
       saved_commits (Err e) publishes rests err fault alike before = record {
@@ -118,6 +119,7 @@ module _ {F : Type 0} {g : Ghosts F} (has_published : F → List ℕ → Type 0)
         live = tt;
         refused = λ P h is. inl (inl fault);
         rests = inl (failed_too (file_in new) err);
+        quiet = inl (failed_too (file_in new) err);
         seen = (d.letters ∙ s.seen.0, d.sound ∙ s.seen.1);
       }
 

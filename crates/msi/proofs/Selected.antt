@@ -26,6 +26,7 @@ use Rattle.msi_tables.specs.Table.{Heading, Table, table_named}
 use Rattle.msi_tables.specs.declared.rows.Rows.{Rows}
 use Rattle.msi_texts.specs.Results.{◌>>=◌}
 use Rattle.msi_store.proofs.Faults.{memory_cause}
+use Rattle.msi_store.proofs.Found.{option_then}
 use Rattle.msi_meaning.specs.Package.{objects, table_stream}
 use Rattle.msi_parts.specs.Judged.{heading_named}
 use Rattle.msi_query.specs.Said.{query_of}
@@ -34,7 +35,7 @@ use Rattle.msi_tables.specs.Rows.{Row, kinds_of}
 use Rattle.std.proofs.lemmas.List.{length-map}
 use Rattle.cfb.specs.Streams.{FileHolds}
 use Rattle.msi.specs.Selected.{AnswersAt, as_read, selected_by, shown_of, tables_at}
-use Rattle.msi.proofs.HeldTables.{are_tables, option_then, rows_whole, tables_whole}
+use Rattle.msi.proofs.HeldTables.{are_tables, rows_whole, tables_whole}
 use Rattle.msi.specs.Opened.{PackageHolds, file_in, pool_in, store_in, tables_in}
 use Rattle.msi.specs.Rows.{rows_shown}
 use Rattle.msi.specs.declared.package.Package.{Package}

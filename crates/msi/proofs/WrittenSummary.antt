@@ -10,60 +10,20 @@ use Rattle.msi_texts.specs.Numbers.{le_bytes}
 use Rattle.msi_texts.specs.Page.{encoded}
 use Rattle.msi_texts.specs.declared.codepage.CodePage.{CodePage}
 use Rattle.msi_meaning.proofs.SystemRows.{bytes_same}
-use Rattle.msi_props.specs.declared.system.OperatingSystem.{OperatingSystem}
-use Rattle.msi_props.specs.declared.system.OperatingSystem.TheVariants.{Win16, Macintosh, Win32}
 use Rattle.msi_props.specs.Kept.{IsKeptValue, SetIsWritable, TellsPage}
-use Rattle.msi_props.specs.Props.{Head, Property, Props, all_give_back, gives_back, head_at, head_bytes, is_i1, offsets_from, page_at, properties_at, props_bytes, section_at, stored_props, system_number, system_of, texts_give_back}
+use Rattle.msi_props.specs.Props.{Head, Property, Props, all_give_back, gives_back, head_at, head_bytes, is_i1, offsets_from, page_at, properties_at, props_bytes, section_at, stored_props, system_number, texts_give_back}
 use Rattle.msi_props.specs.Props as property
-use Rattle.msi_props.proofs.Fronts.{held, bytes_front, number_front}
+use Rattle.msi_props.proofs.Comeback.{head_read}
+use Rattle.msi_props.proofs.Fronts.{held, number_front}
 use Rattle.msi_props.proofs.SetReading.{set_read}
 use Rattle.msi_props.proofs.SetRoundTrip.{bodies, page_found, page_of_value, pairs_from, pairs_read, values_read}
 use Rattle.msi_props.proofs.SetWriting.{length-offsets}
 
-system_back : (o : OperatingSystem) → system_of (system_number o) ≡ Ok o
-system_back Win16 = refl
-system_back Macintosh = refl
-system_back Win32 = refl
-
-system_small : (o : OperatingSystem) → system_number o < 3
-system_small Win16 = omega arith
-system_small Macintosh = omega arith
-system_small Win32 = omega arith
-
 flat : (a b c d e f g h i : List ℕ) → a ++ b ++ c ++ d ++ e ++ f ++ g ++ h ++ i ≡ a ++ (b ++ (c ++ (d ++ (e ++ (f ++ (g ++ (h ++ i)))))))
 flat a b c d e f g h i = simp append_assoc
 
--- a head is read
 true_false : true ≡ false → ⊥
 true_false h = cc
-
-module _ (version system_version : ℕ) (system : OperatingSystem) (class format rest : List ℕ) (known : version < 2) (short : system_version < 2 ^ 16) (class_len : length class ≡ 16) (format_len : length format ≡ 16) where
-  abbrev last : List ℕ
-  last = le_bytes 4 48 ++ rest
-
-  abbrev after_class : List ℕ
-  after_class = le_bytes 4 1 ++ (format ++ last)
-
-  abbrev after_version : List ℕ
-  after_version = le_bytes 2 system_version ++ (le_bytes 2 (system_number system) ++ (class ++ after_class))
-
-  pub head_read : head_at (le_bytes 2 0xFFFE ++ (le_bytes 2 version ++ after_version))
-      ≡ Ok (record { version = version; system_version = system_version; system = system; class = class; sections = 1; format = format; offset = 48 })
-  head_read =
-      let few : nat_lt version 2 ≡ true = grind (arith, nat_tests, known) in
-      let small = system_small system in
-      rw (
-        number_front 2 0xFFFE (le_bytes 2 version ++ after_version) (omega arith),
-        number_front 2 version after_version (omega arith),
-        few,
-        number_front 2 system_version (le_bytes 2 (system_number system) ++ (class ++ after_class)) short,
-        number_front 2 (system_number system) (class ++ after_class) (omega arith),
-        system_back system,
-        bytes_front 16 class after_class class_len,
-        number_front 4 1 (format ++ last) (omega arith),
-        bytes_front 16 format last format_len,
-        number_front 4 48 rest (omega arith),
-      )
 
 -- the version of a set allows each of its values
 all_allowed : (vs : List (ℕ × Property)) → AllByRecursion (λ v. (nat_lt 0 1 || not (is_i1 v.1)) ≡ true) vs

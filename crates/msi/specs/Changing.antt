@@ -1,5 +1,5 @@
 -- What a call that changes a package does.
-use Rattle.std.specs.Prelude.{◌≡◌, ◌⊎◌, Bool, true, false, Err, IfErr, IsErrOf, IsTrue, Ok, OnErr, OnOk, Result, if◌then◌else◌}
+use Rattle.std.specs.Prelude.{◌≡◌, ◌⊎◌, Bool, true, false, length, Err, IfErr, IsErrOf, IsTrue, Ok, OnErr, OnOk, Result, if◌then◌else◌}
 use Rattle.cfb.specs.Doing.{FileMeans}
 use Rattle.cfb.specs.Putting.{IsRefusedPut}
 use Rattle.cfb.specs.Views.{letters_in, mini_of}
@@ -12,10 +12,11 @@ use Rattle.cfb_medium.specs.declared.error.Error.TheVariants.{Failed, Full, Inva
 use Rattle.cfb_medium.specs.declared.medium.ReadMedium.{Ghosts}
 use Rattle.cfb_mini.specs.Views.{allocator_of}
 use Rattle.cfb_tree.specs.Tree.{Tree}
-use Rattle.msi_meaning.specs.Package.{Packed, Packs}
+use Rattle.msi_meaning.specs.Package.{Packed, Packs, summary_name}
 use Rattle.msi_pool.specs.PoolKept.{IsWritable}
 use Rattle.msi_stored.specs.Changing.{PackageRule}
-use Rattle.msi_stored.specs.Room.{IsFullForRule}
+use Rattle.msi_props.specs.Props.{props_bytes}
+use Rattle.msi_stored.specs.Room.{IsFullForName, IsFullForRule}
 use Rattle.msi_streams.specs.Parts.{IsTooLong}
 use Rattle.msi_streams.specs.Writing.{most_bytes}
 use Rattle.msi_texts.specs.declared.codepage.CodePage.{CodePage}
@@ -70,6 +71,11 @@ module _ {F : Type 0} {g : Ghosts F} where
   -- `Full` comes only where the file lacks room for the package that the rule gives, or the package has failed
   abbrev pub PackageFills : PackageRule → Result (Unit {0}) Error → Package F g → Package F g → Type 0
   PackageFills rule result old new = IsErrOf result Full → failed_in new ≡ false → (P : Packed) → PackageHolds old P → IsTrue (sound_in old) → IsFullForRule rule (file_in old) P
+
+  -- of a flush: `Full` comes only where the file lacks room for the summary that memory has, which is put before all else, or the package
+  -- has failed
+  abbrev pub SummaryFills : Result (Unit {0}) Error → Package F g → Package F g → Type 0
+  SummaryFills result old new = IsErrOf result Full → failed_in new ≡ false → IsFullForName (file_in old) summary_name (length (props_bytes (summary_in old).props))
 
   -- it holds the package, and its file means a tree that packs it
   pub record PackageIsWritten (it : Package F g) (P : Packed) : Type 0 where

@@ -1,13 +1,15 @@
 -- What a commit publishes of a package, and what a stop may leave of it.
 use Rattle.std.specs.Prelude.{◌≡◌, ◌⊎◌, ℕ, false, true, IfErr, IsErrOf, IsTrue, List, Ok, OnErr, OnOk, Result, Some}
 use Rattle.cfb.specs.Publishing.{medium_in}
-use Rattle.cfb.specs.Views.{letters_in}
+use Rattle.cfb.specs.Views.{letters_in, mini_of}
 use Rattle.cfb_meaning.specs.Means.{Means}
 use Rattle.cfb_meaning.specs.Sound.{IsSound}
 use Rattle.cfb_medium.specs.Stops.{LeavesOnly}
 use Rattle.cfb_medium.specs.declared.error.Error.{Error}
 use Rattle.cfb_medium.specs.declared.error.Error.TheVariants.{Failed}
 use Rattle.cfb_medium.specs.declared.medium.ReadMedium.{Ghosts}
+use Rattle.cfb_mini.specs.Views.{allocator_of}
+use Rattle.cfb_owned.specs.Chains.{GoesOn}
 use Rattle.cfb_tree.specs.Names.{Letters}
 use Rattle.cfb_tree.specs.Tree.{Tree}
 use Rattle.msi_meaning.specs.Opening.{may_use}
@@ -40,7 +42,8 @@ module _ {F : Type 0} {g : Ghosts F} where
     pub written : PackageIsFit P → PackageIsWritten it P
 
   -- `Failed` after a fault. Where it isn't sound it is done, and nothing was touched. Each sound package that was held is published; what
-  -- comes in between is a fault, or too long. After `Ok` it has not failed; after any error it has failed, or holds what it held.
+  -- comes in between is a fault, or too long. After `Ok` it has not failed; after any error it has failed, or holds what it held, and
+  -- nothing was published.
   pub record PackageCommits (has_published : F → List ℕ → Type 0) (result : Result (Unit {0}) Error) (old new : Package F g) : Type 0 where
     pub failed : failed_in old ≡ true → IsErrOf result Failed × (new ≡ old)
     pub unsound : failed_in old ≡ false → sound_in old ≡ false → (result ≡ Ok tt) × (new ≡ old)
@@ -48,6 +51,7 @@ module _ {F : Type 0} {g : Ghosts F} where
     pub live : OnOk result ((failed_in old ≡ false) × (failed_in new ≡ false))
     pub refused : IfErr result (λ e. (P : Packed) → PackageHolds old P → IsTrue (sound_in old) → IsUnsaved old new e)
     pub rests : OnErr result ((failed_in new ≡ true) ⊎ KeepsHeld old new)
+    pub quiet : OnErr result ((failed_in new ≡ true) ⊎ GoesOn (allocator_of (mini_of (file_in old))) (allocator_of (mini_of (file_in new))))
     pub seen : (letters_in (file_in new) ≡ letters_in (file_in old)) × (sound_in new ≡ sound_in old)
 
   -- a stop at a moment since the old state leaves what one might have left by then, or bytes that hold the package that was held

@@ -4,7 +4,7 @@ ghost use Rattle.cfb.specs.Publishing.{medium_in};
 ghost use Rattle.cfb.specs.Views.{mini_of};
 ghost use Rattle.cfb_fat.specs.Tables.{HasCauseBelow};
 ghost use Rattle.cfb_mini.specs.Views.{allocator_of};
-ghost use Rattle.msi.specs.Changing.{IsChangeError};
+ghost use Rattle.msi.specs.Changing.{IsChangeError, SummaryFills};
 ghost use Rattle.msi.specs.Committing.{LeavesOldOrHeld, PackageCommits};
 ghost use Rattle.msi.specs.Opened.{file_in};
 
@@ -16,12 +16,13 @@ impl<F: Medium> Package<F> {
     /// medium: a stop then leaves these alone, which are opened again as this package, sound, where each text fits its page. A stop
     /// during the call, or after an error, leaves what one might have left before it, or these bytes; no other call of a package
     /// adds to what a stop may leave. `Failed` after an earlier fault. Of a package that isn't sound nothing is written or published.
-    /// `InvalidInput` where a text or a stream would be too long; the other errors are faults, `Full` among them where numbers of
-    /// entries or sectors are missing. After an error nothing is changed, or the package has failed.
+    /// `InvalidInput` where a text or a stream would be too long; the other errors are faults, `Full` among them as `flush` is answered
+    /// so. After an error nothing is changed or published, or the package has failed.
     pub fn commit(&mut self) -> Result<(), Error>
         ensures commits { PackageCommits F.has_published result self.old self.new }
         ensures left { IsTrue (F.honest (medium_in (file_in self.old)))
             → LeavesOldOrHeld self.old self.new }
+        ensures full { SummaryFills result self.old self.new }
         ensures cause { IfErr result (HasCauseBelow (allocator_of (mini_of (file_in self.old)))
             (allocator_of (mini_of (file_in self.new)))) }
         ensures kinds { IfErr result IsChangeError }

@@ -4,7 +4,7 @@ ghost use Rattle.cfb.specs.Views.{mini_of};
 ghost use Rattle.cfb_fat.specs.Tables.{HasCauseBelow};
 ghost use Rattle.cfb_mini.specs.Views.{allocator_of};
 ghost use Rattle.cfb_owned.specs.Chains.{GoesOn};
-ghost use Rattle.msi.specs.Changing.{failed_in, IsChangeError, PackageWrites};
+ghost use Rattle.msi.specs.Changing.{failed_in, IsChangeError, PackageWrites, SummaryFills};
 ghost use Rattle.msi.specs.Copying.{GivesMedium};
 ghost use Rattle.msi.specs.Opened.{file_in, pool_in, written_in};
 ghost use Rattle.msi.specs.Steps.{SavesMemory};
@@ -16,11 +16,13 @@ use msi_streams::write_parts;
 impl<F: Medium> Package<F> {
     /// Writes pool and summary to their streams, where memory may have them ahead of these, and passes on what the medium keeps back; it
     /// publishes nothing. `Failed` after an earlier fault. Of a package that isn't sound nothing is touched. `InvalidInput` where a text
-    /// or a stream would be too long; the other errors are faults, `Full` among them where numbers of entries or sectors are missing.
-    /// After an error nothing is changed, or the package has failed. A text that its page lacks is written with `?` in it.
+    /// or a stream would be too long; the other errors are faults, `Full` among them where numbers of entries or sectors are missing for
+    /// the summary, which is written first; where they are missing for the pool behind it, the package fails by that. After an error
+    /// nothing is changed, or the package has failed. A text that its page lacks is written with `?` in it.
     pub fn flush(&mut self) -> Result<(), Error>
         ensures writes { PackageWrites result self.old self.new }
         ensures live { OnOk result (failed_in self.new ≡ false) }
+        ensures full { SummaryFills result self.old self.new }
         ensures goes_on { GoesOn (allocator_of (mini_of (file_in self.old)))
             (allocator_of (mini_of (file_in self.new))) }
         ensures cause { IfErr result (HasCauseBelow (allocator_of (mini_of (file_in self.old)))
@@ -61,6 +63,7 @@ impl<F: Medium> Package<F> {
     // Writes both, also where they are in their streams, and flushes the file.
     pub(crate) fn write_memory(&mut self) -> Result<(), Error>
         ensures saves { SavesMemory result self.old self.new }
+        ensures full { SummaryFills result self.old self.new }
         ensures goes_on { GoesOn (allocator_of (mini_of (file_in self.old)))
             (allocator_of (mini_of (file_in self.new))) }
         ensures cause { IfErr result (HasCauseBelow (allocator_of (mini_of (file_in self.old)))

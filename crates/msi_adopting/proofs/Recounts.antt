@@ -1,6 +1,6 @@
 -- What was counted in the parts of a package is what it counts with right counts; and why it can't be written so.
 use Rattle.std.proofs.Common.{◌≡◌, ◌∙◌, ℕ, zero, suc, ◌+◌, ◌-◌, ◌<◌, ◌≤◌, ◌⊎◌, inl, inr, true, false, List, [], ◌∷◌, map, length, refl, sym, ap, ap₂, subst, arith, Some}
-use Rattle.std.specs.Prelude.{All, Err, IfErr, IsTrue, MatchResult, Ok, Option, Result, Vec, is_some, nat_lt, unwrap_or}
+use Rattle.std.specs.Prelude.{All, Err, IfErr, IsTrue, MatchResult, Ok, Result, Vec, is_some, nat_lt, unwrap_or}
 use Rattle.std.specs.List.{list_all}
 use Rattle.std.specs.declared.alloc.Global.{Global}
 use Rattle.std.proofs.lemmas.Bool.{cases_lt}
@@ -18,6 +18,7 @@ use Rattle.cfb_mini.specs.Views.{allocator_of}
 use Rattle.cfb_tree.specs.Names.{Letters}
 use Rattle.cfb_tree.specs.Tree.{Tree}
 use Rattle.msi_changes.specs.Laws.{uses_in}
+use Rattle.msi_judge.proofs.Counted.{some_is}
 use Rattle.msi_judge.proofs.Taken.{all_counted, AreLeft}
 use Rattle.msi_judge.specs.Counting.{TableIsRead, table_at}
 use Rattle.msi_meaning.proofs.PacksOnce.{ok_same, some_same}
@@ -27,7 +28,7 @@ use Rattle.msi_meaning.specs.Opening.{may_use}
 use Rattle.msi_meaning.specs.Package.{Packed, Packs, data_name, objects, pool_name, table_stream}
 use Rattle.msi_meaning.specs.Sound.{is_free_table_name, uses_of}
 use Rattle.msi_meaning.specs.Uses.{TextsAreCounted, counts_of, left_at}
-use Rattle.msi_parts.proofs.Judging.{all_of, each_of}
+use Rattle.msi_parts.proofs.Judging.{all_of, each_of, of_map, to_map}
 use Rattle.msi_parts.proofs.Memory.{memory_is}
 use Rattle.msi_parts.specs.Held.{AreHeld, headings_in}
 use Rattle.msi_parts.specs.Judged.{are_free_names}
@@ -46,14 +47,6 @@ use Rattle.msi_adopting.specs.Adopted.{GetsPool, HasLongText, IsUnadopted}
 use Rattle.msi_adopting.specs.Counted.{AreUsesAt, CanBeCounted, full_counts}
 
 -- ---- lists
-
-of_map : {X Y : Type 0} (f : X → Y) (P : Y → Type 0) (xs : List X) → All P (map f xs) → All (λ x. P (f x)) xs
-of_map f P [] h = λ k d l. absurd (omega (arith, l))
-of_map f P (x ∷ xs) h = All-cons (λ x. P (f x)) x xs (All-head P (f x) (map f xs) h) (of_map f P xs (All-tail P (f x) (map f xs) h))
-
-to_map : {X Y : Type 0} (f : X → Y) (P : Y → Type 0) (xs : List X) → All (λ x. P (f x)) xs → All P (map f xs)
-to_map f P [] h = λ k d l. absurd (omega (arith, l))
-to_map f P (x ∷ xs) h = All-cons P (f x) (map f xs) (All-head (λ x. P (f x)) x xs h) (to_map f P xs (All-tail (λ x. P (f x)) x xs h))
 
 -- counts that agree from place 1 on
 with_same : (f g : ℕ → ℕ) (ps : List Place) (n : ℕ) → 0 < n → ((m : ℕ) → 0 < m → f m ≡ g m) → with_uses f n ps ≡ with_uses g n ps
@@ -75,9 +68,6 @@ full_most n k = by (cases_lt k n)
         omega (arith, is)
 
 -- ---- tables whose rows are those of the tree
-
-some_is : {A : Type 0} (o : Option A) (x d : A) → o ≡ Some x → unwrap_or o d ≡ x
-some_is o x d e = ap (λ o. unwrap_or o d) e
 
 module _ (letters : Letters) (tree : Tree) (pool : Pool) where
   abbrev IsRead : Table → Type 0

@@ -183,7 +183,7 @@ module _ (may : Bool) (pool : Pool) (t : Table) (new_rows : List (List Datum)) w
 
 -- ---- deletes
 
-cells_taken : (p : Pool) (cells : Row) → IfOk (all_taken_back p cells) (KeepsPlaces p)
+pub cells_taken : (p : Pool) (cells : Row) → IfOk (all_taken_back p cells) (KeepsPlaces p)
 cells_taken p [] = same_pool p
 cells_taken p (v ∷ vs) = after_ok (KeepsPlaces p) (KeepsPlaces p) (taken_back p v) (λ q. all_taken_back q vs) (value_taken p v) (λ q first. then_rest q first (all_taken_back q vs) (cells_taken q vs))
   where

@@ -33,9 +33,10 @@ use Rattle.msi_meaning.specs.Streams.{stream_put, IsDropped}
 use Rattle.msi_meaning.specs.declared.kind.PackageType.{PackageType}
 use Rattle.msi_meaning.specs.declared.kind.PackageType.TheVariants.{Installer, Patch, Transform}
 use Rattle.msi_meaning.proofs.Roots.{put_dropped, put_found}
+use Rattle.msi_meaning.proofs.StreamKeys.{same_by_key}
 use Rattle.msi_meaning.proofs.SystemRows.{same_bytes}
 use Rattle.msi_stored.specs.Changing.{StoresSound}
-use Rattle.msi_rewritten.proofs.Beside.{put_beside, put_keeps_storages, same_by_key}
+use Rattle.msi_rewritten.proofs.Beside.{put_beside, put_keeps_storages}
 use Rattle.msi_rewritten.proofs.Names.{no_slash, storage_listed, tables_apart}
 use Rattle.msi_rewritten.proofs.Put.{names_differ}
 use Rattle.msi_creating.specs.New.{new_package, IsLaidDown}

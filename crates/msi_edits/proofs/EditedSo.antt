@@ -129,7 +129,7 @@ module _ (letters : Letters) (tree : Tree) (P : Packed) (stores : Stores letters
 
 -- ---- tables in memory
 
-headings_stay : (long now : Bool) → now ≡ long → (name : List ℕ) (stored : List Row) (ts : List Table) → map (heading now) (rows_put name stored ts) ≡ map (heading long) ts
+pub headings_stay : (long now : Bool) → now ≡ long → (name : List ℕ) (stored : List Row) (ts : List Table) → map (heading now) (rows_put name stored ts) ≡ map (heading long) ts
 headings_stay long now same name stored [] = refl
 headings_stay long now same name stored (t ∷ ts) = ap₂ (λ (h : Heading) (hs : List Heading). h ∷ hs) one (headings_stay long now same name stored ts)
   where

@@ -1,5 +1,5 @@
 -- What a query on the rows of a table did, at each of its exits.
-use Rattle.std.proofs.Common.{◌≡◌, ◌∙◌, ◌⊎◌, ℕ, Bool, true, false, cond, List, [], ◌∷◌, map, length, Option, Some, None, refl, sym, ap, subst, arith, inl, inr, ⊎_elim, Vec, Result, Ok, Err}
+use Rattle.std.proofs.Common.{◌≡◌, ◌∙◌, ◌⊎◌, ℕ, Bool, true, false, List, [], ◌∷◌, map, length, Option, Some, None, refl, sym, ap, subst, arith, inl, inr, ⊎_elim, Vec, Result, Ok, Err}
 use Rattle.std.specs.Prelude.{bytes_eq, option_map, IfErr}
 use Rattle.std.specs.declared.alloc.Global.{Global}
 use Rattle.cfb.specs.Doing.{FileMeans}
@@ -29,6 +29,7 @@ use Rattle.msi_meaning.specs.Package.{stream_name, Packed}
 use Rattle.msi_meaning.proofs.SystemRows.{same_bytes}
 use Rattle.msi_parts.specs.Judged.{heading_named}
 use Rattle.msi_parts.specs.Parts.{heading}
+use Rattle.msi_parts.proofs.Judging.{named_heading}
 use Rattle.msi_store.specs.Stores.{file_in, tables_in}
 use Rattle.msi_store.specs.declared.store.Store.{Store}
 use Rattle.msi_stored.specs.Changing.{PackageRule, StoresSound}
@@ -127,15 +128,6 @@ module _ {F : Type 0} {g : Ghosts F} (q : RowsAsked) (h : Heading) where
 
 -- ---- in the package
 
-named_heading : (long : Bool) (ts : List Table) (name : List ℕ) → heading_named (map (heading long) ts) name ≡ option_map (heading long) (table_named ts name)
-named_heading long [] name = refl
-named_heading long (t ∷ ts) name = by (bytes_eq t.name name) (named_heading long ts name)
-  where
-    by : (b : Bool) → heading_named (map (heading long) ts) name ≡ option_map (heading long) (table_named ts name)
-        → cond b (Some (heading long t)) (heading_named (map (heading long) ts) name) ≡ option_map (heading long) (cond b (Some t) (table_named ts name))
-    by true rest = refl
-    by false rest = rest
-
 heading_name : (hs : List Heading) (name : List ℕ) (h : Heading) → heading_named hs name ≡ Some h → h.name ≡ name
 heading_name [] name h is = (let never : None ≡ Some h = is in absurd (cc))
 heading_name (x ∷ xs) name h is = by (bytes_eq x.name name) refl (heading_name xs name h)
@@ -148,11 +140,11 @@ heading_name (x ∷ xs) name h is = by (bytes_eq x.name name) refl (heading_name
     by false e rest = rest (rw e at is)
 
 -- the table of a heading that was found
-found_of : (long : Bool) (o : Option Table) (h : Heading) → option_map (heading long) o ≡ Some h → (t : Table) × (o ≡ Some t) × (h ≡ heading long t)
+pub found_of : (long : Bool) (o : Option Table) (h : Heading) → option_map (heading long) o ≡ Some h → (t : Table) × (o ≡ Some t) × (h ≡ heading long t)
 found_of long None h is = (let never : None ≡ Some h = is in absurd (cc))
 found_of long (Some t) h is = (t, refl, (let same : heading long t ≡ h = grind (arith, is) in sym same))
 
-none_of : (long : Bool) (o : Option Table) → option_map (heading long) o ≡ None → o ≡ None
+pub none_of : (long : Bool) (o : Option Table) → option_map (heading long) o ≡ None → o ≡ None
 none_of long None is = refl
 none_of long (Some t) is = (let never : Some (heading long t) ≡ None = is in absurd (cc))
 

@@ -1,9 +1,9 @@
 -- A table's stream that is put, by the rules on trees.
-use Rattle.std.proofs.Common.{◌≡◌, ◌∙◌, ℕ, suc, ◌<◌, ◌≤◌, Bool, true, false, cond, List, [], ◌∷◌, Some, None, Option, length, refl, sym, ap, subst, inr, ⊎_elim, arith}
+use Rattle.std.proofs.Common.{◌≡◌, ◌∙◌, ℕ, suc, ◌<◌, ◌≤◌, Bool, true, cond, List, [], ◌∷◌, Some, None, Option, length, refl, sym, ap, subst, inr, ⊎_elim, arith}
 use Rattle.std.specs.Prelude.{◌==◌, ◌&&◌, bytes_eq, not, chars, encode_utf8_all, nat_le, Err, IsUtf8, Ok, Result}
 use Rattle.std.specs.Char.Escape.{encode_utf16}
 use Rattle.std.specs.List.{flat_map, list_all}
-use Rattle.std.proofs.lemmas.Bool.{and_parts, or_parts}
+use Rattle.std.proofs.lemmas.Bool.{and_parts}
 use Rattle.std.proofs.lemmas.Bool.Decides.{nat_tests}
 use Rattle.cfb.specs.Doing.{FileMeans}
 use Rattle.cfb.specs.Putting.{answer_by, put_over, putting, FilePuts}
@@ -22,10 +22,11 @@ use Rattle.cfb_tree.specs.Names.{is_forbidden, is_name, name_units, Letters}
 use Rattle.cfb_tree.specs.Objects.{a_storage, a_stream, Object}
 use Rattle.cfb_tree.specs.Tree.{IsOrdered, Tree}
 use Rattle.cfb_tree.proofs.OneContent.{Some_same}
+use Rattle.msi_stored.proofs.Children.{unslashed}
 use Rattle.msi_texts.specs.Category.{is_identifier}
 use Rattle.msi_texts.specs.StreamName.{is_valid_name}
 use Rattle.msi_meaning.specs.Opening.{is_encoded}
-use Rattle.msi_meaning.specs.Package.{at_name, data_name, has_slash, objects, pool_name, stream_name}
+use Rattle.msi_meaning.specs.Package.{at_name, data_name, objects, pool_name, stream_name}
 use Rattle.msi_meaning.specs.Sound.{is_free_table_name}
 use Rattle.msi_meaning.proofs.EncodedKeys.{name_encoded}
 use Rattle.msi_meaning.proofs.EncodedPaths.{path_is}
@@ -67,18 +68,12 @@ valid_name name free =
     both_tests (nat_le 1 (length (name_units (stream_name name)))) (nat_le (length (name_units (stream_name name))) 31) (list_all (λ c. not (is_forbidden c)) (stream_name name))
     (some_units (length (flat_map encode_utf16 (rest_of (stream_name name))))) d.1 (encoded_allowed (stream_name name) (name_encoded name c.0))
 
-slashes : (name : List ℕ) → has_slash name ≡ false → list_all (λ b. not (b == 47)) name ≡ true
-slashes [] e = refl
-slashes (b ∷ bs) e =
-    let both = or_parts (b == 47) (has_slash bs) e in
-    rw (both.0, slashes bs both.1) refl
-
 some_name : (name : List ℕ) → is_free_table_name name ≡ true → 0 < length name
 some_name [] free = absurd (cc)
 some_name (b ∷ bs) free = omega arith
 
 pub path_of : (name : List ℕ) → IsUtf8 name → is_free_table_name name ≡ true → names_in (encode_utf8_all (stream_name name)) ≡ Some (stream_name name ∷ [])
-path_of name text free = path_is true name text (some_name name free) (slashes name (no_slash name (free_parts name free).0))
+path_of name text free = path_is true name text (some_name name free) (unslashed name (no_slash name (free_parts name free).0))
 
 -- ---- the rules
 

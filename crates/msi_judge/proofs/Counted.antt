@@ -7,7 +7,7 @@ use Rattle.cfb_tree.specs.Names.{Letters}
 use Rattle.cfb_tree.specs.Tree.{Tree}
 use Rattle.msi_meaning.specs.Known.{HaveRows}
 use Rattle.msi_meaning.specs.Uses.{TextsAreCounted}
-use Rattle.msi_parts.proofs.Judging.{named_heading}
+use Rattle.msi_parts.proofs.Judging.{named_heading, or_false}
 use Rattle.msi_parts.specs.Judged.{AreSoundRows, heading_named, list_system}
 use Rattle.msi_parts.specs.Parts.{heading}
 use Rattle.msi_pool.specs.Pool.{Pool}
@@ -32,14 +32,10 @@ none_of true b e = absurd (cc)
 none_of false true e = absurd (cc)
 none_of false false e = refl
 
-first_false : (a b : Bool) → a || b ≡ false → (a ≡ false) × (b ≡ false)
-first_false true b e = absurd (cc)
-first_false false b e = (refl, e)
-
 none_listed : (rows : List (List Datum)) → list_any (λ r. begins_with tables_name r || begins_with columns_name r) rows ≡ false → All Unlisted rows
 none_listed [] e = λ k d l. absurd (omega (arith, l))
 none_listed (r ∷ rs) e =
-    let both = first_false (begins_with tables_name r || begins_with columns_name r) (list_any (λ r. begins_with tables_name r || begins_with columns_name r) rs) e in
+    let both = or_false (begins_with tables_name r || begins_with columns_name r) (list_any (λ r. begins_with tables_name r || begins_with columns_name r) rs) e in
     All-cons Unlisted r rs (neither (begins_with tables_name r) (begins_with columns_name r) both.0) (none_listed rs both.1)
 
 listed_none : (rows : List (List Datum)) → All Unlisted rows → list_any (λ r. begins_with tables_name r || begins_with columns_name r) rows ≡ false
@@ -48,7 +44,7 @@ listed_none (r ∷ rs) h =
     ap (λ b. b || list_any (λ r. begins_with tables_name r || begins_with columns_name r) rs) (none_of (begins_with tables_name r) (begins_with columns_name r) (All-head Unlisted r rs h))
     ∙ listed_none rs (All-tail Unlisted r rs h)
 
-some_is : {A : Type 0} (o : Option A) (x d : A) → o ≡ Some x → unwrap_or o d ≡ x
+pub some_is : {A : Type 0} (o : Option A) (x d : A) → o ≡ Some x → unwrap_or o d ≡ x
 some_is o x d e = ap (λ o. unwrap_or o d) e
 
 is_some_of : {A : Type 0} (o : Option A) (x : A) → o ≡ Some x → IsSome o

@@ -12,6 +12,7 @@ use Rattle.cfb_tree.specs.Tree.{Tree}
 use Rattle.msi_columns.specs.Column.{Column}
 use Rattle.msi_creating.proofs.Laid.{names_free}
 use Rattle.msi_edits.specs.Edited.{IsMemoryOf}
+use Rattle.msi_edits.proofs.EditedSo.{headings_stay}
 use Rattle.msi_edits.proofs.Exits.{IsFirst, IsOpen}
 use Rattle.msi_meaning.specs.Calls.{created, new_table, own_columns, rows_put, table_put, Creates, Ends, Rows3}
 use Rattle.msi_meaning.specs.Package.{at_name, stream_name, Packed}
@@ -28,7 +29,7 @@ use Rattle.msi_tables.specs.Table.{Heading, IsStoredByKeys}
 use Rattle.msi_making.specs.Created.{with_table, AreReadThree, HasPutThree, IsAccepted}
 use Rattle.msi_making.specs.Making.{CanPutThree, Makes, PutsThree}
 use Rattle.msi_making.proofs.Holding.{holding}
-use Rattle.msi_making.proofs.MadeBy.{can_put, headings_stay, Comes}
+use Rattle.msi_making.proofs.MadeBy.{can_put, Comes}
 use Rattle.msi_making.proofs.MadeBy as by
 use Rattle.msi_making.proofs.NewStored.{as_new, parts_kept, stored_after, validation_is_there}
 use Rattle.msi_making.proofs.NewTable.{columns_now, IsNewTable}

@@ -9,22 +9,19 @@ use Rattle.std.proofs.lemmas.List.Folds.{list_all-map}
 use Rattle.msi_columns.specs.Column.{listed}
 use Rattle.msi_columns.specs.Held.{column_of, columns_of}
 use Rattle.msi_columns.specs.declared.column.Column.{Column as HeldColumn}
+use Rattle.msi_columns.proofs.Choices.{list_any_map}
 use Rattle.msi_meaning.specs.Calls.{is_kept, names_distinct}
 use Rattle.msi_meaning.specs.Package.{data_name, pool_name}
 use Rattle.msi_tables.specs.Table.{is_valid_table_name}
 use Rattle.msi_texts.specs.Category.{is_identifier}
 use Rattle.msi_making.specs.Testing.{can_be_kept, may_have_columns}
 
-pub list_any-map : {X Y : Type 0} (p : Y → Bool) (f : X → Y) (xs : List X) → list_any p (map f xs) ≡ list_any (λ x. p (f x)) xs
-list_any-map p f [] = refl
-list_any-map p f (x ∷ xs) = ap (λ b. p (f x) || b) (list_any-map p f xs)
-
 -- texts that a column takes
 pub listed_so : {X : Type 0} (p : List ℕ → Bool) (f : X → List ℕ) (texts : List X) (choices : List (List ℕ)) → Some (map f texts) ≡ listed choices → list_any (λ x. p (f x)) texts ≡ list_any p choices
 listed_so p f texts [] e = absurd (cc)
 listed_so p f texts (c ∷ cs) e =
     let same : map f texts ≡ c ∷ cs = cc in
-    sym (list_any-map p f texts) ∙ ap (list_any p) same
+    sym (list_any_map p f texts) ∙ ap (list_any p) same
 
 pub none_listed : (p : List ℕ → Bool) (choices : List (List ℕ)) → None ≡ listed choices → false ≡ list_any p choices
 none_listed p [] e = refl
@@ -58,7 +55,7 @@ no_place p xs e = by (nat_lt (position_or_len p xs) (length xs)) refl e
 
 -- one of the columns has the name
 pub named_so : (cs : List HeldColumn) (name : List ℕ) → list_any (λ c. bytes_eq (column_of c).name name) cs ≡ list_any (λ c. bytes_eq c.name name) (columns_of cs)
-named_so cs name = sym (list_any-map (λ c. bytes_eq c.name name) column_of cs)
+named_so cs name = sym (list_any_map (λ c. bytes_eq c.name name) column_of cs)
 
 pub may_have_so : (name : List ℕ) (cs : List HeldColumn)
     → (is_valid_table_name name && not (length cs == 0) && nat_le (length cs) 32 && list_any (λ c. (column_of c).key) cs && list_all (λ c. is_identifier (column_of c).name) cs && names_distinct (columns_of cs))
@@ -67,7 +64,7 @@ may_have_so name cs =
     let long : length (columns_of cs) ≡ length cs = length-map cs column_of in
     sym (
     ap (λ n. is_valid_table_name name && not (n == 0) && nat_le n 32 && list_any (λ c. c.key) (columns_of cs) && list_all (λ c. is_identifier c.name) (columns_of cs) && names_distinct (columns_of cs)) long
-    ∙ ap₂ (λ a b. is_valid_table_name name && not (length cs == 0) && nat_le (length cs) 32 && a && b && names_distinct (columns_of cs)) (list_any-map (λ c. c.key) column_of cs) (list_all-map (λ c. is_identifier c.name) column_of cs))
+    ∙ ap₂ (λ a b. is_valid_table_name name && not (length cs == 0) && nat_le (length cs) 32 && a && b && names_distinct (columns_of cs)) (list_any_map (λ c. c.key) column_of cs) (list_all-map (λ c. is_identifier c.name) column_of cs))
 
 pub can_be_kept_so : (name : List ℕ) (cs : List HeldColumn) (b : Bool) → (bytes_eq name pool_name || bytes_eq name data_name) ≡ false → b ≡ list_all (λ c. is_kept (column_of c)) cs → b ≡ can_be_kept name (columns_of cs)
 can_be_kept_so name cs b other is =

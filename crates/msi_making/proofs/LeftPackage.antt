@@ -16,6 +16,7 @@ use Rattle.msi_changes.specs.Changes.{all_taken_back}
 use Rattle.msi_changes.specs.Laws.{uses_in, KeepsPlaces}
 use Rattle.msi_changes.proofs.CellUses.{Leaves}
 use Rattle.msi_changes.proofs.RowUses.{cells_left, row_uses}
+use Rattle.msi_changes.proofs.Shapes.{cells_taken}
 use Rattle.msi_changes.proofs.UsesKept.{none_in}
 use Rattle.msi_columns.specs.Column.{Column}
 use Rattle.msi_pool.specs.Pool.{at_place, Pool}
@@ -33,10 +34,11 @@ use Rattle.msi_meaning.specs.Streams.{IsDropped}
 use Rattle.msi_meaning.specs.Uses.{TextsAreCounted}
 use Rattle.msi_meaning.proofs.Roots.{put_dropped}
 use Rattle.msi_meaning.proofs.SoundUses.{rows_read}
+use Rattle.msi_meaning.proofs.StreamKeys.{same_by_key}
 use Rattle.msi_meaning.proofs.SystemRows.{same_bytes}
 use Rattle.msi_rewritten.specs.Rewriting.{HasPut}
 use Rattle.msi_rewritten.proofs.Before.{uses_before}
-use Rattle.msi_rewritten.proofs.Beside.{same_by_key}
+use Rattle.msi_rewritten.proofs.Described.{alone}
 use Rattle.msi_rewritten.proofs.Inserted.{of_ok}
 use Rattle.msi_rewritten.proofs.Names.{summary_apart, tables_apart}
 use Rattle.msi_rewritten.proofs.Put.{free_parts, names_differ}
@@ -47,10 +49,10 @@ use Rattle.msi_schema.proofs.Schemas.{schemas_moved, schemas_shrink}
 use Rattle.msi_stored.specs.Changing.{KeepsParts, StoresSound}
 use Rattle.msi_making.specs.Drops.{CanDrop}
 use Rattle.msi_making.specs.Dropping.{without_table, AreRead, HasDropped, IsDropping}
-use Rattle.msi_making.proofs.LeftRows.{alone, any_beside, beside, in_kept, kept_in, none_beside, stored_beside, table_data}
+use Rattle.msi_making.proofs.LeftRows.{any_beside, beside, in_kept, kept_in, none_beside, stored_beside, table_data}
 use Rattle.msi_making.proofs.LeftStreams.{any_left, any_listed, kept_left, left_beside, put_at_other, put_at_own, put_storages, storages_left}
 use Rattle.msi_making.proofs.LeftTables.{all_left, at_columns, at_tables, at_validation, changed, changed_columns, changed_name, each_changed, found_in_left, held, named_of, names_in_left, rising_left, uses_left}
-use Rattle.msi_making.proofs.TakenUses.{are_placed, both_uses, cells_in, cells_keep, split_uses, uses_joined}
+use Rattle.msi_making.proofs.TakenUses.{are_placed, both_uses, cells_in, split_uses, uses_joined}
 use Rattle.msi_making.proofs.Without.{names_left}
 
 -- ---- what it means that a table may be dropped
@@ -167,7 +169,7 @@ module _ (letters : Letters) (old : Tree) (P : Packed) (s : StoresSound letters 
       (cells_left P.pool (cells_in gone) (uses_of Q.tables) (are_placed (cells_in gone) (omega (arith, all_uses 0, none_before))) (record { counts = λ n at. counts_before n at ∙ all_uses n }))
 
   pub keeps : KeepsPlaces P.pool x.1
-  keeps = of_ok (all_taken_back P.pool (cells_in gone)) (KeepsPlaces P.pool) x.1 is.taken (cells_keep P.pool (cells_in gone))
+  keeps = of_ok (all_taken_back P.pool (cells_in gone)) (KeepsPlaces P.pool) x.1 is.taken (cells_taken P.pool (cells_in gone))
 
   among : (j : ℕ) (w : Table) → j < length Q.tables → (n : ℕ) → uses_in (get_or Q.tables j w).rows n ≤ uses_of Q.tables n
   among j w within n = get_or-le-sum_by (λ u. uses_in u.rows n) Q.tables j w within

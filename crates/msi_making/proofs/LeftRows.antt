@@ -1,15 +1,14 @@
 -- Rows as values, without those that speak of a table.
-use Rattle.std.proofs.Common.{◌≡◌, ◌∙◌, ℕ, zero, suc, Bool, true, false, cond, List, [], ◌∷◌, map, take, Some, None, Option, inl, inr, refl, sym, ap, subst, arith}
-use Rattle.std.specs.Prelude.{◌⊎◌, ◌&&◌, ◌||◌, bytes_eq, filter, not, option_map, unwrap_or, Contains, IsPermutation}
-use Rattle.std.specs.List.{list_all, list_any}
-use Rattle.std.proofs.lemmas.Bool.{and_parts}
+use Rattle.std.proofs.Common.{◌≡◌, ◌∙◌, ℕ, zero, suc, Bool, true, false, cond, List, [], ◌∷◌, map, Some, None, Option, inl, inr, refl, sym, ap, subst, arith}
+use Rattle.std.specs.Prelude.{◌⊎◌, ◌||◌, bytes_eq, filter, not, option_map, unwrap_or, Contains, IsPermutation}
+use Rattle.std.specs.List.{list_any}
 use Rattle.std.proofs.lemmas.List.Elements.{All-contains, All-contains_itself, All-filter, filter_passes}
 use Rattle.std.proofs.lemmas.List.Sorted.{IsPermutation-map}
 use Rattle.msi_columns.specs.Column.{Column}
 use Rattle.msi_pool.specs.Pool.{Pool}
 use Rattle.msi_tables.specs.Rows.{IsStored, Row}
-use Rattle.msi_tables.specs.Schema.{are_keys, begins_with, is_filled, is_of_listed, is_schema, names_described}
-use Rattle.msi_tables.specs.Table.{are_distinct, data_rows, row_data, Table}
+use Rattle.msi_tables.specs.Schema.{begins_with}
+use Rattle.msi_tables.specs.Table.{data_rows, row_data, Table}
 use Rattle.msi_tables.proofs.Writable.{stored_rows_move}
 use Rattle.msi_values.specs.Datum.{Datum}
 use Rattle.msi_schema.proofs.Beside.{begins_once}
@@ -84,20 +83,3 @@ module _ (name : List ℕ) where
 pub table_data : (pool : Pool) (found : Option Table) → map (row_data pool) (unwrap_or (option_map (λ t. t.rows) found) []) ≡ data_rows pool found
 table_data pool None = refl
 table_data pool (Some t) = refl
-
--- no key of _Columns and of _Validation stands twice
-pub alone : (tables columns vs : List (List Datum)) → is_schema tables columns vs ≡ true → (are_distinct (map (take 2) columns) ≡ true) × (are_distinct (map (take 2) vs) ≡ true)
-alone tables columns vs e =
-    let a = are_keys tables in
-    let b = are_keys (map (take 2) columns) in
-    let c = list_all (list_all is_filled) columns in
-    let d = list_all (is_of_listed tables) columns in
-    let k = are_keys (map (take 2) vs) in
-    let five = and_parts (a && b && c && d && k) (list_all (names_described columns vs) tables) e in
-    let four = and_parts (a && b && c && d) k five.0 in
-    let three = and_parts (a && b && c) d four.0 in
-    let two = and_parts (a && b) c three.0 in
-    let one = and_parts a b two.0 in (
-      (and_parts (list_all (list_all is_filled) (map (take 2) columns)) (are_distinct (map (take 2) columns)) one.1).1,
-      (and_parts (list_all (list_all is_filled) (map (take 2) vs)) (are_distinct (map (take 2) vs)) four.1).1,
-    )

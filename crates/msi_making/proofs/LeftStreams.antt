@@ -10,9 +10,10 @@ use Rattle.msi_tables.specs.Table.{table_named, Table}
 use Rattle.msi_meaning.specs.Package.{at_name, is_stream, objects, stream_at, stream_name}
 use Rattle.msi_meaning.specs.Streams.{without_stream}
 use Rattle.msi_meaning.proofs.Roots.{put_found}
+use Rattle.msi_meaning.proofs.StreamKeys.{key_by_same, same_by_key}
 use Rattle.msi_meaning.proofs.SystemRows.{same_bytes}
 use Rattle.msi_rewritten.specs.Rewriting.{HasPut}
-use Rattle.msi_rewritten.proofs.Beside.{key_by_same, put_beside, put_keeps_storages, same_by_key}
+use Rattle.msi_rewritten.proofs.Beside.{put_beside, put_keeps_storages}
 use Rattle.msi_rewritten.proofs.Names.{storage_listed}
 use Rattle.msi_making.proofs.LeftTables.{other}
 

@@ -1,6 +1,6 @@
 -- What _Validation comes to beside a new table: it gets the rows that limit its columns; or it is the new table, which no row limits.
-use Rattle.std.proofs.Common.{◌≡◌, ◌∙◌, ℕ, ◌+◌, Bool, true, false, cond, List, [], ◌∷◌, ◌++◌, length, map, refl, sym, ap, subst, arith, Some, None, not}
-use Rattle.std.specs.Prelude.{◌||◌, ◌==◌, bytes_eq, filter, find, is_none, unwrap_or, IfSome}
+use Rattle.std.proofs.Common.{◌≡◌, ◌∙◌, ℕ, ◌+◌, true, false, cond, List, [], ◌++◌, length, map, refl, sym, ap, subst, arith, Some, None, not}
+use Rattle.std.specs.Prelude.{◌==◌, bytes_eq, filter, find, is_none, unwrap_or, IfSome}
 use Rattle.std.specs.List.{list_all, list_any}
 use Rattle.std.specs.List.Sorted.{IsPermutation, IsStrictlySortedBy}
 use Rattle.std.proofs.lemmas.List.Elements.{filter-append}
@@ -18,7 +18,7 @@ use Rattle.msi_meaning.specs.Package.{at_name, objects, stream_name, table_name_
 use Rattle.msi_meaning.specs.Sound.{uses_of}
 use Rattle.msi_meaning.specs.SoundParts.{IsNamed}
 use Rattle.msi_meaning.specs.Split.{Stores}
-use Rattle.msi_meaning.proofs.NewColumns.{new_columns}
+use Rattle.msi_meaning.proofs.NewColumns.{new_columns, none_pass}
 use Rattle.msi_meaning.proofs.NewRows.{keys_apart, validation_begins, validation_keys}
 use Rattle.msi_pool.specs.Pool.{Pool}
 use Rattle.msi_tables.specs.Rows.{kinds_of, rows_of, Row}
@@ -85,14 +85,6 @@ module _ (letters : Letters) (old : Tree) (P : Packed) (stores : Stores letters 
     }
 
 -- ---- it is new
-
-none_pass : (p : List Datum → Bool) (xs : List (List Datum)) → list_any p xs ≡ false → filter p xs ≡ []
-none_pass p [] e = refl
-none_pass p (x ∷ xs) e = by (p x) e (none_pass p xs)
-  where
-    by : (b : Bool) → (b || list_any p xs) ≡ false → (list_any p xs ≡ false → filter p xs ≡ []) → cond b (x ∷ filter p xs) (filter p xs) ≡ []
-    by true e later = absurd (cc)
-    by false e later = later e
 
 -- its columns are read from its rows of _Columns alone
 pub read_listed : (cs : List (List Datum)) → list_any (begins_with validation_name) cs ≡ false → schema_of (cs ++ columns_rows validation_name 1 listed_columns) [] validation_name ≡ Some listed_columns

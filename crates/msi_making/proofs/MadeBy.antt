@@ -1,5 +1,5 @@
 -- What a call that makes a table did, at each of its exits.
-use Rattle.std.proofs.Common.{◌≡◌, ◌∙◌, ◌⊎◌, ℕ, true, false, List, map, length, Some, refl, sym, ap, inl, inr, subst, ⊎_elim, None, Ok, Err, Bool, ap₂, [], ◌∷◌}
+use Rattle.std.proofs.Common.{◌≡◌, ◌∙◌, ◌⊎◌, ℕ, true, false, List, map, length, Some, refl, sym, ap, inl, inr, subst, ⊎_elim, None, Ok, Err}
 use Rattle.cfb.specs.Doing.{FileMeans}
 use Rattle.cfb.specs.Putting.{KeepsMeant}
 use Rattle.cfb.specs.Views.{letters_in, mini_of, sound_of, validation_of, FileRests}
@@ -14,32 +14,21 @@ use Rattle.cfb_tree.specs.Names.{Letters}
 use Rattle.cfb_tree.specs.Tree.{Tree}
 use Rattle.msi_edits.specs.Edited.{CanPut, IsMemoryOf}
 use Rattle.msi_edits.proofs.Exits.{IsFirst, IsOpen}
-use Rattle.msi_meaning.specs.Calls.{rows_put, with_rows}
 use Rattle.msi_meaning.specs.Package.{at_name, stream_name, Packed}
 use Rattle.msi_meaning.specs.Sound.{is_free_table_name}
 use Rattle.msi_parts.specs.Parts.{heading}
 use Rattle.msi_pool.specs.Pool.{Pool}
 use Rattle.msi_pool.specs.PoolState.{PoolState}
-use Rattle.msi_rewritten.proofs.Tables.{columns_kept, name_kept}
 use Rattle.msi_store.specs.Stores.{file_in, tables_in}
 use Rattle.msi_store.specs.declared.store.Store.{Store}
 use Rattle.msi_stored.specs.Changing.{KeepsParts, PackageRule, StoresSound}
 use Rattle.msi_stored.specs.Room.{IsFullForName, IsFullForRule}
 use Rattle.msi_stored.proofs.Room.{room_before}
-use Rattle.msi_tables.specs.Rows.{kinds_of, rows_bytes, Row}
+use Rattle.msi_tables.specs.Rows.{kinds_of, rows_bytes}
 use Rattle.msi_tables.specs.Schema.{columns_name}
 use Rattle.msi_tables.specs.Table.{table_named, Heading, Table}
 use Rattle.msi_making.specs.Making.{Makes}
 use Rattle.msi_making.proofs.Holding.{there_has, IsThere}
-
--- ---- tables in memory
-
-pub headings_stay : (long now : Bool) → now ≡ long → (name : List ℕ) (stored : List Row) (ts : List Table) → map (heading now) (rows_put name stored ts) ≡ map (heading long) ts
-headings_stay long now same name stored [] = refl
-headings_stay long now same name stored (t ∷ ts) = ap₂ (λ (h : Heading) (hs : List Heading). h ∷ hs) one (headings_stay long now same name stored ts)
-  where
-    one : heading now (with_rows name stored t) ≡ heading long t
-    one = λ i. record { name = name_kept name stored t i; columns = columns_kept name stored t i; long = same i }
 
 -- what can be put where the package is stored
 pub can_put : (letters here : Letters) → here ≡ letters → (tree : Tree) (P : Packed) → StoresSound letters tree P → (u : Table) → IsThere P.tables u → is_free_table_name u.name ≡ true → CanPut here u.name tree

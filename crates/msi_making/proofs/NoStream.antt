@@ -1,9 +1,8 @@
 -- No stream stands where that of a table that isn't there would, and no bytes are no rows.
 use Rattle.std.proofs.Common.{◌≡◌, ◌∙◌, ℕ, ◌/◌, Bool, true, false, cond, List, [], ◌∷◌, map, refl, ap, subst, Option, Some, None, not}
-use Rattle.std.specs.Prelude.{◌&&◌, ◌||◌, ◌==◌, bytes_eq, filter, nat_le, option_and_then, All, IsTrue}
+use Rattle.std.specs.Prelude.{◌&&◌, ◌==◌, bytes_eq, filter, nat_le, option_and_then, All, IsTrue}
 use Rattle.std.specs.List.{list_any}
 use Rattle.std.proofs.Math.Nat.{zero-div}
-use Rattle.std.proofs.lemmas.List.Elements.{All-head, All-tail}
 use Rattle.cfb_tree.specs.Names.{Letters}
 use Rattle.cfb_tree.specs.Objects.{a_storage, a_stream, is_same_name, name_of, Object}
 use Rattle.cfb_tree.specs.Tree.{Tree}
@@ -14,16 +13,14 @@ use Rattle.msi_meaning.specs.Sound.{is_free_table_name}
 use Rattle.msi_meaning.specs.SoundParts.{IsNamed}
 use Rattle.msi_meaning.specs.Split.{Stores}
 use Rattle.msi_meaning.proofs.EncodedKeys.{keys_tell, name_encoded}
-use Rattle.msi_rewritten.proofs.Beside.{key_by_same}
+use Rattle.msi_meaning.proofs.StreamKeys.{key_by_same}
 use Rattle.msi_rewritten.proofs.Names.{found_same, kept_has, no_slash, summary_apart, tables_apart}
-use Rattle.msi_rewritten.proofs.Put.{free_parts, names_differ, not_true}
+use Rattle.msi_rewritten.proofs.Put.{free_parts, not_true}
+use Rattle.msi_rewritten.proofs.Stored.{none_listed, or_none}
 use Rattle.msi_tables.specs.Rows.{max_rows, numbers_from, row_at, row_count, row_width, rows_of}
-use Rattle.msi_tables.specs.Table.{table_named, Table}
+use Rattle.msi_tables.specs.Table.{table_named}
 use Rattle.msi_texts.specs.Category.{is_identifier}
 use Rattle.msi_texts.specs.StreamName.{is_marked}
-
-or_none : (a b : Bool) → a ≡ false → b ≡ false → (a || b) ≡ false
-or_none a b e f = rw (e, f) refl
 
 -- ---- rows of no bytes
 
@@ -36,22 +33,6 @@ no_count long ks = on (row_width long ks == 0)
 
 pub no_rows : (long : Bool) (ks : List ColumnType) → rows_of long ks [] ≡ Some []
 no_rows long ks = ap (λ n. cond (nat_le n max_rows) (Some (map (row_at long n [] 0 ks) (numbers_from 0 n))) None) (no_count long ks)
-
--- ---- tables by their names
-
-none_listed : (letters : Letters) → may_use letters ≡ true → (m : List ℕ) → is_identifier m ≡ true → (ts : List Table) → All (λ t. IsTrue (is_free_table_name t.name)) ts → table_named ts m ≡ None
-    → list_any (λ name. is_same_name letters name (stream_name m)) (map (λ t. stream_name t.name) ts) ≡ false
-none_listed letters usable m e [] free none = refl
-none_listed letters usable m e (t ∷ ts) free none = by (bytes_eq t.name m) refl (none_listed letters usable m e ts (All-tail (λ t. IsTrue (is_free_table_name t.name)) t ts free))
-  where
-    by : (b : Bool) → bytes_eq t.name m ≡ b
-        → (table_named ts m ≡ None → list_any (λ name. is_same_name letters name (stream_name m)) (map (λ t. stream_name t.name) ts) ≡ false)
-        → list_any (λ name. is_same_name letters name (stream_name m)) (map (λ t. stream_name t.name) (t ∷ ts)) ≡ false
-    by true is rest = (let never : Some t ≡ None = rw is at none in absurd (cc))
-    by false is rest =
-        or_none _ _
-        (tables_apart letters usable t.name m (free_parts t.name (All-head (λ t. IsTrue (is_free_table_name t.name)) t ts free)).0 e (names_differ t.name m is))
-        (rest (rw is at none))
 
 -- ---- no stream has the name of a table that isn't there
 

@@ -7,6 +7,7 @@ use Rattle.cfb_tree.specs.Names.{Letters}
 use Rattle.cfb_tree.specs.Tree.{Tree}
 use Rattle.msi_changes.specs.Changes.{all_taken_back}
 use Rattle.msi_columns.specs.Column.{Column}
+use Rattle.msi_edits.proofs.Exits.{found_of, none_of}
 use Rattle.msi_edits.proofs.Refusals.{IsOwn}
 use Rattle.msi_meaning.specs.Calls.{dropped, own_columns, rows_about, rows_beside, speaks_of}
 use Rattle.msi_meaning.specs.Package.{objects, rows_named, table_stream, Packed}
@@ -30,15 +31,6 @@ use Rattle.msi_making.specs.declared.remaining.SystemBytes.{SystemBytes}
 use Rattle.msi_making.proofs.LeftTables.{held, named_of}
 use Rattle.msi_making.proofs.TakenRows.{laid_back}
 use Rattle.msi_making.proofs.TakenUses.{cells_in}
-
--- the table of a heading that was found
-found_of : (long : Bool) (o : Option Table) (h : Heading) → option_map (heading long) o ≡ Some h → (t : Table) × (o ≡ Some t) × (h ≡ heading long t)
-found_of long None h is = (let never : None ≡ Some h = is in absurd (cc))
-found_of long (Some t) h is = (t, refl, sym (ap (λ o. unwrap_or o h) is))
-
-none_of : (long : Bool) (o : Option Table) → option_map (heading long) o ≡ None → o ≡ None
-none_of long None is = refl
-none_of long (Some t) is = (let never : Some (heading long t) ≡ None = is in absurd (cc))
 
 module _ (P : Packed) (name : List ℕ) where
   -- all rows of which the uses are taken back, where the table has these

@@ -13,6 +13,7 @@ use Rattle.cfb_tree.specs.Tree.{Tree}
 use Rattle.msi_columns.specs.Column.{are_valid, Column}
 use Rattle.msi_columns.specs.Held.{column_of, columns_of}
 use Rattle.msi_columns.specs.declared.column.Column.{Column as HeldColumn}
+use Rattle.msi_columns.proofs.Choices.{list_any_map}
 use Rattle.msi_meaning.specs.Calls.{described, is_kept, stored_rows, Rows3}
 use Rattle.msi_meaning.specs.Package.{at_name, data_name, pool_name, stream_name, Packed}
 use Rattle.msi_meaning.specs.Sound.{is_free_table_name}
@@ -31,7 +32,6 @@ use Rattle.msi_making.specs.Describing.{counting, rows_of_values, third_test}
 use Rattle.msi_making.specs.Testing.{can_be_kept, has_limits}
 use Rattle.msi_making.proofs.Accepted.{fits_rows, fourth}
 use Rattle.msi_making.proofs.CreatedFrom.{keys_are}
-use Rattle.msi_making.proofs.HeldTests.{list_any-map}
 use Rattle.msi_making.proofs.NotCreated.{as_three, past_number}
 
 -- rows in memory are tested as what they say
@@ -62,14 +62,14 @@ module _ (letters : Letters) (tree : Tree) (P : Packed) (sound : StoresSound let
   unfolding has_limits
   limits_so rows held name columns =
       any_same (λ c. has_limits P.pool rows name (column_of c).name) (λ c. has_key (keys_of P.pool w) (text name ∷ text (column_of c).name ∷ [])) (λ c. one (column_of c).name) columns
-      ∙ sym (list_any-map (λ c. has_key (keys_of P.pool w) (text name ∷ text c.name ∷ [])) column_of columns)
-      ∙ sym (list_any-map (has_key (keys_of P.pool w)) (λ c. text name ∷ text c.name ∷ []) (columns_of columns))
+      ∙ sym (list_any_map (λ c. has_key (keys_of P.pool w) (text name ∷ text c.name ∷ [])) column_of columns)
+      ∙ sym (list_any_map (has_key (keys_of P.pool w)) (λ c. text name ∷ text c.name ∷ []) (columns_of columns))
     where
       one : (n : List ℕ) → has_limits P.pool rows name n ≡ has_key (keys_of P.pool w) (text name ∷ text n ∷ [])
       one n =
-          sym (list_any-map (λ row. is_for name n (row_data P.pool row)) (λ row. row.items) rows)
+          sym (list_any_map (λ row. is_for name n (row_data P.pool row)) (λ row. row.items) rows)
           ∙ ap (list_any (λ row. is_for name n (row_data P.pool row))) (held ∙ ap (λ (o : Option Table). unwrap_or (option_map (λ t. t.rows) o) []) found)
-          ∙ sym (list_any-map (is_for name n) (row_data P.pool) w.rows)
+          ∙ sym (list_any_map (is_for name n) (row_data P.pool) w.rows)
           ∙ sym (key_there name n (map (row_data P.pool) w.rows))
           ∙ ap (λ keys. has_key keys (text name ∷ text n ∷ [])) (sym (keys_are P.pool w.columns own_keys w.rows))
 

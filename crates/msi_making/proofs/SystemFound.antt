@@ -11,10 +11,12 @@ use Rattle.cfb_medium.specs.declared.error.Error.TheVariants.{InvalidData}
 use Rattle.cfb_tree.specs.Names.{Letters}
 use Rattle.cfb_tree.specs.Tree.{Tree}
 use Rattle.cfb_tree.proofs.OneContent.{Some_same}
+use Rattle.msi_edits.proofs.Exits.{none_of}
 use Rattle.msi_meaning.specs.Calls.{stored_rows}
 use Rattle.msi_meaning.specs.Package.{objects, table_stream, Packed}
 use Rattle.msi_parts.specs.Judged.{heading_named}
 use Rattle.msi_parts.specs.Parts.{heading}
+use Rattle.msi_parts.proofs.Judging.{named_heading}
 use Rattle.msi_schema.specs.Headings.{headings_in}
 use Rattle.msi_stored.specs.Changing.{StoresSound}
 use Rattle.msi_stored.specs.Stored.{rows_in}
@@ -45,19 +47,6 @@ found_so ts name o is = along ts ∙ ap (option_map (λ t. heading_of (rc_value 
 pub held_so : (ts : List (Rc HeldTable Global)) (name : List ℕ) (o : Option (Rc HeldTable Global)) → o ≡ find (λ t. bytes_eq (heading_of (rc_value t)).name name) ts
     → (t : Rc HeldTable Global) → o ≡ Some t → (copy : HeldTable) → copy ≡ rc_value t → heading_named (headings_in ts) name ≡ Some (heading_of copy)
 held_so ts name o is t some copy same = found_so ts name o is ∙ ap (option_map (λ t. heading_of (rc_value t))) some ∙ ap (λ (u : HeldTable). Some (heading_of u)) (sym same)
-
-named_heading : (long : Bool) (ts : List Table) (name : List ℕ) → heading_named (map (heading long) ts) name ≡ option_map (heading long) (table_named ts name)
-named_heading long [] name = refl
-named_heading long (t ∷ ts) name = by (bytes_eq t.name name) (named_heading long ts name)
-  where
-    by : (b : Bool) → heading_named (map (heading long) ts) name ≡ option_map (heading long) (table_named ts name)
-        → cond b (Some (heading long t)) (heading_named (map (heading long) ts) name) ≡ option_map (heading long) (cond b (Some t) (table_named ts name))
-    by true rest = refl
-    by false rest = rest
-
-none_of : (long : Bool) (o : Option Table) → option_map (heading long) o ≡ None → o ≡ None
-none_of long None is = refl
-none_of long (Some t) is = (let never : Some (heading long t) ≡ None = is in absurd (cc))
 
 some_of : (long : Bool) (o : Option Table) (h : Heading) → option_map (heading long) o ≡ Some h → (t : Table) × (o ≡ Some t)
 some_of long None h is = (let never : None ≡ Some h = is in absurd (cc))

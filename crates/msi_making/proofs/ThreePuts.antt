@@ -1,12 +1,11 @@
 -- A tree stores the package with a new table, where the streams of the system tables got the rows that describe it.
-use Rattle.std.proofs.Common.{◌≡◌, ◌∙◌, ℕ, zero, suc, ◌<◌, Bool, true, false, cond, List, [], ◌∷◌, get_or, length, map, refl, sym, ap, ap₂, subst, Some, None, not}
-use Rattle.std.specs.Prelude.{◌&&◌, ◌||◌, bytes_eq, filter, slice_get, unwrap_or, All}
+use Rattle.std.proofs.Common.{◌≡◌, ◌∙◌, ℕ, ◌<◌, Bool, true, false, cond, List, [], ◌∷◌, get_or, length, map, refl, sym, ap, ap₂, subst, Some, None, not}
+use Rattle.std.specs.Prelude.{◌&&◌, ◌||◌, bytes_eq, filter, unwrap_or, All}
 use Rattle.std.specs.List.{list_any}
 use Rattle.std.proofs.lemmas.List.Elements.{All-head, All-map, All-tail}
 use Rattle.cfb_tree.specs.Names.{Letters}
 use Rattle.cfb_tree.specs.Objects.{a_stream, is_same_name, name_of, Object}
 use Rattle.cfb_tree.specs.Tree.{Tree}
-use Rattle.cfb_tree.proofs.OneContent.{Some_same}
 use Rattle.msi_columns.specs.Column.{Column}
 use Rattle.msi_meaning.specs.Calls.{with_rows}
 use Rattle.msi_meaning.specs.Opening.{may_use}
@@ -15,12 +14,14 @@ use Rattle.msi_meaning.specs.SoundParts.{IsNamed}
 use Rattle.msi_meaning.specs.Split.{Stores}
 use Rattle.msi_meaning.specs.Streams.{IsDropped}
 use Rattle.msi_meaning.proofs.Roots.{put_dropped, put_found}
+use Rattle.msi_meaning.proofs.StreamKeys.{same_by_key}
 use Rattle.msi_meaning.proofs.SystemRows.{bytes_swap, same_bytes}
 use Rattle.msi_pool.specs.Pool.{Pool}
 use Rattle.msi_rewritten.specs.Rewriting.{HasPut}
-use Rattle.msi_rewritten.proofs.Beside.{put_keeps_storages, same_by_key}
+use Rattle.msi_rewritten.proofs.Beside.{put_keeps_storages}
 use Rattle.msi_rewritten.proofs.Names.{no_slash, storage_listed, tables_apart}
 use Rattle.msi_rewritten.proofs.Put.{beside, data_beside, free_parts, names_differ, pool_beside, summary_beside}
+use Rattle.msi_rewritten.proofs.Stored.{and_none, or_right, own_listed}
 use Rattle.msi_rewritten.proofs.Tables.{other_kept}
 use Rattle.msi_stored.specs.Changing.{KeepsParts}
 use Rattle.msi_tables.specs.Rows.{kinds_of, rows_of, Row}
@@ -34,14 +35,6 @@ use Rattle.msi_making.proofs.NewTable.{name_apart, all_told, apart, columns_by_n
 
 -- ---- tests
 
-or_right : (a b : Bool) → b ≡ true → (a || b) ≡ true
-or_right true b e = refl
-or_right false b e = e
-
-and_none : (a b : Bool) → b ≡ true → (a && not b) ≡ false
-and_none true b e = ap not e
-and_none false b e = refl
-
 -- one name more takes nothing that the others leave, where that has not this name
 not_more : (k a b d s l : Bool) → ((k && not (a || (b || (d || l)))) ≡ true → s ≡ false) → (k && not (a || (b || (d || (s || l))))) ≡ (k && not (a || (b || (d || l))))
 not_more false a b d s l h = refl
@@ -51,16 +44,6 @@ not_more true false false true s l h = refl
 not_more true false false false true true h = refl
 not_more true false false false true false h = absurd (let never : true ≡ false = h refl in cc)
 not_more true false false false false l h = refl
-
--- ---- tables by their names
-
-own_listed : (letters : Letters) (x : List ℕ) (ts : List Table) (k : ℕ) (t : Table) → slice_get ts k ≡ Some t → is_same_name letters (stream_name t.name) x ≡ true
-    → list_any (λ name. is_same_name letters name x) (map (λ t. stream_name t.name) ts) ≡ true
-own_listed letters x [] k t at same = absurd (cc)
-own_listed letters x (u ∷ us) zero t at same =
-    let one : u ≡ t = Some_same at in
-    ap (λ b. b || list_any (λ name. is_same_name letters name x) (map (λ t. stream_name t.name) us)) (ap (λ (v : Table). is_same_name letters (stream_name v.name) x) one ∙ same)
-own_listed letters x (u ∷ us) (suc k) t at same = or_right (is_same_name letters (stream_name u.name) x) _ (own_listed letters x us k t at same)
 
 abbrev storages_in : List Object → List Object
 storages_in os = filter (λ o. not (is_stream o)) os

@@ -10,6 +10,7 @@ use Rattle.cfb_tree.specs.Names.{Letters}
 use Rattle.cfb_tree.specs.Tree.{Tree}
 use Rattle.msi_creating.proofs.Laid.{names_free}
 use Rattle.msi_edits.specs.Edited.{IsMemoryOf}
+use Rattle.msi_edits.proofs.EditedSo.{headings_stay}
 use Rattle.msi_edits.proofs.Exits.{IsFirst, IsOpen}
 use Rattle.msi_meaning.specs.Calls.{new_table, rows_put, table_put, Ends}
 use Rattle.msi_meaning.specs.Package.{stream_name, Packed}
@@ -28,7 +29,7 @@ use Rattle.msi_making.specs.Making.{Makes}
 use Rattle.msi_making.specs.Putting.{CanPutTwo, PutsTwo}
 use Rattle.msi_making.specs.Validating.{listed_columns, with_validation, AreReadTwo, HasPutTwo, IsValidated, Validates}
 use Rattle.msi_making.proofs.Holding.{holding, IsThere}
-use Rattle.msi_making.proofs.MadeBy.{can_put, headings_stay, Comes}
+use Rattle.msi_making.proofs.MadeBy.{can_put, Comes}
 use Rattle.msi_making.proofs.MadeBy as by
 use Rattle.msi_making.proofs.NewTable.{columns_now, IsNewTable}
 use Rattle.msi_making.proofs.ValidatedFrom.{same_package}

@@ -138,7 +138,7 @@ chars_fit (c ∷ cs) e =
     go false past fit = grind (arith, nat_tests, past)
 
 -- a name of some characters is spelled by some
-spelled_some : (cs : List ℕ) → 0 < length cs → 0 < length (spelled cs)
+pub spelled_some : (cs : List ℕ) → 0 < length cs → 0 < length (spelled cs)
 spelled_some [] some = absurd (omega (arith, some))
 spelled_some (c ∷ []) some = omega arith
 spelled_some (c ∷ d ∷ rest) some = go (pair c d)

@@ -265,7 +265,7 @@ many_rows : (table : List ℕ) (n : ℕ) (cs : List Column) → length (columns_
 many_rows table n [] = refl
 many_rows table n (c ∷ cs) = ap (λ k. suc k) (many_rows table (suc n) cs)
 
-none_pass : (p : List Datum → Bool) (xs : List (List Datum)) → list_any p xs ≡ false → filter p xs ≡ []
+pub none_pass : (p : List Datum → Bool) (xs : List (List Datum)) → list_any p xs ≡ false → filter p xs ≡ []
 none_pass p [] e = refl
 none_pass p (x ∷ xs) e = go (p x) e (none_pass p xs)
   where

@@ -21,7 +21,7 @@ use Rattle.msi_meaning.specs.declared.kind.PackageType.{PackageType}
 use Rattle.msi_meaning.specs.declared.kind.PackageType.TheVariants.{Installer, Patch, Transform}
 use Rattle.msi_meaning.proofs.SystemRows.{bytes_same, columns_rows, tables_rows}
 
-then_ok : {A B : Type 0} (r : Result A Error) (x : A) (f : A → Result B Error) → r ≡ Ok x → (r >>= f) ≡ f x
+pub then_ok : {A B : Type 0} (r : Result A Error) (x : A) (f : A → Result B Error) → r ≡ Ok x → (r >>= f) ≡ f x
 then_ok r x f e = ap (λ m. m >>= f) e
 
 -- what the builder reads of two streams that hold a pool

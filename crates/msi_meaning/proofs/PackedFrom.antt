@@ -5,6 +5,7 @@ use Rattle.std.specs.List.{list_any}
 use Rattle.cfb_tree.specs.Names.{Letters}
 use Rattle.cfb_tree.specs.Tree.{Tree}
 use Rattle.msi_pool.specs.Pool.{Pool}
+use Rattle.msi_pool.proofs.PoolHeads.{bind_cases}
 use Rattle.msi_pool.proofs.PoolReads.{bytes_by_index, read_pool_is_pooled}
 use Rattle.msi_props.specs.Props.{Props, props_read}
 use Rattle.msi_texts.specs.Results.{◌>>=◌, or_refused, unless_not}
@@ -19,11 +20,6 @@ use Rattle.cfb_medium.specs.declared.error.Error.{Error}
 use Rattle.cfb_medium.specs.declared.error.Error.TheVariants.{InvalidData}
 use Rattle.msi_meaning.specs.declared.kind.PackageType.{PackageType}
 use Rattle.msi_meaning.proofs.SystemRows.{bytes_same, columns_fixed, named_rows, rows_at, same_bytes, tables_fixed}
-
--- what was answered came from a first value
-parts : {A B : Type 0} (r : Result A Error) (f : A → Result B Error) (y : B) → (r >>= f) ≡ Ok y → (x : A) × (r ≡ Ok x) × (f x ≡ Ok y)
-parts (Ok x) f y e = (x, refl, e)
-parts (Err e) f y h = absurd (cc)
 
 passed : (b : Bool) (e : Error) (u : Unit {0}) → unless_not b e ≡ Ok u → b ≡ true
 passed true e u h = refl
@@ -44,8 +40,8 @@ props_in d (Err _) = d
 -- what a summary that was read is
 pub summary_parts : (bytes : List ℕ) (s : Props) → summary_read bytes ≡ Ok s → (props_read bytes ≡ Ok s) × (s.format ≡ summary_format)
 summary_parts bytes s e =
-    let p = parts (props_read bytes) (λ s. unless_not (bytes_eq s.format summary_format) InvalidData >>= λ _. Ok s) s e in
-    let q = parts (unless_not (bytes_eq p.0.format summary_format) InvalidData) (λ _. Ok p.0) s p.2 in
+    let p = bind_cases (props_read bytes) (λ s. unless_not (bytes_eq s.format summary_format) InvalidData >>= λ _. Ok s) s e in
+    let q = bind_cases (unless_not (bytes_eq p.0.format summary_format) InvalidData) (λ _. Ok p.0) s p.2 in
     let same : p.0 ≡ s = ap (props_in p.0) q.2 in (
       subst (λ x. props_read bytes ≡ Ok x) same p.1,
       subst (λ (x : Props). x.format ≡ summary_format) same (same_bytes p.0.format summary_format (passed (bytes_eq p.0.format summary_format) InvalidData q.0 q.1)),

@@ -15,7 +15,7 @@ use Rattle.cfb_tree.proofs.NameOrder.{name_cmp_total}
 use Rattle.msi_meaning.specs.Package.{at_name, is_stream, objects, stream_at}
 use Rattle.msi_meaning.specs.Streams.{stream_put, with_bytes, IsDropped}
 
-named : (letters : Letters) (bytes : List ℕ) (o : Object) → name_of (with_bytes letters bytes o) ≡ name_of o
+pub named : (letters : Letters) (bytes : List ℕ) (o : Object) → name_of (with_bytes letters bytes o) ≡ name_of o
 named letters bytes (a_stream n s b) = refl
 named letters bytes (a_storage n f i) = refl
 

@@ -24,7 +24,7 @@ use Rattle.msi_meaning.proofs.SystemRows.{bytes_same, same_bytes}
 abbrev Gives : CodePage → Stored → Type 0
 Gives page s = encoded page (decoded page s.0) ≡ s.0
 
-all_give : (page : CodePage) (stored : List Stored) → list_all (λ s. gives_back page s.0) stored ≡ true → All (Gives page) stored
+pub all_give : (page : CodePage) (stored : List Stored) → list_all (λ s. gives_back page s.0) stored ≡ true → All (Gives page) stored
 all_give page [] e = λ k d l. absurd (omega (arith, l))
 all_give page (s ∷ ss) e =
     let both = and_parts (gives_back page s.0) (list_all (λ s. gives_back page s.0) ss) e in

@@ -32,10 +32,10 @@ abbrev only : List ℕ → Packed
 only name = record (bare_package Installer) { streams = a_stream name 0 [] ∷ [] }
 
 -- a name is the same as those of its key
-same_by_key : (letters : Letters) (a b : List ℕ) → name_key letters a ≡ name_key letters b → is_same_name letters a b ≡ true
+pub same_by_key : (letters : Letters) (a b : List ℕ) → name_key letters a ≡ name_key letters b → is_same_name letters a b ≡ true
 same_by_key letters a b e = ap is_eq ((name_cmp_equal letters a b).1 e)
 
-key_by_same : (letters : Letters) (a b : List ℕ) → is_same_name letters a b ≡ true → name_key letters a ≡ name_key letters b
+pub key_by_same : (letters : Letters) (a b : List ℕ) → is_same_name letters a b ≡ true → name_key letters a ≡ name_key letters b
 key_by_same letters a b e = (name_cmp_equal letters a b).0 (is_equal _ e)
 
 -- the one stream is found, so the names are the same

@@ -45,11 +45,11 @@ all_of p [] h = refl
 all_of p (x ∷ xs) h = ap (λ b. b && list_all p xs) (All-head (λ x. IsTrue (p x)) x xs h) ∙ all_of p xs (All-tail (λ x. IsTrue (p x)) x xs h)
 
 -- a fact of what is made of each
-of_map : {X Y : Type 0} (f : X → Y) (P : Y → Type 0) (xs : List X) → All P (map f xs) → All (λ x. P (f x)) xs
+pub of_map : {X Y : Type 0} (f : X → Y) (P : Y → Type 0) (xs : List X) → All P (map f xs) → All (λ x. P (f x)) xs
 of_map f P [] h = λ k d l. absurd (omega (arith, l))
 of_map f P (x ∷ xs) h = All-cons (λ x. P (f x)) x xs (All-head P (f x) (map f xs) h) (of_map f P xs (All-tail P (f x) (map f xs) h))
 
-to_map : {X Y : Type 0} (f : X → Y) (P : Y → Type 0) (xs : List X) → All (λ x. P (f x)) xs → All P (map f xs)
+pub to_map : {X Y : Type 0} (f : X → Y) (P : Y → Type 0) (xs : List X) → All (λ x. P (f x)) xs → All P (map f xs)
 to_map f P [] h = λ k d l. absurd (omega (arith, l))
 to_map f P (x ∷ xs) h = All-cons P (f x) (map f xs) (All-head (λ x. P (f x)) x xs h) (to_map f P xs (All-tail (λ x. P (f x)) x xs h))
 
@@ -78,7 +78,7 @@ names_of : (long : Bool) (ts : List Table) → map (λ h. stream_name h.name) (m
 names_of long [] = refl
 names_of long (t ∷ ts) = ap (λ ns. stream_name t.name ∷ ns) (names_of long ts)
 
-bare_names : (long : Bool) (ts : List Table) → map (λ h. h.name) (map (heading long) ts) ≡ map (λ t. t.name) ts
+pub bare_names : (long : Bool) (ts : List Table) → map (λ h. h.name) (map (heading long) ts) ≡ map (λ t. t.name) ts
 bare_names long [] = refl
 bare_names long (t ∷ ts) = ap (λ ns. t.name ∷ ns) (bare_names long ts)
 
@@ -111,7 +111,7 @@ or_right : (a b : Bool) → b ≡ true → a || b ≡ true
 or_right true b e = refl
 or_right false b e = e
 
-or_false : (a b : Bool) → a || b ≡ false → (a ≡ false) × (b ≡ false)
+pub or_false : (a b : Bool) → a || b ≡ false → (a ≡ false) × (b ≡ false)
 or_false true b e = absurd (cc)
 or_false false b e = (refl, e)
 

@@ -8,6 +8,7 @@ use Rattle.cfb_tree.specs.Tree.{Tree}
 use Rattle.msi_meaning.specs.Opening.{kind_of, may_use, opened, rows_by}
 use Rattle.msi_meaning.specs.Package.{objects}
 use Rattle.msi_meaning.specs.declared.kind.PackageType.{PackageType}
+use Rattle.msi_meaning.proofs.OpenedIs.{then_ok}
 use Rattle.msi_parts.specs.Parts.{builder_in, built_in, schema_in, summary_in}
 use Rattle.msi_pool.specs.Pool.{Pool}
 use Rattle.msi_pool.specs.PoolReading.{Begun}
@@ -15,9 +16,6 @@ use Rattle.msi_props.specs.Props.{Props}
 use Rattle.msi_tables.specs.Schema.{columns_columns, columns_name, is_schema, tables_columns, tables_name, validation_columns, validation_name}
 use Rattle.msi_tables.specs.Table.{row_data}
 use Rattle.msi_texts.specs.Results.{◌>>=◌, unless_not}
-
-then_ok : {A B : Type 0} (r : Result A Error) (x : A) (f : A → Result B Error) → r ≡ Ok x → (r >>= f) ≡ f x
-then_ok r x f e = ap (λ m. m >>= f) e
 
 then_err : {A B : Type 0} (r : Result A Error) (e : Error) (f : A → Result B Error) → r ≡ Err e → (r >>= f) ≡ Err e
 then_err r e f h = ap (λ m. m >>= f) h

@@ -1,30 +1,20 @@
 -- A package that can be adopted is sound once a tree got its pool with right counts.
-use Rattle.std.proofs.Common.{◌≡◌, ◌∙◌, true, List, [], ◌∷◌, sym, ap, subst, arith, Ok}
+use Rattle.std.proofs.Common.{◌≡◌, ◌∙◌, true, sym, ap, subst, Ok}
 use Rattle.std.specs.Prelude.{◌≤◌, All, IsTrue, length}
 use Rattle.std.specs.List.{list_all}
-use Rattle.std.proofs.lemmas.Bool.{and_parts}
-use Rattle.std.proofs.lemmas.List.Elements.{All-cons}
 use Rattle.cfb_tree.specs.Names.{Letters}
 use Rattle.cfb_tree.specs.Tree.{Tree}
 use Rattle.msi_meaning.proofs.PacksOnce.{ok_same, some_same}
-use Rattle.msi_meaning.proofs.SystemRows.{same_bytes}
+use Rattle.msi_meaning.proofs.SoundAnyway.{all_give}
 use Rattle.msi_meaning.specs.Package.{Packed, Packs}
 use Rattle.msi_meaning.specs.Sound.{IsSoundPackage, uses_of}
 use Rattle.msi_pool.proofs.PoolFound.{pool_is_begun, texts_are_stored, told}
-use Rattle.msi_pool.specs.Pool.{Stored, last_place, pool_stream}
+use Rattle.msi_pool.specs.Pool.{last_place, pool_stream}
 use Rattle.msi_props.specs.Props.{texts_give_back as summary_gives_back}
 use Rattle.msi_pool.specs.PoolReading.{gives_back, texts_give_back}
-use Rattle.msi_texts.specs.Page.{decoded, encoded}
 use Rattle.msi_texts.specs.Results.{◌>>=◌}
-use Rattle.msi_texts.specs.declared.codepage.CodePage.{CodePage}
 use Rattle.msi_recounted.proofs.WrittenCounts.{Gives, HoldsAgain, written_again}
 use Rattle.msi_recounted.specs.Recounted.{CanBeAdopted, CanBeRecounted, GotCounts, recounted}
-
-all_give : (page : CodePage) (stored : List Stored) → list_all (λ s. gives_back page s.0) stored ≡ true → All (Gives page) stored
-all_give page [] e = λ k d l. absurd (omega (arith, l))
-all_give page (s ∷ ss) e =
-    let both = and_parts (gives_back page s.0) (list_all (λ s. gives_back page s.0) ss) e in
-    All-cons (Gives page) s ss (same_bytes (encoded page (decoded page s.0)) s.0 both.0) (all_give page ss both.1)
 
 module _ (letters : Letters) (old new : Tree) (P : Packed) (packs : Packs letters old P) (can : CanBeRecounted letters old P) (got : GotCounts letters old P new) where
   -- what the builder of the old streams tells

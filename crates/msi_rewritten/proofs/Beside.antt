@@ -4,20 +4,10 @@ use Rattle.std.specs.Prelude.{filter, not}
 use Rattle.std.specs.Ordering.{is_eq, is_lt}
 use Rattle.cfb_tree.specs.Names.{Letters, key_cmp, name_cmp, name_key}
 use Rattle.cfb_tree.specs.Objects.{a_storage, a_stream, is_same_name, name_of, Object}
-use Rattle.cfb_tree.proofs.NameOrder.{name_cmp_equal}
 use Rattle.msi_meaning.specs.Package.{at_name, is_stream}
-use Rattle.msi_meaning.specs.Streams.{stream_put, with_bytes}
-use Rattle.msi_values.proofs.DataOrder.{is_equal}
-
-pub same_by_key : (letters : Letters) (a b : List ℕ) → name_key letters a ≡ name_key letters b → is_same_name letters a b ≡ true
-same_by_key letters a b e = ap is_eq ((name_cmp_equal letters a b).1 e)
-
-pub key_by_same : (letters : Letters) (a b : List ℕ) → is_same_name letters a b ≡ true → name_key letters a ≡ name_key letters b
-key_by_same letters a b e = (name_cmp_equal letters a b).0 (is_equal _ e)
-
-named : (letters : Letters) (bytes : List ℕ) (o : Object) → name_of (with_bytes letters bytes o) ≡ name_of o
-named letters bytes (a_stream n s b) = refl
-named letters bytes (a_storage n f i) = refl
+use Rattle.msi_meaning.specs.Streams.{stream_put}
+use Rattle.msi_meaning.proofs.Roots.{named}
+use Rattle.msi_meaning.proofs.StreamKeys.{key_by_same}
 
 module _ (letters : Letters) (name bytes : List ℕ) where
   module _ (other : List ℕ) (differs : is_same_name letters other name ≡ false) where

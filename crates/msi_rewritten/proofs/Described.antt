@@ -128,7 +128,7 @@ is_blank tables columns vs =
 -- ---- other descriptions, in another order
 
 -- no key of _Columns and of _Validation stands twice
-alone : (tables columns vs : List (List Datum)) → is_schema tables columns vs ≡ true → (are_distinct (map (take 2) columns) ≡ true) × (are_distinct (map (take 2) vs) ≡ true)
+pub alone : (tables columns vs : List (List Datum)) → is_schema tables columns vs ≡ true → (are_distinct (map (take 2) columns) ≡ true) × (are_distinct (map (take 2) vs) ≡ true)
 alone tables columns vs e =
     let a = are_keys tables in
     let b = are_keys (map (take 2) columns) in

@@ -11,7 +11,7 @@ use Rattle.msi_texts.specs.Category.{begins_name, is_identifier, is_name_byte}
 use Rattle.msi_meaning.specs.Opening.{is_encoded, may_use}
 use Rattle.msi_meaning.specs.Package.{at_name, has_slash, is_stream, stream_name, summary_name}
 use Rattle.msi_meaning.proofs.EncodedKeys.{keys_tell, name_encoded, one_table}
-use Rattle.msi_rewritten.proofs.Beside.{key_by_same}
+use Rattle.msi_meaning.proofs.StreamKeys.{key_by_same}
 
 -- ---- no slash stands in an identifier
 

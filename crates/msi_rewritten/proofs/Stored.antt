@@ -24,9 +24,10 @@ use Rattle.msi_meaning.specs.Split.{Stores}
 use Rattle.msi_meaning.specs.Streams.{IsDropped}
 use Rattle.msi_meaning.proofs.EncodedKeys.{keys_tell, name_encoded}
 use Rattle.msi_meaning.proofs.Roots.{put_dropped, put_found}
+use Rattle.msi_meaning.proofs.StreamKeys.{key_by_same, same_by_key}
 use Rattle.msi_meaning.proofs.SystemRows.{same_bytes}
 use Rattle.msi_rewritten.specs.Rewriting.{rewritten, DescribesAlike, HasPut, IsRewriting}
-use Rattle.msi_rewritten.proofs.Beside.{key_by_same, put_keeps_storages, same_by_key}
+use Rattle.msi_rewritten.proofs.Beside.{put_keeps_storages}
 use Rattle.msi_rewritten.proofs.Counted.{data_stays}
 use Rattle.msi_rewritten.proofs.Names.{found_same, kept_has, no_slash, storage_listed, summary_apart, tables_apart}
 use Rattle.msi_rewritten.proofs.Put.{beside, free_parts, names_differ, not_true, own_identifier, within_it}
@@ -34,14 +35,14 @@ use Rattle.msi_rewritten.proofs.Tables.{columns_kept, found_after, name_kept, na
 
 -- ---- tests
 
-or_right : (a b : Bool) → b ≡ true → (a || b) ≡ true
+pub or_right : (a b : Bool) → b ≡ true → (a || b) ≡ true
 or_right true b e = refl
 or_right false b e = e
 
-or_none : (a b : Bool) → a ≡ false → b ≡ false → (a || b) ≡ false
+pub or_none : (a b : Bool) → a ≡ false → b ≡ false → (a || b) ≡ false
 or_none a b e f = rw (e, f) refl
 
-and_none : (a b : Bool) → b ≡ true → (a && not b) ≡ false
+pub and_none : (a b : Bool) → b ≡ true → (a && not b) ≡ false
 and_none true b e = ap not e
 and_none false b e = refl
 
@@ -60,13 +61,13 @@ found_at (t ∷ ts) m u is = by (bytes_eq t.name m) refl (found_at ts m u)
         let later = rest (rw e at is) in
         (suc later.0, (let below = later.1 in omega (arith, below)), later.2, later.3)
 
-own_listed : (letters : Letters) (x : List ℕ) (ts : List Table) (k : ℕ) (t : Table) → slice_get ts k ≡ Some t → is_same_name letters (stream_name t.name) x ≡ true
+pub own_listed : (letters : Letters) (x : List ℕ) (ts : List Table) (k : ℕ) (t : Table) → slice_get ts k ≡ Some t → is_same_name letters (stream_name t.name) x ≡ true
     → list_any (λ name. is_same_name letters name x) (map (λ t. stream_name t.name) ts) ≡ true
 own_listed letters x [] k t at same = absurd (cc)
 own_listed letters x (u ∷ us) zero t at same = (let one : u ≡ t = grind (arith, at) in ap (λ b. b || list_any (λ name. is_same_name letters name x) (map (λ t. stream_name t.name) us)) (ap (λ (v : Table). is_same_name letters (stream_name v.name) x) one ∙ same))
 own_listed letters x (u ∷ us) (suc k) t at same = or_right (is_same_name letters (stream_name u.name) x) _ (own_listed letters x us k t at same)
 
-none_listed : (letters : Letters) → may_use letters ≡ true → (m : List ℕ) → is_identifier m ≡ true → (ts : List Table) → All (λ t. IsTrue (is_free_table_name t.name)) ts → table_named ts m ≡ None
+pub none_listed : (letters : Letters) → may_use letters ≡ true → (m : List ℕ) → is_identifier m ≡ true → (ts : List Table) → All (λ t. IsTrue (is_free_table_name t.name)) ts → table_named ts m ≡ None
     → list_any (λ name. is_same_name letters name (stream_name m)) (map (λ t. stream_name t.name) ts) ≡ false
 none_listed letters usable m e [] free none = refl
 none_listed letters usable m e (t ∷ ts) free none = by (bytes_eq t.name m) refl (none_listed letters usable m e ts (All-tail (λ t. IsTrue (is_free_table_name t.name)) t ts free))

@@ -17,7 +17,7 @@ use Rattle.msi_tables.specs.Held.{rows_held}
 use Rattle.msi_tables.specs.Rows.{Row}
 use Rattle.msi_tables.specs.Table.{Heading, Table}
 
-option_then : {A B C : Type 0} (f : A → B) (h : B → C) (o : Option A) → option_map (λ a. h (f a)) o ≡ option_map h (option_map f o)
+pub option_then : {A B C : Type 0} (f : A → B) (h : B → C) (o : Option A) → option_map (λ a. h (f a)) o ≡ option_map h (option_map f o)
 option_then f h None = refl
 option_then f h (Some a) = refl
 

@@ -35,9 +35,9 @@ module _ (letters : Letters) (tree : Tree) (text name : List ℕ) (one : names_i
   refused_of b e is told answer =
       not_refused letters tree name e (ap (λ b. yes b) (sym is) ∙ told ∙ ap (said_at letters tree is_stream) one) (ap (answer_at letters tree open_read_stream) (sym one) ∙ answer)
 
-no_slash : (name : List ℕ) → has_slash name ≡ false → list_all (λ b. not (b == 47)) name ≡ true
-no_slash [] e = refl
-no_slash (b ∷ bs) e = by (b == 47) e (no_slash bs)
+pub unslashed : (name : List ℕ) → has_slash name ≡ false → list_all (λ b. not (b == 47)) name ≡ true
+unslashed [] e = refl
+unslashed (b ∷ bs) e = by (b == 47) e (unslashed bs)
   where
     by : (x : Bool) → (x || has_slash bs) ≡ false → (has_slash bs ≡ false → list_all (λ b. not (b == 47)) bs ≡ true) → (not x && list_all (λ b. not (b == 47)) bs) ≡ true
     by true e later = absurd (cc)
@@ -45,4 +45,4 @@ no_slash (b ∷ bs) e = by (b == 47) e (no_slash bs)
 
 -- the encoded name of a table is a path of one name, also where the name is empty
 pub table_path : (name : List ℕ) → IsUtf8 name → has_slash name ≡ false → names_in (encode_utf8_all (spelled_name true (chars name))) ≡ Some (spelled_name true (chars name) ∷ [])
-table_path name text none = path_filled true name text (omega arith) (no_slash name none)
+table_path name text none = path_filled true name text (omega arith) (unslashed name none)

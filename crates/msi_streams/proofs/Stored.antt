@@ -28,7 +28,7 @@ pub record Differs (letters : Letters) (name : List ℕ) (old new : Tree) : Type
   pub others : (other : List ℕ) → is_same_name letters other name ≡ false → at_name letters (objects new.content) other ≡ at_name letters (objects old.content) other
   pub storages : filter (λ o. not (is_stream o)) (objects new.content) ≡ filter (λ o. not (is_stream o)) (objects old.content)
 
-either : (a b : Bool) → a || b ≡ true → (a ≡ true) ⊎ (b ≡ true)
+pub either : (a b : Bool) → a || b ≡ true → (a ≡ true) ⊎ (b ≡ true)
 either true b e = inl refl
 either false b e = inr e
 

@@ -13,7 +13,7 @@ use Rattle.cfb_medium.specs.declared.error.Error.TheVariants.{InvalidInput}
 use Rattle.cfb_tree.specs.Names.{Letters, is_forbidden, is_name}
 use Rattle.cfb_tree.specs.Objects.{is_same_name}
 use Rattle.cfb_tree.specs.Paths.{path_names}
-use Rattle.msi_meaning.proofs.EncodedPaths.{path_is}
+use Rattle.msi_meaning.proofs.EncodedPaths.{path_is, spelled_some}
 use Rattle.msi_meaning.specs.Package.{summary_name}
 use Rattle.msi_meaning.specs.Streams.{document_summary_name, is_separator, is_special, may_name, plain_stream_name, signature_ex_name, signature_name}
 use Rattle.msi_texts.specs.Results.{unless_not}
@@ -107,15 +107,6 @@ chars_fit (c ∷ cs) e =
         let one : list_all is_fit (c ∷ []) ≡ true = ap (list_all is_fit) (sym (encode_ascii c (grind (arith, nat_tests, ascii)))) ∙ fit in
         (and_parts (is_fit c) true one).0
     go false past fit = fit_far c (grind (arith, nat_tests, past))
-
-spelled_some : (cs : List ℕ) → 0 < length cs → 0 < length (spelled cs)
-spelled_some [] some = absurd (omega (arith, some))
-spelled_some (c ∷ []) some = omega arith
-spelled_some (c ∷ d ∷ rest) some = go (pair c d)
-  where
-    go : (o : Option ℕ) → 0 < length (joined_or o c (spelled rest) (spelled (d ∷ rest)))
-    go None = omega arith
-    go (Some p) = omega arith
 
 one_unit : (c : ℕ) → 0 < length (encode_utf16 c)
 one_unit c = go (nat_lt c 0x10000)

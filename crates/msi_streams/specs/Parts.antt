@@ -6,7 +6,7 @@ use Rattle.cfb.specs.Views.{letters_in, mini_of, sound_of, validation_of}
 use Rattle.cfb.specs.declared.compound_file.CompoundFile.{CompoundFile}
 use Rattle.cfb_fat.specs.Tables.{has_failed_here}
 use Rattle.cfb_medium.specs.declared.error.Error.{Error}
-use Rattle.cfb_medium.specs.declared.error.Error.TheVariants.{Failed, InvalidData}
+use Rattle.cfb_medium.specs.declared.error.Error.TheVariants.{Failed, Full, InvalidData}
 use Rattle.cfb_medium.specs.declared.medium.ReadMedium.{Ghosts}
 use Rattle.cfb_mini.specs.Views.{allocator_of}
 use Rattle.cfb_tree.specs.Names.{Letters}
@@ -18,6 +18,7 @@ use Rattle.msi_pool.specs.PoolState.{is_in_size}
 use Rattle.msi_props.specs.Props.{Props, props_bytes}
 use Rattle.msi_props.specs.Props.{is_in_size as set_is_in_size}
 use Rattle.msi_stored.specs.Changing.{StoresSound}
+use Rattle.msi_stored.specs.Room.{IsFullForName}
 use Rattle.msi_meaning.specs.Package.{at_name, data_name, is_stream, objects, pool_name, stream_at, stream_name, summary_name, table_stream}
 use Rattle.std.specs.Prelude.{Some}
 
@@ -73,6 +74,10 @@ module _ {F : Type 0} {g : Ghosts F} where
     pub done : OnOk result ((tree : Tree) (P : Packed) → FileMeans old tree → StoresSound (letters_in old) tree P → HasParts (letters_in old) P parts new)
     pub rests : OnErr result ((has_failed_here (allocator_of (mini_of new)) ≡ true) ⊎ KeepsMeant old new)
     pub seen : (letters_in new ≡ letters_in old) × (sound_of new ≡ sound_of old) × (validation_of new ≡ validation_of old)
+
+  -- `Full` comes only where the file lacks room for the summary, of so many bytes, which is put before the others, or has failed
+  abbrev pub FillsParts : {T : Type 0} → ℕ → Result T Error → CompoundFile F g → CompoundFile F g → Type 0
+  FillsParts len result old new = IsErrOf result Full → has_failed_here (allocator_of (mini_of new)) ≡ false → IsFullForName old summary_name len
 
   -- of a file that can have the three streams this is so
   abbrev pub OfPackage : CompoundFile F g → Type 0 → Type 0

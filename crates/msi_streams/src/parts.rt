@@ -18,7 +18,7 @@ ghost use Rattle.msi_pool.specs.PoolState.{is_in_size};
 ghost use Rattle.msi_props.specs.Kept.{SetIsWritable};
 ghost use Rattle.msi_props.specs.Props.{is_in_size as set_is_in_size, props_bytes, Props};
 ghost use Rattle.msi_summary.specs.Summary.{summary_format};
-ghost use Rattle.msi_streams.specs.Parts.{bytes_of_parts, IsTooLong, OfPackage, PutsParts};
+ghost use Rattle.msi_streams.specs.Parts.{bytes_of_parts, FillsParts, IsTooLong, OfPackage, PutsParts};
 ghost use Rattle.msi_streams.specs.Writing.{most_bytes};
 
 use crate::checking::check_changeable;
@@ -57,6 +57,7 @@ fn put_parts<F: Medium>(
         (record { summary = summary.now; pool = pool.now; pool_data = pool_data.now })
         result file.old file.new }
     ensures refused { IfErr result (λ e. OfPackage file.old (IsFault e)) }
+    ensures full { FillsParts (length summary.now) result file.old file.new }
     ensures goes_on { GoesOn (allocator_of (mini_of file.old)) (allocator_of (mini_of file.new)) }
     ensures answers { FatAnswers IsRefusedPut result (allocator_of (mini_of file.old))
         (allocator_of (mini_of file.new)) }
@@ -121,8 +122,9 @@ fn are_short(most: u64, summary: &[u8], pool: &[u8], pool_data: &[u8]) -> bool
 /// Writes a pool and a summary to the streams that a package's file has for them; all bytes are made before the first is written.
 /// `Failed` after an earlier fault, `InvalidData` where the file isn't sound; then `InvalidInput` where a stream has more bytes than it
 /// can, or a text of the pool would reach 2^32 - 1 bytes. `AlreadyExists` where a storage stands in the place of one of the streams;
-/// `Full` where numbers of entries or sectors are missing. The other errors are `Memory` and `Device`. After an error nothing is
-/// changed, or the file has failed: so it has where the first of the streams was written, and another wasn't.
+/// `Full` where numbers of entries or sectors are missing for the summary, or, in a file that has failed by that, for another stream.
+/// The other errors are `Memory` and `Device`. After an error nothing is changed, or the file has failed: so it has where the first of
+/// the streams was written, and another wasn't.
 pub fn write_parts<F: Medium>(
     alloc: Global,
     file: &mut CompoundFile<F>,
@@ -134,6 +136,7 @@ pub fn write_parts<F: Medium>(
     ensures refused { IfErr result (λ e. OfPackage file.old (IsFault e ⊎ ((e ≡ InvalidInput)
         × IsTooLong (most_bytes file.old) pool.now.pool summary.now.props
         × KeepsMeant file.old file.new))) }
+    ensures full { FillsParts (length (props_bytes summary.now.props)) result file.old file.new }
     ensures goes_on { GoesOn (allocator_of (mini_of file.old)) (allocator_of (mini_of file.new)) }
     ensures answers { FatAnswers IsRefusedPut result (allocator_of (mini_of file.old))
         (allocator_of (mini_of file.new)) }

@@ -1,6 +1,7 @@
-use Rattle.std.proofs.Common.{◌≡◌, [], ◌∷◌, inr, refl, Some}
+use Rattle.std.proofs.Common.{◌≡◌, [], ◌∷◌, encode_utf8_all, inl, inr, length, refl, Some, subst, sym}
+use Rattle.std.proofs.Math.Utf8.{encode}
 use Rattle.std.specs.Str.{chars}
-use Rattle.cfb.specs.Putting.{IsRefusedPut}
+use Rattle.cfb.specs.Putting.{IsFullAt, IsRefusedPut}
 use Rattle.cfb.specs.Views.{mini_of}
 use Rattle.cfb_entries.specs.Rules.{names_in}
 use Rattle.cfb_fat.specs.Resting.{all_rest_refl}
@@ -16,6 +17,23 @@ use Rattle.msi_streams.proofs.parts.put_parts.Goals as goal
 summary_path : names_in summary_name ≡ Some (summary_name ∷ [])
 unfolding chars
 summary_path = refl
+
+-- and its characters are its bytes
+summary_text : encode_utf8_all summary_name ≡ summary_name
+unfolding encode
+summary_text = refl
+
+pub returns-in-Err-clause-full : goal.returns-in-Err-clause-full
+returns-in-Err-clause-full g c = λ is live. elim (c.in-Err.ensures.full is live) [
+  | inl none ↦ inr (inl none)
+  | inr at ↦ inr (inr (subst (λ t. IsFullAt c.args.file.now (names_in t) (length c.args.summary.now)) (sym summary_text) at))
+]
+
+pub returns-in-Err-put_stream-clause-full : goal.returns-in-Err-put_stream-clause-full
+returns-in-Err-put_stream-clause-full g c = λ is live. let failed = c.fail.ensures.fails.sectors.failed in absurd (cc)
+
+pub returns-in-Err-put_stream-2-clause-full : goal.returns-in-Err-put_stream-2-clause-full
+returns-in-Err-put_stream-2-clause-full g c = λ is live. let failed = c.fail-in-Err-put_stream-2.ensures.fails.sectors.failed in absurd (cc)
 
 pub returns-in-Err-clause-changes : goal.returns-in-Err-clause-changes
 returns-in-Err-clause-changes g c =

@@ -1,15 +1,16 @@
-use Rattle.std.proofs.Common.{◌≡◌, ◌∙◌, ◌<◌, ℕ, List, ap, inl, inr, length, refl, subst, ⊎_elim}
+use Rattle.std.proofs.Common.{◌≡◌, ◌∙◌, ◌<◌, ℕ, List, ap, inl, inr, length, refl, subst, sym, ⊎_elim}
 use Rattle.std.specs.Prelude.{◌⊎◌}
 use Rattle.std.proofs.lemmas.Result.{IfErr-weaker}
 use Rattle.cfb.specs.Putting.{KeepsMeant}
 use Rattle.cfb_entries.specs.Rules.{names_in}
 use Rattle.cfb_live.specs.Doing.{IsFault}
 use Rattle.cfb_medium.specs.Versions.{stream_len_mask}
-use Rattle.cfb_medium.specs.declared.error.Error.TheVariants.{InvalidInput}
-use Rattle.msi_streams.specs.Parts.{bytes_of_parts, IsTooLong, OfPackage, PartBytes, PutsParts}
+use Rattle.cfb_medium.specs.declared.error.Error.TheVariants.{Failed, Full, InvalidData, InvalidInput, Memory}
+use Rattle.msi_streams.specs.Parts.{bytes_of_parts, FillsParts, IsTooLong, OfPackage, PartBytes, PutsParts}
 use Rattle.msi_streams.specs.Writing.{most_bytes}
 use Rattle.msi_streams.proofs.Exits.{keeps_meant}
 use Rattle.msi_streams.proofs.PutParts.{first_fault, memory_fault, parts_first, parts_rest}
+use Rattle.msi_streams.proofs.Streams.{Err_same}
 use Rattle.msi_streams.proofs.parts.write_parts.Goals as goal
 
 abbrev the_parts : List ℕ → List ℕ → List ℕ → PartBytes
@@ -38,6 +39,28 @@ returns-clause-changes g c =
     let made = c.in-Ok.ensures.made in
     let same = parts_same c.deref-6.result.now c.deref-7.result.now c.deref-8.result.now _ _ _ (c.deref-6.ensures.value ∙ made.0) (c.deref-7.ensures.value ∙ made.1) (c.deref-8.ensures.value ∙ made.2) in
     subst (λ (x : PartBytes). PutsParts x c.put_parts.result c.args.file.now c.put_parts.new.file) same c.put_parts.ensures.changes
+
+pub returns-in-Err-clause-full : goal.returns-in-Err-clause-full
+returns-in-Err-clause-full g c = λ is live. elim c.in-Err.ensures.refused [
+  | inl failed ↦ let never : Failed ≡ Full = sym failed.0 ∙ Err_same is in absurd (cc)
+  | inr unsound ↦ let never : InvalidData ≡ Full = sym unsound.0 ∙ Err_same is in absurd (cc)
+]
+
+pub returns-in-Err-part_bytes-clause-full : goal.returns-in-Err-part_bytes-clause-full
+returns-in-Err-part_bytes-clause-full g c = λ is live. elim c.in-Err-part_bytes.ensures.error [
+  | inl memory ↦ let never : Memory ≡ Full = sym memory ∙ Err_same is in absurd (cc)
+  | inr long ↦ let never : InvalidInput ≡ Full = sym long.0 ∙ Err_same is in absurd (cc)
+]
+
+pub returns-in-Err-table_path-clause-full : goal.returns-in-Err-table_path-clause-full
+returns-in-Err-table_path-clause-full g c = λ is live. let never : Memory ≡ Full = sym c.in-Err-table_path.ensures.error ∙ Err_same is in absurd (cc)
+
+pub returns-in-Err-table_path-2-clause-full : goal.returns-in-Err-table_path-2-clause-full
+returns-in-Err-table_path-2-clause-full g c = λ is live. let never : Memory ≡ Full = sym c.in-Err-table_path-2.ensures.error ∙ Err_same is in absurd (cc)
+
+pub returns-clause-full : goal.returns-clause-full
+returns-clause-full g c =
+    subst (λ (bs : List ℕ). FillsParts (length bs) c.put_parts.result c.args.file.now c.put_parts.new.file) (c.deref-6.ensures.value ∙ c.in-Ok.ensures.made.0) c.put_parts.ensures.full
 
 pub returns-in-Err-clause-refused : goal.returns-in-Err-clause-refused
 returns-in-Err-clause-refused g c tree P m s three = inl (first_fault c.args.file.now c.in-Err.error c.in-Err.ensures.refused tree m)

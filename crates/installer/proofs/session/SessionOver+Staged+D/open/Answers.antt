@@ -8,7 +8,7 @@ use Rattle.msi.specs.Opened.{IsOpenedPackage}
 use Rattle.msi_meaning.specs.Opening.{may_use}
 use Rattle.staged.specs.Staged.{device_of, staged_bytes}
 use Rattle.installer.proofs.Based.{held_sound, settled_published}
-use Rattle.installer.proofs.Begun.{began_counted, began_survives, begins_found, malformed_or_fault, reopen_fault, same_bytes}
+use Rattle.installer.proofs.Begun.{began_counted, began_survives, begins_found, malformed_or_fault, recovery_kinds, reopen_fault, same_bytes}
 use Rattle.installer.proofs.Following.{published_yet}
 use Rattle.installer.proofs.Going.{package_live}
 use Rattle.installer.proofs.Stopping.{survives_alike}
@@ -81,6 +81,7 @@ returns-in-Err-open-clause-refused g c =
       kind = λ honest.
           let before : IsTrue (g.D.Device.honest (device_of c.in-Ok.medium)) = rw c.in-Ok.ensures.honest honest in
           ⊎_elim (λ fault. inr (inl fault)) (λ refused. inr (inr (staged_bytes c.in-Ok.medium, c.in-Ok.ensures.bytes honest, refused))) (c.in-Err-open.ensures.refused before);
+      told = c.in-Err-open.ensures.kinds;
       counted = rw c.into_device.ensures.device (
           began_counted g.D.Device d.counts_now d.rests_keeps d.rests_leaves c.args.device (device_of c.in-Ok.medium) _ c.in-Ok.ensures.honest c.in-Ok.ensures.failures c.in-Ok.ensures.stops on.device c.in-Err-open.error
           (c.in-Err-open.ensures.cause c.in-Ok.medium (record { device = d.rests_refl _; failed = refl })).device
@@ -97,6 +98,7 @@ pub returns-in-Err-clause-refused : goal.returns-in-Err-clause-refused
 returns-in-Err-clause-refused g c = record {
   kind = λ honest. ⊎_elim (λ malformed. inl malformed) (λ fault. inr (inl (subst (IsFaultUnless ⊥) (sym fault) tt)))
       (malformed_or_fault g.D.Device c.args.device c.in-Err.refusal.0 c.in-Err.refusal.1 c.in-Err.ensures.err c.in-Err.ensures.malformed);
+  told = recovery_kinds c.in-Err.refusal.1 c.in-Err.ensures.err.kind;
   counted = c.in-Err.ensures.err.counted;
 }
 

@@ -1,12 +1,12 @@
 use Rattle.std.proofs.Common.{◌∙◌, ap, inl, inr, refl, sym, ⊎_elim}
 use Rattle.cfb.specs.Publishing.{medium_in}
 use Rattle.installer.proofs.Answering.{behaves_live, told_error}
-use Rattle.installer.proofs.Commits.{publish_goes}
+use Rattle.installer.proofs.Commits.{publish_goes, unpublished}
 use Rattle.installer.proofs.Following.{commit_survives, left_found, not_failed_error, published_at, published_found, published_of}
 use Rattle.installer.proofs.Going.{by_sound}
 use Rattle.installer.proofs.Stopping.{survives_stay}
 use Rattle.installer.specs.Step.{told_of}
-use Rattle.installer.specs.Sessions.{device_below, letters_in, package_in, phase_of}
+use Rattle.installer.specs.Sessions.{device_below, is_failed, letters_in, package_in, phase_of}
 use Rattle.msi.specs.Opened.{file_in}
 use Rattle.staged.specs.Staged.{device_of}
 use Rattle.command_file.specs.Request as asked
@@ -19,9 +19,10 @@ returns-clause-follows g c =
     let new = c.commit-published.new.self in
     let told = c.commit-published.ensures in
     let stay = survives_stay (letters_in c.args.self.now) g.D.Device d.counts_now d.only_now (device_below c.args.self.now) in
-    let next = record c.args.self.now { «package» = new; has_base = c.is_ok-self.result } in
+    let next = record c.args.self.now { «package» = new; has_base = c.has_base_after-has_base.result } in
     record {
-      goes = publish_goes (λ m. record { device = d.rests_refl _; failed = refl }) (λ m. refl) c.args.self.now next c.requires c.commit-published.result c.is_ok-self.ensures.value told.commits told.counted told.cause;
+      goes = publish_goes d.counts_now d.rests_keeps d.rests_leaves (λ m. record { device = d.rests_refl _; failed = refl }) (λ a b k. k.device) (λ a b k. k.failed) (λ m. refl) c.args.self.now next c.requires
+          c.commit-published.result (rw c.is_ok-is_done.ensures.value at c.has_base_after-has_base.ensures) told.commits told.counted told.cause;
       letters = told.commits.seen.0;
       sound = told.commits.seen.1;
       behaves = behaves_live (λ m. record { device = d.rests_refl _; failed = refl }) c.args.self.now next c.requires asked.commit (told_of c.commit-published.result) told.counted told.commits.seen.1
@@ -40,6 +41,8 @@ returns-clause-follows g c =
           })
           (published_at g.D.Device c.commit-published.result (device_of (medium_in (file_in new))) _ (published_of _ old new c.commit-published.result told.commits start.held held (sym at.place.sound ∙ sound)))
           (not_failed_error (λ m. record { device = d.rests_refl _; failed = refl }) old new c.commit-published.result c.requires told.cause)
+          (phase_of (is_failed next)) (unpublished d.counts_now d.rests_keeps d.rests_leaves (λ m. record { device = d.rests_refl _; failed = refl }) (λ a b k. k.device) (λ a b k. k.failed) (λ m. refl) c.args.self.now next c.requires
+          c.commit-published.result told.commits)
           ))
           (λ unsound. rw unsound (rw (told.commits.unsound c.requires (sym at.place.sound ∙ unsound)).1 stay)) (by_sound start.sound);
     }

@@ -6,7 +6,7 @@ use Rattle.cfb_owned.proofs.GoingOn.{goes_cause}
 use Rattle.std.proofs.lemmas.Result.{IfErr-weaker}
 use Rattle.cfb_fat.specs.Tables.{HasCauseBelow}
 use Rattle.msi.specs.Opened.{file_in}
-use Rattle.msi.proofs.Flushed.{failed_cause, fault_kinds}
+use Rattle.msi.proofs.Flushed.{failed_cause, fault_kinds, never_full}
 use Rattle.msi.proofs.Published.{commit_leaves, failed_commits, goes_leaves, saved_commits, still_leaves, unsaved_commits, unsound_commits}
 use Rattle.msi.proofs.package.Package.commit.Goals as goal
 
@@ -26,7 +26,13 @@ pub returns-then-not-self-clause-left : goal.returns-then-not-self-clause-left
 returns-then-not-self-clause-left g c = λ honest. let G = g.met.F.ReadMedium in still_leaves G.continues_refl G.continues_leaves c.args.self.now
 
 pub returns-in-Err-clause-commits : goal.returns-in-Err-clause-commits
-returns-in-Err-clause-commits g c = unsaved_commits g.F.Medium.has_published c.args.self.now _ (sym c.has_failed.ensures ∙ c.if-has_failed.false) c.if-not-self.false c.in-Err.error c.in-Err.ensures.saves
+returns-in-Err-clause-commits g c = unsaved_commits g.F.Medium.has_published c.args.self.now _ (sym c.has_failed.ensures ∙ c.if-has_failed.false) c.if-not-self.false c.in-Err.error c.in-Err.ensures.saves c.write_memory.ensures.goes_on
+
+pub returns-in-Err-clause-full : goal.returns-in-Err-clause-full
+returns-in-Err-clause-full g c = c.in-Err.ensures.full
+
+pub returns-clause-full : goal.returns-clause-full
+returns-clause-full g c = λ is live. absurd (never_full c.commit.result c.commit.ensures.fault is)
 
 pub returns-in-Err-clause-left : goal.returns-in-Err-clause-left
 returns-in-Err-clause-left g c = λ honest. let G = g.met.F.ReadMedium in goes_leaves G.continues_refl G.continues_leaves c.args.self.now c.write_memory.new.self c.write_memory.ensures.goes_on

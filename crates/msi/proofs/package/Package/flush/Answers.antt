@@ -3,7 +3,7 @@ use Rattle.cfb.specs.Views.{mini_of}
 use Rattle.cfb_mini.specs.Views.{allocator_of}
 use Rattle.cfb_owned.proofs.GoingOn.{rests_go_on}
 use Rattle.msi.specs.Opened.{file_in}
-use Rattle.msi.proofs.Flushed.{failed_cause, failed_writes, fault_kinds, fault_unsaved, here_live, keeps_flushed, lives_yet, now_live, on_err, on_ok, saved_writes, sound_writes, unsound_writes, written_already, written_yet}
+use Rattle.msi.proofs.Flushed.{failed_cause, failed_writes, fault_kinds, fault_unsaved, here_live, keeps_flushed, lives_yet, never_full, now_live, on_err, on_ok, saved_writes, sound_writes, unsound_writes, written_already, written_yet}
 use Rattle.msi.proofs.package.Package.flush.Goals as goal
 
 pub returns-then-has_failed-clause-writes : goal.returns-then-has_failed-clause-writes
@@ -31,6 +31,12 @@ returns-then-is_written-clause-goes_on g c = rests_go_on (allocator_of (mini_of 
 
 pub returns-then-is_written-clause-kinds : goal.returns-then-is_written-clause-kinds
 returns-then-is_written-clause-kinds g c = fault_kinds c.flush.result c.flush.ensures.fault
+
+pub returns-then-is_written-clause-full : goal.returns-then-is_written-clause-full
+returns-then-is_written-clause-full g c = λ is live. absurd (never_full c.flush.result c.flush.ensures.fault is)
+
+pub returns-clause-full : goal.returns-clause-full
+returns-clause-full g c = c.write_memory.ensures.full
 
 pub returns-clause-writes : goal.returns-clause-writes
 returns-clause-writes g c = saved_writes c.args.self.now _ (sym c.has_failed.ensures ∙ c.if-has_failed.false) c.if-not-self.false c.write_memory.result c.write_memory.ensures.saves

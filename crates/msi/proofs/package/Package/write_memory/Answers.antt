@@ -1,4 +1,5 @@
 use Rattle.std.proofs.Common.{◌∙◌, [], ap, inl, inr, refl}
+use Rattle.std.specs.Prelude.{Err}
 use Rattle.cfb.specs.Views.{mini_of}
 use Rattle.cfb_fat.specs.Keeping.{fails_cause}
 use Rattle.cfb_fat.specs.Resting.{all_rest_refl}
@@ -6,13 +7,19 @@ use Rattle.cfb_mini.specs.Views.{allocator_of}
 use Rattle.cfb_owned.proofs.GoingOn.{fails_go_on, goes_cause, goes_then, rests_go_on}
 use Rattle.msi_pool.specs.PoolState.{PoolState}
 use Rattle.msi.specs.Opened.{file_in}
-use Rattle.msi.proofs.Flushed.{parts_held, parts_unflushed, parts_unwritten, parts_written}
+use Rattle.msi.proofs.Flushed.{file_lives, never_full, parts_held, parts_unflushed, parts_unwritten, parts_written}
 use Rattle.msi.proofs.package.Package.write_memory.Goals as goal
 
 pub returns-in-Err-clause-saves : goal.returns-in-Err-clause-saves
 returns-in-Err-clause-saves g c =
     let did = c.in-Err.ensures in
     parts_unwritten c.args.self.now _ (record { letters = did.changes.seen.0; tables = refl; kind = refl; summary = refl; sound = refl; written = refl }) refl c.in-Err.error did.changes did.refused
+
+pub returns-in-Err-clause-full : goal.returns-in-Err-clause-full
+returns-in-Err-clause-full g c = λ is live. c.in-Err.ensures.full is (file_lives c.write_parts.new.file live)
+
+pub returns-in-Err-flush-clause-full : goal.returns-in-Err-flush-clause-full
+returns-in-Err-flush-clause-full g c = λ is live. absurd (never_full (Err c.in-Err-flush.error) c.in-Err-flush.ensures.fault is)
 
 pub returns-in-Err-clause-cause : goal.returns-in-Err-clause-cause
 returns-in-Err-clause-cause g c = c.in-Err.ensures.answers.cause
