@@ -8,7 +8,7 @@ use Rattle.cfb_fat.specs.Tables.{has_failed_here, AllFails}
 use Rattle.cfb_fat.specs.declared.allocator.Allocator.{Allocator}
 use Rattle.cfb_live.specs.Doing.{IsFault}
 use Rattle.cfb_live.specs.Making.{IsRefusedMade}
-use Rattle.cfb_live.specs.Strays.{HasNoMoreStrays}
+use Rattle.cfb_live.specs.Strays.{StaysTidy}
 use Rattle.cfb_live.proofs.Strays.{strays_then}
 use Rattle.cfb_meaning.specs.TreeRules.{create_new_stream, done, is_stream, is_stream_found, refused, tree_step, yes, Answer, Outcome}
 use Rattle.cfb_medium.specs.declared.error.Error.{Error}
@@ -57,7 +57,7 @@ module _ {F : Type 0} {g : Ghosts F} where
 
   -- the second file means the tree, and there are no more strays
   abbrev Comes : CompoundFile F g → CompoundFile F g → Owners → Tree → Type 0
-  Comes old new who tree = (means : FileMeans new tree) × HasNoMoreStrays (mini_of old) (mini_of new) who means.live.who
+  Comes old new who tree = (means : FileMeans new tree) × StaysTidy (mini_of old) (mini_of new) who means.live.who
 
   module _ (path : Option Path) (bytes : List ℕ) (old : CompoundFile F g) where
     -- LAW: where a stream is at the path it is rewritten

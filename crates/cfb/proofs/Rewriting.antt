@@ -11,7 +11,7 @@ use Rattle.cfb_fat.specs.Tables.{has_failed_here, version_of, AllRests, HasCause
 use Rattle.cfb_fat.specs.declared.allocator.Allocator.{Allocator}
 use Rattle.cfb_live.specs.Doing.{IsFault}
 use Rattle.cfb_live.specs.Live as live
-use Rattle.cfb_live.specs.Strays.{HasNoMoreStrays}
+use Rattle.cfb_live.specs.Strays.{StaysTidy}
 use Rattle.cfb_live.proofs.Resting.{keeps_rests, means_stays}
 use Rattle.cfb_live.proofs.Strays.{strays_kept, strays_then}
 use Rattle.cfb_meaning.specs.TreeRules.{close_stream, done, has_bytes, on_stream, open_stream, refused, tree_step}
@@ -93,9 +93,9 @@ module _ {F : Type 0} {g : Ghosts F} where
 
   -- a file of which a stream was written means its tree, with its owners
   comes_written : (new : CompoundFile F g) (path : Path) (tree : Tree) (id : ℕ) (content : List ℕ) (w : StreamIsWritten new path tree id content) (old : CompoundFile F g) (who : Owners)
-      → HasNoMoreStrays (mini_of old) (mini_of new) who w.at.means.who → (means : FileMeans new tree) × HasNoMoreStrays (mini_of old) (mini_of new) who means.live.who
+      → StaysTidy (mini_of old) (mini_of new) who w.at.means.who → (means : FileMeans new tree) × StaysTidy (mini_of old) (mini_of new) who means.live.who
   comes_written new path tree id content w old who strays =
-      let it = owners_written new path tree id content w in (it.0, subst (HasNoMoreStrays (mini_of old) (mini_of new) who) (sym it.1) strays)
+      let it = owners_written new path tree id content w in (it.0, subst (StaysTidy (mini_of old) (mini_of new) who) (sym it.1) strays)
 
   module _ (path : Option Path) (bytes : List ℕ) (old mid new : CompoundFile F g) (r : FileRests old mid) where
     -- LAW: no stream was found
@@ -153,11 +153,11 @@ module _ {F : Type 0} {g : Ghosts F} where
             let at = subst (λ l. object_at l tree f.names ≡ Some (a_stream f.written.at.name f.written.at.bits f.content)) r.letters f.written.at.at_path in
             let step = rewritten_there (letters_in old) tree bytes f.names f.written.at.name f.written.at.bits f.content at in
             let keeps = keeps_rests (mini_of old) (mini_of mid) r.mini in
-            let started = subst (λ w. HasNoMoreStrays (mini_of mid) (mini_of new) w there.0.at.means.who) f.owners there.1 in
-            let comes = subst (λ t. (means : FileMeans new t) × HasNoMoreStrays (mini_of old) (mini_of new) m.live.who means.live.who)
+            let started = subst (λ w. StaysTidy (mini_of mid) (mini_of new) w there.0.at.means.who) f.owners there.1 in
+            let comes = subst (λ t. (means : FileMeans new t) × StaysTidy (mini_of old) (mini_of new) m.live.who means.live.who)
             (ap (λ b. changed (letters_in mid) (with_bytes b) f.names tree) whole ∙ ap (λ l. changed l (with_bytes bytes) f.names tree) r.letters ∙ sym (ap (λ o. o.0) step))
             (comes_written new f.names (changed (letters_in mid) (with_bytes (change f.content)) f.names tree) id (change f.content) there.0 old m.live.who
-            (strays_then (mini_of old) (mini_of mid) (mini_of new) m.live.who m.live.who there.0.at.means.who (strays_kept (mini_of old) (mini_of mid) m.live.who keeps) started)) in
+            (strays_then (mini_of old) (mini_of mid) (mini_of new) m.live.who m.live.who there.0.at.means.who (strays_kept (mini_of old) (mini_of mid) m.live.who m.live.owners keeps) started)) in
             record {
               names = f.names;
               at_path = f.at_path;

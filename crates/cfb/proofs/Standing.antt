@@ -2,7 +2,7 @@
 use Rattle.std.proofs.Common.{◌≡◌, ℕ, ◌⊎◌, inl, inr, List, length, ap, refl, sym, subst, ◌∙◌, ⊎_elim}
 use Rattle.std.specs.Prelude.{Err, IfErr, IsErrOf, Ok, OnErr, OnOk, Result}
 use Rattle.cfb_chains.specs.ChainCalls.{IsInvalidPlace}
-use Rattle.cfb_live.specs.Strays.{HasNoMoreStrays}
+use Rattle.cfb_live.specs.Strays.{StaysTidy}
 use Rattle.cfb_live.proofs.Resting.{keeps_rests}
 use Rattle.cfb_medium.specs.Calls.{IsFaultUnless}
 use Rattle.cfb_medium.specs.declared.error.Error.{Error}
@@ -59,8 +59,8 @@ module _ {F : Type 0} {g : Ghosts F} where
   rewrites_as change a b c file id len did path tree content s =
       let same = keeps_as a b file id len path tree content s in
       let later = did path tree content same.0 in
-      subst (λ f. (it : Stands c path (changed (letters_in f) (with_bytes (change content)) path tree) (change content)) × HasNoMoreStrays (mini_of f) (mini_of (file_under c)) (owners_under s) (owners_under it)) file
-      (later.0, subst (λ w. HasNoMoreStrays (mini_of (file_under b)) (mini_of (file_under c)) w (owners_under later.0)) same.1 later.1)
+      subst (λ f. (it : Stands c path (changed (letters_in f) (with_bytes (change content)) path tree) (change content)) × StaysTidy (mini_of f) (mini_of (file_under c)) (owners_under s) (owners_under it)) file
+      (later.0, subst (λ w. StaysTidy (mini_of (file_under b)) (mini_of (file_under c)) w (owners_under later.0)) same.1 later.1)
 
   -- what was only read since it was seen so
   pub rests_as : (a b c : Stream F g) → b.file.ghost_name ≡ a.file.ghost_name → file_under b ≡ file_under a → id_of b ≡ id_of a → stream_len b ≡ stream_len a → StreamRests b c → StreamRests a c
@@ -119,7 +119,7 @@ module _ {F : Type 0} {g : Ghosts F} where
       → ((path : Path) (tree : Tree) (content : List ℕ) → Stands old path tree content → stream_len new ≡ length (change content)) → Rewrites change old new
   rewrites_so change old new did id len path tree content s =
       let later = changed (letters_in (file_under old)) (with_bytes (change content)) path tree in
-      let it = subst (λ n. (then : StreamIsWritten (file_under new) path later n (change content)) × HasNoMoreStrays (mini_of (file_under old)) (mini_of (file_under new)) (owners_under s) then.at.means.who) (sym id) (did path tree content s.written) in
+      let it = subst (λ n. (then : StreamIsWritten (file_under new) path later n (change content)) × StaysTidy (mini_of (file_under old)) (mini_of (file_under new)) (owners_under s) then.at.means.who) (sym id) (did path tree content s.written) in
       (record { written = it.0; len = len path tree content s }, it.1)
 
   -- LAW: what is kept in the file is kept in the stream

@@ -11,7 +11,7 @@ use Rattle.cfb_directory.specs.Views.{entries_held}
 use Rattle.cfb_entries.proofs.StreamsHeld.{stream_held}
 use Rattle.cfb_live.proofs.Resting.{means_stays, stays_owned}
 use Rattle.cfb_live.specs.Live as live
-use Rattle.cfb_live.specs.Strays.{HasNoMoreStrays}
+use Rattle.cfb_live.specs.Strays.{StaysTidy}
 use Rattle.cfb_meaning.specs.Means.{HasBytes}
 use Rattle.cfb_meaning.specs.TreeRules.{has_bytes, open_read_stream, open_stream, refused, tree_step}
 use Rattle.cfb_mini.specs.Changing.{HasOwners, KeepsOwners}
@@ -165,7 +165,7 @@ module _ {F : Type 0} {g : Ghosts F} (old new : CompoundFile F g) (path : Path) 
 
   -- LAW: one that was rewritten has its new bytes, and there are no more strays
   pub written_so : (change : List ℕ → List ℕ) → RewritesIn id change (links_held old) (links_held new) (mini_of old) (mini_of new) → letters_in new ≡ letters_in old → sound_of new ≡ sound_of old
-      → lower.ahead_of (ahead_held new) ≡ [] → (then : StreamIsWritten new path (changed (letters_in old) (with_bytes (change content)) path tree) id (change content)) × HasNoMoreStrays (mini_of old) (mini_of new) w.at.means.who then.at.means.who
+      → lower.ahead_of (ahead_held new) ≡ [] → (then : StreamIsWritten new path (changed (letters_in old) (with_bytes (change content)) path tree) id (change content)) × StaysTidy (mini_of old) (mini_of new) w.at.means.who then.at.means.who
   unfolding stream_as means_as
   written_so change did letters sound none =
       let it = did (letters_in old) tree path content w.at w.links in

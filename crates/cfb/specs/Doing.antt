@@ -1,16 +1,17 @@
 -- Which tree a `CompoundFile` means, and what a call does that may change it.
 use Rattle.std.specs.Prelude.{◌≡◌, ◌⊎◌, true, false, Option, Some, Result, IfErr, IsErrOf, OnErr, OnOk}
 use Rattle.cfb_entries.specs.Rules.{answer_at}
-use Rattle.cfb_fat.specs.Tables.{has_failed_here}
+use Rattle.cfb_directory.specs.Views.{entries_held}
+use Rattle.cfb_fat.specs.Tables.{has_failed_here, HasEnds, IsTold}
 use Rattle.cfb_live.specs.Doing.{IsFault}
 use Rattle.cfb_live.specs.Live as live
-use Rattle.cfb_live.specs.Strays.{HasNoMoreStrays}
+use Rattle.cfb_live.specs.Strays.{HaveStrictFacts, IsStrictLive, StaysTidy}
 use Rattle.cfb_meaning.specs.TreeRules.{done, refused, tree_step, Call}
 use Rattle.cfb_medium.specs.declared.error.Error.{Error}
 use Rattle.cfb_medium.specs.declared.error.Error.TheVariants.{Failed, InvalidData}
 use Rattle.cfb_medium.specs.declared.medium.ReadMedium.{Ghosts}
 use Rattle.cfb_mini.specs.Changing.{KeepsOwners}
-use Rattle.cfb_mini.specs.Views.{allocator_of}
+use Rattle.cfb_mini.specs.Views.{allocator_of, directory_of}
 use Rattle.cfb_owners.specs.Owners.{Owners}
 use Rattle.cfb_tree.specs.Paths.{Path}
 use Rattle.cfb_tree.specs.Tree.{Tree}
@@ -29,14 +30,25 @@ module _ {F : Type 0} {g : Ghosts F} where
     pub letters : letters_in new ≡ letters_in old
     pub sound : sound_of new ≡ sound_of old
 
+  -- what a strict reader asks of the file beside its tree: the header counts the sectors of all tables, file and DIFAT end as they
+  -- must, the root has its name, and colours are right ([MS-CFB] 2.2 to 2.6)
+  pub record IsStrictFile (it : CompoundFile F g) : Type 0 where
+    pub told : IsTold (allocator_of (mini_of it))
+    pub ends : HasEnds (allocator_of (mini_of it))
+    pub live : IsStrictLive (mini_of it)
+
+  -- of this its entries have their part: the root its name, and each entry a right colour ([MS-CFB] 2.6.2, 2.6.4)
+  abbrev pub HasStrictEntries : CompoundFile F g → Type 0
+  HasStrictEntries it = HaveStrictFacts (entries_held (directory_of (mini_of it)))
+
   -- the rules answer that the call at the path is done, and the file means the tree that they give; no sector and no mini sector is
-  -- in use without an owner that wasn't so before
+  -- in use without an owner that wasn't so before, and a strict reader takes directory and mini FAT if it did
   pub record IsDone (path : Option Path) (call : Path → Call) (tree : Tree) (old new : CompoundFile F g) (who : Owners) : Type 0 where
     pub names : Path
     pub at_path : path ≡ Some names
     pub accepted : (tree_step (letters_in old) tree (call names)).1 ≡ done
     pub means : FileMeans new (tree_step (letters_in old) tree (call names)).0
-    pub strays : HasNoMoreStrays (mini_of old) (mini_of new) who means.live.who
+    pub strays : StaysTidy (mini_of old) (mini_of new) who means.live.who
 
   -- One that has failed answers `Failed`. One that isn't sound answers `InvalidData`, and nothing is changed. Of a file that means a
   -- tree the call at the path is done by the rules, or refused just as these refuse it, and then nothing is changed; else a fault

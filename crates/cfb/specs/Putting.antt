@@ -2,7 +2,7 @@
 use Rattle.std.specs.Prelude.{◌≡◌, ◌⊎◌, ℕ, false, true, length, List, Option, Some, None, Result, IfErr, IsErrOf, OnErr, OnOk}
 use Rattle.cfb_fat.specs.Tables.{has_failed_here}
 use Rattle.cfb_live.specs.Doing.{IsFault}
-use Rattle.cfb_live.specs.Strays.{HasNoMoreStrays}
+use Rattle.cfb_live.specs.Strays.{StaysTidy}
 use Rattle.cfb_meaning.specs.TreeRules.{close_stream, done, has_bytes, made, open_stream, refused, tree_step, Answer, Outcome}
 use Rattle.cfb_medium.specs.declared.error.Error.{Error}
 use Rattle.cfb_medium.specs.declared.error.Error.TheVariants.{AlreadyExists, Failed, Full, InvalidData, InvalidInput, NotFound}
@@ -75,7 +75,7 @@ module _ {F : Type 0} {g : Ghosts F} where
     pub at_path : path ≡ Some names
     pub accepted : (rule (letters_in old) tree names).1 ≡ done
     pub means : FileMeans new (rule (letters_in old) tree names).0
-    pub strays : HasNoMoreStrays (mini_of old) (mini_of new) who means.live.who
+    pub strays : StaysTidy (mini_of old) (mini_of new) who means.live.who
 
   -- As `Does`, by a rule on trees: `Failed` after a fault, `InvalidData` where the file isn't sound; else done, or refused just as the
   -- rule refuses, and then the file means what it meant; else a fault. After any error it has failed, or means what it meant.

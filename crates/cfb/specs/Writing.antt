@@ -5,7 +5,7 @@ use Rattle.cfb_chains.specs.ChainCalls.{IsInvalidPlace}
 use Rattle.cfb_fat.specs.Calls.{FatAnswers}
 use Rattle.cfb_fat.specs.Tables.{HasCauseBelow}
 use Rattle.cfb_fat.specs.declared.allocator.Allocator.{Allocator}
-use Rattle.cfb_live.specs.Strays.{HasNoMoreStrays}
+use Rattle.cfb_live.specs.Strays.{StaysTidy}
 use Rattle.cfb_meaning.specs.TreeRules.{has_bytes, open_stream, tree_step}
 use Rattle.cfb_medium.specs.Calls.{IsFaultUnless}
 use Rattle.cfb_medium.specs.declared.error.Error.{Error}
@@ -39,7 +39,7 @@ module _ {F : Type 0} {g : Ghosts F} where
   -- and no mini sector is in use without an owner that wasn't so before
   abbrev pub RewritesAt : ℕ → (List ℕ → List ℕ) → CompoundFile F g → CompoundFile F g → Type 0
   RewritesAt id change old new = (path : Path) (tree : Tree) (content : List ℕ) → (w : StreamIsWritten old path tree id content)
-      → (then : StreamIsWritten new path (changed (letters_in old) (with_bytes (change content)) path tree) id (change content)) × HasNoMoreStrays (mini_of old) (mini_of new) w.at.means.who then.at.means.who
+      → (then : StreamIsWritten new path (changed (letters_in old) (with_bytes (change content)) path tree) id (change content)) × StaysTidy (mini_of old) (mini_of new) w.at.means.who then.at.means.who
 
   -- the stream of entry `id` is what it was, and so are the owners
   abbrev pub KeepsAt : ℕ → CompoundFile F g → CompoundFile F g → Type 0
@@ -99,7 +99,7 @@ module _ {F : Type 0} {g : Ghosts F} where
   -- sector is in use without an owner that wasn't so before
   abbrev pub Rewrites : (List ℕ → List ℕ) → Stream F g → Stream F g → Type 0
   Rewrites change old new = (path : Path) (tree : Tree) (content : List ℕ) → (s : Stands old path tree content)
-      → (then : Stands new path (changed (letters_in (file_under old)) (with_bytes (change content)) path tree) (change content)) × HasNoMoreStrays (mini_of (file_under old)) (mini_of (file_under new)) (owners_under s) (owners_under then)
+      → (then : Stands new path (changed (letters_in (file_under old)) (with_bytes (change content)) path tree) (change content)) × StaysTidy (mini_of (file_under old)) (mini_of (file_under new)) (owners_under s) (owners_under then)
 
   -- the stream is what it was, and so are the owners
   abbrev pub StreamKeeps : Stream F g → Stream F g → Type 0

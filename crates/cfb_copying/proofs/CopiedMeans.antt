@@ -1,8 +1,7 @@
 -- A copy holds the tree that the file holds.
-use Rattle.std.proofs.Common.{◌≡◌, ℕ, zero, suc, ◌+◌, ◌*◌, ◌<◌, ◌≤◌, false, true, List, [], ◌∷◌, length, take, drop, refl, ap, sym, subst, ◌∙◌, arith, ⊎_elim}
-use Rattle.std.specs.Prelude.{nat_eq, slice_get, slice_range, None, Option, Some, IfSome}
+use Rattle.std.proofs.Common.{◌≡◌, ℕ, zero, suc, ◌+◌, ◌*◌, ◌<◌, ◌≤◌, false, true, List, [], ◌∷◌, length, take, drop, refl, ap, sym, subst, ◌∙◌, arith}
+use Rattle.std.specs.Prelude.{nat_eq, slice_get, slice_range, Some, IfSome}
 use Rattle.std.specs.List.{flat_map, range_with_len, AllByRecursion, IsDistinct}
-use Rattle.std.proofs.lemmas.Bool.Decides.{eqb_tells}
 use Rattle.cfb_medium.specs.Numbers.{numbers}
 use Rattle.cfb_medium.specs.Versions.{sector_len}
 use Rattle.cfb_medium.specs.declared.version.Version.{Version}
@@ -20,7 +19,7 @@ use Rattle.cfb_owners.specs.Owners.{first_of, mini_stream_owner, stream_owner, O
 use Rattle.cfb_tree.proofs.NamesRead.{all_append}
 use Rattle.cfb_copying.specs.Copied.{IsCopied, IsLongAmong}
 use Rattle.cfb_copying.specs.Making.{IsOneOf}
-use Rattle.cfb_copying.proofs.Restarted.{again, holds_again, siblings_again}
+use Rattle.cfb_copying.proofs.Restarted.{holds_again, siblings_again, some_again}
 use Rattle.cfb_copying.proofs.Tight.{one_is_not_none}
 
 -- ---- bytes that lie in the file
@@ -127,14 +126,7 @@ module _ (s t : LiveFile) (who : Owners) (own : ℕ → List ℕ) (letters : Let
 
   -- what is no stream of the copy is none of the file
   among_then : (id : ℕ) → IsStreamAmong s.entries h.ids id → IsStreamAmong t.entries h.ids id
-  among_then id among = (among.0, kind_again (slice_get s.entries id) refl among.1)
-    where
-      kind_again : (o : Option Entry) → slice_get s.entries id ≡ o → IfSome o (λ e. e.kind ≡ kind_stream) → IfSome (slice_get t.entries id) (λ e. e.kind ≡ kind_stream)
-      kind_again None is kind = ⊎_elim
-          (λ zero_is. absurd (let both : Some h.root ≡ None = sym h.kept.root_found ∙ ap (slice_get s.entries) (sym zero_is.1) ∙ is in cc))
-          (λ past. subst (λ o. IfSome o (λ e. e.kind ≡ kind_stream)) (sym (c.restarts.other id (λ same. omega (arith, past.1, same)) (λ it. let both : Some it.entry ≡ None = sym it.found ∙ is in cc) ∙ is)) tt)
-          (eqb_tells id 0)
-      kind_again (Some e) is kind = let next = again s.entries t.entries h.ids own c.restarts id e is in subst (λ o. IfSome o (λ x. x.kind ≡ kind_stream)) (sym next.1) kind
+  among_then id among = (among.0, some_again s.entries t.entries h.ids own c.restarts (λ e. e.kind ≡ kind_stream) (λ e. e.kind ≡ kind_stream) (λ e start kind. kind) id among.1)
 
   pub copy_held : MeansHeld t now letters tree
   unfolding root IsDistinct

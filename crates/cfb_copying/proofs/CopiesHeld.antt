@@ -7,6 +7,8 @@ use Rattle.cfb_sectors.specs.Header.{mini_cutoff, IsHeader}
 use Rattle.cfb_directory.specs.Views.{entries_held}
 use Rattle.cfb_fat.specs.Tables.{version_of}
 use Rattle.cfb_live.specs.Live.{live_of, MeansLive}
+use Rattle.cfb_live.specs.Strays.{HaveStrictFacts}
+use Rattle.cfb_meaning.specs.Means.{IsStrictlyOpenable}
 use Rattle.cfb_mini.specs.Views.{allocator_of, directory_of, mini_fat_ids}
 use Rattle.cfb_mini.specs.declared.mini_allocator.MiniAllocator.{MiniAllocator}
 use Rattle.cfb_owners.specs.Held.{HasStream}
@@ -19,6 +21,7 @@ use Rattle.cfb_tree.specs.Tree.{Tree}
 use Rattle.cfb_tree.specs.Entries.{HasSize}
 use Rattle.cfb_copying.specs.Copied.{HoldsCopy, IsCopied, IsTight}
 use Rattle.cfb_copying.specs.Steps.{HasCopy, IsOriginal}
+use Rattle.cfb_copying.proofs.CopiedStrict.{copy_strict}
 use Rattle.cfb_copying.proofs.CopiedTight.{copy_tight}
 
 module _ {F : Type 0} {g : Ghosts F} (mini : MiniAllocator F g) (letters : Letters) (tree : Tree) (m : MeansLive letters mini tree) where
@@ -61,3 +64,10 @@ module _ {F : Type 0} {g : Ghosts F} (mini : MiniAllocator F g) (letters : Lette
         header = subst (IsHeader (version_of (allocator_of mini))) has.bytes_are (subst (λ v. IsHeader v has.file.bytes) copied.version copied.header);
         tight = subst (λ l. IsTight letters l tree) has.bytes_are (copy_tight s has.file m.who has.own letters tree m.held copied);
       }
+
+  pub copy_taken : (ids bytes : List ℕ) → AreTreeEntries (entries_held (directory_of mini)) ids → HasCopy (live_of mini) m.who ids bytes → HaveStrictFacts (entries_held (directory_of mini)) → IsStrictlyOpenable letters bytes
+  unfolding live_of
+  copy_taken ids bytes all has facts =
+      let s = live_of mini in
+      let copied : IsCopied s m.who m.held.ids has.file has.own = subst (λ l. IsCopied s m.who l has.file has.own) (listed ids all) has.copied in
+      subst (IsStrictlyOpenable letters) has.bytes_are (copy_strict s has.file m.who has.own letters tree m.held copied has.counted facts)

@@ -1,16 +1,18 @@
 -- A file in the making that has all is a copy.
-use Rattle.std.proofs.Common.{◌≡◌, ℕ, ◌*◌, ◌≤◌, List, get_or, refl, ap, sym, subst, ◌∙◌, arith}
+use Rattle.std.proofs.Common.{◌≡◌, ℕ, ◌*◌, ◌≤◌, List, get_or, length, refl, ap, sym, subst, ◌∙◌, arith}
 use Rattle.std.specs.Prelude.{slice_get, Some}
 use Rattle.std.proofs.lemmas.Option.{slice_get_within, slice_get-get_or}
 use Rattle.cfb_medium.specs.Versions.{sector_len, stream_len_mask}
 use Rattle.cfb_directory.specs.Entries.{SizesFit}
 use Rattle.cfb_medium.specs.declared.version.Version.{Version}
 use Rattle.cfb_medium.specs.declared.medium.ReadMedium.{Ghosts}
+use Rattle.cfb_sectors.specs.Header.{directory_sector_count, mini_fat_sector_count}
 use Rattle.cfb_sectors.specs.Held.{count_of}
 use Rattle.cfb_sectors.specs.Sectors.{fat_in, joined}
 use Rattle.cfb_fat.specs.Seeing.{seen_of}
-use Rattle.cfb_fat.specs.Tables.{bytes_of, difat_sectors_of, fat_of, fat_sectors_of, sectors_of, version_of}
+use Rattle.cfb_fat.specs.Tables.{bytes_of, difat_sectors_of, fat_of, fat_sectors_of, sectors_of, version_of, HasEnds, IsTold}
 use Rattle.cfb_fat.specs.declared.allocator.Allocator.{Allocator}
+use Rattle.cfb_meaning.specs.Means.{directory_count}
 use Rattle.cfb_owners.specs.LiveFile.{LiveFile}
 use Rattle.cfb_owners.specs.Owners.{directory_owner, first_of, mini_fat_owner, mini_stream_owner, stream_owner, Owners}
 use Rattle.cfb_tree.specs.Directory.{entries_of, Entry}
@@ -51,12 +53,15 @@ restarts_under es later ids ours own h = record {
 
 module _ {F : Type 0} {g : Ghosts F} where
   pub copy_ended : (s : LiveFile) (who : Owners) (ids minis dir content : List ℕ) (later : List Entry) (a b : Allocator F g) → (h : HasCopied s who ids minis later a) → version_of b ≡ version_of a
-      → IsMade 1 (first_of minis) b (with_list directory_owner dir h.own) (with_list directory_owner content h.bytes) → first_of dir ≡ 1 → entries_of (version_of a) content ≡ later → HasCopy s who ids (bytes_of b)
+      → IsMade 1 (first_of minis) b (with_list directory_owner dir h.own) (with_list directory_owner content h.bytes) → first_of dir ≡ 1 → entries_of (version_of a) content ≡ later
+      → IsTold b → HasEnds b → directory_sector_count (bytes_of b) ≡ directory_count (version_of b) (length dir) → mini_fat_sector_count (bytes_of b) ≡ length minis → HasCopy s who ids (bytes_of b)
   unfolding seen_of
-  copy_ended s who ids minis dir content later a b h same made begins held =
+  copy_ended s who ids minis dir content later a b h same made begins held told ends directory_told mini_fat_told =
       let own = with_list directory_owner dir h.own in
       let other : (k : ℕ) → (k ≡ 0 → ⊥) → own k ≡ h.own k = at_other directory_owner dir h.own in
       let kept : (k : ℕ) → (k ≡ 0 → ⊥) → joined (version_of b) (bytes_of b) (own k) ≡ h.bytes k = λ k past. made.holds k ∙ at_other directory_owner content h.bytes k past in
+      let mine : own directory_owner ≡ dir = at_key directory_owner dir h.own in
+      let minis_are : own mini_fat_owner ≡ minis = other mini_fat_owner (λ is. omega (arith, is)) ∙ h.minis_are in
       let entries : entries_of (version_of b) (joined (version_of b) (bytes_of b) (own directory_owner)) ≡ later =
       ap (entries_of (version_of b)) (made.holds directory_owner ∙ at_key directory_owner content h.bytes) ∙ ap (λ v. entries_of v content) same ∙ held in
       record {
@@ -84,8 +89,8 @@ module _ {F : Type 0} {g : Ghosts F} where
           owned = made.owned;
           whole = made.whole;
           tight = made.tight;
-          directory_at = made.directory_at ∙ sym begins ∙ ap first_of (sym (at_key directory_owner dir h.own));
-          mini_fat_at = made.mini_fat_at ∙ ap first_of (sym (other mini_fat_owner (λ is. omega (arith, is)) ∙ h.minis_are));
+          directory_at = made.directory_at ∙ sym begins ∙ ap first_of (sym mine);
+          mini_fat_at = made.mini_fat_at ∙ ap first_of (sym minis_are);
           entries = refl;
           mini_fat = refl;
           same_mini_fat = kept mini_fat_owner (λ is. omega (arith, is)) ∙ h.mini_fat;
@@ -93,6 +98,12 @@ module _ {F : Type 0} {g : Ghosts F} where
           same_stream = λ id it. kept (stream_owner id) (λ is. omega (arith, is)) ∙ h.streams id it;
           none = λ id apart. other (stream_owner id) (λ is. omega (arith, is)) ∙ h.none id apart;
           restarts = subst (Restarts s.entries ids own) (sym entries) (restarts_under s.entries later ids dir h.own h.restarts);
+        };
+        counted = record {
+          told = told;
+          ends = ends;
+          directory = directory_told ∙ ap (λ l. directory_count (version_of b) (length l)) (sym mine);
+          mini_fat = mini_fat_told ∙ ap length (sym minis_are);
         };
         bytes_are = refl;
       }

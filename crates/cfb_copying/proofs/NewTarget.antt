@@ -15,14 +15,14 @@ use Rattle.cfb_medium.specs.declared.version.Version.TheVariants.{V3, V4}
 use Rattle.cfb_medium.specs.declared.medium.ReadMedium.{Ghosts}
 use Rattle.cfb_sectors.specs.Held.{count_of}
 use Rattle.cfb_sectors.specs.Sectors.{end_of_chain, fat_in, fat_sector, free, joined, sector_start, sectors_in}
-use Rattle.cfb_sectors.specs.Header.{first_directory_sector, first_mini_fat_sector, IsHeader}
+use Rattle.cfb_sectors.specs.Header.{difat_sector_count, fat_sector_count, first_difat_sector, first_directory_sector, first_mini_fat_sector, IsHeader}
 use Rattle.cfb_chains.specs.Behind.{AreWhole}
 use Rattle.cfb_chains.specs.Changes.{AreNoneOf, AreOnce, IsNoneOf}
 use Rattle.cfb_chains.specs.Grown.{IsLinked}
 use Rattle.cfb_chains.specs.Owned.{Owned}
 use Rattle.cfb_creating.specs.NewFile.{new_directory, new_fat, new_file, new_header}
-use Rattle.cfb_creating.proofs.NewBytes.{directory_joined, fields, length-new_file, numbers_read, table_joined}
-use Rattle.cfb_fat.specs.Listed.{Lists}
+use Rattle.cfb_creating.proofs.NewBytes.{directory_joined, fields, length-new_file, numbers_read, table_joined, three_whole}
+use Rattle.cfb_fat.specs.Listed.{stop_behind, Lists}
 use Rattle.cfb_fat.specs.Keeping.{lean_same}
 use Rattle.cfb_fat.specs.Orderly.{AreLean, IsOrderly}
 use Rattle.cfb_fat.specs.Seeing.{seen_of}
@@ -174,6 +174,14 @@ module _ {F : Type 0} {g : Ghosts F} where
         };
         of_version = of_version;
         lean = lean_same v (version_of it) 2 1 0 1 _ _ _ 1 of_version (ap length fat_is) (ap length fats) (ap length difat) (omega arith) (new_lean v);
+        told = record {
+          difat_count = ap difat_sector_count (sym whole) ∙ read.difat_count ∙ ap length (sym difat);
+          fat_count = ap fat_sector_count (sym whole) ∙ read.fat_count ∙ ap length (sym fats);
+        };
+        ends = record {
+          whole = three_whole (version_of it) (length (bytes_of it)) (long ∙ ap (λ u. 3 * sector_len u) (sym of_version));
+          stop = ap (stop_behind (version_of it) (bytes_of it) (first_difat_sector (bytes_of it))) difat ∙ ap first_difat_sector (sym whole) ∙ read.difat_start;
+        };
       }
     where
       by_number : (n : ℕ) → n < 2 → tables_of it ≡ 0 ∷ [] → IsOneOf (tables_of it) n ⊎ ((key : ℕ) × IsOneOf (own key) n)

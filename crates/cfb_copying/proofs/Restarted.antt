@@ -1,8 +1,9 @@
 -- Entries that begin elsewhere hold what they held.
-use Rattle.std.proofs.Common.{◌≡◌, ℕ, ◌⊎◌, inl, inr, List, [], ◌∷◌, ◌++◌, ap, sym, subst, ◌∙◌, arith, ⊎_elim}
-use Rattle.std.specs.Prelude.{slice_get, Some}
+use Rattle.std.proofs.Common.{◌≡◌, ℕ, ◌⊎◌, inl, inr, List, [], ◌∷◌, ◌++◌, get_or, refl, ap, sym, subst, ◌∙◌, arith, ⊎_elim}
+use Rattle.std.specs.Prelude.{slice_get, IfSome, None, Option, Some}
 use Rattle.std.specs.List.{AllByRecursion}
 use Rattle.std.proofs.lemmas.Bool.Decides.{eqb_tells, leb_tells}
+use Rattle.std.proofs.lemmas.Option.{slice_get_within, slice_get-get_or}
 use Rattle.cfb_sectors.specs.Header.{mini_cutoff}
 use Rattle.cfb_tree.specs.Tree.{nothing, storage, stream, Content}
 use Rattle.cfb_tree.specs.Directory.{kind_stream, none, some, Entry, HasName, Siblings}
@@ -40,6 +41,20 @@ module _ (es later : List Entry) (ids : List ℕ) (own : ℕ → List ℕ) (h : 
       (λ short. (e.start, h.other id (λ same. omega (arith, past.1, same)) short ∙ found))
       (is_long id e found))
       (eqb_tells id 0)
+
+  -- what holds of an entry, wherever it begins, holds of it again
+  pub some_again : (P Q : Entry → Type 0) → ((e : Entry) (start : ℕ) → P e → Q (record e { start = start })) → (id : ℕ) → IfSome (slice_get es id) P → IfSome (slice_get later id) Q
+  some_again P Q so id was = by_found (slice_get later id) refl
+    where
+      by_found : (o : Option Entry) → slice_get later id ≡ o → IfSome (slice_get later id) Q
+      by_found None is = subst (λ o. IfSome o Q) (sym is) tt
+      by_found (Some x) is =
+          let there = slice_get_within later id x is in
+          let size = h.size in
+          let e = get_or es id x in
+          let found : slice_get es id ≡ Some e = slice_get-get_or es id x (omega (arith, there, size)) in
+          let next = again id e found in
+          subst (λ o. IfSome o Q) (sym next.1) (so e next.0 (subst (λ o. IfSome o P) found was))
 
   pub siblings_again : (id : ℕ) (list : List ℕ) → Siblings es id list → Siblings later id list
   siblings_again id list (none is empty) = none is empty

@@ -5,20 +5,25 @@ use Rattle.cfb_medium.specs.Bytes.{overwritten}
 use Rattle.cfb_medium.specs.Numbers.{u16_at, u32_at}
 use Rattle.cfb_medium.specs.declared.version.Version.{Version}
 use Rattle.cfb_medium.specs.declared.medium.ReadMedium.{Ghosts}
-use Rattle.cfb_sectors.specs.Header.{first_mini_fat_sector, IsHeader}
+use Rattle.cfb_sectors.specs.Header.{directory_sector_count, first_mini_fat_sector, mini_fat_sector_count, IsHeader}
 use Rattle.cfb_sectors.specs.Sectors.{filled_part, joined, sector}
 use Rattle.cfb_chains.specs.Behind.{AreWhole}
 use Rattle.cfb_chains.specs.Owned.{AreBesideWords, Leaves}
+use Rattle.cfb_chains.proofs.Overwriting.{written}
 use Rattle.cfb_chains.proofs.Owners.{each_left, owned_still}
 use Rattle.cfb_fat.specs.Seeing.{seen_of}
 use Rattle.cfb_fat.specs.Tables.{bytes_of, has_failed_here, version_of}
 use Rattle.cfb_fat.specs.declared.allocator.Allocator.{Allocator}
-use Rattle.cfb_fat.proofs.TableWords.{header_word, word, word_written}
 use Rattle.cfb_fat.proofs.Words.{filled_is}
 use Rattle.cfb_owned.specs.Chains.{GoesOn}
+use Rattle.cfb_directory.proofs.Stages.{number_kept, number_there}
 use Rattle.cfb_copying.specs.Making.{IsMade}
 use Rattle.cfb_copying.proofs.Pieces.{whole_still}
 use Rattle.cfb_copying.proofs.Tight.{tight_then}
+
+-- a number that was written stands there
+pub number_now : (old new : List ℕ) (place n : ℕ) → new ≡ overwritten old place (to_le_bytes w32 n) → n < 2 ^ 32 → u32_at new place ≡ n
+number_now old new place n is small = number_there new place n (ap (λ l. filled_part l place 4) is ∙ written old (to_le_bytes w32 n) place) small
 
 -- the number at byte 40, or one behind the header's constants
 abbrev pub IsTold : ℕ → Type 0
@@ -85,20 +90,22 @@ module _ {F : Type 0} {g : Ghosts F} where
       → Leaves (sector (version_of a)) (40 ∷ []) [] (seen_of a) (seen_of b) → IsMade d m b own bytes
   unfolding seen_of
   count_told d m a b own bytes made goes live leaves =
-      let whole = made.header.whole in
-      let longer = leaves.longer in
-      let four : 60 + 4 - 60 ≡ 4 = omega arith in
-      let part : take 4 (drop 60 (bytes_of b)) ≡ take 4 (drop 60 (bytes_of a)) =
-      sym (filled_is (bytes_of b) 60 4 (omega (arith, whole, longer))) ∙ leaves.header 60 4 (omega arith) (inr (omega arith), (inr (omega arith), tt)) ∙ filled_is (bytes_of a) 60 4 (omega (arith, whole)) in
-      let same : first_mini_fat_sector (bytes_of b) ≡ m = ap (from_le_bytes w32) part ∙ made.mini_fat_at in
+      let same : first_mini_fat_sector (bytes_of b) ≡ m = number_kept (bytes_of a) (bytes_of b) 60 (leaves.header 60 4 (omega arith) (inr (omega arith), (inr (omega arith), tt))) ∙ made.mini_fat_at in
       subst (λ n. IsMade d n b own bytes) same (made_word d m 40 a b own bytes made goes live (inl refl) leaves)
 
   -- where the mini FAT begins
   pub first_told : (d m : ℕ) (a b : Allocator F g) (own bytes : ℕ → List ℕ) (x : ℕ) {first : ℕ} → IsMade d m a own bytes → GoesOn a b → has_failed_here b ≡ false
       → Leaves (sector (version_of a)) (60 ∷ []) [] (seen_of a) (seen_of b) → bytes_of b ≡ overwritten (bytes_of a) 60 (to_le_bytes w32 x) → x < 2 ^ 32 → x ≡ first → IsMade d first b own bytes
   unfolding seen_of
-  first_told d m a b own bytes x made goes live leaves written small is =
-      let whole = made.header.whole in
-      let longer = leaves.longer in
-      let told : first_mini_fat_sector (bytes_of b) ≡ x = header_word (bytes_of b) 60 15 refl (omega (arith, whole, longer)) ∙ ap (λ l. word l 15) written ∙ word_written (bytes_of a) 15 x small in
+  first_told d m a b own bytes x made goes live leaves now small is =
+      let told : first_mini_fat_sector (bytes_of b) ≡ x = number_now (bytes_of a) (bytes_of b) 60 x now small in
       subst (λ n. IsMade d n b own bytes) (told ∙ is) (made_word d m 60 a b own bytes made goes live (inr (omega arith)) leaves)
+
+  -- how many sectors the mini FAT has, and then where it begins; the directory's number stays
+  pub counts_told : (a m b : Allocator F g) (count : ℕ) → Leaves (sector (version_of a)) (64 ∷ []) [] (seen_of a) (seen_of m) → Leaves (sector (version_of m)) (60 ∷ []) [] (seen_of m) (seen_of b)
+      → bytes_of m ≡ overwritten (bytes_of a) 64 (to_le_bytes w32 count) → count < 2 ^ 32 → (mini_fat_sector_count (bytes_of b) ≡ count) × (directory_sector_count (bytes_of b) ≡ directory_sector_count (bytes_of a))
+  unfolding seen_of
+  counts_told a m b count first second now small = (
+    number_kept (bytes_of m) (bytes_of b) 64 (second.header 64 4 (omega arith) (inr (omega arith), (inr (omega arith), tt))) ∙ number_now (bytes_of a) (bytes_of m) 64 count now small,
+    number_kept (bytes_of m) (bytes_of b) 40 (second.header 40 4 (omega arith) (inl (omega arith), (inl (omega arith), tt))) ∙ number_kept (bytes_of a) (bytes_of m) 40 (first.header 40 4 (omega arith) (inl (omega arith), (inl (omega arith), tt))),
+  )

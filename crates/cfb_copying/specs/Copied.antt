@@ -1,14 +1,15 @@
 -- A file that is a copy of a live one: the same entries, but for where chains begin, and the same bytes in sectors of its own.
 use Rattle.std.specs.Prelude.{◌≡◌, ◌⊎◌, ℕ, ◌<◌, ◌≤◌, List, [], ◌∷◌, length, slice_get, Some}
 use Rattle.cfb_medium.specs.declared.version.Version.{Version}
-use Rattle.cfb_sectors.specs.Header.{first_directory_sector, first_mini_fat_sector, mini_cutoff, IsHeader}
+use Rattle.cfb_sectors.specs.Header.{directory_sector_count, first_directory_sector, first_mini_fat_sector, mini_cutoff, mini_fat_sector_count, IsHeader}
 use Rattle.cfb_sectors.specs.Sectors.{fat_in, joined, sectors_in}
 use Rattle.cfb_chains.specs.Behind.{AreWhole}
 use Rattle.cfb_chains.specs.Owned.{Owned}
+use Rattle.cfb_fat.specs.Listed.{Counts, Ends}
 use Rattle.cfb_tree.specs.Directory.{entries_of, kind_stream, Entry}
 use Rattle.cfb_tree.specs.Names.{Letters}
 use Rattle.cfb_tree.specs.Tree.{Tree}
-use Rattle.cfb_meaning.specs.Means.{Layout}
+use Rattle.cfb_meaning.specs.Means.{directory_count, Layout}
 use Rattle.cfb_meaning.specs.Sound.{in_file, IsSoundBy, Part}
 use Rattle.cfb_owners.specs.LiveFile.{tables_of, HoldsTables, LiveFile}
 use Rattle.cfb_owners.specs.Owners.{directory_owner, first_of, mini_fat_owner, mini_stream_owner, stream_owner, Owners}
@@ -49,6 +50,13 @@ pub record IsCopied (s : LiveFile) (who : Owners) (ids : List ℕ) (t : LiveFile
   pub same_stream : (id : ℕ) → IsLongAmong s.entries ids id → joined t.version t.bytes (own (stream_owner id)) ≡ joined s.version s.bytes (who.sectors (stream_owner id))
   pub none : (id : ℕ) → (IsLongAmong s.entries ids id → ⊥) → own (stream_owner id) ≡ []
   pub restarts : Restarts s.entries ids own t.entries
+
+-- its header counts the sectors of all tables, and file and DIFAT end as a strict reader asks for ([MS-CFB] 2.1, 2.2, 2.5)
+pub record IsCounted (t : LiveFile) (own : ℕ → List ℕ) : Type 0 where
+  pub told : Counts t.bytes t.difat_sectors t.fat_sectors
+  pub ends : Ends t.version t.bytes t.difat_sectors
+  pub directory : directory_sector_count t.bytes ≡ directory_count t.version (length (own directory_owner))
+  pub mini_fat : mini_fat_sector_count t.bytes ≡ length (own mini_fat_owner)
 
 -- the part is one of these
 abbrev pub IsUsed : Part → List Part → Type 0

@@ -11,7 +11,7 @@ use Rattle.cfb_creating.specs.NewFile.{new_directory}
 use Rattle.cfb_directory.specs.Entries.{SizesFit}
 use Rattle.cfb_fat.specs.Growing.{IsLean}
 use Rattle.cfb_fat.specs.Orderly.{named_at_most}
-use Rattle.cfb_fat.specs.Tables.{bytes_of, fat_of, has_failed_here, is_honest, version_of, AllRests}
+use Rattle.cfb_fat.specs.Tables.{bytes_of, fat_of, has_failed_here, is_honest, version_of, AllRests, HasEnds, IsTold}
 use Rattle.cfb_fat.specs.declared.allocator.Allocator.{Allocator}
 use Rattle.cfb_owned.specs.Chains.{GoesOn}
 use Rattle.cfb_owners.specs.Held.{MeansHeld}
@@ -21,14 +21,15 @@ use Rattle.cfb_tree.specs.Directory.{entries_of, Entry}
 use Rattle.cfb_tree.specs.Names.{Letters}
 use Rattle.cfb_tree.specs.Tree.{Tree}
 use Rattle.cfb_copying.specs.Chains.{HasCauseInEither, IsCopyFault}
-use Rattle.cfb_copying.specs.Copied.{IsCopied, IsLongAmong, Restarts}
+use Rattle.cfb_copying.specs.Copied.{IsCopied, IsCounted, IsLongAmong, Restarts}
 use Rattle.cfb_copying.specs.Making.{with_list, IsMade, IsOneOf}
 
--- a copy is made of the live file, whose tree has these entries, in these bytes
+-- a copy is made of the live file, whose tree has these entries, in these bytes; the header's counts are right
 pub record HasCopy (s : LiveFile) (who : Owners) (ids bytes : List ℕ) : Type 0 where
   pub file : LiveFile
   pub own : ℕ → List ℕ
   pub copied : IsCopied s who ids file own
+  pub counted : IsCounted file own
   pub bytes_are : file.bytes ≡ bytes
 
 -- entries of this version fill whole sectors, and each fits into its bytes ([MS-CFB] 2.6.1)
@@ -71,11 +72,13 @@ module _ {F : Type 0} {g : Ghosts F} where
     pub bytes : bytes_of it ≡ s.bytes
     pub fat : fat_of it ≡ s.fat
 
-  -- it is a new file, of which the directory owns a sector ([MS-CFB] 2)
+  -- it is a new file, of which the directory owns a sector, and its header counts its tables ([MS-CFB] 2)
   pub record IsBegun (version : Version) (it : Allocator F g) : Type 0 where
     pub made : IsMade 1 end_of_chain it (with_list directory_owner (1 ∷ []) (λ k. [])) (with_list directory_owner (new_directory version) (λ k. []))
     pub of_version : version_of it ≡ version
     pub lean : IsLean it 1
+    pub told : IsTold it
+    pub ends : HasEnds it
 
   -- So far mini FAT, mini stream and the long streams among `done` were copied, and these entries tell where they begin; the mini
   -- FAT has these sectors, and the directory is a new file's; the tables are no larger than these need.

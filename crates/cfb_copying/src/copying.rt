@@ -3,11 +3,14 @@ ghost use Rattle.cfb_copying.specs.Chains.{IsCopyFault};
 ghost use Rattle.cfb_copying.specs.Copied.{HoldsCopy};
 ghost use Rattle.cfb_copying.specs.Steps.{HasCopy, IsOriginal};
 ghost use Rattle.cfb_directory.specs.Entries.{entries_in};
+ghost use Rattle.cfb_directory.specs.Views.{entries_held};
 ghost use Rattle.cfb_fat.specs.Tables.{has_failed_here, version_of, AllRests, HasCauseBelow};
 ghost use Rattle.cfb_live.specs.Live.{MeansLive};
+ghost use Rattle.cfb_live.specs.Strays.{HaveStrictFacts};
+ghost use Rattle.cfb_meaning.specs.Means.{IsStrictlyOpenable};
 ghost use Rattle.cfb_medium.specs.Calls.{IsFaultUnless};
 ghost use Rattle.cfb_medium.specs.declared.error.Error.TheVariants.{Failed};
-ghost use Rattle.cfb_mini.specs.Views.{allocator_of, mini_fat_ids, MiniRests};
+ghost use Rattle.cfb_mini.specs.Views.{allocator_of, directory_of, mini_fat_ids, MiniRests};
 ghost use Rattle.cfb_owners.specs.LiveFile.{LiveFile};
 ghost use Rattle.cfb_owners.specs.Owners.{first_of, mini_fat_owner, Owners};
 ghost use Rattle.cfb_tree.specs.Names.{Letters};
@@ -102,14 +105,18 @@ fn entries_again(alloc: Global, entries: &[DirEntry]) -> Result<Vec<DirEntry>, A
 }
 
 /// The bytes of a copy of a live file: a file of the same version that means the same tree, and has no sector that serves no use.
-/// Each chain of the file is copied whole, so that it needs as much memory as the copy has bytes, besides a list of the entries.
-/// The file is only read. `Failed` after an earlier fault, before all else; `InvalidData` and `Full` only where the file means no
-/// tree: a copy has no more sectors than the file, so that numbers don't run out. The other errors are `Memory` and `Device`
-/// ([MS-CFB] 2).
+/// A strict reader takes the copy where the root has its name and the entries are coloured right. Each chain of the file is copied
+/// whole, so that it needs as much memory as the copy has bytes, besides a list of the entries. The file is only read. `Failed`
+/// after an earlier fault, before all else; `InvalidData` and `Full` only where the file means no tree: a copy has no more sectors
+/// than the file, so that numbers don't run out. The other errors are `Memory` and `Device` ([MS-CFB] 2).
 pub fn copy_of<F: ReadMedium>(alloc: Global, mini: &mut MiniAllocator<F>) -> Result<Vec<u8>, Error>
     ensures copied { IfOk result (λ bytes. (letters : Letters) (tree : Tree)
         → MeansLive letters mini.old tree
         → HoldsCopy (version_of (allocator_of mini.old)) letters bytes.items tree) }
+    ensures strict { IfOk result (λ bytes. (letters : Letters) (tree : Tree)
+        → MeansLive letters mini.old tree
+        → HaveStrictFacts (entries_held (directory_of mini.old))
+        → IsStrictlyOpenable letters bytes.items) }
     ensures refused { IfErr result (λ e. (letters : Letters) (tree : Tree)
         → MeansLive letters mini.old tree → IsFaultUnless ⊥ e) }
     ensures failed { has_failed_here (allocator_of mini.old) ≡ true → IsErrOf result Failed }

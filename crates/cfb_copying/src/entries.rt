@@ -4,15 +4,17 @@ ghost use Rattle.cfb_copying.specs.Chains.{IsCopyFault};
 ghost use Rattle.cfb_copying.specs.Making.{IsMade};
 ghost use Rattle.cfb_copying.specs.Steps.{sectors_among, CanHold, FillSectors, HasCopied, HasCopy, HasEntries};
 ghost use Rattle.cfb_directory.specs.Entries.{entries_in, SizesFit};
-ghost use Rattle.cfb_fat.specs.Tables.{bytes_of, has_failed_here, version_of, HasCauseBelow};
+ghost use Rattle.cfb_fat.specs.Tables.{bytes_of, has_failed_here, is_honest, version_of, HasCauseBelow, HasEnds, IsTold};
 ghost use Rattle.cfb_live.specs.Doing.{IsFault};
+ghost use Rattle.cfb_meaning.specs.Means.{directory_count};
 ghost use Rattle.cfb_medium.specs.Calls.{IsFaultUnless};
 ghost use Rattle.cfb_medium.specs.declared.error.Error.TheVariants.{Full, InvalidData, Memory};
 ghost use Rattle.cfb_owned.specs.Chains.{GoesOn, RunsOut};
 ghost use Rattle.cfb_owners.specs.LiveFile.{LiveFile};
 ghost use Rattle.cfb_owners.specs.Owners.{directory_owner, first_of, Owners};
+ghost use Rattle.cfb_sectors.specs.Header.{directory_sector_count, mini_fat_sector_count};
 ghost use Rattle.cfb_tree.specs.Directory.{entries_of};
-ghost use Rattle.std.specs.Prelude.{false, length, IfErr, IfOk, IsErrOf, List, OnOk, [], ℕ, ◌*◌, ◌+◌, ◌∷◌, ◌≡◌, ◌⊎◌};
+ghost use Rattle.std.specs.Prelude.{false, length, IfErr, IfOk, IsErrOf, IsTrue, List, OnOk, [], ℕ, ◌*◌, ◌+◌, ◌∷◌, ◌≡◌, ◌⊎◌};
 
 use crate::streams::start_of;
 use cfb_chains::Links;
@@ -86,21 +88,38 @@ fn put_directory<T: Medium>(
     Ok(links)
 }
 
-// Tells the header how many sectors the directory has, in version 4.
+// How many sectors a chain has.
+fn count_of(links: &Links) -> u32
+    ensures { result ≡ length (ids_of links.now) }
+{
+    links.sector_ids().len() as u32
+}
+
+// What the header tells of how many sectors a directory has: nothing in version 3.
+fn count_told(version: Version, links: &Links) -> u32
+    ensures { result ≡ directory_count version (length (ids_of links.now)) }
+{
+    match version {
+        Version::V3 => 0,
+        Version::V4 => count_of(links),
+    }
+}
+
+// Tells the header how many sectors the directory has.
 fn tell_directory<T: Medium>(target: &mut Allocator<T>, links: &Links) -> Result<(), Error>
     requires { has_failed_here target.old ≡ false }
     ensures told { OnOk result ((directory mini_fat : ℕ) (own bytes : ℕ → List ℕ)
         → IsMade directory mini_fat target.old own bytes
         → IsMade directory mini_fat target.new own bytes) }
+    ensures counted { OnOk result (IsTrue (is_honest target.old)
+        → directory_sector_count (bytes_of target.new)
+        ≡ directory_count (version_of target.old) (length (ids_of links.now))) }
     ensures goes_on { GoesOn target.old target.new }
     ensures live { OnOk result (has_failed_here target.new ≡ false) }
     ensures cause { IfErr result (HasCauseBelow target.old target.new) }
     ensures fault { IfErr result (IsFaultUnless ⊥) }
 {
-    if let Version::V3 = target.version() {
-        return Ok(());
-    }
-    let count = links.sector_ids().len() as u32;
+    let count = count_told(target.version(), links);
     if let Err(error) = write_word(target, HeaderWord::DirectorySectors, count) {
         return Err(error);
     }
@@ -113,13 +132,16 @@ fn tell_mini_fat<T: Medium>(target: &mut Allocator<T>, links: &Links) -> Result<
     ensures told { OnOk result ((directory mini_fat : ℕ) (own bytes : ℕ → List ℕ)
         → IsMade directory mini_fat target.old own bytes
         → IsMade directory (first_of (ids_of links.now)) target.new own bytes) }
+    ensures counted { OnOk result (IsTrue (is_honest target.old)
+        → (mini_fat_sector_count (bytes_of target.new) ≡ length (ids_of links.now))
+        × (directory_sector_count (bytes_of target.new)
+        ≡ directory_sector_count (bytes_of target.old))) }
     ensures goes_on { GoesOn target.old target.new }
     ensures live { OnOk result (has_failed_here target.new ≡ false) }
     ensures cause { IfErr result (HasCauseBelow target.old target.new) }
     ensures fault { IfErr result (IsFaultUnless ⊥) }
 {
-    let count = links.sector_ids().len() as u32;
-    if let Err(error) = write_word(target, HeaderWord::MiniFatSectors, count) {
+    if let Err(error) = write_word(target, HeaderWord::MiniFatSectors, count_of(links)) {
         return Err(error);
     }
     if let Err(error) = write_word(target, HeaderWord::FirstMiniFatSector, start_of(links)) {
@@ -138,7 +160,8 @@ pub(crate) fn end_copy<T: Medium>(
     requires { has_failed_here target.old ≡ false }
     ensures ended { OnOk result ((s : LiveFile) (who : Owners) (ids : List ℕ)
         → FillSectors s.version s.entries → HasCopied s who ids (ids_of mini_fat.now)
-        (entries_in entries.now) target.old → HasCopy s who ids (bytes_of target.new)) }
+        (entries_in entries.now) target.old → IsTold target.old → HasEnds target.old
+        → HasCopy s who ids (bytes_of target.new)) }
     ensures refused { IfErr result (λ e. (s : LiveFile) (who : Owners) (ids : List ℕ)
         → (fills : FillSectors s.version s.entries)
         → CanHold s.version (fills.count + length (sectors_among who ids))

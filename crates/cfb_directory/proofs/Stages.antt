@@ -1,12 +1,17 @@
 -- Changes of a directory, one after the other.
-use Rattle.std.proofs.Common.{ℕ, inl, List, [], ◌++◌, length, sym, subst, ◌∙◌, arith, append-nil}
+use Rattle.std.proofs.Common.{◌≡◌, ℕ, ◌+◌, ◌-◌, ◌*◌, ◌^◌, ◌<◌, inl, List, [], ◌++◌, length, take, drop, get_or, ap, sym, subst, ◌∙◌, arith, append-nil}
+use Rattle.std.specs.Int.{from_le_bytes, to_le_bytes, w32}
+use Rattle.std.proofs.lemmas.List.{get_or-drop, get_or-take}
+use Rattle.std.proofs.lemmas.Nat.{from_le_bytes-to_le_bytes_4}
+use Rattle.cfb_medium.specs.Numbers.{u32_at}
 use Rattle.cfb_medium.specs.declared.medium.ReadMedium.{Ghosts}
 use Rattle.cfb_medium.specs.declared.version.Version.{Version}
 use Rattle.cfb_medium.specs.declared.version.Version.TheVariants.{V3, V4}
-use Rattle.cfb_sectors.specs.Sectors.{sector}
+use Rattle.cfb_sectors.specs.Sectors.{filled_part, sector}
 use Rattle.cfb_chains.specs.Changes.{AreNoneOf}
 use Rattle.cfb_chains.specs.Owned.{Becomes, Leaves, Seen}
 use Rattle.cfb_chains.proofs.ChainGrowing.{among_both}
+use Rattle.cfb_chains.proofs.Overwriting.{get_filled}
 use Rattle.cfb_chains.proofs.Owners.{leaves_more, leaves_then}
 use Rattle.cfb_fat.specs.Seeing.{seen_of}
 use Rattle.cfb_fat.specs.Tables.{bytes_of, tables_of, version_of}
@@ -31,10 +36,27 @@ becomes_again S ws ids more later a b c h k spare = record {
   among = h.among;
 }
 
+-- a number of four bytes that stand
+number_read : (b : List ℕ) (p : ℕ) → u32_at b p ≡ from_le_bytes w32 (filled_part b p 4)
+number_read b p =
+    let at : (i : ℕ) → i < p + 4 - p → get_or (take (p + 4 - p) (drop p b)) i 0 ≡ get_or (filled_part b p 4) i 0 =
+    λ i below. get_or-take (p + 4 - p) (drop p b) i 0 below ∙ get_or-drop p b i 0 ∙ sym (get_filled b p 4 i (omega (arith, below))) in
+    let first = at 0 (omega arith) in
+    let second = at 1 (omega arith) in
+    let third = at 2 (omega arith) in
+    let last = at 3 (omega arith) in
+    λ i. first i + second i * 256 + third i * 65536 + last i * 16777216
+
+pub number_there : (b : List ℕ) (p n : ℕ) → filled_part b p 4 ≡ to_le_bytes w32 n → n < 2 ^ 32 → u32_at b p ≡ n
+number_there b p n is small = number_read b p ∙ ap (from_le_bytes w32) is ∙ from_le_bytes-to_le_bytes_4 n small
+
+pub number_kept : (old new : List ℕ) (p : ℕ) → filled_part new p 4 ≡ filled_part old p 4 → u32_at new p ≡ u32_at old p
+number_kept old new p same = number_read new p ∙ ap (from_le_bytes w32) same ∙ sym (number_read old p)
+
 -- the header's number of sectors stays where nothing of it is written
 counted_still : (v : Version) (S : List ℕ → ℕ → List ℕ) (xs : List ℕ) (n : ℕ) (a b : Seen) → Leaves S [] xs a b → IsCounted v a.bytes n → IsCounted v b.bytes n
 counted_still V3 S xs n a b h was = tt
-counted_still V4 S xs n a b h was = h.header 40 4 (omega arith) (inl (omega arith), tt) ∙ was
+counted_still V4 S xs n a b h was = number_kept a.bytes b.bytes 40 (h.header 40 4 (omega arith) (inl (omega arith), tt)) ∙ was
 
 module _ {F : Type 0} {g : Ghosts F} where
   -- a directory that grew, and then entries that were written

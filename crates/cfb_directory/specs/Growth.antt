@@ -1,11 +1,11 @@
 -- What a directory is that took in entries in no use ([MS-CFB] 2.6.3).
 use Rattle.std.specs.Prelude.{◌≡◌, ◌⊎◌, ℕ, ◌+◌, ◌<◌, ◌≤◌, List, [], ◌∷◌, ◌++◌, ⊤, length, replicate, IsTrue}
-use Rattle.std.specs.Int.{to_le_bytes, w32}
 use Rattle.cfb_medium.specs.Versions.{dir_entries_per_sector}
 use Rattle.cfb_medium.specs.declared.medium.ReadMedium.{Ghosts}
 use Rattle.cfb_medium.specs.declared.version.Version.{Version}
 use Rattle.cfb_medium.specs.declared.version.Version.TheVariants.{V3, V4}
-use Rattle.cfb_sectors.specs.Sectors.{filled_part, greatest_regular, sector}
+use Rattle.cfb_sectors.specs.Header.{directory_sector_count}
+use Rattle.cfb_sectors.specs.Sectors.{greatest_regular, sector}
 use Rattle.cfb_chains.specs.Owned.{Becomes}
 use Rattle.cfb_fat.specs.Growing.{LacksNumbers}
 use Rattle.cfb_fat.specs.Seeing.{seen_of}
@@ -22,10 +22,10 @@ abbrev pub count_words : Version → List ℕ
 count_words V3 = []
 count_words V4 = 40 ∷ []
 
--- in version 4 the header's bytes from 40 on are so many sectors of the directory ([MS-CFB] 2.2)
+-- in version 4 the header counts so many sectors of the directory ([MS-CFB] 2.2)
 abbrev pub IsCounted : Version → List ℕ → ℕ → Type 0
 IsCounted V3 bytes count = ⊤
-IsCounted V4 bytes count = filled_part bytes 40 4 ≡ to_le_bytes w32 count
+IsCounted V4 bytes count = directory_sector_count bytes ≡ count
 
 -- the entries, and those of a sector in no use behind them
 abbrev pub longer : Version → List Entry → List Entry

@@ -17,7 +17,7 @@ use Rattle.cfb_fat.specs.declared.allocator.Allocator.{Allocator}
 use Rattle.cfb_fat.specs.Changing.{ChangesFat}
 use Rattle.cfb_chains.specs.Changes.{DifferAt, IsBeside, IsNoneOf}
 use Rattle.cfb_fat.specs.Orderly.{AreBelow}
-use Rattle.cfb_fat.specs.Keeping.{told_same}
+use Rattle.cfb_fat.specs.Keeping.{ends_rest, told_same}
 use Rattle.cfb_runs.specs.Tables.{entries_of}
 use Rattle.cfb_fat.specs.Tables.{fat_sectors_of, version_of, AllRests}
 
@@ -69,6 +69,7 @@ module _ {F : Type 0} {g : Ghosts F} where
     fat = λ live. differ_none ids (entries_of a.fat);
     longer = λ live honest. omega arith;
     told = λ live honest told. told;
+    ends = λ live honest orderly ends. ends;
     beside = λ live honest place count apart. refl;
   }
 
@@ -85,6 +86,7 @@ module _ {F : Type 0} {g : Ghosts F} where
     fat = λ live. record { size = ap length h.fat; others = λ n none. ap (λ l. get_or l n 0) h.fat };
     longer = λ live honest. let same = ap length (h.sectors.bytes honest) in omega (arith, same);
     told = λ live honest told. told_same a b (h.sectors.bytes honest) h.difat_sectors h.fat_sectors told;
+    ends = λ live honest orderly. ends_rest a b h honest;
     beside = λ live honest place count apart. ap (λ b. filled_part b place count) (h.sectors.bytes honest);
   }
 
@@ -104,6 +106,7 @@ module _ {F : Type 0} {g : Ghosts F} where
     };
     longer = λ live honest. let first = h.longer (k.live live) honest in let second = k.longer live (subst IsTrue (sym h.honest) honest) in omega (arith, first, second);
     told = λ live honest told. k.told live (subst IsTrue (sym h.honest) honest) (h.told (k.live live) honest told);
+    ends = λ live honest orderly ends. k.ends live (subst IsTrue (sym h.honest) honest) (subst IsTrue (sym h.orderly) orderly) (h.ends (k.live live) honest orderly ends);
     beside = λ live honest place count apart.
         k.beside live (subst IsTrue (sym h.honest) honest) place count (subst (λ v. IsBeside v (fat_sectors_of b) place count) (sym h.version) (subst (λ fs. IsBeside (version_of a) fs place count) (sym h.fat_sectors) apart))
         ∙ h.beside (k.live live) honest place count apart;

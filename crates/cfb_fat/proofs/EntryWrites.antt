@@ -12,6 +12,9 @@ use Rattle.cfb_chains.specs.Changes.{AreOnce, DifferAt, HaveEntry, IsBeside}
 use Rattle.cfb_runs.specs.Freeing.{FreesFirst}
 use Rattle.cfb_fat.specs.Changing.{fat_here, WritesEntries}
 use Rattle.cfb_fat.proofs.EntryChanges.{differ_none, one_is}
+use Rattle.cfb_fat.specs.Listed.{IsWhole}
+use Rattle.cfb_fat.specs.Orderly.{AreBelow}
+use Rattle.cfb_fat.proofs.EndsKept.{entry_inside, whole_over}
 use Rattle.cfb_fat.proofs.Entering.{differ_at, entered, index_in, others_stay}
 use Rattle.cfb_fat.proofs.FatEntries.{length-fat_in, per}
 use Rattle.cfb_fat.proofs.ListedStays.{entry_aside, listed_still, longer_over, told_in}
@@ -44,9 +47,9 @@ module _ {F : Type 0} {g : Ghosts F} where
       entered (version_of a) (version_of b) (bytes_of a) (bytes_of b) fs [] (fat_here fs a) (count_of a) (count_of b) id entry holder each did.version count is_each is_holder (did.bytes live honest) once
       (omega (arith, size, there)) (omega (arith, size)) (omega (arith, size, places)) small refl
 
-  pub one_written : (fs : List ℕ) (a b : Sectors F g) (id entry holder each : ℕ) → each ≡ per (version_of a) → holder ≡ get_or fs (id / each) 0 → id < count_of a → count_of a ≤ length fs * per (version_of a)
+  pub one_written : (fs : List ℕ) (a b : Sectors F g) (id entry holder each : ℕ) → each ≡ per (version_of a) → holder ≡ get_or fs (id / each) 0 → AreBelow (count_of a) fs → id < count_of a → count_of a ≤ length fs * per (version_of a)
       → Changes (λ bytes. overwritten bytes (sector_start (version_of a) holder + 4 * (id % each)) (to_le_bytes w32 entry)) a b → count_of b ≡ count_of a → entry < 2 ^ 32 → WritesEntries (id ∷ []) fs a b
-  one_written fs a b id entry holder each is_each is_holder there places did count small =
+  one_written fs a b id entry holder each is_each is_holder below_fs there places did count small =
       let v = version_of a in
       let some : 0 < count_of a = omega (arith, there) in
       let size = here_size fs a places in
@@ -60,6 +63,8 @@ module _ {F : Type 0} {g : Ghosts F} where
         fat = λ live honest once. subst (DifferAt (id ∷ []) (fat_here fs a)) (entry_here fs a b id entry holder each is_each is_holder there places did count small live honest once) (differ_at (fat_here fs a) id entry);
         longer = λ live honest. longer_over (bytes_of a) (bytes_of b) (to_le_bytes w32 entry) _ (did.bytes live honest);
         told = λ live honest ds. told_in v (bytes_of a) (bytes_of b) (to_le_bytes w32 entry) ds fs _ _ (did.bytes live honest) (header_whole v (bytes_of a) (count_of a) (a.counted (did.live live) honest) some);
+        whole = λ live honest. whole_over v (bytes_of a) (bytes_of b) (to_le_bytes w32 entry) (count_of a) _ (a.counted (did.live live) honest) some (did.bytes live honest)
+            (entry_inside v fs id holder each (count_of a) is_each is_holder below below_fs);
         lists = λ live honest ds once.
             let aside = entry_aside v ds fs (to_le_bytes w32 entry) id holder each refl is_each below is_holder once in
             (listed_still v (version_of b) (bytes_of a) (bytes_of b) (to_le_bytes w32 entry) ds fs _ (count_of a) (count_of b) did.version count (did.bytes live honest) (a.counted (did.live live) honest)
@@ -77,6 +82,7 @@ module _ {F : Type 0} {g : Ghosts F} where
     fat = λ live honest once. differ_none ids (fat_here fs a);
     longer = λ live honest. omega arith;
     told = λ live honest ds told. told;
+    whole = λ live honest whole. whole;
     lists = λ live honest ds once lists. lists;
     beside = λ live honest place count apart. refl;
   }
@@ -97,6 +103,7 @@ module _ {F : Type 0} {g : Ghosts F} where
         };
     longer = λ live honest. let first = h.longer (k.live live) honest in let second = k.longer live (subst IsTrue (sym h.honest) honest) in omega (arith, first, second);
     told = λ live honest ds told. k.told live (subst IsTrue (sym h.honest) honest) ds (h.told (k.live live) honest ds told);
+    whole = λ live honest whole. subst (λ v. IsWhole v (bytes_of c)) h.version (k.whole live (subst IsTrue (sym h.honest) honest) (subst (λ v. IsWhole v (bytes_of b)) (sym h.version) (h.whole (k.live live) honest whole)));
     lists = λ live honest ds once lists. k.lists live (subst IsTrue (sym h.honest) honest) ds once (h.lists (k.live live) honest ds once lists);
     beside = λ live honest place count apart.
         k.beside live (subst IsTrue (sym h.honest) honest) place count (subst (λ v. IsBeside v fs place count) (sym h.version) apart) ∙ h.beside (k.live live) honest place count apart;

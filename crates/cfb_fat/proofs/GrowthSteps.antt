@@ -23,7 +23,10 @@ use Rattle.cfb_chains.specs.Changes.{IsBeside, IsNoneOf}
 use Rattle.cfb_fat.specs.Tables.{bytes_of, difat_sectors_of, fat_of, fat_sectors_of, has_failed_here, medium_of, sectors_of, tables_of, version_of}
 use Rattle.cfb_chains.proofs.Overwriting.{beside, over_longer}
 use Rattle.cfb_sectors.specs.Held.{count_of}
-use Rattle.cfb_fat.specs.Listed.{Counts}
+use Rattle.cfb_fat.specs.Listed.{Counts, Ends}
+use Rattle.cfb_chains.proofs.Staying.{apart}
+use Rattle.cfb_fat.proofs.Appended.{whole_before}
+use Rattle.cfb_fat.proofs.EndsKept.{ends_over}
 use Rattle.cfb_fat.proofs.ListedStays.{behind_header, told_over}
 use Rattle.cfb_fat.proofs.Listing.{header_whole}
 use Rattle.cfb_chains.proofs.Beside.{beside_second}
@@ -47,6 +50,7 @@ module _ {F : Type 0} {g : Ghosts F} where
     longer = h.longer;
     lean = λ live. lean_kept [] a b h.version (h.fat live).size h.fat_sectors h.difat_sectors;
     told = λ live honest. holds_then (tables_of a) (tables_of b) (tables_same a b h.difat_sectors h.fat_sectors) (h.told live honest);
+    ends = h.ends;
     beside = λ live honest p n fits apart words taken. h.beside live honest p n (beside_second (version_of a) (difat_sectors_of a) (fat_sectors_of a) p n apart);
   }
 
@@ -66,6 +70,7 @@ module _ {F : Type 0} {g : Ghosts F} where
     longer = h.longer;
     lean = λ live content lean. lean_more (version_of b) (length (fat_of b)) (length (fat_sectors_of b)) (length (difat_sectors_of b)) _ _ (omega (arith, no_more)) (h.lean live content lean);
     told = h.told;
+    ends = h.ends;
     beside = λ live honest p n fits tables words aside. h.beside live honest p n fits tables words (apart p n aside);
   }
 
@@ -86,6 +91,7 @@ module _ {F : Type 0} {g : Ghosts F} where
         longer = never (has_failed_here b) failed;
         lean = never (has_failed_here b) failed;
         told = never (has_failed_here b) failed;
+        ends = never (has_failed_here b) failed;
         beside = never (has_failed_here b) failed;
       }
 
@@ -133,8 +139,8 @@ room_after V4 size fat_count more new count full few is sum = omega (arith, full
 
 module _ {F : Type 0} {g : Ghosts F} where
   -- a sector beside the tables is filled anew
-  pub write_grows : (n : ℕ) (bytes : List ℕ) (a b : Allocator F g) → 0 < count_of (sectors_of a) → length bytes ≡ sector_len (version_of a) → WritesBeside (sector_start (version_of a) n) bytes a b → GrowsFat (n ∷ []) [] a b
-  write_grows n bytes a b some long h = record {
+  pub write_grows : (n : ℕ) (bytes : List ℕ) (a b : Allocator F g) → 0 < count_of (sectors_of a) → n < count_of (sectors_of a) → IsNoneOf (difat_sectors_of a) n → length bytes ≡ sector_len (version_of a) → WritesBeside (sector_start (version_of a) n) bytes a b → GrowsFat (n ∷ []) [] a b
+  write_grows n bytes a b some there none long h = record {
     honest = h.sectors.0.honest;
     continues = h.sectors.0.continues;
     version = h.sectors.0.version;
@@ -150,6 +156,13 @@ module _ {F : Type 0} {g : Ghosts F} where
         subst (λ l. Counts (bytes_of b) l (fat_sectors_of b)) (sym h.difat_sectors) (subst (Counts (bytes_of b) (difat_sectors_of a)) (sym h.fat_sectors)
         (told_over (bytes_of a) (bytes_of b) bytes (difat_sectors_of a) (fat_sectors_of a) (sector_start (version_of a) n) (h.sectors.0.bytes live honest) (behind_header (version_of a) n)
         (header_whole (version_of a) (bytes_of a) (count_of (sectors_of a)) (a.sectors.counted (h.sectors.0.live live) honest) some) told)));
+    ends = λ live honest orderly ends.
+        let v = version_of a in
+        let far = behind_header v n in
+        subst (Ends (version_of b) (bytes_of b)) (sym h.difat_sectors)
+        (ends_over v (version_of b) (bytes_of a) (bytes_of b) bytes (difat_sectors_of a) (fat_sectors_of a) (sector_start v n) (count_of (sectors_of a)) h.sectors.0.version (h.sectors.0.bytes live honest)
+        (a.sectors.counted (h.sectors.0.live live) honest) some (subst (λ k. sector_start v n + k ≤ sector_start v (count_of (sectors_of a))) (sym long) (whole_before v n (count_of (sectors_of a)) there))
+        (inr (inr (omega (arith, far)))) (subst (IsBeside v (difat_sectors_of a) (sector_start v n)) (sym long) (apart v (difat_sectors_of a) n none)) ((a.listed (h.sectors.0.live live) honest).0 orderly).1 ends);
     beside = λ live honest p k fits apart words taken.
         ap (λ l. filled_part l p k) (h.sectors.0.bytes live honest)
         ∙ beside (bytes_of a) bytes (sector_start (version_of a) n) p k (⊎_elim (λ before. inr (omega (arith, before, long))) (λ behind. inl (omega (arith, behind))) (taken 0 (omega arith)));

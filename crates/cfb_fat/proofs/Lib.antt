@@ -1,6 +1,7 @@
 pub mod Appended
 pub mod CutChains
 pub mod DifatChains
+pub mod EndsKept
 pub mod Entering
 pub mod EntryChanges
 pub mod EntryWrites

@@ -61,45 +61,49 @@ set_free (y ∷ xs) u x some = ap (λ l. y ∷ l) (set_free xs u x some)
 -- the DIFAT names a sector more of the FAT
 pub fat_listed : (v : Version) (old new ds fs : List ℕ) (n q count : ℕ) → 512 ≤ length old → 512 ≤ length new → sectors_in v (length old) ≤ sectors_in v (length new) → 0 < count → AreBelow count ds → AreOnce ds
     → length fs < 109 + length ds * (per v - 1) → StandsAt v ds (length fs) q → word new q ≡ n
-    → ((r : ℕ) → r < (count + 1) * per v → q ≢ r → 11 ≢ r → 18 ≢ r → word new r ≡ word old r) → Lists v old ds fs → Lists v new ds (fs ++ n ∷ [])
+    → ((r : ℕ) → r < (count + 1) * per v → q ≢ r → 11 ≢ r → 18 ≢ r → word new r ≡ word old r) → (h : Lists v old ds fs) → (m : Lists v new ds (fs ++ n ∷ [])) × (m.stop ≡ h.stop)
 fat_listed v old new ds fs n q count in_old in_new more some below once room at here others h =
     let behind = entry_behind v ds (length fs) q at in
     let far = behind_words v count 0 in
     let size : length (difat v old ds) ≡ length fs + h.unused = ap length h.entries ∙ length-append fs (replicate h.unused free) ∙ ap (λ m. length fs + m) (length-replicate h.unused free) in
     let spare : 0 < h.unused = let was = length-difat v old ds in_old in omega (arith, size, was, room) in
     let entry : (m r : ℕ) → StandsAt v ds m r → q ≢ r → word new r ≡ word old r =
-    λ m r stands differ. let past = entry_behind v ds m r stands in others r (entry_before v ds m r count some below stands) differ (omega (arith, past)) (omega (arith, past)) in
-    record {
-      stop = h.stop;
-      stops = h.stops;
-      chain = subst (λ s. DifatChain v new s ds h.stop)
-          (sym (header_word new 68 17 refl (omega (arith, in_new)) ∙ others 17 (omega (arith, far)) (omega (arith, behind)) (omega arith) (omega arith) ∙ sym (header_word old 68 17 refl (omega (arith, in_old)))))
-          (chain_words v old new (u32_at old 68) ds h.stop more
-          (λ k inside. let past = behind_words v (get_or ds k 0) (per v - 1) in
-          others (next_at v (get_or ds k 0)) (next_before v (get_or ds k 0) count (below k inside)) (entry_no_next v ds (length fs) q (get_or ds k 0) at) (omega (arith, past)) (omega (arith, past)))
-          h.chain);
-      unused = h.unused - 1;
-      entries = difat_set v old new ds (length fs) q n in_old in_new once room at here entry ∙ ap (λ l. set l (length fs) n) h.entries ∙ set_free fs h.unused n spare;
-    }
+    λ m r stands differ. let past = entry_behind v ds m r stands in others r (entry_before v ds m r count some below stands) differ (omega (arith, past)) (omega (arith, past)) in (
+      record {
+        stop = h.stop;
+        stops = h.stops;
+        chain = subst (λ s. DifatChain v new s ds h.stop)
+            (sym (header_word new 68 17 refl (omega (arith, in_new)) ∙ others 17 (omega (arith, far)) (omega (arith, behind)) (omega arith) (omega arith) ∙ sym (header_word old 68 17 refl (omega (arith, in_old)))))
+            (chain_words v old new (u32_at old 68) ds h.stop more
+            (λ k inside. let past = behind_words v (get_or ds k 0) (per v - 1) in
+            others (next_at v (get_or ds k 0)) (next_before v (get_or ds k 0) count (below k inside)) (entry_no_next v ds (length fs) q (get_or ds k 0) at) (omega (arith, past)) (omega (arith, past)))
+            h.chain);
+        unused = h.unused - 1;
+        entries = difat_set v old new ds (length fs) q n in_old in_new once room at here entry ∙ ap (λ l. set l (length fs) n) h.entries ∙ set_free fs h.unused n spare;
+      },
+      refl,
+    )
 
 -- the DIFAT has a sector more
 pub difat_listed : (v : Version) (old new ds fs : List ℕ) (n q count : ℕ) → 512 ≤ length old → 512 ≤ length new → sectors_in v (length old) ≤ sectors_in v (length new) → 0 < count → AreBelow count ds → AreOnce ds
     → (length ds ≡ 0 → q ≡ 17) → (0 < length ds → q ≡ next_at v (get_or ds (length ds - 1) 0)) → word new q ≡ n
     → ((r : ℕ) → r < (count + 1) * per v → q ≢ r → word new r ≡ word old r) → n < sectors_in v (length new) → entries_in v new n ≡ replicate (per v - 1) free → word new (next_at v n) ≡ end_of_chain
-    → Lists v old ds fs → Lists v new (ds ++ n ∷ []) fs
+    → Lists v old ds fs → (m : Lists v new (ds ++ n ∷ []) fs) × (m.stop ≡ end_of_chain)
 difat_listed v old new ds fs n q count in_old in_new more some below once first last here others there content ends h =
     let entry : (m r : ℕ) → StandsAt v ds m r → word new r ≡ word old r =
-    λ m r stands. others r (entry_before v ds m r count some below stands) (no_link ds first last m r stands) in
-    record {
-      stop = end_of_chain;
-      stops = inl refl;
-      chain = linked ds first last below once h.stop h.chain;
-      unused = h.unused + (per v - 1);
-      entries = ap (λ l. header_difat new ++ l) (flat_map-append (entries_in v new) ds (n ∷ [])) ∙ ap (λ l. header_difat new ++ (flat_map (entries_in v new) ds ++ l)) (append-nil (entries_in v new n))
-          ∙ sym (append_assoc (header_difat new) (flat_map (entries_in v new) ds) (entries_in v new n)) ∙ ap (λ l. l ++ entries_in v new n) (difat_stays v old new ds in_old in_new entry ∙ h.entries)
-          ∙ ap (λ l. (fs ++ replicate h.unused free) ++ l) content ∙ append_assoc fs (replicate h.unused free) (replicate (per v - 1) free)
-          ∙ ap (λ l. fs ++ l) (replicate-append-replicate h.unused (per v - 1) free);
-    }
+    λ m r stands. others r (entry_before v ds m r count some below stands) (no_link ds first last m r stands) in (
+      record {
+        stop = end_of_chain;
+        stops = inl refl;
+        chain = linked ds first last below once h.stop h.chain;
+        unused = h.unused + (per v - 1);
+        entries = ap (λ l. header_difat new ++ l) (flat_map-append (entries_in v new) ds (n ∷ [])) ∙ ap (λ l. header_difat new ++ (flat_map (entries_in v new) ds ++ l)) (append-nil (entries_in v new n))
+            ∙ sym (append_assoc (header_difat new) (flat_map (entries_in v new) ds) (entries_in v new n)) ∙ ap (λ l. l ++ entries_in v new n) (difat_stays v old new ds in_old in_new entry ∙ h.entries)
+            ∙ ap (λ l. (fs ++ replicate h.unused free) ++ l) content ∙ append_assoc fs (replicate h.unused free) (replicate (per v - 1) free)
+            ∙ ap (λ l. fs ++ l) (replicate-append-replicate h.unused (per v - 1) free);
+      },
+      refl,
+    )
   where
     no_link : (ds : List ℕ) → (length ds ≡ 0 → q ≡ 17) → (0 < length ds → q ≡ next_at v (get_or ds (length ds - 1) 0)) → (m r : ℕ) → StandsAt v ds m r → q ≢ r
     no_link [] first last m r stands same = let past = entry_behind v [] m r stands in let is = first (omega arith) in omega (arith, past, is, same)

@@ -23,10 +23,10 @@ use Rattle.cfb_chains.proofs.Staying.{apart}
 use Rattle.cfb_fat.proofs.Words.{filled_is}
 
 -- the sectors of the DIFAT hold the same
-abbrev SameSectors : Version → List ℕ → List ℕ → List ℕ → Type 0
+abbrev pub SameSectors : Version → List ℕ → List ℕ → List ℕ → Type 0
 SameSectors v old new ds = (k : ℕ) → k < length ds → sector v new (get_or ds k 0) ≡ sector v old (get_or ds k 0)
 
-later : (v : Version) (old new : List ℕ) (x : ℕ) (ds : List ℕ) → SameSectors v old new (x ∷ ds) → SameSectors v old new ds
+pub later : (v : Version) (old new : List ℕ) (x : ℕ) (ds : List ℕ) → SameSectors v old new (x ∷ ds) → SameSectors v old new ds
 later v old new x ds same k below = same (suc k) (omega arith)
 
 chain_kept : (v : Version) (old new : List ℕ) (start : ℕ) (ds : List ℕ) (stop : ℕ) → sectors_in v (length old) ≤ sectors_in v (length new) → SameSectors v old new ds → DifatChain v old start ds stop → DifatChain v new start ds stop
@@ -46,7 +46,7 @@ entries_kept v old new (x ∷ ds) same =
     ap (λ s. numbers (take (sector_len v - 4) s) ++ flat_map (λ n. numbers (take (sector_len v - 4) (sector v new n))) ds) first
     ∙ ap (λ l. numbers (take (sector_len v - 4) (sector v old x)) ++ l) (entries_kept v old new ds (later v old new x ds same))
 
-word_kept : (old new : List ℕ) (p : ℕ) → p + 4 ≤ length old → p + 4 ≤ length new → filled_part new p 4 ≡ filled_part old p 4 → u32_at new p ≡ u32_at old p
+pub word_kept : (old new : List ℕ) (p : ℕ) → p + 4 ≤ length old → p + 4 ≤ length new → filled_part new p 4 ≡ filled_part old p 4 → u32_at new p ≡ u32_at old p
 word_kept old new p in_old in_new same =
     let four : p + 4 - p ≡ 4 = omega arith in
     ap (λ k. from_le_bytes w32 (take k (drop p new))) four ∙ ap (from_le_bytes w32) (sym (filled_is new p 4 in_new) ∙ same ∙ filled_is old p 4 in_old)
@@ -97,15 +97,17 @@ module _ (v : Version) (b after xs ds fs : List ℕ) (place : ℕ) (written : af
       rest)
       words
 
-  sectors_kept : SameSectors v b after ds
+  pub first_aside : filled_part after 68 4 ≡ filled_part b 68 4
+  first_aside = kept 68 4 (word_aside 68 4 (inr (omega arith, omega arith)))
+
+  pub sectors_kept : SameSectors v b after ds
   sectors_kept k below = kept (sector_start v (get_or ds k 0)) (sector_len v) (⊎_elim (λ before. inl before) (λ behind. inr behind) (difat_apart k below))
 
   pub listed_over : 512 ≤ length b → 512 ≤ length after → sectors_in v (length after) ≡ sectors_in v (length b) → (Lists v b ds fs → Lists v after ds fs) × (Lists v after ds fs → Lists v b ds fs)
   listed_over in_old in_new same =
-      let at_68 = kept 68 4 (word_aside 68 4 (inr (omega arith, omega arith))) in
       let at_76 = kept 76 436 (word_aside 76 436 (inr (omega arith, omega arith))) in (
-        listed_kept v b after ds fs in_old in_new (omega (arith, same)) at_68 at_76 sectors_kept,
-        listed_kept v after b ds fs in_new in_old (omega (arith, same)) (sym at_68) (sym at_76) (λ k below. sym (sectors_kept k below)),
+        listed_kept v b after ds fs in_old in_new (omega (arith, same)) first_aside at_76 sectors_kept,
+        listed_kept v after b ds fs in_new in_old (omega (arith, same)) (sym first_aside) (sym at_76) (λ k below. sym (sectors_kept k below)),
       )
 
 -- as the sectors tell it

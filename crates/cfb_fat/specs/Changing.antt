@@ -8,9 +8,9 @@ use Rattle.cfb_sectors.specs.Sectors.{fat_in, filled_part}
 use Rattle.cfb_sectors.specs.declared.sectors.Sectors.{Sectors}
 use Rattle.cfb_fat.specs.declared.allocator.Allocator.{Allocator}
 use Rattle.cfb_chains.specs.Changes.{AreOnce, DifferAt, IsBeside}
-use Rattle.cfb_fat.specs.Listed.{Counts, Lists}
+use Rattle.cfb_fat.specs.Listed.{Counts, IsWhole, Lists}
 use Rattle.cfb_fat.specs.Orderly.{IsBesideWords}
-use Rattle.cfb_fat.specs.Tables.{bytes_of, difat_sectors_of, fat_of, fat_sectors_of, has_failed_here, is_honest, medium_of, orderly_of, sectors_of, version_of, IsTold}
+use Rattle.cfb_fat.specs.Tables.{bytes_of, difat_sectors_of, fat_of, fat_sectors_of, has_failed_here, is_honest, medium_of, orderly_of, sectors_of, version_of, HasEnds, IsTold}
 
 module _ {F : Type 0} {g : Ghosts F} where
   -- the FAT that these sectors hold, an entry for each sector of the file
@@ -18,7 +18,7 @@ module _ {F : Type 0} {g : Ghosts F} where
   fat_here fat_sectors it = take (count_of it) (fat_in (held.version_of it) (held.bytes_of it) fat_sectors)
 
   -- where it has not failed at most these entries of the FAT that these sectors hold are changed, and all that lies beside the
-  -- sectors is as it was; what header and DIFAT say of them stays, and nothing was published
+  -- sectors is as it was; what header and DIFAT say of them stays, and a whole file stays whole; nothing was published
   pub record WritesEntries (entries fat_sectors : List ℕ) (old new : Sectors F g) : Type 0 where
     pub honest : g.honest (held.medium_of new) ≡ g.honest (held.medium_of old)
     pub continues : Extends g.continues (held.medium_of old) (held.medium_of new)
@@ -28,13 +28,14 @@ module _ {F : Type 0} {g : Ghosts F} where
     pub fat : held.has_failed_here new ≡ false → held.IsHonest old → AreOnce fat_sectors → DifferAt entries (fat_here fat_sectors old) (fat_here fat_sectors new)
     pub longer : held.has_failed_here new ≡ false → held.IsHonest old → length (held.bytes_of old) ≤ length (held.bytes_of new)
     pub told : held.has_failed_here new ≡ false → held.IsHonest old → (difat_sectors : List ℕ) → Counts (held.bytes_of old) difat_sectors fat_sectors → Counts (held.bytes_of new) difat_sectors fat_sectors
+    pub whole : held.has_failed_here new ≡ false → held.IsHonest old → IsWhole (held.version_of old) (held.bytes_of old) → IsWhole (held.version_of old) (held.bytes_of new)
     pub lists : held.has_failed_here new ≡ false → held.IsHonest old → (difat_sectors : List ℕ) → AreOnce (difat_sectors ++ fat_sectors)
         → Lists (held.version_of old) (held.bytes_of old) difat_sectors fat_sectors → Lists (held.version_of new) (held.bytes_of new) difat_sectors fat_sectors
     pub beside : held.has_failed_here new ≡ false → held.IsHonest old → (place count : ℕ) → IsBeside (held.version_of old) fat_sectors place count
         → filled_part (held.bytes_of new) place count ≡ filled_part (held.bytes_of old) place count
 
   -- where it has not failed at most these entries of the FAT are changed, and all that lies beside the FAT's sectors is as
-  -- it was; nothing was published
+  -- it was; file and DIFAT end as a strict reader asks for if they did; nothing was published
   pub record ChangesFat (entries : List ℕ) (old new : Allocator F g) : Type 0 where
     pub honest : g.honest (medium_of new) ≡ g.honest (medium_of old)
     pub continues : Extends g.continues (medium_of old) (medium_of new)
@@ -47,6 +48,7 @@ module _ {F : Type 0} {g : Ghosts F} where
     pub fat : has_failed_here new ≡ false → DifferAt entries (fat_of old) (fat_of new)
     pub longer : has_failed_here new ≡ false → IsTrue (is_honest old) → length (bytes_of old) ≤ length (bytes_of new)
     pub told : has_failed_here new ≡ false → IsTrue (is_honest old) → IsTold old → IsTold new
+    pub ends : has_failed_here new ≡ false → IsTrue (is_honest old) → IsTrue (orderly_of old) → HasEnds old → HasEnds new
     pub beside : has_failed_here new ≡ false → IsTrue (is_honest old) → (place count : ℕ) → IsBeside (version_of old) (fat_sectors_of old) place count
         → filled_part (bytes_of new) place count ≡ filled_part (bytes_of old) place count
 

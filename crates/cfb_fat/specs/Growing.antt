@@ -11,11 +11,13 @@ use Rattle.cfb_sectors.specs.declared.sectors.Sectors.{Sectors}
 use Rattle.cfb_fat.specs.declared.allocator.Allocator.{Allocator}
 use Rattle.cfb_chains.specs.Behind.{AreWhole, IsMarkedBehind}
 use Rattle.cfb_chains.specs.Changes.{IsBeside, IsFreeIn, IsNoneOf, StayBut}
+use Rattle.cfb_fat.specs.Listed.{IsWhole}
 use Rattle.cfb_fat.specs.Orderly.{AreLean, IsBesideWords}
-use Rattle.cfb_fat.specs.Tables.{bytes_of, capacity_of, difat_sectors_of, fat_of, fat_sectors_of, has_failed_here, is_honest, medium_of, orderly_of, runs_of, sectors_of, tables_of, version_of, IsTold}
+use Rattle.cfb_fat.specs.Tables.{bytes_of, capacity_of, difat_sectors_of, fat_of, fat_sectors_of, has_failed_here, is_honest, medium_of, orderly_of, runs_of, sectors_of, tables_of, version_of, HasEnds, IsTold}
 
 module _ {F : Type 0} {g : Ghosts F} where
-  -- where it has not failed one sector was appended, and what lies before it stays but where this says so; nothing was published
+  -- where it has not failed one sector was appended, whole, and what lies before it stays but where this says so; nothing was
+  -- published
   pub record Appends (stays : ℕ → ℕ → Type 0) (old new : Sectors F g) : Type 0 where
     pub honest : g.honest (held.medium_of new) ≡ g.honest (held.medium_of old)
     pub continues : Extends g.continues (held.medium_of old) (held.medium_of new)
@@ -23,6 +25,7 @@ module _ {F : Type 0} {g : Ghosts F} where
     pub live : held.has_failed_here new ≡ false → held.has_failed_here old ≡ false
     pub count : held.has_failed_here new ≡ false → held.count_of new ≡ held.count_of old + 1
     pub longer : held.has_failed_here new ≡ false → held.IsHonest old → length (held.bytes_of old) ≤ length (held.bytes_of new)
+    pub whole : held.has_failed_here new ≡ false → held.IsHonest old → IsWhole (held.version_of old) (held.bytes_of new)
     pub before : held.has_failed_here new ≡ false → held.IsHonest old → (place count : ℕ) → place + count ≤ sector_start (held.version_of old) (held.count_of old) → stays place count
         → filled_part (held.bytes_of new) place count ≡ filled_part (held.bytes_of old) place count
 
@@ -36,7 +39,8 @@ module _ {F : Type 0} {g : Ghosts F} where
 
   -- where it has not failed at most these entries of the old FAT are changed, and of the old sectors' bytes at most those of
   -- tables and of these sectors that were taken; tables and file may have become longer, behind the old sectors, and then the
-  -- header's numbers of the tables' sectors are right; tables that were lean are lean with the taken sectors; nothing was published
+  -- header's numbers of the tables' sectors are right; file and DIFAT end as a strict reader asks for if they did; tables that were
+  -- lean are lean with the taken sectors; nothing was published
   pub record GrowsFat (taken entries : List ℕ) (old new : Allocator F g) : Type 0 where
     pub honest : g.honest (medium_of new) ≡ g.honest (medium_of old)
     pub continues : Extends g.continues (medium_of old) (medium_of new)
@@ -50,6 +54,7 @@ module _ {F : Type 0} {g : Ghosts F} where
     pub longer : has_failed_here new ≡ false → IsTrue (is_honest old) → length (bytes_of old) ≤ length (bytes_of new)
     pub lean : has_failed_here new ≡ false → (content : ℕ) → IsLean old content → IsLean new (content + length taken)
     pub told : has_failed_here new ≡ false → IsTrue (is_honest old) → IsTold old ⊎ (length (tables_of old) < length (tables_of new)) → IsTold new
+    pub ends : has_failed_here new ≡ false → IsTrue (is_honest old) → IsTrue (orderly_of old) → HasEnds old → HasEnds new
     pub beside : has_failed_here new ≡ false → IsTrue (is_honest old) → (place count : ℕ) → place + count ≤ sector_start (version_of old) (held.count_of (sectors_of old))
         → IsBeside (version_of old) (tables_of old) place count → IsBesideWords place count → IsBeside (version_of old) taken place count
         → filled_part (bytes_of new) place count ≡ filled_part (bytes_of old) place count

@@ -18,8 +18,9 @@ use Rattle.cfb_fat.specs.Changing.{ChangesFat, MayWrite, WritesBeside}
 use Rattle.cfb_fat.specs.Growing.{GrowsFat, IsLean, TakesIn}
 use Rattle.cfb_chains.proofs.LongerTables.{holds_again, holds_then, marked_none, marked_then, never, whole_then}
 use Rattle.cfb_chains.specs.Changes.{DifferAt, IsBeside, IsFreeIn, IsNoneOf, StayBut}
+use Rattle.cfb_fat.specs.Listed.{Ends}
 use Rattle.cfb_fat.specs.Orderly.{AreLean, IsBesideWords}
-use Rattle.cfb_fat.specs.Tables.{bytes_of, difat_sectors_of, fat_of, fat_sectors_of, has_failed_here, is_honest, medium_of, orderly_of, sectors_of, tables_of, version_of, AllFails, AllRests, HasCauseBelow, IsTold}
+use Rattle.cfb_fat.specs.Tables.{bytes_of, difat_sectors_of, fat_of, fat_sectors_of, has_failed_here, is_honest, medium_of, orderly_of, sectors_of, tables_of, version_of, AllFails, AllRests, HasCauseBelow, HasEnds, IsTold}
 
 -- a part of what is beside others is beside them
 beside_part : (v : Version) (sectors : List ℕ) (place count part size : ℕ) → IsBeside v sectors place count → place ≤ part → part + size ≤ place + count → IsBeside v sectors part size
@@ -142,6 +143,12 @@ module _ {F : Type 0} {g : Ghosts F} where
     fat_count = ap fat_sector_count bytes ∙ h.fat_count ∙ ap length (sym fat);
   }
 
+  -- file and DIFAT end as they did
+  pub ends_rest : (a b : Allocator F g) → AllRests a b → IsTrue (is_honest a) → HasEnds a → HasEnds b
+  ends_rest a b h honest ends =
+      subst (λ v. Ends v (bytes_of b) (difat_sectors_of b)) (sym h.sectors.version) (subst (λ l. Ends (version_of a) l (difat_sectors_of b)) (sym (h.sectors.bytes honest))
+      (subst (Ends (version_of a) (bytes_of a)) (sym h.difat_sectors) ends))
+
   -- tables that are the same are as lean
   pub lean_kept : (taken : List ℕ) (a b : Allocator F g) → version_of b ≡ version_of a → length (fat_of b) ≡ length (fat_of a) → fat_sectors_of b ≡ fat_sectors_of a → difat_sectors_of b ≡ difat_sectors_of a
       → (content : ℕ) → IsLean a content → IsLean b (content + length taken)
@@ -162,6 +169,7 @@ module _ {F : Type 0} {g : Ghosts F} where
       longer = λ live honest. le_of_eq (ap length (sym (h.sectors.bytes honest)));
       lean = λ live. lean_kept [] a b h.sectors.version (ap length h.fat) h.fat_sectors h.difat_sectors;
       told = λ live honest. holds_then (tables_of a) (tables_of b) (tables_same a b h.difat_sectors h.fat_sectors) (λ told. told_same a b (h.sectors.bytes honest) h.difat_sectors h.fat_sectors told);
+      ends = λ live honest orderly. ends_rest a b h honest;
       beside = λ live honest place count fits apart words aside. subst (λ l. filled_part l place count ≡ filled_part (bytes_of a) place count) (sym (h.sectors.bytes honest)) (λ i. filled_part (bytes_of a) place count);
     };
     free = λ live. tt;
@@ -190,6 +198,8 @@ module _ {F : Type 0} {g : Ghosts F} where
         lean = λ live content lean. lean_more (version_of c) (length (fat_of c)) (length (fat_sectors_of c)) (length (difat_sectors_of c)) _ _ (let both = length-append taken more in omega (arith, both))
             (k.lean live (content + length taken) (h.lean (k.live live) content lean));
         told = λ live honest. holds_again (tables_of a) (tables_of b) (tables_of c) (h.told (k.live live) honest) (k.told live (subst IsTrue (sym h.honest) honest));
+        ends = λ live honest orderly ends.
+            k.ends live (subst IsTrue (sym h.honest) honest) (subst IsTrue (sym (h.orderly (k.live live))) orderly) (h.ends (k.live live) honest orderly ends);
         tables = λ live place count fits apart. subst (λ u. IsBeside u (tables_of c) place count) h.version (k.tables live place count (later live (place + count) fits) (apart_then live place count fits apart));
         beside = λ live honest place count fits apart words aside.
             k.beside live (subst IsTrue (sym h.honest) honest) place count (later live (place + count) fits) (apart_then live place count fits apart) words
@@ -223,6 +233,7 @@ module _ {F : Type 0} {g : Ghosts F} where
       longer = never (has_failed_here c) is_set;
       lean = never (has_failed_here c) is_set;
       told = never (has_failed_here c) is_set;
+      ends = never (has_failed_here c) is_set;
       beside = never (has_failed_here c) is_set;
     };
     free = never (has_failed_here c) is_set;

@@ -1,5 +1,5 @@
 -- What the header and the DIFAT say of the tables ([MS-CFB] 2.2, 2.5).
-use Rattle.std.specs.Prelude.{◌≡◌, ℕ, ◌-◌, ◌⊎◌, List, [], ◌∷◌, ◌++◌, length, replicate}
+use Rattle.std.specs.Prelude.{◌≡◌, ℕ, ◌-◌, ◌%◌, ◌⊎◌, List, [], ◌∷◌, ◌++◌, length, replicate}
 use Rattle.cfb_medium.specs.Numbers.{u32_at}
 use Rattle.cfb_medium.specs.Versions.{sector_len}
 use Rattle.cfb_medium.specs.declared.version.Version.{Version}
@@ -27,3 +27,12 @@ pub record Lists (version : Version) (bytes difat_sectors fat_sectors : List ℕ
 pub record Counts (bytes difat_sectors fat_sectors : List ℕ) : Type 0 where
   pub difat_count : difat_sector_count bytes ≡ length difat_sectors
   pub fat_count : fat_sector_count bytes ≡ length fat_sectors
+
+-- the file ends where a sector does ([MS-CFB] 2.1)
+abbrev pub IsWhole : Version → List ℕ → Type 0
+IsWhole version bytes = length bytes % sector_len version ≡ 0
+
+-- so it does, and the DIFAT's chain behind these sectors is at "end of chain" ([MS-CFB] 2.5)
+pub record Ends (version : Version) (bytes difat_sectors : List ℕ) : Type 0 where
+  pub whole : IsWhole version bytes
+  pub stop : stop_behind version bytes (first_difat_sector bytes) difat_sectors ≡ end_of_chain

@@ -4,7 +4,7 @@ use Rattle.cfb_medium.specs.declared.error.Error.{Error}
 use Rattle.cfb_medium.specs.declared.medium.ReadMedium.{Ghosts}
 use Rattle.cfb_medium.specs.declared.version.Version.{Version}
 use Rattle.cfb_fat.specs.declared.allocator.Allocator.{Allocator}
-use Rattle.cfb_fat.specs.Listed.{Counts}
+use Rattle.cfb_fat.specs.Listed.{Counts, Ends}
 use Rattle.cfb_sectors.specs.declared.sectors.Sectors.{Sectors}
 use Rattle.cfb_runs.specs.Tables.{entries_of, run_capacity, run_count}
 use Rattle.cfb_sectors.specs.Held as held
@@ -58,6 +58,10 @@ module _ {F : Type 0} {g : Ghosts F} where
   -- the header's numbers of these are right
   abbrev pub IsTold : Allocator F g → Type 0
   IsTold it = Counts (bytes_of it) (difat_sectors_of it) (fat_sectors_of it)
+
+  -- the file and its DIFAT end as a strict reader asks for ([MS-CFB] 2.1, 2.5)
+  abbrev pub HasEnds : Allocator F g → Type 0
+  HasEnds it = Ends (version_of it) (bytes_of it) (difat_sectors_of it)
 
   -- whether its tables can be changed
   abbrev pub orderly_of : Allocator F g → Bool

@@ -12,7 +12,7 @@ ghost use Rattle.cfb_medium.specs.declared.error.Error.TheVariants.{InvalidData}
 ghost use Rattle.cfb_sectors.specs.Header.{difat_sector_count, fat_sector_count, first_difat_sector};
 ghost use Rattle.cfb_sectors.specs.Held.{bytes_of, count_of, has_failed_here, version_of, AreCounted, Changes, EndsIn, HasItsCause, IsHonest, Rests};
 ghost use Rattle.cfb_sectors.specs.Initial.{initial};
-ghost use Rattle.cfb_sectors.specs.Sectors.{difat, free, greatest_regular, sector, sector_start, DifatChain};
+ghost use Rattle.cfb_sectors.specs.Sectors.{difat, end_of_chain, free, greatest_regular, sector, sector_start, DifatChain};
 ghost use Rattle.cfb_sectors.specs.declared.initial.SectorInit.TheVariants.{Fat};
 ghost use Rattle.std.specs.Int.{to_le_bytes, w32};
 ghost use Rattle.std.specs.Prelude.{false, length, replicate, slice_index, take, true, IfErr, IfOk, IsErrOf, IsTrue, List, OnErr, OnOk, [], ℕ, ⊤, ◌%◌, ◌*◌, ◌++◌, ◌+◌, ◌-◌, ◌/◌, ◌<◌, ◌↔◌, ◌∷◌, ◌≡◌, ◌≤◌, ◌⊎◌};
@@ -358,9 +358,9 @@ pub(crate) fn add_fat_sector<F: Medium>(
     ensures listed { has_failed_here sectors.new ≡ false → IsHonest sectors.old
         → AreOnce difat_sectors.now
         → (fat_sectors : List ℕ) → length fat_sectors ≡ fat_count
-        → Lists (version_of sectors.old) (bytes_of sectors.old) difat_sectors.now fat_sectors
-        → Lists (version_of sectors.old) (bytes_of sectors.new) difat_sectors.now
-        (fat_sectors ++ count_of sectors.old ∷ []) }
+        → (h : Lists (version_of sectors.old) (bytes_of sectors.old) difat_sectors.now fat_sectors)
+        → (m : Lists (version_of sectors.old) (bytes_of sectors.new) difat_sectors.now
+        (fat_sectors ++ count_of sectors.old ∷ [])) × (m.stop ≡ h.stop) }
     ensures told { has_failed_here sectors.new ≡ false → IsHonest sectors.old
         → (fat_sector_count (bytes_of sectors.new) ≡ fat_count + 1)
         × (difat_sector_count (bytes_of sectors.new) ≡ length difat_sectors.now) }
@@ -387,8 +387,8 @@ pub(crate) fn add_difat_sector<F: Medium>(
     ensures listed { has_failed_here sectors.new ≡ false → IsHonest sectors.old
         → AreOnce difat_sectors.now → (fat_sectors : List ℕ)
         → Lists (version_of sectors.old) (bytes_of sectors.old) difat_sectors.now fat_sectors
-        → Lists (version_of sectors.old) (bytes_of sectors.new)
-        (difat_sectors.now ++ count_of sectors.old ∷ []) fat_sectors }
+        → (m : Lists (version_of sectors.old) (bytes_of sectors.new)
+        (difat_sectors.now ++ count_of sectors.old ∷ []) fat_sectors) × (m.stop ≡ end_of_chain) }
     ensures live { OnOk result (has_failed_here sectors.new ≡ false) }
     ensures err { OnErr result (has_failed_here sectors.new ≡ true) }
     ensures cause { IfErr result (HasItsCause sectors.old sectors.new) }

@@ -26,7 +26,7 @@ use Rattle.cfb_tree.proofs.NameOrder.{name_cmp_total}
 use Rattle.cfb_tree.proofs.NamesRead.{all_append}
 use Rattle.cfb_live.specs.WholeRemoval.{HasStorage}
 use Rattle.cfb_live.specs.Making.{IsFreePlace}
-use Rattle.cfb_live.specs.Strays.{HasNoMoreStrays}
+use Rattle.cfb_live.specs.Strays.{StaysTidy}
 use Rattle.cfb_live.specs.Parents.{AreNames, IsMadeAsFar, MakesChild, MeansAsFar}
 use Rattle.cfb_live.specs.declared.making.NewObject.TheVariants.{Storage}
 use Rattle.cfb_live.proofs.Below.{changed_found}
@@ -323,6 +323,6 @@ module _ {F : Type 0} {g : Ghosts F} (letters : Letters) (moment : Timestamp) (t
     };
   }
 
-  pub as_far_strays : (new : MiniAllocator F g) (id : ℕ) → (made : MakesChild letters (path_to (take count path) x) (Storage moment) so.now old new so.means.who id) → HasNoMoreStrays old new so.means.who (as_far_more new id made).means.who
+  pub as_far_strays : (new : MiniAllocator F g) (id : ℕ) → (made : MakesChild letters (path_to (take count path) x) (Storage moment) so.now old new so.means.who id) → StaysTidy old new so.means.who (as_far_more new id made).means.who
   unfolding as_far_more
   as_far_strays new id made = made.makes.comes.strays

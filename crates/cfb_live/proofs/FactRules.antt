@@ -38,6 +38,12 @@ links_stay (ClassId clsid) e = record { name_units = refl; name_len = refl; kind
 links_stay (Created moment) e = record { name_units = refl; name_len = refl; kind = refl; left = refl; right = refl; child = refl }
 links_stay (Modified moment) e = record { name_units = refl; name_len = refl; kind = refl; left = refl; right = refl; child = refl }
 
+pub color_stays : (fact : Fact) (e : Entry) → (changed_entry (change_for fact) e).color ≡ e.color
+color_stays (StateBits bits) e = refl
+color_stays (ClassId clsid) e = refl
+color_stays (Created moment) e = refl
+color_stays (Modified moment) e = refl
+
 pub place_stays : (fact : Fact) (e : Entry) → ((changed_entry (change_for fact) e).start ≡ e.start) × ((changed_entry (change_for fact) e).size ≡ e.size)
 place_stays (StateBits bits) e = (refl, refl)
 place_stays (ClassId clsid) e = (refl, refl)

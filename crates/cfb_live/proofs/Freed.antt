@@ -30,6 +30,7 @@ use Rattle.cfb_live.specs.Freeing.{FreesStream, Stands}
 use Rattle.cfb_live.specs.Live.{live_of}
 use Rattle.cfb_live.proofs.KeptNow.{kept_now}
 use Rattle.cfb_live.proofs.Strays.{long_strays, short_strays}
+use Rattle.cfb_live.proofs.StrictFacts.{header_here}
 
 -- the sectors of a chain have entries
 pub chain_below : (table : List ℕ) (start : ℕ) (xs : List ℕ) → Chain table start xs → AreBelow (length table) xs
@@ -126,7 +127,7 @@ module _ {F : Type 0} {g : Ghosts F} (old new : MiniAllocator F g) (who : Owners
         };
         nothing = (mine, none);
         freed = record { in_fat = did.freed; in_mini_fat = none_have free (mini_fat_of new) (who.minis key) none };
-        strays = long_strays old new who id did;
+        strays = long_strays old new who id (header_here old who m) did;
         entries = did.entries;
       }
 
@@ -155,7 +156,7 @@ module _ {F : Type 0} {g : Ghosts F} (old new : MiniAllocator F g) (who : Owners
         };
         nothing = (none, mine);
         freed = record { in_fat = none_have free (fat_of (allocator_of new)) (who.sectors key) none; in_mini_fat = did.freed };
-        strays = short_strays old new who id did;
+        strays = short_strays old new who id (header_here old who m) did;
         entries = did.entries;
       }
 

@@ -9,7 +9,7 @@ use Rattle.cfb_directory.specs.Views.{directory_ids}
 use Rattle.cfb_fat.specs.Seeing.{seen_of}
 use Rattle.cfb_fat.specs.Tables.{fat_of}
 use Rattle.cfb_mini.specs.Changing.{ChangesDirectory, HasOwners}
-use Rattle.cfb_mini.specs.Views.{allocator_of, directory_of, mini_fat_of}
+use Rattle.cfb_mini.specs.Views.{allocator_of, directory_of}
 use Rattle.cfb_mini.specs.declared.mini_allocator.MiniAllocator.{MiniAllocator}
 use Rattle.cfb_mini.proofs.Strays.{none_or}
 use Rattle.cfb_live.specs.Freeing.{AreFree, GivesUp}

@@ -21,6 +21,7 @@ pub mod Resting
 pub mod SetFacts
 pub mod Standing
 pub mod Strays
+pub mod StrictFacts
 pub mod Streams
 pub mod Taken
 pub mod Ways

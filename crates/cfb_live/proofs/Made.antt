@@ -36,8 +36,10 @@ use Rattle.cfb_live.specs.declared.making.NewObject.TheVariants.{Storage, Stream
 use Rattle.cfb_live.proofs.ChildAdded.{means_more}
 use Rattle.cfb_live.proofs.Directories.{carries, has_owners, kept_later, owners_now}
 use Rattle.cfb_live.proofs.Standing.{stands_of}
+use Rattle.cfb_live.proofs.SetFacts.{means_held, means_ids}
 use Rattle.cfb_live.proofs.Strays.{directory_strays}
 use Rattle.cfb_live.proofs.Streams.{reads}
+use Rattle.cfb_live.proofs.StrictFacts.{facts_more}
 
 -- the front of the header is spared
 pub spare_words : (v : Version) (p n : ℕ) → (p + n ≤ 40) ⊎ (48 ≤ p) → AreBesideWords (count_words v) p n
@@ -89,5 +91,6 @@ module _ {F : Type 0} {g : Ghosts F} (letters : Letters) (old : MiniAllocator F 
   unfolding made_means
   made_comes new e path id adds more small starts goes live c = record {
     means = made_means new e path id adds more small starts goes live c;
-    strays = directory_strays (count_words (version_of (allocator_of old))) (spare_words (version_of (allocator_of old))) old new m.who (stands_of letters old tree m) goes live c;
+    strays = directory_strays (count_words (version_of (allocator_of old))) (spare_words (version_of (allocator_of old))) old new m.who (stands_of letters old tree m) goes live c
+        (facts_more letters (reads (live_of old) m.who) (entries_held (directory_of old)) (entries_held (directory_of new)) tree later (means_held letters old tree m) m.held.ids (means_ids letters old tree m) path id e adds more);
   }

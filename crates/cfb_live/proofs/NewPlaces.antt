@@ -1,5 +1,5 @@
 -- Where an object can be made, and what the rules say of it.
-use Rattle.std.proofs.Common.{◌≡◌, ℕ, ◌-◌, ◌<◌, Bool, true, false, List, [], ◌∷◌, ◌++◌, length, take, get_or, zero, suc, refl, ap, sym, ◌∙◌, arith, chars, IsTrue}
+use Rattle.std.proofs.Common.{◌≡◌, ℕ, ◌-◌, ◌<◌, Bool, true, false, List, [], ◌∷◌, length, take, get_or, zero, suc, refl, ap, sym, ◌∙◌, arith, chars, IsTrue}
 use Rattle.std.specs.Borrow.{Bor}
 use Rattle.std.specs.Prelude.{None, Some}
 use Rattle.cfb_meaning.specs.TreeRules.{done, refused, tree_step}

@@ -7,7 +7,7 @@ use Rattle.cfb_fat.specs.Tables.{has_failed_here, version_of}
 use Rattle.cfb_owned.specs.Chains.{GoesOn}
 use Rattle.cfb_tree.specs.Directory.{kind_storage, kind_stream, Entry, Siblings}
 use Rattle.cfb_tree.specs.Names.{Letters}
-use Rattle.cfb_tree.specs.Objects.{a_storage, a_stream, HoldsTree, IsObject, Object}
+use Rattle.cfb_tree.specs.Objects.{HoldsTree}
 use Rattle.cfb_tree.specs.Paths.{Path}
 use Rattle.cfb_tree.specs.Tree.{Tree}
 use Rattle.cfb_tree.proofs.OneContent.{Some_same}
@@ -33,14 +33,16 @@ use Rattle.cfb_owners.proofs.KeysOfParts.{IsOneOf}
 use Rattle.cfb_owners.proofs.UsesOfEntries.{all_from, all_one, one_not_none}
 use Rattle.cfb_live.specs.Freeing.{CarriesBut, FreesStream, Stands}
 use Rattle.cfb_live.specs.Live.{live_of, MeansLive}
-use Rattle.cfb_live.specs.Strays.{ComesToMean}
+use Rattle.cfb_live.specs.Strays.{ComesToMean, HaveStrictFacts}
 use Rattle.cfb_live.proofs.Carried.{carries_then}
 use Rattle.cfb_live.proofs.Changed.{moved_stream_but}
 use Rattle.cfb_live.proofs.ChildAdded.{apart_or, none_of, one_apart}
 use Rattle.cfb_live.proofs.Directories.{carries, has_owners, kept_later, owners_now}
 use Rattle.cfb_live.proofs.Made.{spare_words}
+use Rattle.cfb_live.proofs.SetFacts.{means_held, means_ids}
 use Rattle.cfb_live.proofs.Strays.{directory_strays, strays_then}
 use Rattle.cfb_live.proofs.Streams.{bytes_from, reads, reads_means}
+use Rattle.cfb_live.proofs.StrictFacts.{facts_less}
 use Rattle.cfb_siblings.proofs.Coloring.{root_apart}
 
 one_middle : (front : List ℕ) (n : ℕ) (back : List ℕ) → IsOneOf (front ++ n ∷ back) n
@@ -185,9 +187,12 @@ module _ {F : Type 0} {g : Ghosts F} (letters : Letters) (old mid new : MiniAllo
   removed_comes at less other goes live c =
       let words = count_words (version_of (allocator_of mid)) in
       let spare = spare_words (version_of (allocator_of mid)) in
+      let was = entries_held (directory_of old) in
+      let facts = λ (h : HaveStrictFacts (entries_held (directory_of mid))).
+      facts_less letters (reads (live_of old) m.who) was (entries_held (directory_of new)) tree later (means_held letters old tree m) m.held.ids (means_ids letters old tree m) path id [] other at less (subst HaveStrictFacts frees.entries h) in
       record {
         means = removed_means at less other goes live c;
-        strays = strays_then old mid new m.who frees.now (owners_now words spare mid new frees.now frees.stands goes live c) frees.strays (directory_strays words spare mid new frees.now frees.stands goes live c);
+        strays = strays_then old mid new m.who frees.now (owners_now words spare mid new frees.now frees.stands goes live c) frees.strays (directory_strays words spare mid new frees.now frees.stands goes live c facts);
       }
 
 module _ {F : Type 0} {g : Ghosts F} where

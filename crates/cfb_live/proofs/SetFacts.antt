@@ -24,13 +24,14 @@ use Rattle.cfb_mini.specs.declared.mini_allocator.MiniAllocator.{MiniAllocator}
 use Rattle.cfb_owners.specs.LiveFile.{LiveFile}
 use Rattle.cfb_owners.specs.Owners.{Owners}
 use Rattle.cfb_live.specs.Live.{live_of, MeansLive}
-use Rattle.cfb_live.specs.Strays.{ComesToMean}
+use Rattle.cfb_live.specs.Strays.{ComesToMean, HaveStrictFacts}
 use Rattle.cfb_live.proofs.Carried.{Carries}
 use Rattle.cfb_live.proofs.Changed.{entry_changed, set_keeps, tree_held, tree_ids}
 use Rattle.cfb_live.proofs.Directories.{carries, has_owners, kept_later, owners_now}
 use Rattle.cfb_live.proofs.Standing.{stands_of}
 use Rattle.cfb_live.proofs.Strays.{directory_strays, strays_same}
 use Rattle.cfb_live.proofs.Streams.{reads}
+use Rattle.cfb_live.proofs.StrictFacts.{facts_set}
 
 pub set_same : (xs : List Entry) (id : ℕ) (e : Entry) → slice_get xs id ≡ Some e → xs ≡ slice_set xs id e
 set_same [] id e found = refl
@@ -94,13 +95,14 @@ module _ {F : Type 0} {g : Ghosts F} (letters : Letters) (old : MiniAllocator F 
   }
 
   -- and no more is in use without an owner
-  pub set_comes : (new : MiniAllocator F g) → HasSameLinks e f → f.start ≡ e.start → f.size ≡ e.size → ObjectBecomes (ReadBy (reads (live_of old) m.who)) f at.object (change at.object)
+  pub set_comes : (new : MiniAllocator F g) → HasSameLinks e f → f.color ≡ e.color → f.start ≡ e.start → f.size ≡ e.size → ObjectBecomes (ReadBy (reads (live_of old) m.who)) f at.object (change at.object)
       → GoesOn (allocator_of old) (allocator_of new) → has_failed_here (allocator_of new) ≡ false → ChangesDirectory [] old new m.who.sectors
       → entries_held (directory_of new) ≡ slice_set (entries_held (directory_of old)) id f → ComesToMean letters old new m.who (changed letters change path tree)
   unfolding set_means
-  set_comes new links start size becomes goes live c set = record {
+  set_comes new links color start size becomes goes live c set = record {
     means = set_means new links start size becomes goes live c set;
-    strays = directory_strays [] (λ p n beside. tt) old new m.who (stands_of letters old tree m) goes live c;
+    strays = directory_strays [] (λ p n beside. tt) old new m.who (stands_of letters old tree m) goes live c
+        (λ h. subst HaveStrictFacts (sym set) (facts_set (entries_held (directory_of old)) id e f found links color h));
   }
 
   pub same_comes : HasSameLinks e e → ObjectBecomes (ReadBy (reads (live_of old) m.who)) e at.object (change at.object) → ComesToMean letters old old m.who (changed letters change path tree)

@@ -1,4 +1,5 @@
--- No more sectors are in use without an owner after a change of one owner's chain.
+-- What a change of one owner's chain leaves of a file's order: no more sectors are in use without an owner, and a strict reader
+-- takes it still.
 use Rattle.std.proofs.Common.{◌≡◌, ◌⊎◌, ℕ, ◌+◌, ◌≤◌, false, List, [], ◌∷◌, ◌++◌, append-nil, zero, suc, refl, ap, sym, subst, ◌∙◌, ⊎_elim, arith}
 use Rattle.std.specs.Prelude.{slice_index}
 use Rattle.std.proofs.lemmas.Bool.Decides.{eqb_tells}
@@ -6,21 +7,24 @@ use Rattle.cfb_medium.specs.declared.medium.ReadMedium.{Ghosts}
 use Rattle.cfb_sectors.specs.Sectors.{free, sector}
 use Rattle.cfb_chains.specs.Changes.{HaveEntry, IsNoneOf}
 use Rattle.cfb_chains.specs.Owned.{AreBesideWords}
-use Rattle.cfb_directory.specs.Views.{directory_ids}
+use Rattle.cfb_directory.specs.Views.{directory_ids, entries_held}
 use Rattle.cfb_fat.specs.Seeing.{seen_of}
 use Rattle.cfb_fat.specs.Tables.{has_failed_here, version_of}
 use Rattle.cfb_owned.specs.Chains.{GoesOn}
-use Rattle.cfb_mini.specs.Changing.{mini_seen, ChangesDirectory, Frees, FreesChain, KeepsOwners}
+use Rattle.cfb_mini.specs.Changing.{mini_seen, ChangesDirectory, Frees, FreesChain, HasOwners, KeepsOwners}
+use Rattle.cfb_mini.specs.Files.{HasHeader}
 use Rattle.cfb_mini.specs.Minis.{mini_sector}
 use Rattle.cfb_mini.specs.Strays.{IsStrayIn}
-use Rattle.cfb_mini.specs.Views.{allocator_of, directory_of, mini_fat_of}
+use Rattle.cfb_mini.specs.Views.{allocator_of, directory_of}
 use Rattle.cfb_mini.specs.declared.mini_allocator.MiniAllocator.{MiniAllocator}
+use Rattle.cfb_mini.proofs.Counts.{counts_rest}
 use Rattle.cfb_mini.proofs.Keeping.{pick, pick_mine, pick_other}
 use Rattle.cfb_mini.proofs.Strays.{leaves_resting, none_left_out, strays_before}
 use Rattle.cfb_owners.specs.Owners.{stream_owner, Owners}
 use Rattle.cfb_live.specs.Freeing.{Stands}
-use Rattle.cfb_live.specs.Strays.{HasNoMoreStrays}
+use Rattle.cfb_live.specs.Strays.{HaveStrictFacts, StaysTidy}
 use Rattle.cfb_live.proofs.Directories.{owners_now}
+use Rattle.cfb_live.proofs.StrictFacts.{header_here, strict_by, strict_over}
 
 -- a number of the list has the entry that all of it have
 pub has_entry : (table : List ℕ) (xs : List ℕ) (entry : ℕ) → HaveEntry entry table xs → (n : ℕ) → (IsNoneOf xs n → ⊥) → slice_index table n ≡ entry
@@ -39,24 +43,34 @@ none_more : (xs : List ℕ) (n : ℕ) → IsNoneOf xs n → IsNoneOf (xs ++ []) 
 none_more xs n none = subst (λ l. IsNoneOf l n) (sym (append-nil xs)) none
 
 module _ {F : Type 0} {g : Ghosts F} where
-  pub strays_same : (it : MiniAllocator F g) (who : Owners) → HasNoMoreStrays it it who who
-  strays_same it who = record { sectors = λ n s. s; minis = λ n s. s }
+  pub strays_same : (it : MiniAllocator F g) (who : Owners) → StaysTidy it it who who
+  strays_same it who = record { sectors = λ n s. s; minis = λ n s. s; strict = λ was. was }
 
   -- nothing was changed
-  pub strays_kept : (old new : MiniAllocator F g) (who : Owners) → KeepsOwners old new → HasNoMoreStrays old new who who
-  strays_kept old new who k = record {
-    sectors = leaves_resting (allocator_of old) (allocator_of new) who.sectors k.allocator;
-    minis = λ n s. subst (λ t. IsStrayIn t [] who.minis n) k.mini_fat s;
-  }
+  pub strays_kept : (old new : MiniAllocator F g) (who : Owners) → HasOwners old who.sectors → KeepsOwners old new → StaysTidy old new who who
+  strays_kept old new who owners k =
+      let now = k.owners who.sectors owners in
+      record {
+        sectors = leaves_resting (allocator_of old) (allocator_of new) who.sectors k.allocator;
+        minis = λ n s. subst (λ t. IsStrayIn t [] who.minis n) k.mini_fat s;
+        strict = λ was. record {
+          counts = counts_rest old new k.allocator (sym now.directory ∙ owners.directory) (sym now.mini_fat ∙ owners.mini_fat) owners.honest was.counts;
+          entries = subst HaveStrictFacts (sym k.entries) was.entries;
+        };
+      }
 
-  pub strays_then : (a b c : MiniAllocator F g) (was who now : Owners) → HasNoMoreStrays a b was who → HasNoMoreStrays b c who now → HasNoMoreStrays a c was now
-  strays_then a b c was who now first second = record { sectors = λ n s. first.sectors n (second.sectors n s); minis = λ n s. first.minis n (second.minis n s) }
+  pub strays_then : (a b c : MiniAllocator F g) (was who now : Owners) → StaysTidy a b was who → StaysTidy b c who now → StaysTidy a c was now
+  strays_then a b c was who now first second = record {
+    sectors = λ n s. first.sectors n (second.sectors n s);
+    minis = λ n s. first.minis n (second.minis n s);
+    strict = λ s. second.strict (first.strict s);
+  }
 
 module _ {F : Type 0} {g : Ghosts F} (words : List ℕ) (spare : (place count : ℕ) → (place + count ≤ 40) ⊎ (48 ≤ place) → AreBesideWords words place count)
     (old new : MiniAllocator F g) (who : Owners) (m : Stands old who) (goes : GoesOn (allocator_of old) (allocator_of new)) (live : has_failed_here (allocator_of new) ≡ false)
-    (c : ChangesDirectory words old new who.sectors) where
+    (c : ChangesDirectory words old new who.sectors) (facts : HaveStrictFacts (entries_held (directory_of old)) → HaveStrictFacts (entries_held (directory_of new))) where
   -- the directory alone changed
-  pub directory_strays : HasNoMoreStrays old new who (owners_now words spare old new who m goes live c)
+  pub directory_strays : StaysTidy old new who (owners_now words spare old new who m goes live c)
   unfolding seen_of
   directory_strays =
       let ids = directory_ids (directory_of new) in
@@ -65,11 +79,12 @@ module _ {F : Type 0} {g : Ghosts F} (words : List ℕ) (spare : (place count : 
             (pick_mine who.sectors 0 ids) (pick_other who.sectors 0 ids)
             (none_left_out _ (who.sectors 0 ++ c.more) ids (ap (λ l. l ++ c.more) m.owners.directory ∙ sym c.ids));
         minis = λ n s. subst (λ t. IsStrayIn t [] who.minis n) c.mini_fat s;
+        strict = strict_by old new (header_here old who m) c.counts facts;
       }
 
-module _ {F : Type 0} {g : Ghosts F} (old new : MiniAllocator F g) (who : Owners) (id : ℕ) where
+module _ {F : Type 0} {g : Ghosts F} (old new : MiniAllocator F g) (who : Owners) (id : ℕ) (header : HasHeader old) where
   -- a long stream gave up its sectors
-  pub long_strays : FreesChain (stream_owner id) old new who.sectors → HasNoMoreStrays old new who (record { sectors = pick who.sectors (stream_owner id) []; minis = who.minis })
+  pub long_strays : FreesChain (stream_owner id) old new who.sectors → StaysTidy old new who (record { sectors = pick who.sectors (stream_owner id) []; minis = who.minis })
   unfolding seen_of
   long_strays did =
       let key = stream_owner id in
@@ -78,10 +93,11 @@ module _ {F : Type 0} {g : Ghosts F} (old new : MiniAllocator F g) (who : Owners
             (pick_mine who.sectors key []) (pick_other who.sectors key [])
             (λ n none one. has_entry _ (who.sectors key) free did.freed n (λ apart. one (none_more (who.sectors key) n apart)));
         minis = λ n s. subst (λ t. IsStrayIn t [] who.minis n) did.mini_fat s;
+        strict = strict_over old new header did.counts did.entries;
       }
 
   -- a short one its mini sectors
-  pub short_strays : Frees (who.minis (stream_owner id)) old new who.sectors → HasNoMoreStrays old new who (record { sectors = who.sectors; minis = pick who.minis (stream_owner id) [] })
+  pub short_strays : Frees (who.minis (stream_owner id)) old new who.sectors → StaysTidy old new who (record { sectors = who.sectors; minis = pick who.minis (stream_owner id) [] })
   unfolding seen_of mini_seen
   short_strays did =
       let key = stream_owner id in
@@ -90,4 +106,5 @@ module _ {F : Type 0} {g : Ghosts F} (old new : MiniAllocator F g) (who : Owners
             (none_left_out _ (who.sectors 1 ++ []) (who.sectors 1) (append-nil (who.sectors 1)));
         minis = strays_before mini_sector _ (who.minis key) [] [] key (mini_seen old) (mini_seen new) who.minis (pick who.minis key []) did.changes.becomes refl (pick_mine who.minis key []) (pick_other who.minis key [])
             (λ n none one. has_entry _ (who.minis key) free did.freed n (λ apart. one (none_more (who.minis key) n apart)));
+        strict = strict_over old new header did.counts did.entries;
       }

@@ -15,7 +15,7 @@ use Rattle.cfb_tree.specs.Paths.{Path}
 use Rattle.cfb_tree.specs.Tree.{Tree}
 use Rattle.cfb_owners.specs.Owners.{Owners}
 use Rattle.cfb_live.specs.Live.{MeansLive}
-use Rattle.cfb_live.specs.Strays.{HasNoMoreStrays}
+use Rattle.cfb_live.specs.Strays.{StaysTidy}
 
 -- a fault, or want of a number for an entry or a sector
 abbrev pub IsFault : Error → Type 0
@@ -29,7 +29,7 @@ module _ {F : Type 0} {g : Ghosts F} where
     pub at_path : path ≡ Some names
     pub accepted : (tree_step letters tree (call names)).1 ≡ done
     pub means : MeansLive letters new (tree_step letters tree (call names)).0
-    pub strays : HasNoMoreStrays old new who means.who
+    pub strays : StaysTidy old new who means.who
 
   -- Of a file that means a tree: the call at the path is done by the rules, or refused just as these refuse it, and then nothing is
   -- changed; else a fault came between. After another error nothing is changed, or the file has failed.

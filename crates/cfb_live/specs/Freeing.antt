@@ -18,7 +18,7 @@ use Rattle.cfb_owners.specs.Kept.{Kept}
 use Rattle.cfb_owners.specs.LiveFile.{LiveFile}
 use Rattle.cfb_owners.specs.Owners.{mini_stream_owner, stream_owner, Owners, OwnsNothing}
 use Rattle.cfb_live.specs.Live.{live_of}
-use Rattle.cfb_live.specs.Strays.{HasNoMoreStrays}
+use Rattle.cfb_live.specs.Strays.{StaysTidy}
 
 -- the same version, at least as many bytes, and all streams and the mini stream, but for this owner, have the sectors and the bytes
 -- that they had
@@ -76,5 +76,5 @@ module _ {F : Type 0} {g : Ghosts F} where
     pub carries : CarriesBut (stream_owner id) (live_of old) (live_of new) who now
     pub nothing : OwnsNothing now (stream_owner id)
     pub freed : AreFree (who.sectors (stream_owner id)) (who.minis (stream_owner id)) new
-    pub strays : HasNoMoreStrays old new who now
+    pub strays : StaysTidy old new who now
     pub entries : entries_held (directory_of new) ≡ entries_held (directory_of old)

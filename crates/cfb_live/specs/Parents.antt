@@ -15,7 +15,7 @@ use Rattle.cfb_tree.specs.Tree.{Tree}
 use Rattle.cfb_live.specs.WholeRemoval.{HasStorage}
 use Rattle.cfb_owners.specs.Owners.{Owners}
 use Rattle.cfb_live.specs.Live.{MeansLive}
-use Rattle.cfb_live.specs.Strays.{ComesToMean, HasNoMoreStrays}
+use Rattle.cfb_live.specs.Strays.{ComesToMean, StaysTidy}
 use Rattle.cfb_live.specs.Making.{kind_made, making}
 use Rattle.cfb_live.specs.declared.making.NewObject.{NewObject}
 
@@ -56,4 +56,4 @@ module _ {F : Type 0} {g : Ghosts F} where
   pub record ComesAsFar (letters : Letters) (moment : ℕ) (tree : Tree) (path : Path) (count : ℕ) (old new : MiniAllocator F g) (who : Owners) : Type 0 where
     pub last : ℕ
     pub far : MeansAsFar letters moment tree path count last new
-    pub strays : HasNoMoreStrays old new who far.means.who
+    pub strays : StaysTidy old new who far.means.who

@@ -1,35 +1,27 @@
 -- What a change leaves of the header's numbers of sectors.
-use Rattle.std.proofs.Common.{◌≡◌, ℕ, ◌+◌, ◌-◌, ◌≤◌, inl, inr, List, [], ◌∷◌, length, take, drop, ap, sym, ◌∙◌, arith, IsTrue}
-use Rattle.std.specs.Int.{from_le_bytes, to_le_bytes, w32}
-use Rattle.cfb_medium.specs.Numbers.{u32_at}
+use Rattle.std.proofs.Common.{◌≡◌, ℕ, ◌+◌, ◌≤◌, inl, inr, List, [], ◌∷◌, length, ap, sym, ◌∙◌, arith, IsTrue}
 use Rattle.cfb_medium.specs.declared.medium.ReadMedium.{Ghosts}
 use Rattle.cfb_medium.specs.declared.version.Version.{Version}
 use Rattle.cfb_medium.specs.declared.version.Version.TheVariants.{V3, V4}
-use Rattle.cfb_sectors.specs.Header.{mini_fat_sector_count}
+use Rattle.cfb_sectors.specs.Header.{directory_sector_count, mini_fat_sector_count}
 use Rattle.cfb_sectors.specs.Sectors.{filled_part, sector}
 use Rattle.cfb_chains.specs.Owned.{AreBesideWords, Leaves, Seen}
 use Rattle.cfb_fat.specs.Seeing.{seen_of}
 use Rattle.cfb_fat.specs.Tables.{bytes_of, is_honest, version_of, AllRests}
 use Rattle.cfb_fat.specs.declared.allocator.Allocator.{Allocator}
-use Rattle.cfb_fat.proofs.Words.{filled_is}
 use Rattle.cfb_owned.specs.Chains.{GoesOn}
 use Rattle.cfb_directory.specs.Growth.{count_words, GrowsDirectory, IsCounted}
 use Rattle.cfb_directory.specs.Views as directory
 use Rattle.cfb_directory.specs.declared.directory.Directory.{Directory}
+use Rattle.cfb_directory.proofs.Stages.{number_kept}
 use Rattle.cfb_mini.specs.Files.{count_told, HasCounts, HasHeader}
 use Rattle.cfb_mini.specs.Views.{allocator_of, directory_of, mini_fat_ids}
 use Rattle.cfb_mini.specs.declared.mini_allocator.MiniAllocator.{MiniAllocator}
 
--- a number of four bytes that stays
-number_stays : (old new : List ℕ) (place : ℕ) → place + 4 ≤ length old → length old ≤ length new → filled_part new place 4 ≡ filled_part old place 4 → u32_at new place ≡ u32_at old place
-number_stays old new place inside longer same =
-    let four : place + 4 - place ≡ 4 = omega arith in
-    ap (from_le_bytes w32) (ap (λ n. take n (drop place new)) four ∙ sym (filled_is new place 4 (omega (arith, inside, longer))) ∙ same ∙ filled_is old place 4 inside ∙ ap (λ n. take n (drop place old)) (sym four))
-
 -- the directory's number is right where it was, over a change that counts its sectors where the version has such a number
 counted_on : (v : Version) (S : List ℕ → ℕ → List ℕ) (touched : List ℕ) (a b : Seen) (n m : ℕ) → Leaves S (count_words v) touched a b → (IsCounted v a.bytes n → IsCounted v b.bytes m)
-    → filled_part a.bytes 40 4 ≡ to_le_bytes w32 (count_told v n) → filled_part b.bytes 40 4 ≡ to_le_bytes w32 (count_told v m)
-counted_on V3 S touched a b n m leaves counted was = leaves.header 40 4 (omega arith) (inl (omega arith), tt) ∙ was
+    → directory_sector_count a.bytes ≡ count_told v n → directory_sector_count b.bytes ≡ count_told v m
+counted_on V3 S touched a b n m leaves counted was = number_kept a.bytes b.bytes 40 (leaves.header 40 4 (omega arith) (inl (omega arith), tt)) ∙ was
 counted_on V4 S touched a b n m leaves counted was = counted was
 
 -- the mini FAT's number isn't the directory's
@@ -44,21 +36,21 @@ module _ {F : Type 0} {g : Ghosts F} where
   part_spared a b words touched leaves place front beside = leaves.header place 4 front beside
 
   -- both numbers are right where they were, over a change that spares them
-  pub counts_stay : (old new : MiniAllocator F g) → version_of (allocator_of new) ≡ version_of (allocator_of old) → length (bytes_of (allocator_of old)) ≤ length (bytes_of (allocator_of new))
+  pub counts_stay : (old new : MiniAllocator F g) → version_of (allocator_of new) ≡ version_of (allocator_of old)
       → filled_part (bytes_of (allocator_of new)) 40 4 ≡ filled_part (bytes_of (allocator_of old)) 40 4 → filled_part (bytes_of (allocator_of new)) 64 4 ≡ filled_part (bytes_of (allocator_of old)) 64 4
       → directory.directory_ids (directory_of new) ≡ directory.directory_ids (directory_of old) → mini_fat_ids new ≡ mini_fat_ids old → HasHeader old → HasCounts old → HasCounts new
-  counts_stay old new version longer first second ids fat h counts =
-      let whole = h.header.whole in record {
-        directory = first ∙ counts.directory ∙ ap (λ l. to_le_bytes w32 (count_told (version_of (allocator_of old)) (length l))) (sym ids) ∙ ap (λ v. to_le_bytes w32 (count_told v (length (directory.directory_ids (directory_of new))))) (sym version);
-        mini_fat = number_stays (bytes_of (allocator_of old)) (bytes_of (allocator_of new)) 64 (omega (arith, whole)) longer second ∙ counts.mini_fat ∙ ap length (sym fat);
-      }
+  counts_stay old new version first second ids fat h counts = record {
+    directory = number_kept (bytes_of (allocator_of old)) (bytes_of (allocator_of new)) 40 first ∙ counts.directory ∙ ap (λ l. count_told (version_of (allocator_of old)) (length l)) (sym ids)
+        ∙ ap (λ v. count_told v (length (directory.directory_ids (directory_of new)))) (sym version);
+    mini_fat = number_kept (bytes_of (allocator_of old)) (bytes_of (allocator_of new)) 64 second ∙ counts.mini_fat ∙ ap length (sym fat);
+  }
 
   -- so it is of sectors alone
   pub counts_beside : (old new : MiniAllocator F g) (touched : List ℕ) → GoesOn (allocator_of old) (allocator_of new) → Leaves (sector (version_of (allocator_of old))) [] touched (seen_of (allocator_of old)) (seen_of (allocator_of new))
       → directory.directory_ids (directory_of new) ≡ directory.directory_ids (directory_of old) → mini_fat_ids new ≡ mini_fat_ids old → HasHeader old → HasCounts old → HasCounts new
   unfolding seen_of
   counts_beside old new touched goes leaves ids fat =
-      counts_stay old new goes.version leaves.longer (leaves.header 40 4 (omega arith) (inl (omega arith), tt)) (leaves.header 64 4 (omega arith) (inr (omega arith), tt)) ids fat
+      counts_stay old new goes.version (leaves.header 40 4 (omega arith) (inl (omega arith), tt)) (leaves.header 64 4 (omega arith) (inr (omega arith), tt)) ids fat
 
   -- and of a directory that grew
   pub counts_grown : (it : MiniAllocator F g) (d : Directory F g) → GoesOn (allocator_of it) (directory.allocator_of d) → GrowsDirectory (directory_of it) d → HasHeader it → HasCounts it → HasCounts (record it { directory = d })
@@ -67,10 +59,9 @@ module _ {F : Type 0} {g : Ghosts F} where
       let a = allocator_of it in
       let b = directory.allocator_of d in
       let v = version_of a in
-      let leaves = grown.becomes.leaves in
-      let whole = h.header.whole in record {
-        directory = counted_on v (sector v) _ (seen_of a) (seen_of b) _ _ leaves grown.counted counts.directory ∙ ap (λ u. to_le_bytes w32 (count_told u (length (directory.directory_ids d)))) (sym goes.version);
-        mini_fat = number_stays (bytes_of a) (bytes_of b) 64 (omega (arith, whole)) leaves.longer (leaves.header 64 4 (omega arith) (aside v)) ∙ counts.mini_fat;
+      let leaves = grown.becomes.leaves in record {
+        directory = counted_on v (sector v) _ (seen_of a) (seen_of b) _ _ leaves grown.counted counts.directory ∙ ap (λ u. count_told u (length (directory.directory_ids d))) (sym goes.version);
+        mini_fat = number_kept (bytes_of a) (bytes_of b) 64 (leaves.header 64 4 (omega arith) (aside v)) ∙ counts.mini_fat;
       }
 
   -- and over reads
@@ -78,6 +69,6 @@ module _ {F : Type 0} {g : Ghosts F} where
       → IsTrue (is_honest (allocator_of old)) → HasCounts old → HasCounts new
   counts_rest old new rests ids fat honest counts =
       let same : bytes_of (allocator_of new) ≡ bytes_of (allocator_of old) = rests.sectors.bytes honest in record {
-        directory = ap (λ b. filled_part b 40 4) same ∙ counts.directory ∙ ap (λ l. to_le_bytes w32 (count_told (version_of (allocator_of old)) (length l))) (sym ids) ∙ ap (λ v. to_le_bytes w32 (count_told v (length (directory.directory_ids (directory_of new))))) (sym rests.sectors.version);
+        directory = ap directory_sector_count same ∙ counts.directory ∙ ap (λ l. count_told (version_of (allocator_of old)) (length l)) (sym ids) ∙ ap (λ v. count_told v (length (directory.directory_ids (directory_of new)))) (sym rests.sectors.version);
         mini_fat = ap mini_fat_sector_count same ∙ counts.mini_fat ∙ ap length (sym fat);
       }

@@ -1,6 +1,5 @@
 -- What changes of mini chains leave of the file, one after the other.
 use Rattle.std.proofs.Common.{◌≡◌, ℕ, ◌≤◌, inl, inr, List, [], ◌∷◌, ◌++◌, length, zero, suc, set, ap, sym, subst, ◌∙◌, arith, ⊎_elim, append_assoc, append-nil, IsTrue}
-use Rattle.std.specs.Int.{to_le_bytes, w32}
 use Rattle.std.specs.Prelude.{slice_index_or}
 use Rattle.cfb_medium.specs.Versions.{stream_len_mask}
 use Rattle.cfb_medium.specs.declared.medium.ReadMedium.{Ghosts}
@@ -16,6 +15,7 @@ use Rattle.cfb_tree.specs.Directory.{Entry}
 use Rattle.cfb_tree.proofs.OneContent.{Some_same}
 use Rattle.cfb_directory.specs.Entries.{SizesFit}
 use Rattle.cfb_directory.specs.Views.{directory_ids, entries_held}
+use Rattle.cfb_directory.proofs.Stages.{number_kept}
 use Rattle.cfb_mini.specs.Files.{count_told, LeavesFile}
 use Rattle.cfb_mini.specs.FatGrowth.{mini_fat_words, TellsMiniFat}
 use Rattle.cfb_mini.specs.Views.{allocator_of, directory_of, mini_fat_ids, mini_stream_ids, MiniRests}
@@ -92,7 +92,7 @@ module _ {F : Type 0} {g : Ghosts F} where
               directory = u32_same 68 (omega arith) a b whole longer keeps 48 (omega arith) (inr (omega arith)) ∙ h.directory ∙ ap (λ l. slice_index_or l 0 end_of_chain) (sym ids);
               mini_fat = u32_same 68 (omega arith) a b whole longer keeps 60 (omega arith) (inr (omega arith)) ∙ h.mini_fat ∙ ap (λ l. slice_index_or l 0 end_of_chain) (sym fat);
             };
-        counts = counts_stay old new version longer count (keeps 64 4 (omega arith) (inr (omega arith))) ids fat;
+        counts = counts_stay old new version count (keeps 64 4 (omega arith) (inr (omega arith))) ids fat;
         more = more;
         stream = stream;
         sizes = λ fit. subst (λ v. SizesFit v (entries_held (directory_of new))) (sym version) (sizes fit);
@@ -124,8 +124,8 @@ module _ {F : Type 0} {g : Ghosts F} where
               mini_fat = told.first;
             };
         counts = λ h counts. record {
-          directory = part_spared (allocator_of old) (allocator_of new) mini_fat_words touched leaves 40 (omega arith) (inl (omega arith), (inl (omega arith), (inl (omega arith), tt))) ∙ counts.directory
-              ∙ ap (λ l. to_le_bytes w32 (count_told (version_of (allocator_of old)) (length l))) (sym ids) ∙ ap (λ v. to_le_bytes w32 (count_told v (length (directory_ids (directory_of new))))) (sym goes.version);
+          directory = number_kept a b 40 (part_spared (allocator_of old) (allocator_of new) mini_fat_words touched leaves 40 (omega arith) (inl (omega arith), (inl (omega arith), (inl (omega arith), tt)))) ∙ counts.directory
+              ∙ ap (λ l. count_told (version_of (allocator_of old)) (length l)) (sym ids) ∙ ap (λ v. count_told v (length (directory_ids (directory_of new)))) (sym goes.version);
           mini_fat = told.count;
         };
         more = [];

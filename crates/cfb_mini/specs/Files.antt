@@ -1,5 +1,4 @@
 -- What a change of mini chains leaves of the file ([MS-CFB] 2.2, 2.6).
-use Rattle.std.specs.Int.{to_le_bytes, w32}
 use Rattle.std.specs.Prelude.{◌≡◌, ℕ, ◌≤◌, ◌++◌, List, length, slice_index_or}
 use Rattle.cfb_directory.specs.Entries.{SizesFit}
 use Rattle.cfb_directory.specs.Views.{directory_ids, entries_held}
@@ -9,8 +8,8 @@ use Rattle.cfb_medium.specs.declared.version.Version.{Version}
 use Rattle.cfb_medium.specs.declared.version.Version.TheVariants.{V3, V4}
 use Rattle.cfb_mini.specs.Views.{allocator_of, directory_of, mini_fat_ids, mini_stream_ids}
 use Rattle.cfb_mini.specs.declared.mini_allocator.MiniAllocator.{MiniAllocator}
-use Rattle.cfb_sectors.specs.Header.{first_directory_sector, first_mini_fat_sector, mini_fat_sector_count, IsHeader}
-use Rattle.cfb_sectors.specs.Sectors.{end_of_chain, filled_part}
+use Rattle.cfb_sectors.specs.Header.{directory_sector_count, first_directory_sector, first_mini_fat_sector, mini_fat_sector_count, IsHeader}
+use Rattle.cfb_sectors.specs.Sectors.{end_of_chain}
 
 -- the header's number of the directory's sectors where they are so many: version 3 has 0 there ([MS-CFB] 2.2)
 abbrev pub count_told : Version → ℕ → ℕ
@@ -26,7 +25,7 @@ module _ {F : Type 0} {g : Ghosts F} where
 
   -- the header tells how many sectors directory and mini FAT have ([MS-CFB] 2.2)
   pub record HasCounts (it : MiniAllocator F g) : Type 0 where
-    pub directory : filled_part (bytes_of (allocator_of it)) 40 4 ≡ to_le_bytes w32 (count_told (version_of (allocator_of it)) (length (directory_ids (directory_of it))))
+    pub directory : directory_sector_count (bytes_of (allocator_of it)) ≡ count_told (version_of (allocator_of it)) (length (directory_ids (directory_of it)))
     pub mini_fat : mini_fat_sector_count (bytes_of (allocator_of it)) ≡ length (mini_fat_ids it)
 
   -- The file has no byte fewer, and its header tells so much where it did. The mini stream keeps its sectors, and more may follow;

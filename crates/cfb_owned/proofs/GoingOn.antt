@@ -5,16 +5,20 @@ use Rattle.cfb_medium.specs.declared.error.Error.{Error}
 use Rattle.cfb_medium.specs.declared.medium.ReadMedium.{Ghosts}
 use Rattle.cfb_sectors.specs.Held.{count_of}
 use Rattle.cfb_sectors.specs.Sectors.{filled_part, sector_start}
+use Rattle.cfb_chains.specs.Changes.{IsBeside}
 use Rattle.cfb_chains.proofs.Overwriting.{beside}
+use Rattle.std.specs.Prelude.{slice_index}
 use Rattle.cfb_chains.proofs.LongerTables.{never}
 use Rattle.cfb_fat.specs.declared.allocator.Allocator.{Allocator}
-use Rattle.cfb_fat.specs.Changing.{ChangesFat, WritesBeside}
+use Rattle.cfb_fat.specs.Changing.{ChangesFat, MayWrite, WritesBeside}
 use Rattle.cfb_fat.specs.Growing.{TakesIn}
-use Rattle.cfb_fat.specs.Keeping.{told_same}
-use Rattle.cfb_fat.specs.Listed.{Counts}
-use Rattle.cfb_fat.specs.Tables.{bytes_of, difat_sectors_of, fat_sectors_of, has_failed_here, medium_of, sectors_of, version_of, AllFails, AllRests, HasCauseBelow}
+use Rattle.cfb_fat.specs.Keeping.{ends_rest, told_same}
+use Rattle.cfb_fat.specs.Listed.{Counts, Ends}
+use Rattle.cfb_fat.specs.Orderly.{IsBesideWords}
+use Rattle.cfb_fat.proofs.EndsKept.{ends_over}
+use Rattle.cfb_fat.specs.Tables.{bytes_of, difat_sectors_of, fat_sectors_of, has_failed_here, is_honest, medium_of, orderly_of, sectors_of, version_of, AllFails, AllRests, HasCauseBelow, HasEnds}
 use Rattle.cfb_fat.proofs.Listing.{header_whole}
-use Rattle.cfb_fat.proofs.ListedStays.{longer_over, told_in, told_kept}
+use Rattle.cfb_fat.proofs.ListedStays.{behind_header, longer_over, told_in, told_kept}
 use Rattle.cfb_owned.specs.Chains.{GoesOn}
 
 module _ {F : Type 0} {g : Ghosts F} where
@@ -26,6 +30,7 @@ module _ {F : Type 0} {g : Ghosts F} where
     live = λ live. sym h.sectors.failed ∙ live;
     orderly = λ live. h.orderly;
     told = λ live honest orderly told. told_same a b (h.sectors.bytes honest) h.difat_sectors h.fat_sectors told;
+    ends = λ live honest orderly. ends_rest a b h honest;
   }
 
   pub takes_go_on : (taken entries : List ℕ) (a b : Allocator F g) → TakesIn taken entries a b → GoesOn a b
@@ -36,6 +41,7 @@ module _ {F : Type 0} {g : Ghosts F} where
     live = h.grows.live;
     orderly = h.grows.orderly;
     told = λ live honest orderly told. h.grows.told live honest (inl told);
+    ends = h.grows.ends;
   }
 
   pub changes_go_on : (entries : List ℕ) (a b : Allocator F g) → ChangesFat entries a b → GoesOn a b
@@ -46,11 +52,20 @@ module _ {F : Type 0} {g : Ghosts F} where
     live = h.live;
     orderly = λ live. h.orderly;
     told = λ live honest orderly told. h.told live honest told;
+    ends = h.ends;
   }
 
+  -- file and DIFAT end as they did after a write beside the tables, which lies in the file's sectors
+  ends_written : (place : ℕ) (xs : List ℕ) (a b : Allocator F g) → place + length xs ≤ sector_start (version_of a) (count_of (sectors_of a)) → IsBesideWords place (length xs)
+      → IsBeside (version_of a) (difat_sectors_of a) place (length xs) → WritesBeside place xs a b → has_failed_here b ≡ false → IsTrue (is_honest a) → IsTrue (orderly_of a) → HasEnds a → HasEnds b
+  ends_written place xs a b fits words aside h live honest orderly ends =
+      subst (Ends (version_of b) (bytes_of b)) (sym h.difat_sectors)
+      (ends_over (version_of a) (version_of b) (bytes_of a) (bytes_of b) xs (difat_sectors_of a) (fat_sectors_of a) place (count_of (sectors_of a)) h.sectors.0.version (h.sectors.0.bytes live honest)
+      (a.sectors.counted (h.sectors.0.live live) honest) (a.orderly orderly).some fits words aside ((a.listed (h.sectors.0.live live) honest).0 orderly).1 ends)
+
   -- a write in a sector that is there
-  pub writes_go_on : (n offset : ℕ) (xs : List ℕ) (a b : Allocator F g) → n < count_of (sectors_of a) → WritesBeside (sector_start (version_of a) n + offset) xs a b → GoesOn a b
-  writes_go_on n offset xs a b there h = record {
+  pub writes_go_on : (n offset : ℕ) (xs : List ℕ) (a b : Allocator F g) → n < count_of (sectors_of a) → MayWrite a (sector_start (version_of a) n + offset) (length xs) → WritesBeside (sector_start (version_of a) n + offset) xs a b → GoesOn a b
+  writes_go_on n offset xs a b there may h = record {
     honest = h.sectors.0.honest;
     continues = h.sectors.0.continues;
     version = h.sectors.0.version;
@@ -60,6 +75,7 @@ module _ {F : Type 0} {g : Ghosts F} where
         subst (λ l. Counts (bytes_of b) l (fat_sectors_of b)) (sym h.difat_sectors) (subst (Counts (bytes_of b) (difat_sectors_of a)) (sym h.fat_sectors)
         (told_in (version_of a) (bytes_of a) (bytes_of b) xs (difat_sectors_of a) (fat_sectors_of a) n offset (h.sectors.0.bytes live honest)
         (header_whole (version_of a) (bytes_of a) (count_of (sectors_of a)) (a.sectors.counted (h.sectors.0.live live) honest) (omega (arith, there))) told));
+    ends = ends_written (sector_start (version_of a) n + offset) xs a b may.ends may.words may.difat h;
   }
 
   -- a number of the header that is none of the tables'
@@ -79,6 +95,10 @@ module _ {F : Type 0} {g : Ghosts F} where
         let second : filled_part (bytes_of b) 72 4 ≡ filled_part old 72 4 = ap (λ l. filled_part l 72 4) is ∙ beside old xs place 72 4 (inr (⊎_elim (λ before. omega (arith, before, four)) (λ after. omega (arith, after, four)) at)) in
         subst (λ l. Counts (bytes_of b) l (fat_sectors_of b)) (sym h.difat_sectors) (subst (Counts (bytes_of b) (difat_sectors_of a)) (sym h.fat_sectors)
         (told_kept old (bytes_of b) (difat_sectors_of a) (fat_sectors_of a) whole (omega (arith, whole, longer)) first second told));
+    ends = λ live honest orderly.
+        let before : place + length xs ≤ 512 = ⊎_elim (λ front. omega (arith, front, four)) (λ back. omega (arith, back.1, four)) at in
+        let far : (n : ℕ) → place + length xs ≤ sector_start (version_of a) n = λ n. let start = behind_header (version_of a) n in omega (arith, before, start) in
+        ends_written place xs a b (far (count_of (sectors_of a))) (⊎_elim (λ front. inl (omega (arith, front, four))) (λ back. inr (inl (back.0, omega (arith, back.1, four)))) at) (λ k below. inr (far (slice_index (difat_sectors_of a) k))) h live honest orderly;
   }
 
   -- a write somewhere, or reads, after which it was made to fail
@@ -90,6 +110,7 @@ module _ {F : Type 0} {g : Ghosts F} where
     live = never (has_failed_here c) k.sectors.failed;
     orderly = never (has_failed_here c) k.sectors.failed;
     told = never (has_failed_here c) k.sectors.failed;
+    ends = never (has_failed_here c) k.sectors.failed;
   }
 
   pub goes_then : (a b c : Allocator F g) → GoesOn a b → GoesOn b c → GoesOn a c
@@ -100,6 +121,7 @@ module _ {F : Type 0} {g : Ghosts F} where
     live = λ live. h.live (k.live live);
     orderly = λ live. k.orderly live ∙ h.orderly (k.live live);
     told = λ live honest orderly told. k.told live (subst IsTrue (sym h.honest) honest) (subst IsTrue (sym (h.orderly (k.live live))) orderly) (h.told (k.live live) honest orderly told);
+    ends = λ live honest orderly ends. k.ends live (subst IsTrue (sym h.honest) honest) (subst IsTrue (sym (h.orderly (k.live live))) orderly) (h.ends (k.live live) honest orderly ends);
   }
 
   -- a cause since a later state is one since the earlier

@@ -20,7 +20,7 @@ use Rattle.cfb_chains.specs.Owned.{Becomes}
 use Rattle.cfb_chains.specs.declared.links.Links.{Links}
 use Rattle.cfb_fat.specs.Growing.{IsLean, LacksNumbers, TakesIn}
 use Rattle.cfb_fat.specs.Seeing.{seen_of}
-use Rattle.cfb_fat.specs.Tables.{bytes_of, fat_of, has_failed_here, is_honest, medium_of, orderly_of, tables_of, version_of, IsTold}
+use Rattle.cfb_fat.specs.Tables.{bytes_of, fat_of, has_failed_here, is_honest, medium_of, orderly_of, tables_of, version_of, HasEnds, IsTold}
 use Rattle.cfb_fat.specs.declared.allocator.Allocator.{Allocator}
 
 -- refusals by rule: there is no such place, or the layer's tables can't be changed or haven't the chain; or no number is left
@@ -37,7 +37,8 @@ place_of version ids k = sector_start version (slice_index ids (k / sector_len v
 
 module _ {F : Type 0} {g : Ghosts F} where
   -- the same file of the same version; where it has not failed its tables can be changed if they could, and then the header's
-  -- numbers of their sectors are right if they were. Nothing was published
+  -- numbers of their sectors are right if they were, and file and DIFAT end as a strict reader asks for if they did. Nothing was
+  -- published
   pub record GoesOn (old new : Allocator F g) : Type 0 where
     pub honest : g.honest (medium_of new) ≡ g.honest (medium_of old)
     pub continues : Extends g.continues (medium_of old) (medium_of new)
@@ -45,6 +46,7 @@ module _ {F : Type 0} {g : Ghosts F} where
     pub live : has_failed_here new ≡ false → has_failed_here old ≡ false
     pub orderly : has_failed_here new ≡ false → orderly_of new ≡ orderly_of old
     pub told : has_failed_here new ≡ false → IsTrue (is_honest old) → IsTrue (orderly_of old) → IsTold old → IsTold new
+    pub ends : has_failed_here new ≡ false → IsTrue (is_honest old) → IsTrue (orderly_of old) → HasEnds old → HasEnds new
 
   -- an honest file whose FAT has this chain
   pub record HasLinks (it : Allocator F g) (links : Links) : Type 0 where

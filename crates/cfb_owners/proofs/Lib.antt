@@ -10,3 +10,4 @@ pub mod KeysOfParts
 pub mod UsesOfEntries
 pub mod UsesOwned
 pub mod HeldIs
+pub mod StrictIs

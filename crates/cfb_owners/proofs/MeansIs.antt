@@ -73,15 +73,19 @@ module _ (s : LiveFile) (who : Owners) (root : Entry) (ids : List ℕ) (kept : K
     };
   }
 
-pub means_is : (s : LiveFile) (who : Owners) (letters : Letters) (tree : Tree) (h : MeansHeld s who letters tree)
-    → MeansBy (layout_of s who h.root h.ids) (HasBytes s.bytes (layout_of s who h.root h.ids)) letters s.bytes tree
-means_is s who letters tree h = record {
+-- whatever is said of a stream that has its bytes in what its entry owns
+pub means_by : (s : LiveFile) (who : Owners) (letters : Letters) (tree : Tree) (h : MeansHeld s who letters tree) (Reads : Entry → List ℕ → Type 0)
+    → ((id : ℕ) (e : Entry) (content : List ℕ) → HasStream s who id e content → Reads e content) → MeansBy (layout_of s who h.root h.ids) Reads letters s.bytes tree
+means_by s who letters tree h Reads so = record {
   laid_out = laid_out s who h.root h.ids h.kept;
   facts = h.facts;
   children = h.children;
   siblings = subst (λ all. Siblings all h.root.child h.children) h.kept.entries h.siblings;
-  holds = subst (λ all. Holds all (HasBytes s.bytes (layout_of s who h.root h.ids)) h.children tree.content h.ids) h.kept.entries
-      (holds_so s.entries (HasStream s who) (HasBytes s.bytes (layout_of s who h.root h.ids)) (has_bytes s who h.root h.ids h.kept) tree.content h.children h.ids h.holds);
+  holds = subst (λ all. Holds all Reads h.children tree.content h.ids) h.kept.entries (holds_so s.entries (HasStream s who) Reads so tree.content h.children h.ids h.holds);
   once = h.once;
   ordered = h.ordered;
 }
+
+pub means_is : (s : LiveFile) (who : Owners) (letters : Letters) (tree : Tree) (h : MeansHeld s who letters tree)
+    → MeansBy (layout_of s who h.root h.ids) (HasBytes s.bytes (layout_of s who h.root h.ids)) letters s.bytes tree
+means_is s who letters tree h = means_by s who letters tree h (HasBytes s.bytes (layout_of s who h.root h.ids)) (has_bytes s who h.root h.ids h.kept)

@@ -14,14 +14,16 @@ use Rattle.cfb_fat.specs.Tables.{bytes_of, fat_of, has_failed_here, tables_of, v
 use Rattle.cfb_fat.specs.declared.allocator.Allocator.{Allocator}
 use Rattle.cfb_live.specs.Freeing.{CarriesBut, Stands}
 use Rattle.cfb_live.specs.Live.{live_of}
-use Rattle.cfb_live.specs.Strays.{HasNoMoreStrays}
+use Rattle.cfb_live.specs.Strays.{StaysTidy}
 use Rattle.cfb_live.proofs.KeptNow.{kept_now}
 use Rattle.cfb_live.proofs.Strays.{has_entry}
+use Rattle.cfb_live.proofs.StrictFacts.{header_here, strict_over}
 use Rattle.cfb_medium.specs.Versions.{sector_len}
 use Rattle.cfb_medium.specs.declared.medium.ReadMedium.{Ghosts}
 use Rattle.cfb_mini.specs.Changing.{with_allocator, HasOwners, IsKeptOver}
 use Rattle.cfb_mini.specs.Views.{allocator_of, directory_of}
 use Rattle.cfb_mini.specs.declared.mini_allocator.MiniAllocator.{MiniAllocator}
+use Rattle.cfb_mini.proofs.Counts.{counts_beside}
 use Rattle.cfb_mini.proofs.Headers.{header_stays, u32_same, KeepsFront}
 use Rattle.cfb_mini.proofs.Keeping.{pick, pick_mine, pick_other}
 use Rattle.cfb_mini.proofs.Strays.{strays_before}
@@ -122,11 +124,12 @@ module _ {F : Type 0} {g : Ghosts F} (old : MiniAllocator F g) (b : Allocator F 
     joined = λ k past other. (stays k other).bytes;
   }
 
-  strays : HasNoMoreStrays old (with_allocator old b) who now
+  strays : StaysTidy old (with_allocator old b) who now
   unfolding seen_of
   strays = record {
     sectors = strays_before (sector (version_of (allocator_of old))) [] (who.sectors key) more later key (seen_of (allocator_of old)) (seen_of b) who.sectors now.sectors becomes refl (pick_mine who.sectors key later) (pick_other who.sectors key later) spent;
     minis = λ n s. s;
+    strict = strict_over old (with_allocator old b) (header_here old who m) (counts_beside old (with_allocator old b) (who.sectors key ++ more) goes becomes.leaves refl refl) refl;
   }
 
   -- the stream has these sectors then, and all else stays

@@ -13,9 +13,10 @@ use Rattle.cfb_fat.specs.Seeing.{seen_of}
 use Rattle.cfb_fat.specs.Tables.{bytes_of, has_failed_here, version_of}
 use Rattle.cfb_live.specs.Freeing.{Stands}
 use Rattle.cfb_live.specs.Live.{live_of}
-use Rattle.cfb_live.specs.Strays.{HasNoMoreStrays}
+use Rattle.cfb_live.specs.Strays.{HaveStrictFacts, StaysTidy}
 use Rattle.cfb_live.proofs.Freed.{own_minis}
 use Rattle.cfb_live.proofs.KeptNow.{kept_now}
+use Rattle.cfb_live.proofs.StrictFacts.{facts_placed, header_here, strict_by, strict_over}
 use Rattle.cfb_medium.specs.Versions.{sector_len}
 use Rattle.cfb_medium.specs.declared.medium.ReadMedium.{Ghosts}
 use Rattle.cfb_medium.specs.declared.version.Version.{Version}
@@ -136,10 +137,6 @@ module _ {F : Type 0} {g : Ghosts F} where
     unfolding live_of
     root_there = m.kept.root_found
 
-    header_there : HasHeader it
-    unfolding live_of
-    header_there = record { header = m.kept.header; directory = m.kept.directory_at ∙ ap first_of m.owners.directory; mini_fat = m.kept.mini_fat_at ∙ ap first_of m.owners.mini_fat }
-
 module _ {F : Type 0} {g : Ghosts F} (old new : MiniAllocator F g) (who : Owners) (m : Stands old who) (goes : GoesOn (allocator_of old) (allocator_of new)) (file : LeavesFile old new) (own' : ℕ → List ℕ) (has : HasOwners new own') where
   pub longer_stream : mini_stream_len old ≤ mini_stream_len new
   longer_stream =
@@ -155,7 +152,7 @@ module _ {F : Type 0} {g : Ghosts F} (old new : MiniAllocator F g) (who : Owners
     (stay : (k : ℕ) → 2 < k → Stays (sector (version_of (allocator_of old))) (seen_of (allocator_of old)) (seen_of (allocator_of new)) (who.sectors k))
     (minis' : ℕ → List ℕ) (owned' : Owned (mini_fat_of new) [] minis') (others' : (k : ℕ) → (k ≡ stream_owner id → ⊥) → minis' k ≡ who.minis k) (inside' : AllByRecursion (λ n. 64 * n + 64 ≤ mini_stream_len new) (minis' (stream_owner id)))
     (bytes' : (k : ℕ) → (k ≡ stream_owner id → ⊥) → mini_joined (mini_stream_of new) (who.minis k) ≡ mini_joined (mini_stream_of old) (who.minis k)) (entries : MovesRoot (entries_held (directory_of old)) (entries_held (directory_of new)))
-    (strays : HasNoMoreStrays old new who (record { sectors = own'; minis = minis' })) where
+    (strays : StaysTidy old new who (record { sectors = own'; minis = minis' })) where
   abbrev key : ℕ
   key = stream_owner id
 
@@ -182,7 +179,7 @@ module _ {F : Type 0} {g : Ghosts F} (old new : MiniAllocator F g) (who : Owners
       entries
 
   header_now : HasHeader new
-  header_now = file.header (header_there old who m)
+  header_now = file.header (header_here old who m)
 
   stands_now : Stands new now
   unfolding live_of
@@ -233,6 +230,10 @@ module _ {F : Type 0} {g : Ghosts F} (old new : MiniAllocator F g) (who : Owners
 root_moved : {F : Type 0} {g : Ghosts F} (old new : MiniAllocator F g) (root : Entry) → slice_get (entries_held (directory_of old)) 0 ≡ Some root → TellsStream old new → MovesRoot (entries_held (directory_of old)) (entries_held (directory_of new))
 root_moved old new root found tells = ⊎_elim (λ same. inl same.0) (λ told. inr (root, _, _, found, told root found)) tells
 
+-- a strict reader takes them still
+facts_moved : (old new : List Entry) → MovesRoot old new → HaveStrictFacts old → HaveStrictFacts new
+facts_moved old new moved facts = ⊎_elim (λ same. subst HaveStrictFacts (sym same) facts) (λ it. subst HaveStrictFacts (sym it.4) (facts_placed old 0 it.0 it.1 it.2 it.3 facts)) moved
+
 module _ {F : Type 0} {g : Ghosts F} (old new : MiniAllocator F g) (who : Owners) (id : ℕ) (m : Stands old who) (goes : GoesOn (allocator_of old) (allocator_of new)) (live : has_failed_here (allocator_of new) ≡ false) where
   -- a stream's mini sectors were written over
   pub moves_over : (at : ℕ) (bytes : List ℕ) (links : MiniLinks) → who.minis (stream_owner id) ≡ minis_of links → MiniOverwrites at bytes old new links who.sectors → (it : Moves id old new who) × (it.now ≡ who)
@@ -251,6 +252,7 @@ module _ {F : Type 0} {g : Ghosts F} (old new : MiniAllocator F g) (who : Owners
         sectors = over.strays;
         minis = strays_before mini_sector all_words (who.minis key) [] (who.minis key) key (mini_seen old) (mini_seen new) who.minis who.minis becomes refl refl (λ k other. refl)
             (none_left_out (mini_fat_of new) (who.minis key ++ []) (who.minis key) (append-nil (who.minis key)));
+        strict = strict_over old new (header_here old who m) over.file.counts over.entries;
       })
 
   -- a stream without mini sectors took some in
@@ -259,11 +261,16 @@ module _ {F : Type 0} {g : Ghosts F} (old new : MiniAllocator F g) (who : Owners
   moves_more later nothing l =
       let key = stream_owner id in
       let is : l.taken ≡ later = sym l.minis_are in
+      let root = root_moved old new m.root (root_there old who m) l.entries in
       let owned = owned_more (mini_fat_of old) (mini_fat_of new) who.minis key later (minis_owned old who m) (subst (AllByRecursion (IsFreeIn (mini_fat_of old))) is l.were_free) l.numbers l.linked in
       mini_moves old new who id m goes live l.file (own_now new who.sectors) (lengthened_owners old new [] later who.sectors l)
       (λ k past. now_other new who.sectors k (λ same. omega (arith, same, past)) (λ same. omega (arith, same, past))) l.others
       (pick who.minis key later) owned (pick_other who.minis key later)
       (subst (AllByRecursion (λ n. 64 * n + 64 ≤ mini_stream_len new)) (is ∙ sym (pick_mine who.minis key later)) l.inside)
       (λ k other. ap (λ s. mini_joined s (who.minis k)) l.stream ∙ joined_padded (mini_stream_of old) l.zeros (who.minis k))
-      (root_moved old new m.root (root_there old who m) l.entries)
-      (record { sectors = lengthened_strays old new [] later who.sectors l; minis = more_strays (mini_fat_of old) (mini_fat_of new) who.minis key later nothing l.numbers l.unused })
+      root
+      (record {
+        sectors = lengthened_strays old new [] later who.sectors l;
+        minis = more_strays (mini_fat_of old) (mini_fat_of new) who.minis key later nothing l.numbers l.unused;
+        strict = strict_by old new (header_here old who m) l.file.counts (facts_moved (entries_held (directory_of old)) (entries_held (directory_of new)) root);
+      })

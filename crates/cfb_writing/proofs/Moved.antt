@@ -3,7 +3,7 @@ use Rattle.std.proofs.Common.{◌≡◌, ℕ, ◌*◌, ◌≤◌, List, length, 
 use Rattle.std.specs.Prelude.{slice_get}
 use Rattle.cfb_chains.specs.LinkViews.{links_version}
 use Rattle.cfb_fat.specs.Resting.{all_rest_then}
-use Rattle.cfb_live.specs.Strays.{HasNoMoreStrays}
+use Rattle.cfb_live.specs.Strays.{StaysTidy}
 use Rattle.cfb_medium.specs.declared.medium.ReadMedium.{Ghosts}
 use Rattle.cfb_medium.specs.Versions.{sector_len}
 use Rattle.cfb_mini.specs.Changing.{HasOwners, KeepsOwners}
@@ -32,10 +32,10 @@ module _ {F : Type 0} {g : Ghosts F} where
 
   -- it has bytes that are the same as these
   pub moved_as : (letters : Letters) (old new : MiniAllocator F g) (who : Owners) (tree : Tree) (path : Path) (id : ℕ) (home : StreamLinks) (bytes later : List ℕ) → bytes ≡ later
-      → (then : IsStreamAt letters new (changed letters (with_bytes bytes) path tree) path id bytes) × AreLinksOf id home new × HasNoMoreStrays old new who then.means.who
-      → (then : IsStreamAt letters new (changed letters (with_bytes later) path tree) path id later) × AreLinksOf id home new × HasNoMoreStrays old new who then.means.who
+      → (then : IsStreamAt letters new (changed letters (with_bytes bytes) path tree) path id bytes) × AreLinksOf id home new × StaysTidy old new who then.means.who
+      → (then : IsStreamAt letters new (changed letters (with_bytes later) path tree) path id later) × AreLinksOf id home new × StaysTidy old new who then.means.who
   moved_as letters old new who tree path id home bytes later same at =
-      subst (λ l. (then : IsStreamAt letters new (changed letters (with_bytes l) path tree) path id l) × AreLinksOf id home new × HasNoMoreStrays old new who then.means.who) same at
+      subst (λ l. (then : IsStreamAt letters new (changed letters (with_bytes l) path tree) path id l) × AreLinksOf id home new × StaysTidy old new who then.means.who) same at
 
   -- the mini stream is as long as it was
   stream_len_kept : (old new : MiniAllocator F g) (k : KeepsOwners old new) (own : ℕ → List ℕ) → HasOwners old own → mini_stream_len new ≡ mini_stream_len old

@@ -9,10 +9,11 @@ use Rattle.cfb_directory.specs.Views.{directory_ids, entries_held}
 use Rattle.cfb_fat.specs.Tables.{has_failed_here, version_of}
 use Rattle.cfb_live.specs.Freeing.{CarriesBut, FreesStream, Stands}
 use Rattle.cfb_live.specs.Live.{live_of}
-use Rattle.cfb_live.specs.Strays.{HasNoMoreStrays}
+use Rattle.cfb_live.specs.Strays.{HaveStrictFacts, StaysTidy}
 use Rattle.cfb_live.proofs.Carried.{stream_stays, Carries}
 use Rattle.cfb_live.proofs.Directories.{carries, has_owners, kept_later, owners_now}
 use Rattle.cfb_live.proofs.Strays.{directory_strays, strays_then}
+use Rattle.cfb_live.proofs.StrictFacts.{facts_placed}
 use Rattle.cfb_medium.specs.declared.medium.ReadMedium.{Ghosts}
 use Rattle.cfb_mini.specs.Changing.{ChangesDirectory}
 use Rattle.cfb_mini.specs.LinkViews.{minis_of}
@@ -189,9 +190,11 @@ module _ {F : Type 0} {g : Ghosts F} (letters : Letters) (old mid new : MiniAllo
       }
 
   -- with no more strays
-  pub placed_strays : HasNoMoreStrays old new at.means.who stream_placed.means.who
+  pub placed_strays : StaysTidy old new at.means.who stream_placed.means.who
   unfolding stream_placed
-  placed_strays = strays_then old mid new at.means.who moved.now now moved.strays (directory_strays [] none mid new moved.now moved.stands goes live changes)
+  placed_strays =
+      strays_then old mid new at.means.who moved.now now moved.strays
+      (directory_strays [] none mid new moved.now moved.stands goes live changes (λ strict. subst HaveStrictFacts (sym p.set) (facts_placed (entries_held (directory_of mid)) id p.entry start size p.found strict)))
 
   new_at : slice_get (entries_held (directory_of new)) id ≡ Some f
   new_at = ap (λ l. slice_get l id) p.set ∙ set_found (entries_held (directory_of mid)) id p.entry f p.found
@@ -264,6 +267,6 @@ module _ {F : Type 0} {g : Ghosts F} (letters : Letters) (old new : MiniAllocato
       }
 
   -- with no more strays
-  pub still_strays : HasNoMoreStrays old new at.means.who stream_still.means.who
+  pub still_strays : StaysTidy old new at.means.who stream_still.means.who
   unfolding stream_still
   still_strays = moved.strays

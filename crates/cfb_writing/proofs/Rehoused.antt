@@ -13,9 +13,10 @@ use Rattle.cfb_fat.specs.Seeing.{seen_of}
 use Rattle.cfb_fat.specs.Tables.{bytes_of, has_failed_here, version_of}
 use Rattle.cfb_live.specs.Freeing.{Stands}
 use Rattle.cfb_live.specs.Live.{live_of}
-use Rattle.cfb_live.specs.Strays.{HasNoMoreStrays}
+use Rattle.cfb_live.specs.Strays.{StaysTidy}
 use Rattle.cfb_live.proofs.Freed.{chain_below, own_minis}
 use Rattle.cfb_live.proofs.Strays.{short_strays, strays_then}
+use Rattle.cfb_live.proofs.StrictFacts.{header_here}
 use Rattle.cfb_medium.specs.declared.medium.ReadMedium.{Ghosts}
 use Rattle.cfb_mini.specs.Changing.{mini_seen, Frees, HasOwners}
 use Rattle.cfb_mini.specs.Files.{LeavesFile}
@@ -83,7 +84,7 @@ module _ {F : Type 0} {g : Ghosts F} (old new : MiniAllocator F g) (goes : GoesO
       mini_moves old new who id m goes live (leaves_file who.sectors (who.minis key) m.owners f) who.sectors f.changes.owners (λ k past. refl) f.changes.others (pick who.minis key [])
       (owned_changed mini_sector (mini_seen old) (mini_seen new) who.minis (pick who.minis key []) key all_words [] [] owned moved) others
       (subst (AllByRecursion (λ n. 64 * n + 64 ≤ mini_stream_len new)) (sym mine) tt)
-      (λ k other. (left k other).bytes) (inl f.entries) (short_strays old new who id f)
+      (λ k other. (left k other).bytes) (inl f.entries) (short_strays old new who id (header_here old who m) f)
 
 module _ {F : Type 0} {g : Ghosts F} (m0 m1 m2 : MiniAllocator F g) (who : Owners) (id : ℕ) (later content : List ℕ) (took : TakesLong id later content m0 m1 who)
     (goes : GoesOn (allocator_of m1) (allocator_of m2)) (live : has_failed_here (allocator_of m2) ≡ false) (frees : Frees (took.long.moves.now.minis (stream_owner id)) m1 m2 took.long.moves.now.sectors) where
@@ -145,7 +146,7 @@ module _ {F : Type 0} {g : Ghosts F} (letters : Letters) (m0 m1 m2 new : MiniAll
     (p : Places id start len m2 new) (goes : GoesOn (allocator_of m2) (allocator_of new)) (live : has_failed_here (allocator_of new) ≡ false) where
   -- it lies there, with its new bytes, and there are no more strays
   pub rehoused : links_version links ≡ version_of (allocator_of m2)
-      → (then : IsStreamAt letters new (changed letters (with_bytes content') path tree) path id content') × AreLinksOf id (Long links) new × HasNoMoreStrays m0 new at.means.who then.means.who
+      → (then : IsStreamAt letters new (changed letters (with_bytes content') path tree) path id content') × AreLinksOf id (Long links) new × StaysTidy m0 new at.means.who then.means.who
   rehoused version =
       let who = at.means.who in
       let moved = rehoused_moves m0 m1 m2 who id (ids_of links) content' took goes1 live1 frees in

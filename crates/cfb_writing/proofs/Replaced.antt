@@ -4,7 +4,7 @@ use Rattle.cfb_directory.specs.Views.{entries_held}
 use Rattle.cfb_fat.specs.Tables.{has_failed_here}
 use Rattle.cfb_live.specs.Freeing.{FreesStream}
 use Rattle.cfb_live.specs.Live.{live_of}
-use Rattle.cfb_live.specs.Strays.{HasNoMoreStrays}
+use Rattle.cfb_live.specs.Strays.{StaysTidy}
 use Rattle.cfb_live.proofs.Strays.{strays_then}
 use Rattle.cfb_medium.specs.declared.medium.ReadMedium.{Ghosts}
 use Rattle.cfb_mini.specs.LinkViews.{minis_of}
@@ -41,7 +41,7 @@ module _ {F : Type 0} {g : Ghosts F} (letters : Letters) (m0 m1 m2 new : MiniAll
     (goes : GoesOn (allocator_of m2) (allocator_of new)) (live : has_failed_here (allocator_of new) ≡ false) where
   -- it lies there, with its new bytes, and there are no more strays
   pub replaced : (minis : MiniLinks) → len < mini_cutoff → houses.moves.now.minis (stream_owner id) ≡ minis_of minis
-      → (then : IsStreamAt letters new (changed letters (with_bytes content') path tree) path id content') × AreLinksOf id (Short minis) new × HasNoMoreStrays m0 new at.means.who then.means.who
+      → (then : IsStreamAt letters new (changed letters (with_bytes content') path tree) path id content') × AreLinksOf id (Short minis) new × StaysTidy m0 new at.means.who then.means.who
   unfolding home_moves
   replaced minis below mine =
       let moved = home_moves m0 m1 m2 at.means.who id frees start content' houses in

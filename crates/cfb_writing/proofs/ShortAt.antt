@@ -4,7 +4,7 @@ use Rattle.std.proofs.lemmas.Bool.Decides.{leb_tells}
 use Rattle.cfb_chains.specs.Grown.{IsLinked}
 use Rattle.cfb_fat.specs.Tables.{bytes_of, fat_of, version_of}
 use Rattle.cfb_live.specs.Live.{live_of}
-use Rattle.cfb_live.specs.Strays.{HasNoMoreStrays}
+use Rattle.cfb_live.specs.Strays.{StaysTidy}
 use Rattle.cfb_live.proofs.Resting.{means_stays, stays_owned}
 use Rattle.cfb_live.proofs.Standing.{stands_of}
 use Rattle.cfb_live.proofs.Strays.{strays_kept, strays_then}
@@ -79,10 +79,10 @@ module _ {F : Type 0} {g : Ghosts F} where
 
   -- strays told from before reads
   pub kept_strays : (letters : Letters) (old mid new : MiniAllocator F g) (tree : Tree) (path : Path) (id : ℕ) (content : List ℕ) (k : KeepsOwners old mid) (at : IsStreamAt letters old tree path id content) (now : Owners)
-      → HasNoMoreStrays mid new (stream_kept letters old mid tree path id content k at).means.who now → HasNoMoreStrays old new at.means.who now
+      → StaysTidy mid new (stream_kept letters old mid tree path id content k at).means.who now → StaysTidy old new at.means.who now
   unfolding stream_kept
   kept_strays letters old mid new tree path id content k at now strays =
-      strays_then old mid new at.means.who at.means.who now (strays_kept old mid at.means.who k) (subst (λ w. HasNoMoreStrays mid new w now) (stays_owned old mid k letters tree at.means) strays)
+      strays_then old mid new at.means.who at.means.who now (strays_kept old mid at.means.who at.means.owners k) (subst (λ w. StaysTidy mid new w now) (stays_owned old mid k letters tree at.means) strays)
 
   -- the first bytes of its sectors are its bytes
   pub content_there : (letters : Letters) (it : MiniAllocator F g) (tree : Tree) (path : Path) (id : ℕ) (content : List ℕ) (at : IsStreamAt letters it tree path id content) (links : StreamLinks) → AreLinksOf id links it

@@ -6,7 +6,7 @@ use Rattle.cfb_chains.specs.declared.links.Links.{Links}
 use Rattle.cfb_directory.specs.Views.{entries_held}
 use Rattle.cfb_live.specs.Freeing.{Stands}
 use Rattle.cfb_live.specs.Live.{live_of}
-use Rattle.cfb_live.specs.Strays.{HasNoMoreStrays}
+use Rattle.cfb_live.specs.Strays.{StaysTidy}
 use Rattle.cfb_fat.specs.Tables.{bytes_of, version_of}
 use Rattle.cfb_medium.specs.Versions.{stream_len_mask}
 use Rattle.cfb_medium.specs.declared.medium.ReadMedium.{Ghosts}
@@ -44,7 +44,7 @@ module _ {F : Type 0} {g : Ghosts F} where
     pub stands : Stands new now
     pub carries : CarriesOthers (stream_owner id) (live_of old) (live_of new) who now
     pub entries : MovesRoot (entries_held (directory_of old)) (entries_held (directory_of new))
-    pub strays : HasNoMoreStrays old new who now
+    pub strays : StaysTidy old new who now
 
   -- entry `id` tells that its stream begins there and has so many bytes, which fit into it; all other entries stay, and all that is
   -- owned ([MS-CFB] 2.6.1)

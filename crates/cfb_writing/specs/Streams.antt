@@ -6,7 +6,7 @@ use Rattle.cfb_directory.specs.Views.{entries_held}
 use Rattle.cfb_fat.specs.Growing.{LacksNumbers}
 use Rattle.cfb_fat.specs.Tables.{version_of}
 use Rattle.cfb_live.specs.Live.{MeansLive}
-use Rattle.cfb_live.specs.Strays.{HasNoMoreStrays}
+use Rattle.cfb_live.specs.Strays.{StaysTidy}
 use Rattle.cfb_medium.specs.declared.medium.ReadMedium.{Ghosts}
 use Rattle.cfb_medium.specs.declared.version.Version.{Version}
 use Rattle.cfb_mini.specs.LinkViews.{minis_of}
@@ -67,7 +67,7 @@ module _ {F : Type 0} {g : Ghosts F} where
   -- and no mini sector is in use without an owner that wasn't so before
   abbrev pub Rewrites : ℕ → (List ℕ → List ℕ) → MiniAllocator F g → MiniAllocator F g → Type 0
   Rewrites id change old new = (letters : Letters) (tree : Tree) (path : Path) (content : List ℕ) → (at : IsStreamAt letters old tree path id content)
-      → (then : IsStreamAt letters new (changed letters (with_bytes (change content)) path tree) path id (change content)) × HasNoMoreStrays old new at.means.who then.means.who
+      → (then : IsStreamAt letters new (changed letters (with_bytes (change content)) path tree) path id (change content)) × StaysTidy old new at.means.who then.means.who
 
   -- entry `id` is a stream of no tree that is meant
   abbrev pub IsNoStream : ℕ → MiniAllocator F g → Type 0
@@ -80,12 +80,12 @@ module _ {F : Type 0} {g : Ghosts F} where
   -- so `Rewrites` does where these are its sectors, and then those are
   abbrev pub RewritesIn : ℕ → (List ℕ → List ℕ) → StreamLinks → StreamLinks → MiniAllocator F g → MiniAllocator F g → Type 0
   RewritesIn id change before after old new = (letters : Letters) (tree : Tree) (path : Path) (content : List ℕ) → (at : IsStreamAt letters old tree path id content) → AreLinksOf id before old
-      → (then : IsStreamAt letters new (changed letters (with_bytes (change content)) path tree) path id (change content)) × AreLinksOf id after new × HasNoMoreStrays old new at.means.who then.means.who
+      → (then : IsStreamAt letters new (changed letters (with_bytes (change content)) path tree) path id (change content)) × AreLinksOf id after new × StaysTidy old new at.means.who then.means.who
 
   -- a stream of entry `id` has then these bytes, in these sectors, and nothing else of the tree is changed; there are no more strays
   abbrev pub Replaces : ℕ → List ℕ → StreamLinks → MiniAllocator F g → MiniAllocator F g → Type 0
   Replaces id bytes after old new = (letters : Letters) (tree : Tree) (path : Path) (content : List ℕ) → (at : IsStreamAt letters old tree path id content)
-      → (then : IsStreamAt letters new (changed letters (with_bytes bytes) path tree) path id bytes) × AreLinksOf id after new × HasNoMoreStrays old new at.means.who then.means.who
+      → (then : IsStreamAt letters new (changed letters (with_bytes bytes) path tree) path id bytes) × AreLinksOf id after new × StaysTidy old new at.means.who then.means.who
 
   -- entry `id` is no stream with these sectors
   abbrev pub HasNoLinks : ℕ → StreamLinks → MiniAllocator F g → Type 0

@@ -46,7 +46,7 @@ pub reads_err : {B : Type 0} (expected : Result B Error) (e : Error) (tell : B �
 reads_err expected e tell P is = rw is (refl, refl)
 
 pub stays_on : {F : Type 0} {g : Ghosts F} (it : Allocator F g) → GoesOn it it
-stays_on it = record { honest = refl; continues = λ start from. from; version = refl; live = λ is. is; orderly = λ _. refl; told = λ _ _ _ is. is }
+stays_on it = record { honest = refl; continues = λ start from. from; version = refl; live = λ is. is; orderly = λ _. refl; told = λ _ _ _ is. is; ends = λ live honest orderly ends. ends }
 
 -- an error that comes neither from a device, nor from an earlier fault, nor from want of numbers
 pub record IsOwn (e : Error) : Type 0 where

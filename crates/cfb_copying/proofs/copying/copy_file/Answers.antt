@@ -59,6 +59,10 @@ pub returns-clause-copied : goal.returns-clause-copied
 returns-clause-copied g c = λ s who original same at.
     let begun = subst (λ v. IsBegun v c.in-Ok.target) (c.version.ensures ∙ original.version) c.in-Ok.ensures.begun in
     let has = c.in-Ok-copy_minis.ensures.copied s who c.args.ids.now original same at begun in
+    let made = begun.made in
+    let goes = goes_then c.in-Ok.target c.copy_minis.new.target c.copy_streams.new.target c.copy_minis.ensures.steps.goes_on c.copy_streams.ensures.steps.goes_on in
+    let live = c.in_default.ensures.steps.live in
     subst (HasCopy s who c.args.ids.now) (sym (c.into_bytes.ensures ∙ ap memory_bytes c.into_inner.ensures))
     (c.in_default-end_copy.ensures.ended s who c.args.ids.now (fills c.args.source.now s who c.args.ids.now original)
-    (c.in_default.ensures.copied s who (ids_of c.in-Ok-copy_minis.links) (original_rests c.args.source.now c.copy_minis.new.source s who c.args.ids.now c.copy_minis.ensures.steps.rests original) has))
+    (c.in_default.ensures.copied s who (ids_of c.in-Ok-copy_minis.links) (original_rests c.args.source.now c.copy_minis.new.source s who c.args.ids.now c.copy_minis.ensures.steps.rests original) has)
+    (goes.told live made.honest made.orderly begun.told) (goes.ends live made.honest made.orderly begun.ends))

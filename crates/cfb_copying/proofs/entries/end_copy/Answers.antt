@@ -7,6 +7,7 @@ use Rattle.cfb_owners.specs.Owners.{directory_owner}
 use Rattle.cfb_copying.specs.Making.{with_list}
 use Rattle.cfb_copying.specs.Steps.{sectors_among, FillSectors}
 use Rattle.cfb_fat.specs.Tables.{version_of}
+use Rattle.cfb_meaning.specs.Means.{directory_count}
 use Rattle.cfb_copying.proofs.Ended.{copy_ended, fill_again, fills_moved}
 use Rattle.cfb_copying.proofs.Numbers.{never_out}
 use Rattle.cfb_copying.proofs.PutChains.{no_full}
@@ -24,7 +25,7 @@ returns-in-Err-clause-refused g c = λ s who ids fills can has.
     (c.in-Err.ensures.refused end_of_chain has.own has.bytes has.made has.directory now)
 
 pub returns-clause-ended : goal.returns-clause-ended
-returns-clause-ended g c = λ s who ids fills has.
+returns-clause-ended g c = λ s who ids fills has told ends.
     let later = entries_in c.args.entries.now in
     let put = c.in-Ok.ensures in
     let first = c.in_default.ensures in
@@ -33,11 +34,24 @@ returns-clause-ended g c = λ s who ids fills has.
     let dir = ids_of c.in-Ok.links in
     let own = with_list directory_owner dir has.own in
     let bytes = with_list directory_owner did.content has.bytes in
-    copy_ended s who ids (ids_of c.args.mini_fat.now) dir did.content later c.args.target.now c.tell_mini_fat.new.target has
-    (c.tell_mini_fat.ensures.goes_on.version ∙ c.tell_directory.ensures.goes_on.version ∙ c.put_directory.ensures.goes_on.version)
-    (second.told 1 end_of_chain own bytes (first.told 1 end_of_chain own bytes did.made)) did.begins did.held
+    let a = c.args.target.now in
+    let p = c.put_directory.new.target in
+    let d = c.tell_directory.new.target in
+    let b = c.tell_mini_fat.new.target in
+    let later_on = goes_then p d b c.tell_directory.ensures.goes_on c.tell_mini_fat.ensures.goes_on in
+    let goes = goes_then a p b c.put_directory.ensures.goes_on later_on in
+    let middle = first.told 1 end_of_chain own bytes did.made in
+    let counts = second.counted middle.honest in
+    copy_ended s who ids (ids_of c.args.mini_fat.now) dir did.content later a b has goes.version
+    (second.told 1 end_of_chain own bytes middle) did.begins did.held
+    (goes.told second.live has.made.honest has.made.orderly told) (goes.ends second.live has.made.honest has.made.orderly ends)
+    (counts.1 ∙ first.counted did.made.honest ∙ ap (λ v. directory_count v (length dir)) (sym later_on.version)) counts.0
 
 pub returns-in-Err-tell_mini_fat-clause-cause : goal.returns-in-Err-tell_mini_fat-clause-cause
 returns-in-Err-tell_mini_fat-clause-cause g c =
     goes_cause c.args.target.now c.tell_directory.new.target c.tell_mini_fat.new.target c.in-Err-tell_mini_fat.error
     (goes_then c.args.target.now c.put_directory.new.target c.tell_directory.new.target c.put_directory.ensures.goes_on c.tell_directory.ensures.goes_on) c.in_default.ensures.live c.in-Err-tell_mini_fat.ensures.cause
+
+pub returns-in-Err-tell_directory-clause-cause : goal.returns-in-Err-tell_directory-clause-cause
+returns-in-Err-tell_directory-clause-cause g c =
+    goes_cause c.args.target.now c.put_directory.new.target c.tell_directory.new.target c.in-Err-tell_directory.error c.put_directory.ensures.goes_on c.in-Ok.ensures.live c.in-Err-tell_directory.ensures.cause

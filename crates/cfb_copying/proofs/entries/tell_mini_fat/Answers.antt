@@ -1,6 +1,6 @@
-use Rattle.std.proofs.Common.{arith, inr}
+use Rattle.std.proofs.Common.{arith, inr, subst, sym, ◌∙◌, IsTrue}
 use Rattle.cfb_owned.proofs.GoingOn.{goes_cause, goes_then}
-use Rattle.cfb_copying.proofs.WordsTold.{first_told, made_word}
+use Rattle.cfb_copying.proofs.WordsTold.{counts_told, first_told, made_word}
 use Rattle.cfb_copying.proofs.entries.tell_mini_fat.Goals as goal
 
 pub returns-in-Err-write_word-clause-goes_on : goal.returns-in-Err-write_word-clause-goes_on
@@ -24,3 +24,10 @@ returns-clause-told g c = λ directory mini_fat own bytes made.
     let went = c.write_word-2.ensures.goes_on in
     let middle = made_word directory mini_fat 64 a m own bytes made goes first.answers.live.1 (inr (omega arith)) (first.leaves made.honest) in
     first_told directory _ m b own bytes c.start_of.result middle went second.answers.live.1 (second.leaves middle.honest) (second.written middle.honest) c.start_of.type_inv c.start_of.ensures
+
+pub returns-clause-counted : goal.returns-clause-counted
+returns-clause-counted g c = λ honest.
+    let first = c.in_default.ensures in
+    let second = c.in_default-write_word.ensures in
+    let told = counts_told c.args.target.now c.write_word.new.allocator c.write_word-2.new.allocator c.count_of.result (first.leaves honest) (second.leaves (subst IsTrue (sym c.write_word.ensures.goes_on.honest) honest)) (first.written honest) c.count_of.type_inv in
+    (told.0 ∙ c.count_of.ensures, told.1)

@@ -3,6 +3,7 @@ use Rattle.cfb_sectors.specs.Held.{count_of, version_of}
 use Rattle.cfb_fat.specs.Changing.{fat_here}
 use Rattle.cfb_fat.proofs.EntryChanges.{entries_more}
 use Rattle.cfb_fat.proofs.EntryWrites.{entry_here, here_size, one_written, writes_more, writes_none}
+use Rattle.cfb_fat.specs.Orderly.{AreBelow}
 use Rattle.cfb_fat.proofs.FatEntries.{per}
 use Rattle.cfb_fat.proofs.changes.write_entries.Goals as goal
 
@@ -31,7 +32,7 @@ loop-sector_id-preserved g c =
     let size = here_size {g = g.F.ReadMedium} fs now places in
     let inside : id < length (fat_here {g = g.F.ReadMedium} fs now) = omega (arith, size, there) in
     record {
-      writes = writes_more ids fs old now new i id more refl inv.writes (one_written fs now new id c.args.entry _ _ each refl there places did.changes did.count c.ranges.entry.fits);
+      writes = writes_more ids fs old now new i id more refl inv.writes (one_written fs now new id c.args.entry _ _ each refl (subst (λ n. AreBelow n fs) (sym inv.writes.count) c.requires.there) there places did.changes did.count c.ranges.entry.fits);
       live = did.live;
       entries = λ honest once k less.
           let set = entry_here fs now new id c.args.entry _ _ each refl there places did.changes did.count c.ranges.entry.fits did.live (subst IsTrue (sym inv.writes.honest) honest) once in

@@ -1,10 +1,11 @@
-use Rattle.std.proofs.Common.{◌≡◌, ℕ, ◌+◌, ◌-◌, ◌*◌, ◌<◌, inr, length, take, get_or, ap, sym, subst, ◌∙◌, arith, false, IsTrue}
+use Rattle.std.proofs.Common.{◌≡◌, ℕ, ◌+◌, ◌-◌, ◌*◌, ◌%◌, ◌<◌, inr, length, take, get_or, ap, sym, subst, ◌∙◌, arith, false, IsTrue}
 use Rattle.std.specs.Int.{w32, to_le_bytes}
 use Rattle.cfb_medium.specs.Bytes.{overwritten}
 use Rattle.cfb_medium.specs.Versions.{sector_len}
 use Rattle.cfb_sectors.specs.Held.{bytes_of, count_of, has_failed_here, is_honest, version_of}
 use Rattle.cfb_sectors.specs.Sectors.{sector, sector_start, sectors_in}
 use Rattle.cfb_fat.proofs.ListedMore.{difat_listed, ends_before, link_aside_part, link_before, link_spot, one_beside, one_written, part_beside, words_before, IsLink}
+use Rattle.cfb_chains.proofs.ChainWriting.{length_within}
 use Rattle.cfb_chains.proofs.Overwriting.{over_longer}
 use Rattle.cfb_fat.proofs.Listing.{header_whole}
 use Rattle.cfb_fat.proofs.TableWords.{next_word}
@@ -48,6 +49,13 @@ returns-clause-appends g c =
           let is = ap length (bytes_are g c spot.0 spot.2 live honest) in
           let one = over_longer (bytes_of c.append_sector.new.sectors) (to_le_bytes w32 c.in_ok-sector_id.sector_id) (4 * spot.0) in
           omega (arith, was, is, one);
+      whole = λ live honest.
+          let mid = bytes_of c.append_sector.new.sectors in
+          let v = version_of it in
+          let ends = c.in_ok-sector_id.ensures.whole (named.changes.live live) honest in
+          let fits = ends_before v (count_of it) spot.0 (link_before v c.args.difat_sectors.now spot.0 (count_of it) c.requires.there spot.1) in
+          let same = length_within mid (to_le_bytes w32 c.in_ok-sector_id.sector_id) (4 * spot.0) (omega (arith, fits, ends)) in
+          subst (λ n. n % sector_len v ≡ 0) (sym (ap length (bytes_are g c spot.0 spot.2 live honest) ∙ same)) (added.whole (named.changes.live live) honest);
       before = λ live honest p n fits beside.
           part_beside (bytes_of c.append_sector.new.sectors) (bytes_of c.write_word.new.sectors) spot.0 c.in_ok-sector_id.sector_id (bytes_are g c spot.0 spot.2 live honest) p n
           (link_aside_part (version_of it) c.args.difat_sectors.now spot.0 p n spot.1 beside.0 beside.1)

@@ -4,6 +4,7 @@ use Rattle.cfb_medium.specs.Bytes.{overwritten}
 use Rattle.cfb_medium.specs.Versions.{sector_len}
 use Rattle.cfb_sectors.specs.Held.{bytes_of, count_of, has_failed_here, is_honest, version_of}
 use Rattle.cfb_sectors.specs.Sectors.{sector_start, sectors_in}
+use Rattle.cfb_chains.proofs.ChainWriting.{length_within}
 use Rattle.cfb_chains.proofs.Overwriting.{over_longer}
 use Rattle.cfb_fat.proofs.FatEntries.{per}
 use Rattle.cfb_fat.proofs.ListedMore.{count_aside, difat_counted, ends_before, entry_aside_part, entry_spot, fat_counted, fat_listed, first_written, other_parts, other_words, words_before}
@@ -57,6 +58,20 @@ returns-clause-appends g c =
           let two = over_longer (overwritten (bytes_of c.append_sector.new.sectors) (4 * spot.0) (to_le_bytes w32 c.in_ok-sector_id.sector_id)) (to_le_bytes w32 (c.args.fat_count + 1)) 44 in
           let three = over_longer (overwritten (overwritten (bytes_of c.append_sector.new.sectors) (4 * spot.0) (to_le_bytes w32 c.in_ok-sector_id.sector_id)) 44 (to_le_bytes w32 (c.args.fat_count + 1))) (to_le_bytes w32 (length c.args.difat_sectors.now)) 72 in
           omega (arith, was, is, one, two, three);
+      whole = λ live honest.
+          let mid = bytes_of c.append_sector.new.sectors in
+          let live_mid = named.changes.live (counted.changes.live live) in
+          let v = version_of it in
+          let ds = c.args.difat_sectors.now in
+          let one = overwritten mid (4 * spot.0) (to_le_bytes w32 c.in_ok-sector_id.sector_id) in
+          let two = overwritten one 44 (to_le_bytes w32 (c.args.fat_count + 1)) in
+          let far = behind_header v (count_of it) in
+          let ends = c.in_ok-sector_id.ensures.whole live_mid honest in
+          let fits = ends_before v (count_of it) spot.0 (entry_before v ds c.args.fat_count spot.0 (count_of it) c.requires.some c.requires.there spot.1) in
+          let first : length one ≡ length mid = length_within mid (to_le_bytes w32 c.in_ok-sector_id.sector_id) (4 * spot.0) (omega (arith, fits, ends)) in
+          let second : length two ≡ length one = length_within one (to_le_bytes w32 (c.args.fat_count + 1)) 44 (omega (arith, first, far, ends)) in
+          let third = length_within two (to_le_bytes w32 (length ds)) 72 (omega (arith, second, first, far, ends)) in
+          subst (λ n. n % sector_len v ≡ 0) (sym (ap length (bytes_are g c spot.0 spot.2 live honest) ∙ third ∙ second ∙ first)) (added.whole live_mid honest);
       before = λ live honest p n fits beside.
           other_parts (bytes_of c.append_sector.new.sectors) (bytes_of c.write_counts.new.sectors) spot.0 c.in_ok-sector_id.sector_id (c.args.fat_count + 1) (length c.args.difat_sectors.now) (bytes_are g c spot.0 spot.2 live honest) behind p n
           (entry_aside_part (version_of it) c.args.difat_sectors.now c.args.fat_count spot.0 p n spot.1 beside.0 beside.1) (count_aside 11 p n (inl refl) beside.1) (count_aside 18 p n (inr (inr refl)) beside.1)

@@ -1,9 +1,12 @@
-use Rattle.std.proofs.Common.{◌≡◌, ◌+◌, ◌<◌, ◌≤◌, inl, length, replicate, ap, sym, subst, ◌∙◌, arith, IsTrue}
+use Rattle.std.proofs.Common.{◌≡◌, ◌+◌, ◌%◌, ◌<◌, ◌≤◌, inl, length, replicate, ap, sym, subst, ◌∙◌, arith, IsTrue}
 use Rattle.cfb_medium.specs.Bytes.{overwritten}
 use Rattle.cfb_medium.specs.Versions.{sector_len}
 use Rattle.cfb_sectors.specs.Held.{bytes_of, count_of, version_of}
 use Rattle.cfb_sectors.specs.Initial.{initial}
 use Rattle.cfb_sectors.specs.Sectors.{filled_part, sector_start}
+use Rattle.cfb_chains.proofs.ChainWriting.{length_within}
+use Rattle.std.proofs.lemmas.List.{length-replicate}
+use Rattle.cfb_fat.proofs.EndsKept.{behind_all, length_past, whole_sector}
 use Rattle.cfb_fat.proofs.Fresh.{length-initial, some_bytes}
 use Rattle.cfb_chains.proofs.Overwriting.{beside, over_longer, over_reaches, written}
 use Rattle.cfb_fat.proofs.difat.append_sector.Goals as goal
@@ -29,6 +32,19 @@ returns-clause-appends g c =
           let at_one = ap length (first.bytes (second.live live) honest) in
           let at_two = ap length (second.bytes live (subst IsTrue (sym first.honest) honest)) in
           omega (arith, one, two, at_one, at_two);
+      whole = λ live honest.
+          let v = version_of it in
+          let zeros = replicate (sector_len v) 0 in
+          let past = behind_all v (length (bytes_of it)) (count_of it) (it.counted (first.live (second.live live)) honest) c.requires.few in
+          let size : length zeros ≡ sector_len v = length-replicate (sector_len v) 0 in
+          let some = some_bytes v in
+          let one : length (bytes_of mid) ≡ sector_start v (count_of it) + sector_len v =
+          ap length (first.bytes (second.live live) honest) ∙ length_past (bytes_of it) zeros (sector_start v (count_of it)) (omega (arith, size, some)) (omega (arith, size, past)) ∙ ap (λ n. sector_start v (count_of it) + n) size in
+          let fresh = initial c.args.init (sector_len (version_of mid)) in
+          let start : sector_start (version_of mid) c.in_ok-sector_id.sector_id ≡ sector_start v (count_of it) = ap (λ u. sector_start u c.in_ok-sector_id.sector_id) first.version ∙ ap (sector_start v) did.number in
+          let long : length fresh ≡ sector_len v = length-initial c.args.init (version_of mid) ∙ ap sector_len first.version in
+          let two = ap length (second.bytes live (subst IsTrue (sym first.honest) honest)) ∙ length_within (bytes_of mid) fresh (sector_start (version_of mid) c.in_ok-sector_id.sector_id) (omega (arith, one, start, long)) ∙ one in
+          subst (λ n. n % sector_len v ≡ 0) (sym two) (whole_sector v (count_of it));
       before = λ live honest place count fits stays.
           let start : sector_start (version_of mid) c.in_ok-sector_id.sector_id ≡ sector_start (version_of it) (count_of it) = ap (λ v. sector_start v c.in_ok-sector_id.sector_id) first.version ∙ ap (sector_start (version_of it)) did.number in
           ap (λ b. filled_part b place count) (second.bytes live (subst IsTrue (sym first.honest) honest))

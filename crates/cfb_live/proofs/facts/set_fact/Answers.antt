@@ -16,7 +16,7 @@ use Rattle.cfb_mini.specs.Views.{directory_of}
 use Rattle.cfb_live.specs.Facts.{change_for, setting, MayHave}
 use Rattle.cfb_live.specs.Live.{live_of}
 use Rattle.cfb_live.specs.Strays.{ComesToMean}
-use Rattle.cfb_live.proofs.FactRules.{as_was, becomes, links_stay, object_kind, place_stays, rule, same_links, step_done, step_missing, step_refused}
+use Rattle.cfb_live.proofs.FactRules.{as_was, becomes, color_stays, links_stay, object_kind, place_stays, rule, same_links, step_done, step_missing, step_refused}
 use Rattle.cfb_live.proofs.Resting.{keeps_refl}
 use Rattle.cfb_live.proofs.SetFacts.{means_held, same_comes, set_comes}
 use Rattle.cfb_live.proofs.Streams.{reads}
@@ -136,7 +136,7 @@ returns-clause-does g c = record {
       let changes = did.changes m.who.sectors e m.owners found (λ zero. ap (λ (x : Entry). x.start) change ∙ place.0) in
       let set = did.set e found ∙ ap (slice_set (entries_held (directory_of it)) id) change in
       let comes = subst (ComesToMean l it new m.who) (sym (ap (λ o. o.0) step))
-      (set_comes l it tree m at.0 id e f (rule fact at.0) here found new (links_stay fact e) place.0 place.1 (becomes Reads l (entries_held (directory_of it)) tree held id e found fact at.0 here may)
+      (set_comes l it tree m at.0 id e f (rule fact at.0) here found new (links_stay fact e) (color_stays fact e) place.0 place.1 (becomes Reads l (entries_held (directory_of it)) tree held id e found fact at.0 here may)
       c.with_dir_entry_mut.ensures.goes_on did.answers.live.1 changes set) in
       record { names = at.0; at_path = at.1; accepted = ap (λ o. o.1) step; means = comes.means; strays = comes.strays };
   refused = tt;

@@ -14,7 +14,7 @@ use Rattle.cfb_directory.specs.Views.{entries_held}
 use Rattle.cfb_mini.specs.Views.{allocator_of, directory_of}
 use Rattle.cfb_owned.proofs.GoingOn.{goes_cause, goes_then}
 use Rattle.cfb_live.specs.Live.{live_of}
-use Rattle.cfb_live.specs.Strays.{ComesToMean, HasNoMoreStrays}
+use Rattle.cfb_live.specs.Strays.{ComesToMean, StaysTidy}
 use Rattle.cfb_live.specs.Parents.{ComesAsFar, MeansAsFar}
 use Rattle.cfb_live.proofs.AllMade.{all_made, as_far_more, as_far_strays, name_more, next_place, take_end}
 use Rattle.cfb_live.proofs.NewPlaces.{length-path}
@@ -142,6 +142,9 @@ returns-in-Err-make_missing-clause-answers g c =
       fault = told.fault;
     }
 
+pub returns-in-Err-make_missing-clause-goes_on : goal.returns-in-Err-make_missing-clause-goes_on
+returns-in-Err-make_missing-clause-goes_on g c = goes_then _ _ _ c.make_child.ensures.goes_on c.make_missing.ensures.goes_on
+
 pub returns-clause-goes_on : goal.returns-clause-goes_on
 returns-clause-goes_on g c = goes_then _ _ _ c.make_child.ensures.goes_on c.make_missing.ensures.goes_on
 
@@ -174,7 +177,7 @@ returns-clause-does g c = record {
       let child = c.in-Ok-make_child.ensures.made tree (take count path) m place in
       let one = as_far_more l c.args.moment tree path count parent it so below _ next mid top child in
       let again = c.deref-2.ensures.value ∙ sym c.deref.ensures.value in
-      let start = subst (λ ns. (far : MeansAsFar l moment tree (path_of ns) (count + 1) top mid) × HasNoMoreStrays it mid m.who far.means.who) (sym again)
+      let start = subst (λ ns. (far : MeansAsFar l moment tree (path_of ns) (count + 1) top mid) × StaysTidy it mid m.who far.means.who) (sym again)
       (one, as_far_strays l c.args.moment tree path count parent it so below _ next mid top child) in
       let new = c.make_missing.new.mini in
       let all = subst (λ ns. ComesAsFar l moment tree (path_of ns) (length ns) mid new start.0.means.who) again (c.in_default.ensures.made tree start.0) in

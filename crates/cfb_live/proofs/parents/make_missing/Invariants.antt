@@ -7,7 +7,7 @@ use Rattle.cfb_siblings.specs.Places.{path_of}
 use Rattle.cfb_tree.specs.LetterViews.{letters_of}
 use Rattle.cfb_tree.specs.Tree.{Tree}
 use Rattle.cfb_live.specs.Parents.{MeansAsFar}
-use Rattle.cfb_live.specs.Strays.{HasNoMoreStrays}
+use Rattle.cfb_live.specs.Strays.{StaysTidy}
 use Rattle.cfb_live.proofs.parents.make_missing.Given as goal
 
 abbrev pub invariant-making : goal.invariant-making
@@ -15,5 +15,5 @@ invariant-making g l = record {
   goes : GoesOn (allocator_of l.initial.mini) (allocator_of l.mini);
   live : has_failed_here (allocator_of l.mini) ≡ false;
   made : (tree : Tree) → (so : MeansAsFar (letters_of l.letters) (units_of l.moment) tree (path_of l.names) l.fn.first l.fn.top l.initial.mini)
-      → (far : MeansAsFar (letters_of l.letters) (units_of l.moment) tree (path_of l.names) l.count l.parent l.mini) × HasNoMoreStrays l.initial.mini l.mini so.means.who far.means.who;
+      → (far : MeansAsFar (letters_of l.letters) (units_of l.moment) tree (path_of l.names) l.count l.parent l.mini) × StaysTidy l.initial.mini l.mini so.means.who far.means.who;
 }

@@ -116,6 +116,9 @@ returns-in-Err-take_leaves-clause-answers g c =
       fault = told.fault;
     }
 
+pub returns-in-Err-take_leaves-clause-goes_on : goal.returns-in-Err-take_leaves-clause-goes_on
+returns-in-Err-take_leaves-clause-goes_on g c = goes_then _ _ _ c.take_out.ensures.goes_on c.take_leaves.ensures.goes_on
+
 pub returns-in-Err-take_emptied-2-clause-refused : goal.returns-in-Err-take_emptied-2-clause-refused
 returns-in-Err-take_emptied-2-clause-refused g c = λ wrong tree m has storage_at.
     let it = c.args.mini.now in

@@ -1,9 +1,9 @@
-use Rattle.std.proofs.Common.{◌≡◌, ◌-◌, ◌<◌, [], ◌∷◌, ap, arith, drop, get_or, length, set, subst, suc, sym, take}
+use Rattle.std.proofs.Common.{◌≡◌, ◌∙◌, ◌-◌, ◌<◌, false, true, inl, [], ◌∷◌, ap, arith, drop, get_or, length, set, subst, suc, sym, take}
 use Rattle.cfb_sectors.specs.Sectors.{end_of_chain, free}
 use Rattle.cfb_chains.specs.Changes.{AreAmong, DifferAt, HaveEntry}
 use Rattle.cfb_chains.specs.Grown.{IsLinked}
 use Rattle.cfb_owned.specs.Chains.{HasChain}
-use Rattle.cfb_owned.proofs.GoingOn.{goes_then}
+use Rattle.cfb_owned.proofs.GoingOn.{goes_cause, goes_then}
 use Rattle.cfb_mini.specs.NumberWrites.{Enters}
 use Rattle.cfb_mini.specs.LinkViews.{minis_of}
 use Rattle.cfb_mini.specs.NumberViews.{numbers_of}
@@ -13,6 +13,21 @@ use Rattle.cfb_mini.proofs.number_writes.end_behind.Goals as goal
 
 pub returns-clause-goes_on : goal.returns-clause-goes_on
 returns-clause-goes_on g c = goes_then c.args.allocator.now c.set_number.new.allocator c.set_numbers.new.allocator c.set_number.ensures.goes_on c.set_numbers.ensures.goes_on
+
+pub returns-in-Err-set_numbers-clause-goes_on : goal.returns-in-Err-set_numbers-clause-goes_on
+returns-in-Err-set_numbers-clause-goes_on g c =
+    goes_then c.args.allocator.now c.set_number.new.allocator c.set_numbers.new.allocator c.set_number.ensures.goes_on c.set_numbers.ensures.goes_on
+
+pub returns-in-Err-set_numbers-clause-answers : goal.returns-in-Err-set_numbers-clause-answers
+returns-in-Err-set_numbers-clause-answers g c =
+    let told = c.in-Err-set_numbers.ensures in
+    record {
+      live = tt;
+      failed = λ had. let never : false ≡ true = sym c.requires.live ∙ had in absurd (cc);
+      after = inl told.failed;
+      cause = goes_cause c.args.allocator.now c.set_number.new.allocator c.set_numbers.new.allocator c.in-Err-set_numbers.error c.set_number.ensures.goes_on c.in_default.ensures.live told.cause;
+      fault = told.fault;
+    }
 
 pub returns-clause-cuts : goal.returns-clause-cuts
 returns-clause-cuts g c = λ chain.

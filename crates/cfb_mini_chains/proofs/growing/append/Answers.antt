@@ -1,10 +1,11 @@
-use Rattle.std.proofs.Common.{◌≡◌, ◌+◌, ◌*◌, length, ap, arith, inl, inr, ⊎_elim}
+use Rattle.std.proofs.Common.{◌≡◌, ◌+◌, ◌*◌, [], length, ap, arith, inl, inr, ⊎_elim}
 use Rattle.std.specs.Prelude.{Err}
 use Rattle.cfb_fat.specs.Keeping.{fails_cause}
+use Rattle.cfb_fat.specs.Resting.{all_rest_refl}
 use Rattle.cfb_mini.specs.LinkViews.{minis_of}
 use Rattle.cfb_mini.specs.Views.{allocator_of}
 use Rattle.cfb_mini.proofs.Longer.{lengthened_owners, own_now}
-use Rattle.cfb_owned.proofs.GoingOn.{goes_cause, goes_then}
+use Rattle.cfb_owned.proofs.GoingOn.{fails_go_on, goes_cause, goes_then}
 use Rattle.cfb_mini_chains.proofs.Appending.{appended, chain_then}
 use Rattle.cfb_mini_chains.proofs.growing.append.Goals as goal
 
@@ -24,6 +25,11 @@ returns-in-Ok-clause-appended g c = λ own h chain.
 
 pub returns-in-Ok-clause-goes_on : goal.returns-in-Ok-clause-goes_on
 returns-in-Ok-clause-goes_on g c = goes_then _ _ _ c.lengthen_mini_chain.ensures.goes_on c.overwrite_mini_chain.ensures.goes_on
+
+pub returns-in-Err-overwrite_mini_chain-clause-goes_on : goal.returns-in-Err-overwrite_mini_chain-clause-goes_on
+returns-in-Err-overwrite_mini_chain-clause-goes_on g c =
+    let b = allocator_of c.overwrite_mini_chain.new.self in
+    fails_go_on 0 [] (allocator_of c.args.mini.now) b b (allocator_of c.fail.new.self) (goes_then _ _ _ c.lengthen_mini_chain.ensures.goes_on c.overwrite_mini_chain.ensures.goes_on) (inr (all_rest_refl b)) c.fail.ensures
 
 pub returns-in-Err-overwrite_mini_chain-clause-refused : goal.returns-in-Err-overwrite_mini_chain-clause-refused
 returns-in-Err-overwrite_mini_chain-clause-refused g c = λ wrong own h chain orderly.

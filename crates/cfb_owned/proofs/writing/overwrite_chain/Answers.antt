@@ -44,7 +44,7 @@ write-preserved g c =
     record {
       most = enough;
       live = did.live.1;
-      goes = goes_then a m b inv.goes (writes_go_on c.spot-sector_id.result.0 c.spot-sector_id.result.1 _ m b did.there.0 did.writes);
+      goes = goes_then a m b inv.goes (writes_go_on c.spot-sector_id.result.0 c.spot-sector_id.result.1 _ m b did.there.0 did.there.1 did.writes);
       tables = keeps_write _ _ a m b inv.tables did.writes;
       written = λ chain. more_over c.args.at done n c.spot-sector_id.result.0 c.spot-sector_id.result.1 bytes (take (done + n - done) (drop done bytes)) a m b c.args.links.now chain (inv.written chain) did.live.1 inv.goes.version did.writes did.leaves
           c.spot-sector_id.ensures.sector c.spot-sector_id.ensures.offset (omega (arith, count, left)) whole enough (omega (arith, count, left, rest.1, more)) part (ap (λ k. take k (drop done bytes)) same_n);

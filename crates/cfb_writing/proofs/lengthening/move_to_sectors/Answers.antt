@@ -1,4 +1,4 @@
-use Rattle.std.proofs.Common.{◌≡◌, inl, inr, ap, sym, subst, ◌∙◌, ⊎_elim}
+use Rattle.std.proofs.Common.{◌≡◌, [], inl, inr, ap, sym, subst, ◌∙◌, ⊎_elim}
 use Rattle.std.specs.Prelude.{Err}
 use Rattle.std.proofs.lemmas.Option.{slice_get_within}
 use Rattle.cfb_chains.specs.LinkViews.{ids_of}
@@ -7,7 +7,8 @@ use Rattle.cfb_live.proofs.Standing.{stands_of}
 use Rattle.cfb_medium.specs.declared.error.Error.TheVariants.{InvalidData}
 use Rattle.cfb_mini.specs.Changing.{Frees}
 use Rattle.cfb_mini.specs.Views.{allocator_of}
-use Rattle.cfb_owned.proofs.GoingOn.{goes_cause, goes_then}
+use Rattle.cfb_fat.specs.Resting.{all_rest_refl}
+use Rattle.cfb_owned.proofs.GoingOn.{fails_go_on, goes_cause, goes_then}
 use Rattle.cfb_writing.specs.Streams.{resized}
 use Rattle.cfb_writing.proofs.LongBytes.{length-resized}
 use Rattle.cfb_writing.proofs.Placed.{entry_moved, entry_of}
@@ -76,6 +77,11 @@ returns-in-Err-free_mini_chain-clause-answers g c =
       cause = fails_cause a b (allocator_of c.fail.new.self) c.in-Err-free_mini_chain.error (goes_cause a m b c.in-Err-free_mini_chain.error c.take_long.ensures.goes_on live.1 told.cause) c.fail.ensures;
       fault = ⊎_elim (λ fault. inl fault) (λ broken. inr (inl (inl broken))) told.fault;
     }
+
+pub returns-in-Err-free_mini_chain-clause-goes_on : goal.returns-in-Err-free_mini_chain-clause-goes_on
+returns-in-Err-free_mini_chain-clause-goes_on g c =
+    let b = allocator_of c.free_mini_chain.new.self in
+    fails_go_on 0 [] (allocator_of c.args.mini.now) b b (allocator_of c.fail.new.self) (goes_then _ _ _ c.take_long.ensures.goes_on c.free_mini_chain.ensures.goes_on) (inr (all_rest_refl b)) c.fail.ensures
 
 pub returns-in-Err-set_place-clause-goes_on : goal.returns-in-Err-set_place-clause-goes_on
 returns-in-Err-set_place-clause-goes_on g c = goes_then _ _ _ (goes_then _ _ _ c.take_long.ensures.goes_on c.free_mini_chain.ensures.goes_on) c.set_place.ensures.goes_on

@@ -1,11 +1,12 @@
-use Rattle.std.proofs.Common.{◌≡◌, ◌*◌, ◌≤◌, length, refl, ap, sym, subst, arith}
+use Rattle.std.proofs.Common.{◌≡◌, [], inr, ◌*◌, ◌≤◌, length, refl, ap, sym, subst, arith}
 use Rattle.std.specs.Prelude.{Err}
 use Rattle.cfb_chains.specs.Grown.{IsLinked}
 use Rattle.cfb_fat.specs.Keeping.{fails_cause}
 use Rattle.cfb_medium.specs.declared.error.Error.TheVariants.{InvalidData}
 use Rattle.cfb_mini.specs.LinkViews.{minis_of}
 use Rattle.cfb_mini.specs.Views.{allocator_of, mini_fat_of}
-use Rattle.cfb_owned.proofs.GoingOn.{goes_cause, goes_then}
+use Rattle.cfb_fat.specs.Resting.{all_rest_refl}
+use Rattle.cfb_owned.proofs.GoingOn.{fails_go_on, goes_cause, goes_then}
 use Rattle.cfb_writing.proofs.MiniMoves.{moves_over}
 use Rattle.cfb_writing.proofs.ShortStreams.{begun, taken_short}
 use Rattle.cfb_writing.proofs.taking.take_short.Goals as goal
@@ -46,6 +47,12 @@ returns-clause-taken g c = λ who id m nothing.
     let there = next.there in
     let fits : length bytes ≤ 64 * length (minis_of links) = omega (arith, there) in
     taken_short m0 m1 m2 who id links bytes c.requires.short fits one.0 one.1 one.2 two.0 two.1 over
+
+pub returns-in-Err-overwrite_mini_chain-clause-goes_on : goal.returns-in-Err-overwrite_mini_chain-clause-goes_on
+returns-in-Err-overwrite_mini_chain-clause-goes_on g c =
+    let b = allocator_of c.overwrite_mini_chain.new.self in
+    fails_go_on 0 [] (allocator_of c.args.mini.now) b b (allocator_of c.fail-in-Err-overwrite_mini_chain.new.self) (goes_then _ _ _ c.lengthen_mini_chain.ensures.goes_on c.overwrite_mini_chain.ensures.goes_on) (inr (all_rest_refl b))
+    c.fail-in-Err-overwrite_mini_chain.ensures
 
 pub returns-clause-goes_on : goal.returns-clause-goes_on
 returns-clause-goes_on g c = goes_then _ _ _ c.lengthen_mini_chain.ensures.goes_on c.overwrite_mini_chain.ensures.goes_on

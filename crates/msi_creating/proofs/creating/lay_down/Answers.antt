@@ -1,5 +1,5 @@
-use Rattle.std.proofs.Common.{◌≡◌, ◌∙◌, ⊎_elim, ap, inl, inr, refl, subst}
-use Rattle.cfb.specs.Views.{letters_in, mini_of}
+use Rattle.std.proofs.Common.{◌≡◌, Bool, false, true, ◌∙◌, ⊎_elim, ap, inl, inr, refl, subst}
+use Rattle.cfb.specs.Views.{letters_in, mini_of, sound_of}
 use Rattle.cfb_mini.specs.Views.{allocator_of}
 use Rattle.cfb_owned.proofs.GoingOn.{goes_cause, goes_then}
 use Rattle.msi_tables.specs.Schema.{columns_name, tables_name, validation_name}
@@ -92,6 +92,20 @@ returns-clause-laid g c = λ tree means none.
     subst (λ b. LaysDown c.args.kind b c.args.parts.now.tables_bytes.items c.args.parts.now.validation_bytes.items old new) c.deref.ensures.value
     (subst (λ b. LaysDown c.args.kind c.deref.result.now b c.args.parts.now.validation_bytes.items old new) c.deref-2.ensures.value
     (subst (λ b. LaysDown c.args.kind c.deref.result.now c.deref-2.result.now b old new) c.deref-3.ensures.value laid))
+
+-- only a sound file is changed
+changed_sound : (b : Bool) → (b ≡ false → ⊥) → b ≡ true
+changed_sound true never = refl
+changed_sound false never = absurd (never refl)
+
+pub returns-clause-seen : goal.returns-clause-seen
+returns-clause-seen g c =
+    let start = c.in-Ok.ensures in
+    let first = c.in-Ok-put_table_bytes.ensures.puts.seen in
+    let second = c.in-Ok-put_table_bytes-2.ensures.puts.seen in
+    let third = c.in-Ok-put_table_bytes-3.ensures.puts.seen in
+    let sound = changed_sound (sound_of c.args.file.now) (λ unsound. let never = (start.does.unsound start.answers.live.0 unsound).0 in absurd (cc)) in
+    (third.0 ∙ second.0 ∙ first.0 ∙ start.does.seen.0, third.1 ∙ second.1 ∙ first.1 ∙ start.does.seen.1 ∙ sound)
 
 pub returns-clause-goes_on : goal.returns-clause-goes_on
 returns-clause-goes_on g c =

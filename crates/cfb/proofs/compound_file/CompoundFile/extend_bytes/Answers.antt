@@ -2,7 +2,7 @@ use Rattle.std.proofs.Common.{[], inl, inr, ap, subst, ◌∙◌, ⊎_elim, arit
 use Rattle.cfb_fat.specs.Keeping.{fails_cause}
 use Rattle.cfb_fat.specs.Resting.{all_rest_refl}
 use Rattle.cfb_medium.specs.Bytes.{overwritten}
-use Rattle.cfb_live.specs.Strays.{HasNoMoreStrays}
+use Rattle.cfb_live.specs.Strays.{StaysTidy}
 use Rattle.cfb_live.proofs.Strays.{strays_then}
 use Rattle.cfb_mini.specs.Views.{allocator_of}
 use Rattle.cfb_owned.proofs.GoingOn.{fails_go_on, goes_cause, goes_then}
@@ -53,7 +53,7 @@ returns-clause-written g c = λ path tree content w.
     let second = c.in_default-overwrite_bytes.ensures.written path _ longer first.0 in
     let old = mini_of c.args.self.now in
     let new = mini_of c.overwrite_bytes.new.self in
-    subst (λ t. (then : StreamIsWritten c.overwrite_bytes.new.self path t c.args.id later) × HasNoMoreStrays old new w.at.means.who then.at.means.who)
+    subst (λ t. (then : StreamIsWritten c.overwrite_bytes.new.self path t c.args.id later) × StaysTidy old new w.at.means.who then.at.means.who)
     (ap (λ l. changed l (with_bytes later) path (changed letters (with_bytes longer) path tree)) c.resize_bytes.ensures.seen.0 ∙ changed_again letters longer later path tree)
     (second.0, strays_then old (mini_of c.resize_bytes.new.self) new w.at.means.who first.0.at.means.who second.0.at.means.who first.1 second.1)
 

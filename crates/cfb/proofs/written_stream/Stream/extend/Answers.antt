@@ -1,6 +1,6 @@
 use Rattle.std.proofs.Common.{length, ap, refl, subst, sym, ◌∙◌, inl, inr, ⊎_elim, arith}
 use Rattle.cfb_chains.proofs.ChainWriting.{length_within}
-use Rattle.cfb_live.specs.Strays.{HasNoMoreStrays}
+use Rattle.cfb_live.specs.Strays.{StaysTidy}
 use Rattle.cfb_tree.specs.Changes.{changed, with_bytes}
 use Rattle.cfb_writing.specs.Streams.{resized, LacksRoom}
 use Rattle.cfb_writing.proofs.LongBytes.{length-resized}
@@ -33,7 +33,7 @@ returns-clause-written g c = λ path tree content s.
     let same = written_behind content bytes at end (omega (arith, len, inside)) is (omega (arith, len, behind)) in
     let size = length_within (resized end content) bytes at (let long = length-resized content end in omega (arith, long, is)) ∙ length-resized content end in
     let it' =
-    subst (λ b. (then : StreamIsWritten c.extend_bytes.new.self path (changed (letters_in (file_under it)) (with_bytes b) path tree) it.id b) × HasNoMoreStrays (mini_of (file_under it)) (mini_of c.extend_bytes.new.self) s.written.at.means.who then.at.means.who) same
+    subst (λ b. (then : StreamIsWritten c.extend_bytes.new.self path (changed (letters_in (file_under it)) (with_bytes b) path tree) it.id b) × StaysTidy (mini_of (file_under it)) (mini_of c.extend_bytes.new.self) s.written.at.means.who then.at.means.who) same
     (c.in_default.ensures.written path tree content s.written) in
     (record { written = it'.0; len = sym size ∙ ap length same }, it'.1)
 

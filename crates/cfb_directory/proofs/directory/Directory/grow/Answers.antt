@@ -1,5 +1,5 @@
 use Rattle.cfb_medium.specs.declared.error.Error.TheVariants.{Full}
-use Rattle.std.proofs.Common.{◌≡◌, ◌+◌, ◌*◌, inl, ⊎_elim, Err, length, take, ◌++◌, ap, subst, ◌∙◌, arith, rules}
+use Rattle.std.proofs.Common.{◌≡◌, ◌+◌, ◌*◌, inl, inr, [], ⊎_elim, Err, length, take, ◌++◌, ap, subst, ◌∙◌, arith, rules}
 use Rattle.std.proofs.lemmas.List.{length-map, take_all}
 use Rattle.cfb_medium.specs.Versions.{dir_entries_per_sector, sector_len}
 use Rattle.cfb_sectors.specs.Copies.{copies}
@@ -9,14 +9,20 @@ use Rattle.cfb_sectors.specs.declared.initial.SectorInit.TheVariants.{Dir}
 use Rattle.cfb_chains.specs.LinkViews.{ids_of, links_version}
 use Rattle.cfb_chains.specs.Positions.{sectors_for}
 use Rattle.cfb_fat.specs.Keeping.{fails_cause}
+use Rattle.cfb_fat.specs.Resting.{all_rest_refl}
 use Rattle.cfb_fat.specs.Tables.{bytes_of, version_of}
-use Rattle.cfb_owned.proofs.GoingOn.{goes_cause, goes_then}
+use Rattle.cfb_owned.proofs.GoingOn.{fails_go_on, goes_cause, goes_then}
 use Rattle.cfb_tree.specs.EntryViews.{entry_in}
 use Rattle.cfb_directory.specs.Growth.{longer, IsCounted}
 use Rattle.cfb_directory.specs.Views.{allocator_of, entries_held, links_of}
 use Rattle.cfb_directory.specs.Entries.{entries_in}
 use Rattle.cfb_directory.proofs.Growing.{directory_grown, first_unused, grown_kept, lacks_places, lacks_sector, length_longer, more_is_one, one_more}
 use Rattle.cfb_directory.proofs.directory.Directory.grow.Goals as goal
+
+pub returns-in-Err-write_count-clause-goes_on : goal.returns-in-Err-write_count-clause-goes_on
+returns-in-Err-write_count-clause-goes_on g c =
+    let b = c.write_count.new.allocator in
+    fails_go_on 0 [] (allocator_of c.args.self.now) b b c.fail.new.self (goes_then _ _ _ c.set_chain_len.ensures.goes_on c.write_count.ensures.goes_on) (inr (all_rest_refl b)) c.fail.ensures
 
 pub returns-in-Err-write_count-clause-answers : goal.returns-in-Err-write_count-clause-answers
 returns-in-Err-write_count-clause-answers g c =

@@ -1,6 +1,7 @@
-use Rattle.std.proofs.Common.{◌≡◌, ap, sym, ◌∙◌}
+use Rattle.std.proofs.Common.{inl, rules, ◌≡◌, ap, sym, ◌∙◌}
+use Rattle.cfb_fat.specs.Keeping.{fails_cause}
 use Rattle.cfb_siblings.specs.Links.{holder, linked_to, relinked, with_entry}
-use Rattle.cfb_directory.specs.Views.{entries_held}
+use Rattle.cfb_directory.specs.Views.{allocator_of, entries_held}
 use Rattle.cfb_directory.proofs.Turned.{sets_one}
 use Rattle.cfb_directory.proofs.directory.Directory.set_link.Goals as goal
 
@@ -14,3 +15,14 @@ returns-clause-links g c =
     let is : entries_held new ≡ relinked link target (entries_held old) =
     set.2.entries ∙ sym (ap (with_entry (entries_held old) (holder link) (linked_to link target)) set.1) in
     sets_one old new link target set.0 set.2 c.write_link.ensures.noted is
+
+pub returns-in-Err-clause-answers : goal.returns-in-Err-clause-answers
+returns-in-Err-clause-answers g c =
+    let told = c.in-Err.ensures.answers in
+    record {
+      live = tt;
+      failed = search rules;
+      after = inl c.fail.ensures.sectors.failed;
+      cause = fails_cause (allocator_of c.args.self.now) (allocator_of c.write_link.new.self) c.fail.new.self c.in-Err.error told.cause c.fail.ensures;
+      fault = told.fault;
+    }

@@ -15,6 +15,9 @@ returns-in-Err-set_link-clause-refused g c = λ wrong has holders fits.
     (entry_as (entries_held old) (entries_held mid) (holder c.args.rotation.lowered.link) sets.alike holders.lowered)
     (sizes_still old mid c.set_link.ensures.goes_on sets.alike fits)
 
+pub returns-in-Err-set_link-clause-goes_on : goal.returns-in-Err-set_link-clause-goes_on
+returns-in-Err-set_link-clause-goes_on g c = goes_then _ _ _ c.set_link.ensures.goes_on c.set_link-2.ensures.goes_on
+
 pub returns-in-Err-set_link-clause-answers : goal.returns-in-Err-set_link-clause-answers
 returns-in-Err-set_link-clause-answers g c =
     let told = c.in_default.ensures.answers in

@@ -1,4 +1,4 @@
-use Rattle.std.proofs.Common.{◌≡◌, ◌+◌, ◌-◌, ◌*◌, ◌/◌, ◌%◌, ◌<◌, ◌≤◌, [], ◌∷◌, ◌++◌, length, take, refl, ap, sym, subst, ◌∙◌, arith, length-append, IsTrue}
+use Rattle.std.proofs.Common.{◌≡◌, ℕ, ◌+◌, ◌-◌, ◌*◌, ◌/◌, ◌%◌, ◌<◌, ◌≤◌, [], ◌∷◌, ◌++◌, length, take, refl, ap, sym, subst, ◌∙◌, arith, length-append, IsTrue}
 use Rattle.std.specs.Prelude.{slice_index}
 use Rattle.std.specs.Int.{w32, to_le_bytes}
 use Rattle.std.proofs.lemmas.List.{get_or_read}
@@ -6,11 +6,12 @@ use mathlib.Core.Logic.{∥∥₁_map}
 use Rattle.cfb_medium.specs.Bytes.{overwritten}
 use Rattle.cfb_medium.specs.Versions.{sector_len}
 use Rattle.cfb_sectors.specs.Held.{bytes_of, count_of, version_of}
-use Rattle.cfb_sectors.specs.Sectors.{end_of_chain, fat_in, sector, sector_start, sectors_in}
+use Rattle.cfb_sectors.specs.Sectors.{end_of_chain, fat_in, filled_part, sector, sector_start, sectors_in}
 use Rattle.cfb_fat.specs.Listed.{Lists}
 use Rattle.cfb_chains.specs.Changes.{IsBeside, IsNoneOf}
 use Rattle.cfb_fat.specs.Orderly.{IsOrderly}
 use Rattle.cfb_fat.proofs.Appended.{entry_added, listed_before_end, none_behind, whole_before}
+use Rattle.cfb_fat.proofs.EndsKept.{ends_in_front, entry_inside, whole_over}
 use Rattle.cfb_fat.proofs.Entering.{others_stay, rest_below}
 use Rattle.cfb_fat.proofs.FatEntries.{per, split}
 use Rattle.cfb_fat.proofs.Lean.{lean_one}
@@ -133,6 +134,21 @@ returns-clause-occupies g c = record {
             let far = behind_header v (count_of a) in
             told_in (version_of m) (bytes_of m) (bytes_of c.write_number.new.sectors) (to_le_bytes w32 end_of_chain) ds fs _ _ (wrote.changes.bytes live mid) in_mid
             (told_kept (bytes_of a) (bytes_of m) ds fs whole in_mid (did.appends.before did.live honest 44 4 (omega (arith, far)) tt) (did.appends.before did.live honest 72 4 (omega (arith, far)) tt) told));
+        ends = λ live honest orderly ends.
+            let mid = subst IsTrue (sym did.appends.honest) honest in
+            let b = c.write_number.new.sectors in
+            let version = did.appends.version in
+            let had = ((it.listed c.requires.live honest).0 orderly).1 in
+            let in_old = header_whole v (bytes_of a) (count_of a) (a.counted c.requires.live honest) order.some in
+            let first = did.appends.longer did.live honest in
+            let mid_count : count_of m ≡ sectors_in v (length (bytes_of m)) = m.counted did.live mid ∙ ap (λ u. sectors_in u (length (bytes_of m))) version in
+            let written = wrote.changes.bytes live mid ∙ ap (λ u. overwritten (bytes_of m) (sector_start u c.index-holder.result.now + 4 * (index % (c.sector_len-each.result / 4))) (to_le_bytes w32 end_of_chain)) version in
+            let kept : (p n : ℕ) → p + n ≤ sector_start v (count_of a) → IsBeside v fs p n → filled_part (bytes_of b) p n ≡ filled_part (bytes_of a) p n = λ p n fits apart.
+            others_stay v (bytes_of m) (bytes_of b) fs index end_of_chain c.index-holder.result.now (c.sector_len-each.result / 4) each holder below written p n apart ∙ did.appends.before did.live honest p n fits tt in
+            ends_in_front v (version_of b) (bytes_of a) (bytes_of b) ds fs (count_of a) (wrote.changes.version ∙ version) in_old
+            (let second = longer_over (bytes_of m) (bytes_of b) (to_le_bytes w32 end_of_chain) _ (wrote.changes.bytes live mid) in omega (arith, first, second)) order.once order.there kept had
+            (whole_over v (bytes_of m) (bytes_of b) (to_le_bytes w32 end_of_chain) (count_of m) _ mid_count (omega (arith, more)) written
+            (entry_inside v fs index _ _ (count_of m) each holder below (below_more (count_of a) (count_of m) fs (omega (arith, more)) (it.there c.requires.live))) (did.appends.whole did.live honest)) ends;
         beside = λ live honest p n fits beside words taken.
             let mid = subst IsTrue (sym did.appends.honest) honest in
             others_stay (version_of m) (bytes_of m) (bytes_of c.write_number.new.sectors) fs index end_of_chain c.index-holder.result.now (c.sector_len-each.result / 4) (each ∙ ap per (sym did.appends.version)) holder below (wrote.changes.bytes live mid) p n

@@ -2,13 +2,15 @@ use Rattle.std.proofs.Common.{false, ◌≡◌, ◌*◌, ◌<◌, ◌≤◌, len
 use Rattle.std.specs.Prelude.{slice_index}
 use mathlib.Core.Logic.{∥∥₁_map}
 use Rattle.cfb_runs.specs.Tables.{entries_of}
-use Rattle.cfb_sectors.specs.Held.{has_failed_here, IsHonest}
+use Rattle.cfb_sectors.specs.Held.{bytes_of, has_failed_here, IsHonest}
 use Rattle.cfb_sectors.specs.Sectors.{free}
 use Rattle.cfb_chains.specs.Changes.{AreOnce, HaveEntry}
 use Rattle.cfb_fat.specs.Changing.{fat_here, WritesEntries}
+use Rattle.cfb_fat.proofs.EndsKept.{ends_beside}
 use Rattle.cfb_fat.proofs.Entering.{once_behind, order_stays}
 use Rattle.cfb_fat.proofs.EntryWrites.{packed_freed, same_freed}
 use Rattle.cfb_fat.proofs.FatEntries.{per}
+use Rattle.cfb_fat.proofs.Listing.{header_whole}
 use Rattle.cfb_fat.proofs.allocator.Allocator.free_entries.Goals as goal
 
 pub invariant_of-self-2 : goal.invariant_of-self-2
@@ -63,5 +65,9 @@ returns-clause-changes g c =
       fat = λ live. record { size = memory.size; others = memory.others };
       longer = did.longer;
       told = λ live honest. did.told live honest it.difat_sectors.items;
+      ends = λ live honest orderly.
+          let order = it.orderly orderly in
+          ends_beside it.sectors.version _ (bytes_of it.sectors) (bytes_of new) it.difat_sectors.items fs did.version (header_whole it.sectors.version (bytes_of it.sectors) it.sectors.num_sectors (it.sectors.counted (did.live live) honest) order.some)
+          (did.longer live honest) order.once (did.beside live honest) ((it.listed (did.live live) honest).0 orderly).1 (did.whole live honest);
       beside = did.beside;
     }

@@ -5,10 +5,12 @@ use Rattle.cfb_medium.specs.Versions.{sector_len}
 use Rattle.cfb_sectors.specs.Held.{bytes_of, count_of, version_of}
 use Rattle.cfb_sectors.specs.Sectors.{fat_in, free, sector_start}
 use Rattle.cfb_fat.specs.Growing.{Appends, IsBesideDifat}
-use Rattle.cfb_fat.specs.Listed.{Lists}
-use Rattle.cfb_chains.specs.Changes.{AreOnce, IsBeside, IsNoneOf}
+use Rattle.cfb_fat.specs.Listed.{Ends, Lists}
+use Rattle.cfb_chains.specs.Changes.{IsBeside, IsNoneOf}
 use Rattle.cfb_fat.specs.Orderly.{AreBelow, IsOrderly}
 use Rattle.cfb_fat.proofs.FatEntries.{per}
+use Rattle.cfb_fat.proofs.EndsKept.{both_in, ends_at}
+use Rattle.cfb_fat.proofs.ListsNow.{lists_now}
 use Rattle.cfb_fat.proofs.Grown.{order_grown, same_grown, there_grown, whole_grown, Lengthens}
 use Rattle.cfb_chains.proofs.Beside.{beside_both, beside_first, beside_second, none_first, start_later}
 use Rattle.std.proofs.lemmas.Bool.Decides.{eqb_tells}
@@ -137,16 +139,13 @@ invariant_of-self-2 g c =
       listed = λ live honest.
           let mid = subst IsTrue h.appends.honest honest in
           let was = subst IsTrue all.first.honest mid in
-          let old = it.orderly c.requires.orderly in
           let had = (it.listed c.requires.live was).0 c.requires.orderly in
-          let linked = subst (λ l. AreOnce l → (xs : List ℕ) → Lists (version_of a) (bytes_of a) l xs → Lists (version_of a) (bytes_of m) (l ++ count_of a ∷ []) xs) c.deref.ensures.value (did.listed did.live was) in
-          let named = subst (λ l. AreOnce l → (xs : List ℕ) → length xs ≡ c.len.result → Lists (version_of m) (bytes_of m) l xs → Lists (version_of m) (bytes_of b) l (xs ++ count_of m ∷ [])) (c.deref-2.ensures.value ∙ sym all.is_ds) (then.listed live mid) in (
+          let named = both_in (version_of a) (version_of m) (bytes_of a) (bytes_of m) (bytes_of b) _ _ it.difat_sectors.items it.fat_sectors.items (count_of a) (count_of m) _ all.first.version c.deref.ensures.value (c.deref-2.ensures.value ∙ sym all.is_ds)
+          (did.listed did.live was) (then.listed live mid) (once_front it.difat_sectors.items it.fat_sectors.items (it.orderly c.requires.orderly).once) (once_front ds it.fat_sectors.items h.once) (omega (arith, c.len.ensures, it.fat_sectors.ok.0)) in (
             λ now. (
               order,
               ∥∥₁_map had.1 (λ listed.
-                  subst (λ l. Lists (version_of b) (bytes_of b) l new_fs) all.is_ds (subst (λ l. Lists (version_of b) (bytes_of b) ds l) all.is_fs (subst (λ v. Lists v (bytes_of b) ds fs) (sym h.appends.version)
-                  (named (once_front ds it.fat_sectors.items h.once) it.fat_sectors.items (omega (arith, c.len.ensures, it.fat_sectors.ok.0))
-                  (subst (λ v. Lists v (bytes_of m) ds it.fat_sectors.items) (sym all.first.version) (linked (once_front it.difat_sectors.items it.fat_sectors.items old.once) it.fat_sectors.items listed)))))),
+                  subst (λ l. Lists (version_of b) (bytes_of b) l new_fs) all.is_ds (subst (λ l. Lists (version_of b) (bytes_of b) ds l) all.is_fs (subst (λ v. Lists v (bytes_of b) ds fs) (sym h.appends.version) (named listed).0))),
             ),
             λ has. refl,
           );
@@ -196,6 +195,14 @@ returns-clause-grows g c =
           let same : c.len.result + 1 ≡ length c.push_reserved-2.new.self.items = omega (arith, size, long, c.len.ensures, it.fat_sectors.ok.0) in
           let told = then.told live (subst IsTrue (sym first.honest) honest) in
           record { difat_count = told.1 ∙ ap length c.deref-2.ensures.value; fat_count = told.0 ∙ same };
+      ends = λ live honest orderly ends.
+          let order = it.orderly orderly in
+          let once_more = once_front (ds ++ count_of a ∷ []) fs (once_middle ds fs (count_of a) order.once (below_both (count_of a) ds fs order.there (it.there c.requires.live))) in
+          let has = both_in v (version_of m) (bytes_of a) (bytes_of m) (bytes_of c.add_fat_sector.new.sectors) _ _ ds fs (count_of a) (count_of m) _ first.version c.deref.ensures.value (c.deref-2.ensures.value ∙ sym is_ds)
+          (did.listed did.live honest) (then.listed live (subst IsTrue (sym first.honest) honest)) (once_front ds fs order.once) once_more (omega (arith, c.len.ensures, it.fat_sectors.ok.0))
+          (lists_now v (bytes_of a) ds fs ((it.listed c.requires.live honest).0 orderly).1) in
+          subst (Ends (version_of c.add_fat_sector.new.sectors) (bytes_of c.add_fat_sector.new.sectors)) is_ds
+          (ends_at (version_of m) _ (bytes_of c.add_fat_sector.new.sectors) (ds ++ count_of a ∷ []) (fs ++ count_of m ∷ []) second.version has.0 has.1 (second.whole live (subst IsTrue (sym first.honest) honest)));
       beside = λ live honest p n fits apart words taken.
           let beside_ds = beside_more v ds p n (count_of a) (count_of a) (beside_first v ds fs p n apart) fits (omega arith) in
           second.before live (subst IsTrue (sym first.honest) honest) p n (subst (λ u. p + n ≤ sector_start u (count_of m)) (sym first.version) (later (p + n) fits)) (subst (λ u. IsBeside u (ds ++ count_of a ∷ []) p n) (sym first.version) beside_ds, words)

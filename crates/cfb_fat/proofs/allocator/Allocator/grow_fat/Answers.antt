@@ -6,8 +6,10 @@ use Rattle.cfb_sectors.specs.Held.{bytes_of, count_of, version_of}
 use Rattle.cfb_sectors.specs.Sectors.{fat_in, free}
 use Rattle.cfb_fat.specs.Growing.{Appends, IsBesideDifat}
 use Rattle.cfb_fat.specs.Listed.{Lists}
-use Rattle.cfb_chains.specs.Changes.{AreOnce, IsBeside, IsNoneOf}
+use Rattle.cfb_chains.specs.Changes.{IsBeside, IsNoneOf}
 use Rattle.cfb_fat.specs.Orderly.{IsOrderly}
+use Rattle.cfb_fat.proofs.EndsKept.{ends_listed, named_in}
+use Rattle.cfb_fat.proofs.ListsNow.{lists_now}
 use Rattle.cfb_fat.proofs.Grown.{order_grown, same_grown, there_grown, whole_grown, Lengthens}
 use Rattle.cfb_fat.proofs.Lean.{lean_longer}
 use Rattle.cfb_fat.specs.Keeping.{lean_same}
@@ -74,12 +76,11 @@ invariant_of-self-2 g c =
       orderly = λ now. order;
       listed = λ live honest.
           let was = subst IsTrue did.appends.honest honest in
-          let named = subst (λ l. AreOnce l → (xs : List ℕ) → length xs ≡ c.len.result → Lists (version_of a) (bytes_of a) l xs → Lists (version_of a) (bytes_of b) l (xs ++ count_of a ∷ [])) c.deref.ensures.value (did.listed live was) in
           let had = (it.listed c.requires.live was).0 c.requires.orderly in (
             λ now. (
               order,
               ∥∥₁_map had.1 (λ listed. subst (λ l. Lists (version_of b) (bytes_of b) ds l) has_fs (subst (λ v. Lists v (bytes_of b) ds fs) (sym did.appends.version)
-                  (named (once_front ds it.fat_sectors.items h.once) it.fat_sectors.items (omega (arith, c.len.ensures, it.fat_sectors.ok.0)) listed))),
+                  (named_in (version_of a) (bytes_of a) (bytes_of b) _ ds it.fat_sectors.items (count_of a) _ c.deref.ensures.value (did.listed live was) (once_front ds it.fat_sectors.items h.once) (omega (arith, c.len.ensures, it.fat_sectors.ok.0)) listed).0)),
             ),
             λ has. refl,
           );
@@ -115,6 +116,11 @@ returns-clause-grows g c =
           let same : c.len.result + 1 ≡ length c.push_reserved.new.self.items = omega (arith, size, long, c.len.ensures, it.fat_sectors.ok.0) in
           let told = did.told live honest in
           record { difat_count = told.1 ∙ ap length c.deref.ensures.value; fat_count = told.0 ∙ same };
+      ends = λ live honest orderly.
+          let had = lists_now v (bytes_of it.sectors) ds fs ((it.listed c.requires.live honest).0 orderly).1 in
+          let has = named_in v (bytes_of it.sectors) (bytes_of c.add_fat_sector.new.sectors) _ ds fs (count_of it.sectors) _ c.deref.ensures.value (did.listed live honest)
+          (once_front ds fs (it.orderly orderly).once) (omega (arith, c.len.ensures, it.fat_sectors.ok.0)) had in
+          ends_listed v _ (bytes_of it.sectors) (bytes_of c.add_fat_sector.new.sectors) ds fs (fs ++ count_of it.sectors ∷ []) did.appends.version had has.0 has.1 (did.appends.whole live honest);
       tables = λ live p n fits apart. subst (λ l. IsBeside v (ds ++ l) p n) (sym (c.push_reserved.ensures.items ∙ ap (λ n. fs ++ n ∷ []) did.number))
           (subst (λ l. IsBeside v l p n) (append_assoc ds fs (count_of it.sectors ∷ [])) (beside_more v (ds ++ fs) p n (count_of it.sectors) (count_of it.sectors) apart fits (omega arith)));
       beside = λ live honest p n fits apart words taken. appends.before live honest p n fits (beside_first v ds fs p n apart, words);

@@ -6,6 +6,7 @@ use Rattle.std.specs.Int.{w32, to_le_bytes}
 use Rattle.cfb_sectors.specs.Held.{bytes_of}
 use Rattle.cfb_fat.proofs.ListedStays.{entry_aside, listed_still, longer_over, told_in}
 use Rattle.cfb_fat.proofs.Listing.{header_whole}
+use Rattle.cfb_fat.proofs.EndsKept.{ends_beside, entry_inside, whole_over}
 use Rattle.cfb_fat.proofs.Entering.{differ_at, entered, index_in, order_stays, others_stay}
 use Rattle.cfb_chains.specs.Changes.{DifferAt}
 use Rattle.cfb_fat.proofs.FatEntries.{per}
@@ -65,6 +66,17 @@ returns-clause-changes g c =
       told = λ live honest. let order = it.orderly c.requires.ready.1 in
           told_in it.sectors.version (bytes_of it.sectors) (bytes_of c.write_number.new.sectors) (to_le_bytes w32 c.args.entry) it.difat_sectors.items fs _ _ (did.changes.bytes live honest)
           (header_whole it.sectors.version (bytes_of it.sectors) it.sectors.num_sectors (it.sectors.counted (did.changes.live live) honest) order.some);
+      ends = λ live honest orderly.
+          let order = it.orderly orderly in
+          let v = it.sectors.version in
+          let counted = it.sectors.counted (did.changes.live live) honest in
+          let holder = get_or_read fs _ _ below c.index-holder.ensures 0 in
+          let written = did.changes.bytes live honest in
+          ends_beside v _ (bytes_of it.sectors) (bytes_of c.write_number.new.sectors) it.difat_sectors.items fs did.changes.version (header_whole v (bytes_of it.sectors) it.sectors.num_sectors counted order.some)
+          (longer_over (bytes_of it.sectors) (bytes_of c.write_number.new.sectors) (to_le_bytes w32 c.args.entry) _ written) order.once
+          (others_stay v _ _ fs c.args.sector_id c.args.entry _ _ each holder below written) ((it.listed (did.changes.live live) honest).0 orderly).1
+          (whole_over v (bytes_of it.sectors) (bytes_of c.write_number.new.sectors) (to_le_bytes w32 c.args.entry) it.sectors.num_sectors _ counted order.some written
+          (entry_inside v fs c.args.sector_id _ _ it.sectors.num_sectors each holder below (it.there (did.changes.live live))));
       beside = λ live honest. others_stay it.sectors.version _ _ fs c.args.sector_id c.args.entry _ _ each (get_or_read fs _ _ below c.index-holder.ensures 0) below (did.changes.bytes live honest);
     }
 

@@ -34,7 +34,7 @@ returns-clause-occupies g c = record {
       let it = c.args.self.now in
       let n = c.args.sector_id in
       grows_then (n ∷ []) [] [] (n ∷ []) it c.init_beside.new.self c.set_entry.new.self
-      (write_grows n _ it c.init_beside.new.self (it.orderly c.requires.orderly).some (length-initial c.args.init (version_of it.sectors)) c.in_ok-init_beside.ensures.writes)
+      (write_grows n _ it c.init_beside.new.self (it.orderly c.requires.orderly).some (omega (arith, c.requires.there, (it.orderly c.requires.orderly).covered)) c.requires.no_difat (length-initial c.args.init (version_of it.sectors)) c.in_ok-init_beside.ensures.writes)
       (change_grows (n ∷ []) c.init_beside.new.self c.set_entry.new.self c.in_ok-set_entry.ensures.changes);
   fresh = record {
     filled = λ honest.

@@ -6,6 +6,18 @@ use Rattle.cfb_mini_chains.specs.MiniGrowing.{MiniAppends}
 use Rattle.cfb_mini_chains.proofs.Appending.{took}
 use Rattle.cfb_mini_chains.proofs.chain.MiniChain.write.Goals as goal
 
+pub returns-then-is_empty-clause-inside : goal.returns-then-is_empty-clause-inside
+returns-then-is_empty-clause-inside g c = λ within.
+    let it = c.args.self.now in
+    let new = c.write_inside.new.self in
+    let bytes = c.args.bytes.now in
+    let few : c.min.result ≤ length bytes = let is = c.min.ensures in omega (arith, is) in
+    took c.write_inside.result (λ n l. (own : ℕ → List ℕ) → HasChain it own → MiniOverwrites (position_of it) l (mini_of it) (mini_of new) (links_of it) own × HasChain new own)
+    bytes c.min.result few c.write_inside.ensures.written (IfOk-weaker c.write_inside.result _ _ (λ n told. told.0) c.write_inside.ensures.there)
+
+pub returns-then-is_empty-clause-refused : goal.returns-then-is_empty-clause-refused
+returns-then-is_empty-clause-refused g c = λ wrong orderly own chain. c.write_inside.ensures.refused wrong own chain
+
 pub returns-then-self-len-clause-inside : goal.returns-then-self-len-clause-inside
 returns-then-self-len-clause-inside g c = λ within.
     let it = c.args.self.now in
@@ -14,6 +26,9 @@ returns-then-self-len-clause-inside g c = λ within.
     let few : c.min.result ≤ length bytes = let is = c.min.ensures in omega (arith, is) in
     took c.write_inside-then-self-len.result (λ n l. (own : ℕ → List ℕ) → HasChain it own → MiniOverwrites (position_of it) l (mini_of it) (mini_of new) (links_of it) own × HasChain new own)
     bytes c.min.result few c.write_inside-then-self-len.ensures.written (IfOk-weaker c.write_inside-then-self-len.result _ _ (λ n told. told.0) c.write_inside-then-self-len.ensures.there)
+
+pub returns-then-self-len-clause-refused : goal.returns-then-self-len-clause-refused
+returns-then-self-len-clause-refused g c = λ wrong orderly own chain. c.write_inside-then-self-len.ensures.refused wrong own chain
 
 pub returns-clause-behind : goal.returns-clause-behind
 returns-clause-behind g c = λ beyond.
