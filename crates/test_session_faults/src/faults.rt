@@ -23,8 +23,8 @@ pub fn new_package(alloc: Global) -> Result<Session<MemoryDevice>, Error> {
     made(create(alloc, device(alloc, &[], &[])?))
 }
 
-// Makes the table T, and adds the rows 2 and 1.
-fn fill<D: Device>(alloc: Global, session: &mut Session<D>) -> Result<()> {
+/// Makes the table T, and adds the rows 2 and 1.
+pub fn fill<D: Device>(alloc: Global, session: &mut Session<D>) -> Result<()> {
     does(alloc, session, create_table(alloc, "T")?)?;
     does(alloc, session, insert(alloc, "T", 2)?)?;
     does(alloc, session, insert(alloc, "T", 1)?)

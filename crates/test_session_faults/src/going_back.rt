@@ -1,6 +1,6 @@
 //! Sessions that go back to what was committed last.
-use crate::commands::{create_table, does, has_rows, insert, refusal};
-use crate::faults::{device_after_commit, new_package};
+use crate::commands::{does, has_rows, insert, refusal};
+use crate::faults::{device_after_commit, fill, new_package};
 use crate::session_calls::{has_failed, into_device, open};
 use anyhow::Result;
 use cfb_medium::Error;
@@ -25,13 +25,6 @@ pub fn print(rt: &HostRuntime) -> Result<()> {
     )
 }
 
-// Makes the table T, and adds the rows 2 and 1.
-fn fill(alloc: Global, session: &mut Session<MemoryDevice>) -> Result<()> {
-    does(alloc, session, create_table(alloc, "T")?)?;
-    does(alloc, session, insert(alloc, "T", 2)?)?;
-    does(alloc, session, insert(alloc, "T", 1)?)
-}
-
 // Adds the row 3, goes back, and adds it again.
 fn adds_and_goes_back<D: Device>(alloc: Global, session: &mut Session<D>) -> Result<()> {
     does(alloc, session, insert(alloc, "T", 3)?)?;
@@ -41,21 +34,31 @@ fn adds_and_goes_back<D: Device>(alloc: Global, session: &mut Session<D>) -> Res
     does(alloc, session, insert(alloc, "T", 3)?)
 }
 
-fn new_sessions_go_back_once_they_have_committed(alloc: Global) -> Result<()> {
+// A new package has nothing to go back to until it was committed.
+fn goes_back_once_committed(alloc: Global, session: &mut Session<MemoryDevice>) -> Result<()> {
+    same(
+        &refusal(alloc, session, Command::RollBack)?,
+        &Some(Error::NotFound),
+    )?;
+    fill(alloc, session)?;
+    same(
+        &refusal(alloc, session, Command::RollBack)?,
+        &Some(Error::NotFound),
+    )?;
+    has_rows(alloc, session, &[1, 2])?;
+    does(alloc, session, Command::Commit)?;
+    adds_and_goes_back(alloc, session)
+}
+
+// A new package that was committed, with the rows 1 and 2 in the table T.
+fn committed(alloc: Global) -> Result<MemoryDevice> {
     let mut session = new_package(alloc)?;
-    same(
-        &refusal(alloc, &mut session, Command::RollBack)?,
-        &Some(Error::NotFound),
-    )?;
-    fill(alloc, &mut session)?;
-    same(
-        &refusal(alloc, &mut session, Command::RollBack)?,
-        &Some(Error::NotFound),
-    )?;
-    has_rows(alloc, &mut session, &[1, 2])?;
-    does(alloc, &mut session, Command::Commit)?;
-    adds_and_goes_back(alloc, &mut session)?;
-    let mut later = made(open(alloc, into_device(session)))?;
+    goes_back_once_committed(alloc, &mut session)?;
+    Ok(into_device(session))
+}
+
+fn new_sessions_go_back_once_they_have_committed(alloc: Global) -> Result<()> {
+    let mut later = made(open(alloc, committed(alloc)?))?;
     adds_and_goes_back(alloc, &mut later)
 }
 
