@@ -1,9 +1,7 @@
 //! Files that are copied to another medium.
 ghost use Rattle.cfb_copying.specs.Chains.{IsCopyFault};
-ghost use Rattle.cfb_copying.specs.Copied.{HoldsCopy};
-ghost use Rattle.cfb_fat.specs.Tables.{has_failed_here, version_of, HasCauseBelow};
+ghost use Rattle.cfb_fat.specs.Tables.{has_failed_here, HasCauseBelow};
 ghost use Rattle.cfb_live.specs.Doing.{IsFault};
-ghost use Rattle.cfb_meaning.specs.Means.{IsStrictlyOpenable};
 ghost use Rattle.cfb_medium.specs.Calls.{Extends, HasCauseSince};
 ghost use Rattle.cfb_medium.specs.declared.error.Error.TheVariants.{Failed, Full, InvalidData};
 ghost use Rattle.cfb_mini.specs.Views.{allocator_of};
@@ -16,8 +14,8 @@ use cfb_medium::{Error, Medium, ReadMedium};
 use cfb_sectors::HasSectors;
 
 impl<F: ReadMedium> CompoundFile<F> {
-    ghost use Rattle.cfb.specs.Doing.{FileMeans, HasStrictEntries};
-    ghost use Rattle.cfb.specs.Views.{letters_in, mini_of, sound_of, FileRests};
+    ghost use Rattle.cfb.specs.Doing.{CopiesFile, FileMeans};
+    ghost use Rattle.cfb.specs.Views.{mini_of, sound_of, FileRests};
 
     /// Copies the file to an empty medium: there is then a file of the same version that means the same tree, is sound, and has no
     /// sector that serves no use; what the file holds in sectors and mini sectors of streams is copied whole. A strict reader takes
@@ -30,11 +28,7 @@ impl<F: ReadMedium> CompoundFile<F> {
     pub fn copy_to<T: Medium>(&mut self, target: &mut T) -> Result<(), Error>
         requires { IsTrue (T.honest target.old) → T.bytes target.old ≡ [] }
         ensures copied { OnOk result (IsTrue (T.honest target.old) → (tree : Tree)
-            → FileMeans self.old tree → HoldsCopy (version_of (allocator_of (mini_of self.old)))
-            (letters_in self.old) (T.bytes target.new) tree) }
-        ensures strict { OnOk result (IsTrue (T.honest target.old) → (tree : Tree)
-            → FileMeans self.old tree → HasStrictEntries self.old
-            → IsStrictlyOpenable (letters_in self.old) (T.bytes target.new)) }
+            → FileMeans self.old tree → CopiesFile self.old tree (T.bytes target.new)) }
         ensures refused { IfErr result (λ e. (tree : Tree) → FileMeans self.old tree → IsFault e) }
         ensures numbered { IsErrOf result Full → (tree : Tree) → FileMeans self.old tree → ⊥ }
         ensures failed { has_failed_here (allocator_of (mini_of self.old)) ≡ true

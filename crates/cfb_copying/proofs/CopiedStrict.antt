@@ -15,7 +15,7 @@ use Rattle.cfb_tree.specs.Directory.{black, Entry, HasName}
 use Rattle.cfb_tree.specs.Entries.{IsBlackAt, IsColored}
 use Rattle.cfb_tree.specs.Names.{Letters}
 use Rattle.cfb_tree.specs.Tree.{Tree}
-use Rattle.cfb_copying.specs.Copied.{IsCopied, IsCounted, Restarts}
+use Rattle.cfb_copying.specs.Copied.{CountsTables, IsCopied, Restarts}
 use Rattle.cfb_copying.proofs.CopiedMeans.{copy_held, copy_ids, now}
 use Rattle.cfb_copying.proofs.Restarted.{same_name, some_again}
 
@@ -30,7 +30,7 @@ module _ (es later : List Entry) (ids : List ℕ) (own : ℕ → List ℕ) (h : 
   root_again : IfSome (slice_get es 0) (λ root. HasName root (codes "Root Entry")) → IfSome (slice_get later 0) (λ root. HasName root (codes "Root Entry"))
   root_again = some_again es later ids own h _ _ (λ e start named. same_name e start (codes "Root Entry") named) 0
 
-module _ (s t : LiveFile) (who : Owners) (own : ℕ → List ℕ) (letters : Letters) (tree : Tree) (h : MeansHeld s who letters tree) (c : IsCopied s who h.ids t own) (counted : IsCounted t own) (facts : HaveStrictFacts s.entries) where
+module _ (s t : LiveFile) (who : Owners) (own : ℕ → List ℕ) (letters : Letters) (tree : Tree) (h : MeansHeld s who letters tree) (c : IsCopied s who h.ids t own) (counted : CountsTables t own) (facts : HaveStrictFacts s.entries) where
   colors : AreColored s.entries h.ids
   colors = subst (AreColored s.entries) (tree_ids s who letters tree h) (facts.colors letters (reads s who) tree (tree_held s who letters tree h))
 

@@ -52,7 +52,7 @@ pub record IsCopied (s : LiveFile) (who : Owners) (ids : List ℕ) (t : LiveFile
   pub restarts : Restarts s.entries ids own t.entries
 
 -- its header counts the sectors of all tables, and file and DIFAT end as a strict reader asks for ([MS-CFB] 2.1, 2.2, 2.5)
-pub record IsCounted (t : LiveFile) (own : ℕ → List ℕ) : Type 0 where
+pub record CountsTables (t : LiveFile) (own : ℕ → List ℕ) : Type 0 where
   pub told : Counts t.bytes t.difat_sectors t.fat_sectors
   pub ends : Ends t.version t.bytes t.difat_sectors
   pub directory : directory_sector_count t.bytes ≡ directory_count t.version (length (own directory_owner))

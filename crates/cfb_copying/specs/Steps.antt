@@ -21,7 +21,7 @@ use Rattle.cfb_tree.specs.Directory.{entries_of, Entry}
 use Rattle.cfb_tree.specs.Names.{Letters}
 use Rattle.cfb_tree.specs.Tree.{Tree}
 use Rattle.cfb_copying.specs.Chains.{HasCauseInEither, IsCopyFault}
-use Rattle.cfb_copying.specs.Copied.{IsCopied, IsCounted, IsLongAmong, Restarts}
+use Rattle.cfb_copying.specs.Copied.{CountsTables, IsCopied, IsLongAmong, Restarts}
 use Rattle.cfb_copying.specs.Making.{with_list, IsMade, IsOneOf}
 
 -- a copy is made of the live file, whose tree has these entries, in these bytes; the header's counts are right
@@ -29,7 +29,7 @@ pub record HasCopy (s : LiveFile) (who : Owners) (ids bytes : List ℕ) : Type 0
   pub file : LiveFile
   pub own : ℕ → List ℕ
   pub copied : IsCopied s who ids file own
-  pub counted : IsCounted file own
+  pub counted : CountsTables file own
   pub bytes_are : file.bytes ≡ bytes
 
 -- entries of this version fill whole sectors, and each fits into its bytes ([MS-CFB] 2.6.1)

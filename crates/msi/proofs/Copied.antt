@@ -1,7 +1,7 @@
 -- A package that was copied, at each exit.
 use Rattle.std.proofs.Common.{◌≡◌, ◌∙◌, List, false, inl, inr, refl, subst, sym, true, ℕ}
 use Rattle.std.specs.Prelude.{Err, IfErr, Ok, OnOk, Result}
-use Rattle.cfb.specs.Doing.{FileMeans}
+use Rattle.cfb.specs.Doing.{CopiesFile, FileMeans}
 use Rattle.cfb.specs.Views.{FileRests, letters_in, mini_of}
 use Rattle.cfb_copying.specs.Copied.{HoldsCopy}
 use Rattle.cfb_fat.specs.Tables.{HasCauseBelow, version_of}
@@ -80,16 +80,16 @@ module _ {F : Type 0} {g : Ghosts F} (honest : Type 0) (bytes : List ℕ) where
 
     module _ (u : Unit {0}) (s : SavesMemory (Ok u) old mid) (new : Package F g) (d : DifferByFile mid new) (same : pool_in new ≡ pool_in mid) (rests : FileRests (file_in mid) (file_in new)) where
       copied : (version_of (allocator_of (mini_of (file_in mid))) ≡ version_of (allocator_of (mini_of (file_in old))))
-          → (honest → (tree : Tree) → FileMeans (file_in mid) tree → HoldsCopy (version_of (allocator_of (mini_of (file_in mid)))) (letters_in (file_in mid)) bytes tree)
+          → (honest → (tree : Tree) → FileMeans (file_in mid) tree → CopiesFile (file_in mid) tree bytes)
           → (P : Packed) → PackageIsSaved mid P → honest → HoldsPackageCopy (version_of (allocator_of (mini_of (file_in old)))) (letters_in (file_in old)) bytes P
       copied version copies P saved is =
           subst (λ v. HoldsPackageCopy v (letters_in (file_in old)) bytes P) version
           (subst (λ l. HoldsPackageCopy (version_of (allocator_of (mini_of (file_in mid)))) l bytes P) s.seen.0
-          (copy_holds (version_of (allocator_of (mini_of (file_in mid)))) (letters_in (file_in mid)) bytes P saved.tree saved.holds.usable (copies is saved.tree saved.means) (record { packs = saved.packs; sound = saved.sound })))
+          (copy_holds (version_of (allocator_of (mini_of (file_in mid)))) (letters_in (file_in mid)) bytes P saved.tree saved.holds.usable (copies is saved.tree saved.means).holds (record { packs = saved.packs; sound = saved.sound })))
 
       -- the file was copied, or that was refused
       pub saved_copies : (r : Result (Unit {0}) Error) → (version_of (allocator_of (mini_of (file_in mid))) ≡ version_of (allocator_of (mini_of (file_in old))))
-          → OnOk r (honest → (tree : Tree) → FileMeans (file_in mid) tree → HoldsCopy (version_of (allocator_of (mini_of (file_in mid)))) (letters_in (file_in mid)) bytes tree)
+          → OnOk r (honest → (tree : Tree) → FileMeans (file_in mid) tree → CopiesFile (file_in mid) tree bytes)
           → IfErr r (λ e. (tree : Tree) → FileMeans (file_in mid) tree → IsFault e) → PackageCopies honest bytes r old new
       saved_copies (Ok v) version copies refused = record {
         failed = λ yes. let never : true ≡ false = sym yes ∙ live in absurd (cc);

@@ -2,7 +2,7 @@
 use Rattle.std.proofs.Common.{◌≡◌, ◌∙◌, ◌⊎◌, ◌<◌, ℕ, Bool, true, false, List, ap, inl, inr, length, refl, subst, sym}
 use Rattle.std.specs.Prelude.{Err, IfErr, IfOk, MatchResult, Ok, Result}
 use Rattle.cfb.proofs.LiveMeaning.{holds_meant, means_read}
-use Rattle.cfb.specs.Doing.{FileMeans}
+use Rattle.cfb.specs.Doing.{CopiesFile, FileMeans}
 use Rattle.cfb.specs.Streams.{FileHolds}
 use Rattle.cfb.specs.Views.{letters_in, mini_of, FileRests}
 use Rattle.cfb.specs.declared.compound_file.CompoundFile.{CompoundFile}
@@ -70,7 +70,7 @@ module _ {S : Type 0} {s : Ghosts S} (a : CompoundFile S s) (letters : Letters) 
     pub means_here : FileMeans m tree
     means_here = means_read a m tree rests is.means
 
-    pub copy_here : (bytes : List ℕ) → HoldsCopy (version_of (allocator_of (mini_of m))) (letters_in m) bytes tree → HoldsCopy (version_of (allocator_of (mini_of a))) letters bytes tree
+    pub copy_here : (bytes : List ℕ) → CopiesFile m tree bytes → HoldsCopy (version_of (allocator_of (mini_of a))) letters bytes tree
     copy_here bytes copy =
         subst (λ v. HoldsCopy v letters bytes tree) rests.mini.directory.allocator.sectors.version
-        (subst (λ l. HoldsCopy (version_of (allocator_of (mini_of m))) l bytes tree) (rests.letters ∙ is.compared) copy)
+        (subst (λ l. HoldsCopy (version_of (allocator_of (mini_of m))) l bytes tree) (rests.letters ∙ is.compared) copy.holds)
