@@ -61,13 +61,13 @@ fn remove_all(
 
 /// Makes so many streams of 100 bytes, a call for each, opens the file again, reads each by its path, and removes each.
 pub fn make_and_remove(rt: &HostRuntime, count: usize, order: Order) -> Result<()> {
-    let medium = made(rt, count, order)?;
+    let medium = make_file(rt, count, order)?;
     let mut file = open_and_read(rt, medium)?;
     remove_and_tell(rt, &mut file, count, order)
 }
 
 // What the file of so many new streams leaves.
-fn made(rt: &HostRuntime, count: usize, order: Order) -> Result<MemoryMedium> {
+fn make_file(rt: &HostRuntime, count: usize, order: Order) -> Result<MemoryMedium> {
     let mut file = new_file(rt.alloc())?;
     make_and_tell(rt, &mut file, count, order)?;
     Ok(into_inner(file))

@@ -21,7 +21,7 @@ pub(crate) fn behind(links: &[u32], part: u32) -> u32
 }
 
 // The numbers behind twice as many links.
-pub(crate) fn doubled(alloc: Global, links: &[u32]) -> Result<Vec<u32>, Error>
+pub(crate) fn double_links(alloc: Global, links: &[u32]) -> Result<Vec<u32>, Error>
     ensures twice { IfOk result (λ more. more.items ≡ map (behind links.now) links.now) }
     ensures error { IfErr result (λ e. e ≡ Memory) }
 {
@@ -40,7 +40,7 @@ pub(crate) fn ends_of(alloc: Global, links: &[u32]) -> Result<Vec<u32>, Error>
     let mut ends = Vec::from_slice(alloc, links)?;
     let mut reach: usize = 1;
     while reach < links.len() {
-        ends = doubled(alloc, &ends)?;
+        ends = double_links(alloc, &ends)?;
         reach *= 2;
     }
     Ok(ends)

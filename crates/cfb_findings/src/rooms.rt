@@ -4,7 +4,7 @@ ghost use Rattle.cfb_medium.specs.declared.error.Error.TheVariants.{Memory};
 ghost use Rattle.std.specs.List.{range_with_len};
 ghost use Rattle.std.specs.Prelude.{length, map, min, slice_index, IfErr, IfOk, ℕ, ◌-◌, ◌<◌, ◌^◌, ◌≡◌, ◌≤◌};
 
-use crate::links::{behind, doubled};
+use crate::links::{behind, double_links};
 use cfb_medium::Error;
 use cfb_sectors::MAX_REGULAR_SECTOR;
 use std::alloc::Global;
@@ -76,7 +76,7 @@ pub(crate) fn rooms_of(
     let mut reach: usize = 1;
     while reach < links.len() {
         rooms = more_rooms(alloc, &rooms, &jumps, full)?;
-        jumps = doubled(alloc, &jumps)?;
+        jumps = double_links(alloc, &jumps)?;
         full *= 2;
         reach *= 2;
     }

@@ -31,7 +31,7 @@ fn word<'a>(alloc: Global, name: &'a str, about: &'a str, example: &'a str) -> C
 }
 
 // A path that may be missing.
-fn optional<'a>(alloc: Global, id: &'a str, help: &'a str) -> Arg<'a>
+fn optional_path<'a>(alloc: Global, id: &'a str, help: &'a str) -> Arg<'a>
     ensures rule { rule_of result ≡ new_rule id.entry.now }
     ensures local { result.global ≡ false }
 {
@@ -50,7 +50,7 @@ fn flag_of<'a>(alloc: Global, id: &'a str, help: &'a str) -> Arg<'a>
 }
 
 // A path that must be there.
-fn needed<'a>(alloc: Global, id: &'a str, help: &'a str) -> Arg<'a>
+fn needed_path<'a>(alloc: Global, id: &'a str, help: &'a str) -> Arg<'a>
     ensures rule { rule_of result ≡ path id.entry.now }
     ensures local { result.global ≡ false }
 {
@@ -77,8 +77,8 @@ fn with_paths<'a>(
     ensures { IfOk result (λ c. app_of c ≡ on_package name.entry.now) }
 {
     let command = word(alloc, name, about, example);
-    let first = add(command, needed(alloc, "PACKAGE", "The package"))?;
-    let log = optional(
+    let first = add(command, needed_path(alloc, "PACKAGE", "The package"))?;
+    let log = optional_path(
         alloc,
         "LOG",
         "Its log, by which a commit survives a stop; the same as behind `--log`",
@@ -129,8 +129,8 @@ fn with_commands<'a>(alloc: Global) -> Result<Command<'a>, AllocError>
     .override_usage(
         "msidb run [--log <LOG>] <PACKAGE> <COMMANDS>\n       msidb run <PACKAGE> <LOG> <COMMANDS>",
     );
-    let first = add(command, needed(alloc, "PACKAGE", "The package"))?;
-    let commands = needed(
+    let first = add(command, needed_path(alloc, "PACKAGE", "The package"))?;
+    let commands = needed_path(
         alloc,
         "COMMANDS",
         "The command file: a JSON array of objects, each with its `op`",
@@ -163,8 +163,8 @@ fn with_table<'a>(alloc: Global) -> Result<Command<'a>, AllocError>
         "Shows what a package of any maker holds",
         help_on_show(),
     );
-    let first = add(command, needed(alloc, "FILE", "The package"))?;
-    let table = optional(
+    let first = add(command, needed_path(alloc, "FILE", "The package"))?;
+    let table = optional_path(
         alloc,
         "TABLE",
         "The table of this name, its columns and rows",
@@ -222,7 +222,7 @@ fn with_judged<'a>(alloc: Global) -> Result<Command<'a>, AllocError>
         "Tells which rules a package of any maker breaks",
         help_on_check(),
     );
-    add(command, needed(alloc, "FILE", "The package"))
+    add(command, needed_path(alloc, "FILE", "The package"))
 }
 
 // What stands behind the help of the word that exports a package.
@@ -240,8 +240,8 @@ fn with_folder<'a>(alloc: Global) -> Result<Command<'a>, AllocError>
         "Writes what a package of any maker holds to files of a new folder",
         help_on_export(),
     );
-    let first = add(command, needed(alloc, "FILE", "The package"))?;
-    let folder = needed(
+    let first = add(command, needed_path(alloc, "FILE", "The package"))?;
+    let folder = needed_path(
         alloc,
         "FOLDER",
         "The folder, which is made and must not be there",
@@ -266,9 +266,9 @@ fn with_source<'a>(alloc: Global) -> Result<Command<'a>, AllocError>
     );
     let first = add(
         command,
-        needed(alloc, "PACKAGE", "The package that is made"),
+        needed_path(alloc, "PACKAGE", "The package that is made"),
     )?;
-    let source = needed(
+    let source = needed_path(
         alloc,
         "SOURCE",
         "The package of any maker, which is only read",
@@ -290,13 +290,23 @@ fn with_adoption<'a>(alloc: Global) -> Result<Command<'a>, AllocError>
     add(command, validation)
 }
 
+// The program's name, without a word, and what stands around its help.
+fn program<'a>(alloc: Global) -> Command<'a>
+    ensures { app_of result ≡ new_app (codes "msidb") }
+{
+    word(
+        alloc,
+        "msidb",
+        "Windows Installer databases that survive a stop at any moment",
+        STATUSES,
+    )
+}
+
 fn root<'a>(alloc: Global) -> Result<Command<'a>, AllocError>
     ensures { IfOk result (λ c. app_of c ≡ bare) }
 {
-    Command::new(alloc, "msidb")
-        .about("Windows Installer databases that survive a stop at any moment")
+    program(alloc)
         .version(VERSION)
-        .after_help(STATUSES)
         .no_binary_name(true)
         .subcommand_required(true)
         .bin_name("msidb")

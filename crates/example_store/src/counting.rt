@@ -8,7 +8,7 @@ use staged::{Device, Staged, recover};
 use std::alloc::Global;
 
 /// The bytes of a device that were committed last; a commit that a stop cut short is finished first. Its errors are those of `recover`.
-pub fn opened<D: Device + Drop>(alloc: Global, mut device: D) -> Result<Staged<D>, Error> {
+pub fn open_store<D: Device + Drop>(alloc: Global, mut device: D) -> Result<Staged<D>, Error> {
     recover(&mut device)?;
     match Staged::new(alloc, device) {
         Ok(store) => Ok(store),

@@ -3,7 +3,7 @@
 
 mod counting;
 
-use crate::counting::{count_up, opened};
+use crate::counting::{count_up, open_store};
 use anyhow::Result;
 use file_device::FileDevice;
 use staged::{Device, MemoryDevice};
@@ -24,7 +24,7 @@ fn main(rt: HostRuntime) -> Result<()> {
 
 // Counts up once, and prints the number.
 fn count_in<D: Device + Drop>(rt: &HostRuntime, device: D) -> Result<()> {
-    let mut store = opened(rt.alloc(), device)?;
+    let mut store = open_store(rt.alloc(), device)?;
     let number = count_up(&mut store)?;
     println!(rt; "{number}")?;
     Ok(())
@@ -35,7 +35,7 @@ fn count_in_memory(rt: &HostRuntime) -> Result<()> {
     let alloc = rt.alloc();
     let mut device = MemoryDevice::new(Vec::new(alloc), Vec::new(alloc));
     for _ in 0..3 {
-        let mut store = opened(alloc, device)?;
+        let mut store = open_store(alloc, device)?;
         let number = count_up(&mut store)?;
         println!(rt; "{number}")?;
         device = store.into_device();

@@ -51,7 +51,7 @@ pub fn uses_of_places<F: ReadMedium>(
             Err(error) => return Err(error),
         }
     }
-    taken(alloc, &left)
+    uses_taken(alloc, &left)
 }
 
 // The greatest count, so many times. The one error is `Memory`.
@@ -86,7 +86,7 @@ fn take_uses<F: ReadMedium>(
 }
 
 // What was taken from the greatest count at each place. The one error is `Memory`.
-fn taken(alloc: Global, left: &[u16]) -> Result<Vec<u16>, Error>
+fn uses_taken(alloc: Global, left: &[u16]) -> Result<Vec<u16>, Error>
     ensures taken { IfOk result (λ uses. uses.items ≡ map (λ n. 65535 - n) left.now) }
     ensures error { IfErr result (λ e. e ≡ Memory) }
 {

@@ -23,11 +23,11 @@ pub(crate) fn container_at<R: Files<File = File> + AllocGlobal>(
 ) -> Result<Container, Error> {
     let mut medium = FileMedium::open(rt, path)?;
     let len = medium.len()?;
-    let file = opened(rt.alloc(), medium)?;
+    let file = open_container(rt.alloc(), medium)?;
     Ok(Container { file, len })
 }
 
-fn opened(alloc: Global, medium: FileMedium) -> Result<MiniAllocator<FileMedium>, Error> {
+fn open_container(alloc: Global, medium: FileMedium) -> Result<MiniAllocator<FileMedium>, Error> {
     let letters = CaseMapper::ascii(alloc)?;
     match open_file(alloc, medium, &letters, Validation::Permissive) {
         Ok(file) => Ok(file),

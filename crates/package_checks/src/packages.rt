@@ -76,7 +76,7 @@ pub(crate) fn misplaced_of(alloc: Global, looked: &Looked) -> Result<Vec<String>
 }
 
 /// A name in the container as packages decode it.
-pub(crate) fn decoded(alloc: Global, name: &str) -> Result<String, Error> {
+pub(crate) fn decode_name(alloc: Global, name: &str) -> Result<String, Error> {
     let (name, _is_table) = decode(alloc, name)?;
     Ok(name)
 }
@@ -145,7 +145,7 @@ pub(crate) fn text_at(looked: &Looked, place: u32) -> &str {
 }
 
 /// A text as JSON has it.
-pub(crate) fn quoted(alloc: Global, text: &str) -> Result<String, AllocError> {
+pub(crate) fn quote(alloc: Global, text: &str) -> Result<String, AllocError> {
     Json::String(String::from_str(alloc, text)?).to_string(alloc)
 }
 

@@ -5,8 +5,8 @@ use crate::containers::{
     unmarked_in,
 };
 use crate::packages::{
-    Looked, columns_wanted, decoded, looked_at, miscounts_of, misnamed_of, misplaced_of,
-    misshapen_of, property_text, quoted, text_at, unkept_properties_of, unkept_texts_of, unread_of,
+    Looked, columns_wanted, decode_name, looked_at, miscounts_of, misnamed_of, misplaced_of,
+    misshapen_of, property_text, quote, text_at, unkept_properties_of, unkept_texts_of, unread_of,
     unused_of, validation_of,
 };
 use cfb_medium::Error;
@@ -105,8 +105,8 @@ impl<'a, O: Write> Lines<'a, O> {
     // Streams whose bytes aren't all there.
     fn broken_streams(&mut self, container: &Container) -> Result<(), Error> {
         for id in &broken_in(self.alloc, container)? {
-            let name = decoded(self.alloc, &name_in(self.alloc, container, *id)?)?;
-            let name = quoted(self.alloc, &name)?;
+            let name = decode_name(self.alloc, &name_in(self.alloc, container, *id)?)?;
+            let name = quote(self.alloc, &name)?;
             self.line(&format!(in self.alloc; "stream {name}: its bytes aren't all there")?)?;
         }
         Ok(())
@@ -115,7 +115,7 @@ impl<'a, O: Write> Lines<'a, O> {
     // Texts that the code page of the database doesn't give back, as they read under it.
     fn unkept_texts(&mut self, looked: &mut Looked) -> Result<(), Error> {
         for place in unkept_texts_of(self.alloc, looked)? {
-            let text = quoted(self.alloc, text_at(looked, place))?;
+            let text = quote(self.alloc, text_at(looked, place))?;
             self.line(&format!(in self.alloc; "place {place}, {text}")?)?;
         }
         Ok(())
@@ -124,7 +124,7 @@ impl<'a, O: Write> Lines<'a, O> {
     // So of properties of the summary.
     fn unkept_properties(&mut self, looked: &mut Looked) -> Result<(), Error> {
         for number in unkept_properties_of(self.alloc, looked)? {
-            let text = quoted(self.alloc, property_text(looked, number))?;
+            let text = quote(self.alloc, property_text(looked, number))?;
             let name = property_name(number).unwrap_or("unknown");
             self.line(&format!(in self.alloc; "property {number}, {name}: {text}")?)?;
         }
@@ -152,7 +152,7 @@ impl<'a, O: Write> Lines<'a, O> {
     // Texts that no cell uses.
     fn unused_texts(&mut self, looked: &Looked) -> Result<(), Error> {
         for place in unused_of(self.alloc, looked)? {
-            let text = quoted(self.alloc, text_at(looked, place))?;
+            let text = quote(self.alloc, text_at(looked, place))?;
             self.line(&format!(in self.alloc; "place {place}, {text}")?)?;
         }
         Ok(())
@@ -167,7 +167,7 @@ impl<'a, O: Write> Lines<'a, O> {
     // Objects under the root that stand where they may not.
     fn misplaced_objects(&mut self, looked: &Looked) -> Result<(), Error> {
         for name in &misplaced_of(self.alloc, looked)? {
-            let name = quoted(self.alloc, &decoded(self.alloc, name)?)?;
+            let name = quote(self.alloc, &decode_name(self.alloc, name)?)?;
             self.line(&format!(in self.alloc; "object {name}")?)?;
         }
         Ok(())
@@ -187,7 +187,7 @@ impl<'a, O: Write> Lines<'a, O> {
 
     fn miscounts(&mut self, looked: &Looked, found: &[Miscount]) -> Result<(), Error> {
         for it in found {
-            let text = quoted(self.alloc, text_at(looked, it.place))?;
+            let text = quote(self.alloc, text_at(looked, it.place))?;
             let (place, used, counted) = (it.place, it.used, it.counted);
             self.line(&format!(in self.alloc;
                 "place {place}, {text}: used {used}, counted {counted}"
@@ -199,7 +199,7 @@ impl<'a, O: Write> Lines<'a, O> {
     // Tables, and what is said of each.
     fn tables(&mut self, tables: &[Rc<Table>], what: &str) -> Result<(), Error> {
         for table in tables {
-            let name = quoted(self.alloc, table.name())?;
+            let name = quote(self.alloc, table.name())?;
             self.line(&format!(in self.alloc; "table {name}{what}")?)?;
         }
         Ok(())

@@ -189,12 +189,12 @@ fn category_of(column: &Column) -> &'static str {
 
 // Its name beside that of its table, and alone.
 fn told_names(alloc: Global, column: &Column) -> Result<String, Error> {
-    let side = prefixed(alloc, column, "File")?;
-    let alone = prefixed(alloc, column, "")?;
+    let side = name_under(alloc, column, "File")?;
+    let alone = name_under(alloc, column, "")?;
     Ok(format!(in alloc; "named {side} and {alone}")?)
 }
 
-fn prefixed(alloc: Global, column: &Column, table: &str) -> Result<String, Error> {
+fn name_under(alloc: Global, column: &Column, table: &str) -> Result<String, Error> {
     let side = column.with_name_prefix(alloc, table)?;
     let copy = copy_of_column(alloc, &side)?;
     copy_of(alloc, copy.name())

@@ -45,7 +45,7 @@ impl Database {
 
     fn select(&self, alloc: Global, select: &Select) -> Result<String, Error> {
         let mut shelf = shelf_of(alloc, &self.tables)?;
-        let (table, rows) = selected(alloc, select, &mut shelf, &self.pool)?;
+        let (table, rows) = select_rows(alloc, select, &mut shelf, &self.pool)?;
         print_table(alloc, &self.pool, &table, &rows)
     }
 }
@@ -65,7 +65,7 @@ fn put_copy(alloc: Global, shelf: &mut Shelf, held: &Held) -> Result<(), Error> 
     shelf.add(table, rows)
 }
 
-fn selected(
+fn select_rows(
     alloc: Global,
     select: &Select,
     shelf: &mut Shelf,

@@ -131,15 +131,15 @@ returns-clause-told g c tree held =
     let left = c.loop-table.left.items in
     let none : headings_in (drop c.loop-table.table-index tables) ≡ [] = ap headings_in (drop_of_length-le tables c.loop-table-test.false) in
     let so : SoFar letters tree n all [] left = subst (λ (ks : List Heading). SoFar letters tree n all ks left) none (c.loop-table.invariant.so_far tree held) in
-    ended letters tree n all left c.taken.result so (subst (λ (l : List ℕ). IfOk c.taken.result (λ uses. uses.items ≡ map (λ n. 65535 - n) l)) c.deref-2.ensures.value c.taken.ensures.taken) c.taken.ensures.error
+    ended letters tree n all left c.uses_taken.result so (subst (λ (l : List ℕ). IfOk c.uses_taken.result (λ uses. uses.items ≡ map (λ n. 65535 - n) l)) c.deref-2.ensures.value c.uses_taken.ensures.taken) c.uses_taken.ensures.error
 
 pub returns-clause-cause : goal.returns-clause-cause
-returns-clause-cause g c = memory_cause c.args.file.now c.loop-table.file c.taken.result c.taken.ensures.error
+returns-clause-cause g c = memory_cause c.args.file.now c.loop-table.file c.uses_taken.result c.uses_taken.ensures.error
 
 pub returns-in_err-left-clause-rests : goal.returns-in_err-left-clause-rests
 returns-in_err-left-clause-rests g c = file_refl c.args.file.now
 
 pub returns-clause-size : goal.returns-clause-size
 returns-clause-size g c =
-    IfOk-weaker c.taken.result (λ uses. uses.items ≡ map (λ n. 65535 - n) c.deref-2.result.now) (λ uses. length uses.items ≡ length c.args.pool.now.pool.places)
-    (λ uses is. ap length is ∙ length-map c.deref-2.result.now (λ n. 65535 - n) ∙ ap length c.deref-2.ensures.value ∙ c.loop-table.invariant.size) c.taken.ensures.taken
+    IfOk-weaker c.uses_taken.result (λ uses. uses.items ≡ map (λ n. 65535 - n) c.deref-2.result.now) (λ uses. length uses.items ≡ length c.args.pool.now.pool.places)
+    (λ uses is. ap length is ∙ length-map c.deref-2.result.now (λ n. 65535 - n) ∙ ap length c.deref-2.ensures.value ∙ c.loop-table.invariant.size) c.uses_taken.ensures.taken

@@ -1,5 +1,5 @@
 use Rattle.std.proofs.Common.{◌≡◌, ◌-◌, take, map}
-use Rattle.msi_adopting.proofs.counting.taken.Given as goal
+use Rattle.msi_adopting.proofs.counting.uses_taken.Given as goal
 
 -- what was taken so far
 abbrev pub invariant-loop-count : goal.invariant-loop-count
