@@ -1,0 +1,67 @@
+"""A reader of compound files by [MS-CFB] alone, and of the names that a package's streams have. It shares nothing with the program."""
+import struct
+
+LETTERS = "0123456789ABCDEFGHIJKLMNOPQRSTUVWXYZabcdefghijklmnopqrstuvwxyz._"
+LAST = 0xFFFFFFFA
+
+
+def numbers(data, width):
+    return [int.from_bytes(data[at : at + width], "little") for at in range(0, len(data), width)]
+
+
+def plain(name):
+    """A stream's name without the packing of two letters into one, with `!` for the mark of a table."""
+    found = ""
+    for code in map(ord, name):
+        if 0x3800 <= code < 0x4800:
+            found += LETTERS[code - 0x3800 & 63] + LETTERS[code - 0x3800 >> 6]
+        elif 0x4800 <= code < 0x4840:
+            found += LETTERS[code - 0x4800]
+        else:
+            found += "!" if code == 0x4840 else chr(code)
+    return found
+
+
+def streams(path):
+    """The streams under the root of a compound file whose FAT is listed in the header, by their plain names, in the order of their tree."""
+    data = path.read_bytes()
+    size = 1 << struct.unpack_from("<H", data, 30)[0]
+    tables, first = struct.unpack_from("<2I", data, 44)
+
+    def sector(number):
+        return data[(number + 1) * size : (number + 2) * size]
+
+    fat = [it for place in struct.unpack_from("<109I", data, 76)[:tables] for it in numbers(sector(place), 4)]
+
+    def chain(number):
+        found = b""
+        while number < LAST:
+            found, number = found + sector(number), fat[number]
+        return found
+
+    mini_fat = numbers(chain(struct.unpack_from("<I", data, 60)[0]), 4)
+    directory = chain(first)
+    entries = [directory[at : at + 128] for at in range(0, len(directory), 128)]
+    mini = chain(struct.unpack_from("<I", entries[0], 116)[0])
+
+    def content(entry):
+        number, length = struct.unpack_from("<IQ", entry, 116)
+        length &= 0xFFFFFFFF
+        if length >= 4096:
+            return chain(number)[:length]
+        found = b""
+        while number < LAST:
+            found, number = found + mini[number * 64 : number * 64 + 64], mini_fat[number]
+        return found[:length]
+
+    def name(entry):
+        return entry[: max(struct.unpack_from("<H", entry, 64)[0] - 2, 0)].decode("utf-16-le")
+
+    def siblings(number):
+        if number > LAST:
+            return []
+        left, right = struct.unpack_from("<2I", entries[number], 68)
+        return [*siblings(left), entries[number], *siblings(right)]
+
+    found = siblings(struct.unpack_from("<I", entries[0], 76)[0])
+    return {plain(name(it)): content(it) for it in found if it[66] == 2}
