@@ -1,7 +1,7 @@
 """The merge gate: proves every crate from nothing, looks at the layout, runs the programs, tries each wrong body whose
-line in must-fail.tried is missing or differs (many at a time, rt-many), ends runs of msidb by force, gives it
-commands at random, looks at the order of its writes and syncs, counts the uses of texts in packages that it adopts, and
-refuses each request for memory of test_changes and test_packages in turn. It works on a copy."""
+line in must-fail.tried is missing or differs (many at a time, rt-many), runs the rows of msidb, ends runs of it by force,
+gives it commands at random, looks at the order of its writes and syncs, counts the uses of texts in packages that it
+adopts, and refuses each request for memory of test_changes and test_packages in turn. It works on a copy."""
 import os
 import re
 import resource
@@ -47,6 +47,7 @@ def run(room):
 
 # Scripts that try a program from outside, each with the program and its words, which are read in the program's data.
 TRIALS = (
+    ("run-rows", "msidb"),
     ("kill-runs", "msidb"),
     ("random-runs", "msidb"),
     ("trace-commit", "msidb"),

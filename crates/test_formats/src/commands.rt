@@ -1,12 +1,13 @@
 //! Command files: what they are read as, and why they are refused; which columns an expression names.
+use crate::edits::edit_told;
 use cfb_medium::Error;
-use command_file::{Command, SummaryEdit, read_commands, refusal_in};
+use command_file::{Command, read_commands, refusal_in};
 use msi_expr::Expr;
 use msi_tables::Column;
 use std::alloc::Global;
 use test_support::{Row, Subject, copy_of, named, shown, with_parts};
 
-/// Reads a row that is a command file, or a text.
+/// Reads a row that is a command file, a text, or so many brackets in one another.
 #[derive(Drop)]
 pub struct Commands;
 
@@ -15,6 +16,7 @@ impl Subject for Commands {
         match row.call() {
             "" => commands_read(alloc, row.json(alloc)?.as_str()),
             "read" => commands_read(alloc, row.text(1)),
+            "nested" => commands_read(alloc, nested_brackets(alloc, row.number(1))?.as_str()),
             "refusal" => refusal_text(alloc, row.text(1)),
             "column names" => column_names(alloc),
             _ => Err(Error::NotFound),
@@ -25,6 +27,18 @@ impl Subject for Commands {
 fn commands_read(alloc: Global, text: &str) -> Result<String, Error> {
     let commands = read_commands(alloc, text)?;
     command_text(alloc, &commands)
+}
+
+// So many opening brackets, and as many that close them.
+fn nested_brackets(alloc: Global, depth: i64) -> Result<String, Error> {
+    let mut text = String::new(alloc);
+    for _ in 0..depth {
+        text.push('[')?;
+    }
+    for _ in 0..depth {
+        text.push(']')?;
+    }
+    Ok(text)
 }
 
 fn refusal_text(alloc: Global, text: &str) -> Result<String, Error> {
@@ -50,7 +64,7 @@ fn tenth_is_at_most(alloc: Global) -> Result<Expr, Error> {
 // The last command of a file.
 fn command_text(alloc: Global, commands: &[Command]) -> Result<String, Error> {
     match commands {
-        [.., Command::SetSummary(edit)] => edit_text(alloc, edit),
+        [.., Command::SetSummary(edit)] => edit_told(alloc, edit),
         [.., command] => table_text(alloc, command),
         [] => copy_of(alloc, "none"),
     }
@@ -71,7 +85,7 @@ fn table_text(alloc: Global, command: &Command) -> Result<String, Error> {
     }
 }
 
-// A new table with its columns: whether each is of the key, and whether it may be null.
+// A new table, with all that its columns say.
 fn columns_text(alloc: Global, name: &str, columns: &[Column]) -> Result<String, Error> {
     let mut line = named(alloc, "create", &name)?;
     for column in columns {
@@ -81,9 +95,23 @@ fn columns_text(alloc: Global, name: &str, columns: &[Column]) -> Result<String,
 }
 
 fn column_text(alloc: Global, column: &Column) -> Result<String, Error> {
-    let (key, null) = (column.is_primary_key(), column.is_nullable());
+    let kind = kind_text(alloc, column)?;
+    let bounds = bounds_text(alloc, column)?;
+    Ok(format!(in alloc; " [{kind} {bounds}]")?)
+}
+
+// Its name and type, whether it is of the key, may be null, and is localizable.
+fn kind_text(alloc: Global, column: &Column) -> Result<String, Error> {
     let (name, kind) = (column.name(), column.coltype());
-    Ok(format!(in alloc; " [{name} {kind} {key} {null}]")?)
+    let (key, null) = (column.is_primary_key(), column.is_nullable());
+    let local = column.is_localizable();
+    Ok(format!(in alloc; "{name} {kind} {key} {null} {local}")?)
+}
+
+fn bounds_text(alloc: Global, column: &Column) -> Result<String, Error> {
+    let (range, category) = (column.value_range(), column.category());
+    let (choices, foreign) = (column.enum_values(), column.foreign_key());
+    Ok(format!(in alloc; "{range:?} {category:?} {choices:?} {foreign:?}")?)
 }
 
 // A command on streams.
@@ -114,22 +142,4 @@ fn word_of(command: &Command) -> &'static str {
         Command::RollBack => "roll back",
         _ => "other",
     }
-}
-
-fn edit_text(alloc: Global, edit: &SummaryEdit) -> Result<String, Error> {
-    match edit {
-        SummaryEdit::Title(Some(title)) => named(alloc, "title", title),
-        SummaryEdit::Title(None) => copy_of(alloc, "no title"),
-        SummaryEdit::Keywords(Some(words)) => counted(alloc, words.len(), "keywords"),
-        SummaryEdit::Languages(Some(ids)) => counted(alloc, ids.len(), "languages"),
-        SummaryEdit::Uuid(Some(id)) => named(alloc, "uuid", id),
-        SummaryEdit::WordCount(Some(count)) => named(alloc, "words", count),
-        SummaryEdit::CreationTime(Some(moment)) => named(alloc, "made", &moment.to_unix().0),
-        SummaryEdit::Codepage(page) => named(alloc, "page", &page.id()),
-        _ => copy_of(alloc, "other"),
-    }
-}
-
-fn counted(alloc: Global, count: usize, word: &str) -> Result<String, Error> {
-    Ok(format!(in alloc; "{count} {word}")?)
 }

@@ -3,6 +3,8 @@
 
 mod columns;
 mod commands;
+mod edits;
+mod logs;
 mod summary;
 mod texts;
 mod values;
@@ -10,6 +12,7 @@ mod values;
 use anyhow::{Result, bail};
 use columns::Columns;
 use commands::Commands;
+use logs::Logs;
 use std::{env, fs};
 use summary::Properties;
 use test_support::print_rows;
@@ -29,7 +32,8 @@ fn print_file(rt: &HostRuntime, path: &str) -> Result<()> {
     println!(rt; "== {path}")?;
     match path {
         "columns.rows" => print_rows(rt, text.as_str(), Columns),
-        "commands.rows" => print_rows(rt, text.as_str(), Commands),
+        "commands.rows" | "forms.rows" => print_rows(rt, text.as_str(), Commands),
+        "logs.rows" => print_rows(rt, text.as_str(), Logs::new(rt.alloc())),
         "summary.rows" => print_rows(rt, text.as_str(), Properties::new(rt.alloc())?),
         "texts.rows" => print_rows(rt, text.as_str(), Texts),
         "values.rows" => print_rows(rt, text.as_str(), Values),

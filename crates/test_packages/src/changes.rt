@@ -127,6 +127,7 @@ impl Subject for Changes<'_> {
             "fails" => self.fault(alloc, row),
             "pieces" => self.write(alloc, row),
             "back" => self.roll_back(alloc),
+            "refused" => told_of(alloc, refusal(row.text(1))),
             _ => match &mut self.package {
                 Some(package) => answers_of(alloc, package, row),
                 None => Err(Error::NotFound),
@@ -230,6 +231,22 @@ fn told_of(alloc: Global, change: Result<(), Error>) -> Result<String, Error> {
     let mut told = String::new(alloc);
     push_answer(alloc, &mut told, done(change))?;
     Ok(told)
+}
+
+// A refusal by the name of its error.
+fn refusal(name: &str) -> Result<(), Error> {
+    match name {
+        "InvalidData" => Err(Error::InvalidData),
+        "InvalidInput" => Err(Error::InvalidInput),
+        "NotFound" => Err(Error::NotFound),
+        "AlreadyExists" => Err(Error::AlreadyExists),
+        "UnexpectedEof" => Err(Error::UnexpectedEof),
+        "Full" => Err(Error::Full),
+        "Memory" => Err(Error::Memory),
+        "Device" => Err(Error::Device),
+        "Failed" => Err(Error::Failed),
+        _ => Ok(()),
+    }
 }
 
 fn done(change: Result<(), Error>) -> Result<Answer, Error> {
