@@ -48,6 +48,7 @@ def run(room):
 # Scripts that try a program from outside, each with the program and its words, which are read in the program's data.
 TRIALS = (
     ("run-rows", "msidb"),
+    ("compare-packages", "msidb"),
     ("kill-runs", "msidb"),
     ("random-runs", "msidb"),
     ("trace-commit", "msidb"),
