@@ -4,6 +4,7 @@ use Rattle.std.specs.Prelude.{Option}
 use Rattle.cfb_medium.specs.declared.error.Error.{Error}
 use Rattle.cfb_medium.specs.declared.error.Error.TheVariants.{Full}
 use Rattle.cfb_medium.specs.declared.medium.ReadMedium.{Ghosts}
+use Rattle.cfb_mini.specs.Views.{IsMini}
 use Rattle.cfb_owners.specs.Owners.{Owners}
 use Rattle.cfb_tree.specs.Paths.{Path}
 use Rattle.cfb_tree.specs.Tree.{Tree}
@@ -23,11 +24,11 @@ module _ {F : Type 0} {g : Ghosts F} where
   ]
 
   -- numbers were missing before the stream was found
-  pub full_at : (old mid : CompoundFile F g) → FileRests old mid → (path : Option Path) (tree : Tree) (id was len : ℕ) (who : Owners) → FindsWritten old mid path tree id was who → LacksRoomAt id len mid → HasNoRoomAt old path tree len
-  full_at old mid r path tree id was len who found lacks = record {
+  pub full_at : (old mid : CompoundFile F g) → FileRests old mid → IsMini (mini_of old) → (path : Option Path) (tree : Tree) (id was len : ℕ) (who : Owners) → FindsWritten old mid path tree id was who → LacksRoomAt id len mid → HasNoRoomAt old path tree len
+  full_at old mid r is path tree id was len who found lacks = record {
     names = found.names;
     at_path = found.at_path;
     content = found.content;
     answer = found.answer;
-    lacks = lacks_resting (mini_of old) (mini_of mid) (length found.content) len r.mini.directory.allocator (lacks found.names tree found.content found.written);
+    lacks = lacks_resting (mini_of old) (mini_of mid) (length found.content) len is r.mini (lacks found.names tree found.content found.written);
   }

@@ -11,7 +11,6 @@ pub mod Others
 pub mod Placed
 pub mod Refused
 pub mod Rehoused
-pub mod Replaced
 pub mod Rewritten
 pub mod StreamsMade
 pub mod ShortAt

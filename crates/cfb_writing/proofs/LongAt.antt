@@ -1,8 +1,9 @@
 -- A long stream that is opened, in a live file.
-use Rattle.std.proofs.Common.{◌≡◌, ℕ, ◌*◌, ◌≤◌, List, length, sym, subst}
+use Rattle.std.proofs.Common.{◌≡◌, ℕ, ◌*◌, ◌≤◌, List, [], length, sym, subst}
 use Rattle.cfb_chains.specs.LinkViews.{ids_of, links_version}
 use Rattle.cfb_chains.specs.declared.links.Links.{Links}
 use Rattle.cfb_fat.specs.Tables.{version_of}
+use Rattle.cfb_live.specs.Live.{live_of}
 use Rattle.cfb_live.proofs.Standing.{stands_of}
 use Rattle.cfb_medium.specs.Versions.{sector_len}
 use Rattle.cfb_medium.specs.declared.medium.ReadMedium.{Ghosts}
@@ -43,3 +44,8 @@ module _ {F : Type 0} {g : Ghosts F} (letters : Letters) (it : MiniAllocator F g
   pub long_size : length content ≡ (entry_of letters it tree path id content at).entry.size
   long_size =
       let was = entry_of letters it tree path id content at in (was.has.long long_up).1.whole
+
+  -- it has no mini sectors
+  pub long_without : at.means.who.minis (stream_owner id) ≡ []
+  unfolding live_of
+  long_without = let was = entry_of letters it tree path id content at in (was.has.long long_up).0

@@ -1,10 +1,11 @@
 -- The sectors of one stream were changed by the layer below, over which all else stays.
-use Rattle.std.proofs.Common.{◌≡◌, ℕ, ◌+◌, ◌*◌, ◌≤◌, inl, inr, false, List, [], ◌++◌, drop, length, take, refl, ap, sym, subst, ◌∙◌, ⊎_elim, arith, IsTrue}
+use Rattle.std.proofs.Common.{◌≡◌, ℕ, ◌+◌, ◌*◌, ◌≤◌, inl, inr, false, List, [], ◌∷◌, ◌++◌, drop, length, take, refl, ap, sym, subst, ◌∙◌, ⊎_elim, arith, IsTrue}
 use Rattle.std.specs.Prelude.{slice_index}
 use Rattle.std.specs.List.{AllByRecursion}
 use Rattle.std.proofs.lemmas.List.{take-append-drop}
 use Rattle.cfb_chains.specs.Changes.{HaveEntry, IsNoneOf}
 use Rattle.cfb_chains.specs.Owned.{Becomes, Moves as MovesOne, Owned, Stays}
+use Rattle.cfb_chains.specs.Positions.{sectors_for}
 use Rattle.cfb_chains.proofs.Beside.{none_both, none_first, none_second}
 use Rattle.cfb_chains.proofs.Owners.{other_left, owned_changed}
 use Rattle.cfb_directory.specs.Entries.{SizesFit}
@@ -20,6 +21,8 @@ use Rattle.cfb_live.proofs.Strays.{has_entry}
 use Rattle.cfb_live.proofs.StrictFacts.{header_here, strict_over}
 use Rattle.cfb_medium.specs.Versions.{sector_len}
 use Rattle.cfb_medium.specs.declared.medium.ReadMedium.{Ghosts}
+use Rattle.cfb_medium.specs.declared.version.Version.{Version}
+use Rattle.cfb_medium.specs.declared.version.Version.TheVariants.{V3, V4}
 use Rattle.cfb_mini.specs.Changing.{with_allocator, HasOwners, IsKeptOver}
 use Rattle.cfb_mini.specs.Views.{allocator_of, directory_of}
 use Rattle.cfb_mini.specs.declared.mini_allocator.MiniAllocator.{MiniAllocator}
@@ -32,7 +35,13 @@ use Rattle.cfb_owners.specs.Owners.{first_of, mini_stream_owner, stream_owner, O
 use Rattle.cfb_sectors.specs.Header.{IsHeader}
 use Rattle.cfb_sectors.specs.Sectors.{free, sector}
 use Rattle.cfb_writing.specs.Moving.{MovesLong}
-use Rattle.cfb_writing.proofs.Others.{carries_others}
+use Rattle.cfb_writing.proofs.Others.{carries_others, mini_places_carried, minis_carried}
+
+-- a chain that no bytes need has no sectors
+pub emptied : (v : Version) (ids : List ℕ) → length ids ≡ sectors_for v 0 → ids ≡ []
+emptied v [] count = refl
+emptied V3 (x ∷ ids) count = absurd (omega (arith, count))
+emptied V4 (x ∷ ids) count = absurd (omega (arith, count))
 
 -- what a chain lost of its sectors is free
 pub lost_free : (table ids more later : List ℕ) (count : ℕ) → later ≡ take count ids ++ more → HaveEntry free table (drop count ids) → (n : ℕ) → IsNoneOf later n → (IsNoneOf (ids ++ more) n → ⊥) → slice_index table n ≡ free
@@ -144,5 +153,7 @@ module _ {F : Type 0} {g : Ghosts F} (old : MiniAllocator F g) (b : Allocator F 
     };
     mine = pick_mine who.sectors key later;
     minis = refl;
+    mini_joined = minis_carried key (live_of old) (live_of (with_allocator old b)) who now (omega arith) carries;
+    mini_places = mini_places_carried key (live_of old) (live_of (with_allocator old b)) who now (omega arith) carries;
     entries = refl;
   }

@@ -54,6 +54,8 @@ module _ {F : Type 0} {g : Ghosts F} where
     };
     mine = two.mine;
     minis = two.minis ∙ one.minis;
+    mini_joined = λ ids. two.mini_joined ids ∙ one.mini_joined ids;
+    mini_places = λ ids. two.mini_places ids ∙ one.mini_places ids;
     entries = two.entries ∙ one.entries;
   }
 

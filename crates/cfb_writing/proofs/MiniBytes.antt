@@ -3,21 +3,22 @@ use Rattle.std.proofs.Common.{◌≡◌, ℕ, ◌+◌, ◌-◌, ◌*◌, ◌/◌
 use Rattle.std.specs.Prelude.{min, slice_range}
 use Rattle.std.specs.List.{flat_map, range_with_len, AllByRecursion}
 use Rattle.std.proofs.lemmas.Bool.Decides.{leb_tells}
+use Rattle.std.proofs.lemmas.Grind.{flat_map-append}
 use Rattle.std.proofs.lemmas.List.{ext_get_or, get_or-take, get_or_append_left, take_all}
 use Rattle.cfb_medium.specs.Bytes.{overwritten}
 use Rattle.cfb_medium.specs.Versions.{sector_len}
 use Rattle.cfb_medium.specs.declared.version.Version.{Version}
-use Rattle.cfb_chains.proofs.ChainWriting.{length_within}
+use Rattle.cfb_chains.proofs.ChainWriting.{length_within, split_below}
 use Rattle.cfb_chains.proofs.Overwriting.{get_filled, get_written, length-filled}
 use Rattle.cfb_fat.proofs.Words.{filled_is}
 use Rattle.cfb_mini.specs.Minis.{mini_joined, mini_place, mini_sector, AreInside}
-use Rattle.cfb_mini.proofs.MiniParts.{get_mini}
+use Rattle.cfb_mini.proofs.MiniParts.{get_mini, length-mini_joined}
 use Rattle.cfb_mini.proofs.Parts.{parts_are}
 use Rattle.cfb_owned.specs.Chains.{place_of}
 use Rattle.cfb_sectors.specs.Sectors.{places, sector_start}
 use Rattle.cfb_writing.specs.Streams.{resized}
-use Rattle.cfb_writing.proofs.LongBytes.{all_by_index, get_places, length-places, length-resized}
-use Rattle.cfb_mini.proofs.Padded.{zeros}
+use Rattle.cfb_writing.proofs.LongBytes.{all_at, all_by_index, get_places, length-places, length-resized, place_kept}
+use Rattle.cfb_mini.proofs.Padded.{joined_padded, zeros}
 
 -- the parts of 64 bytes of a list, at these mini sectors
 abbrev pub parts_of : List ℕ → List ℕ → List ℕ
@@ -45,26 +46,58 @@ places_both v [] ys = refl
 places_both v (x ∷ xs) ys =
     ap (λ l. range_with_len (sector_start v x) (sector_len v) ++ l) (places_both v xs ys) ∙ sym (append_assoc (range_with_len (sector_start v x) (sector_len v)) (places v xs) (places v ys))
 
--- as many places of mini sectors lie in a file as lie there by index
-pub mini_places_there : (v : Version) (ids minis : List ℕ) (few len : ℕ) → AreInside (length ids * sector_len v) minis → len ≤ 64 * length minis → ((k : ℕ) → k < len → place_of v ids (mini_place minis k) < few)
-    → AllByRecursion (λ p. p < few) (take len (parts_of (places v ids) minis))
-mini_places_there v ids minis few len inside fits each =
-    let all = places v ids in
-    let within : AreInside (length all) minis = subst (λ n. AreInside n minis) (sym (length-places v ids)) inside in
-    let is = parts_are all minis within in
-    all_by_index (λ p. p < few) (take len (parts_of all minis)) (λ k below.
-    let size = length-take len (parts_of all minis) in
-    let early : k < len = omega (arith, below, size) in
-    let q = k / 64 in
-    let there : q < length minis = omega (arith, early, fits) in
-    let split : 64 * q + k % 64 ≡ k = omega arith in
-    let one = inside q there in
-    let low : mini_place minis k < length ids * sector_len v = under (get_or minis q 0) (k % 64) (length ids * sector_len v) (omega arith) one in
-    subst (λ p. p < few) (sym (get_or-take len (parts_of all minis) k 0 early ∙ ap (λ l. get_or l k 0) (sym is) ∙ ap (λ i. get_or (mini_joined all minis) i 0) (sym split)
-    ∙ get_mini all minis q (k % 64) there (omega arith) ∙ get_places v ids (mini_place minis k) low)) (each k early))
+-- where a byte of a mini chain stands lies in the mini stream
+pub place_below : (minis : List ℕ) (len k : ℕ) → AreInside len minis → k < 64 * length minis → mini_place minis k < len
+place_below minis len k inside below =
+    let one = inside (k / 64) (omega (arith, below)) in
+    under (get_or minis (k / 64) 0) (k % 64) len (omega arith) one
   where
     under : (x r n : ℕ) → r < 64 → 64 * x + 64 ≤ n → 64 * x + r < n
     under x r n few below = omega (arith, few, below)
+
+-- a place of mini sectors, by its index
+part_place : (v : Version) (ids minis : List ℕ) (k : ℕ) → AreInside (length ids * sector_len v) minis → k < 64 * length minis → get_or (parts_of (places v ids) minis) k 0 ≡ place_of v ids (mini_place minis k)
+part_place v ids minis k inside below =
+    let all = places v ids in
+    let is = parts_are all minis (subst (λ n. AreInside n minis) (sym (length-places v ids)) inside) in
+    let split : 64 * (k / 64) + k % 64 ≡ k = omega arith in
+    let there : k / 64 < length minis = omega (arith, below) in
+    ap (λ l. get_or l k 0) (sym is) ∙ ap (λ i. get_or (mini_joined all minis) i 0) (sym split) ∙ get_mini all minis (k / 64) (k % 64) there (omega arith) ∙ get_places v ids (mini_place minis k) (place_below minis (length ids * sector_len v) k inside below)
+
+-- as many places of mini sectors lie in a file as lie there by index, and the other way round
+pub mini_places_there : (v : Version) (ids minis : List ℕ) (few len : ℕ) → AreInside (length ids * sector_len v) minis → len ≤ 64 * length minis → ((k : ℕ) → k < len → place_of v ids (mini_place minis k) < few)
+    → AllByRecursion (λ p. p < few) (take len (parts_of (places v ids) minis))
+mini_places_there v ids minis few len inside fits each =
+    let all = parts_of (places v ids) minis in
+    all_by_index (λ p. p < few) (take len all) (λ k below.
+    let size = length-take len all in
+    let early : k < len = omega (arith, below, size) in
+    subst (λ p. p < few) (sym (get_or-take len all k 0 early ∙ part_place v ids minis k inside (omega (arith, early, fits)))) (each k early))
+
+pub mini_place_there : (v : Version) (ids minis : List ℕ) (few len k : ℕ) → AreInside (length ids * sector_len v) minis → len ≤ 64 * length minis → AllByRecursion (λ p. p < few) (take len (parts_of (places v ids) minis)) → k < len
+    → place_of v ids (mini_place minis k) < few
+mini_place_there v ids minis few len k inside fits all below =
+    let parts = parts_of (places v ids) minis in
+    let is = parts_are (places v ids) minis (subst (λ n. AreInside n minis) (sym (length-places v ids)) inside) in
+    let long = ap length (sym is) ∙ length-mini_joined (places v ids) minis in
+    let size = length-take len parts in
+    subst (λ p. p < few) (get_or-take len parts k 0 below ∙ part_place v ids minis k inside (omega (arith, below, fits))) (all_at (λ p. p < few) (take len parts) k all (omega (arith, size, long, fits, below)))
+
+-- the front of a mini chain has its bytes, and zeros behind the mini stream leave them as they are
+pub get_front : (s t front more all : List ℕ) (count k : ℕ) → t ≡ s ++ zeros count → all ≡ front ++ more → k < 64 * length front → get_or (mini_joined t all) k 0 ≡ get_or (mini_joined s front) k 0
+get_front s t front more all count k stream is below =
+    ap (λ l. get_or (mini_joined t l) k 0) is ∙ ap (λ l. get_or l k 0) (flat_map-append (mini_sector t) front more)
+    ∙ get_or_append_left (mini_joined t front) (mini_joined t more) 0 k (let size = length-mini_joined t front in omega (arith, size, below))
+    ∙ ap (λ u. get_or (mini_joined u front) k 0) stream ∙ ap (λ l. get_or l k 0) (joined_padded s count front)
+
+-- and its places
+pub place_front : (v : Version) (ids later more_ids front more all : List ℕ) (k : ℕ) → later ≡ ids ++ more_ids → all ≡ front ++ more → AreInside (length ids * sector_len v) front → k < 64 * length front
+    → place_of v later (mini_place all k) ≡ place_of v ids (mini_place front k)
+place_front v ids later more_ids front more all k stream is inside below =
+    let p = mini_place front k in
+    let one : mini_place all k ≡ p = ap (λ n. 64 * n + k % 64) (ap (λ l. get_or l (k / 64) 0) is ∙ get_or_append_left front more 0 (k / 64) (omega (arith, below))) in
+    let there = split_below v p (length ids) (place_below front (length ids * sector_len v) k inside below) in
+    ap (place_of v later) one ∙ sym (place_kept v ids later more_ids (length ids) p (stream ∙ ap (λ l. l ++ more_ids) (sym (take_all (length ids) ids (let same : length ids ≤ length ids = omega arith in same)))) there there)
 
 -- bytes that lie over the front of others
 pub over_front : (xs bytes : List ℕ) → length bytes ≤ length xs → take (length bytes) (overwritten xs 0 bytes) ≡ bytes

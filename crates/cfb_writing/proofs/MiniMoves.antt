@@ -1,13 +1,15 @@
 -- The mini sectors of one stream were changed by the layer below, over which all else stays.
-use Rattle.std.proofs.Common.{◌≡◌, ℕ, ◌+◌, ◌*◌, ◌<◌, ◌≤◌, inl, inr, false, List, [], ◌∷◌, ◌++◌, append-nil, length, refl, ap, sym, subst, ◌∙◌, ⊎_elim, arith, length-append, IsTrue}
+use Rattle.std.proofs.Common.{◌≡◌, ℕ, ◌+◌, ◌*◌, ◌<◌, ◌≤◌, inl, inr, false, List, [], ◌∷◌, ◌++◌, append-nil, length, take, zero, suc, refl, ap, sym, subst, ◌∙◌, ⊎_elim, arith, length-append, IsTrue}
 use Rattle.std.specs.Prelude.{get_or, slice_get, slice_index, slice_index_or, Some}
 use Rattle.std.specs.List.{flat_map, AllByRecursion}
 use Rattle.std.proofs.lemmas.Bool.Decides.{eqb_tells, leb_tells}
 use Rattle.cfb_chains.specs.Changes.{AreNoneOf, IsFreeIn, IsNoneOf, StayBut}
 use Rattle.cfb_chains.specs.Grown.{IsLinked}
 use Rattle.cfb_chains.specs.Owned.{Becomes, Moves as MovesOne, Owned, Stays}
+use Rattle.cfb_chains.proofs.Beside.{none_both, none_first}
 use Rattle.cfb_chains.proofs.ChainGrowing.{in_use, kept_entry}
 use Rattle.cfb_chains.proofs.Owners.{none_of_nothing, other_left, owned_changed}
+use Rattle.cfb_directory.specs.Entries.{SizesFit}
 use Rattle.cfb_directory.specs.Views.{entries_held}
 use Rattle.cfb_fat.specs.Seeing.{seen_of}
 use Rattle.cfb_fat.specs.Tables.{bytes_of, has_failed_here, version_of}
@@ -21,27 +23,30 @@ use Rattle.cfb_medium.specs.Versions.{sector_len}
 use Rattle.cfb_medium.specs.declared.medium.ReadMedium.{Ghosts}
 use Rattle.cfb_medium.specs.declared.version.Version.{Version}
 use Rattle.cfb_medium.specs.declared.version.Version.TheVariants.{V3, V4}
-use Rattle.cfb_mini.specs.Changing.{mini_seen, HasOwners, Lengthens, MiniOverwrites, TellsStream}
-use Rattle.cfb_mini.specs.Files.{HasHeader, LeavesFile}
+use Rattle.cfb_mini.specs.Changing.{mini_seen, HasOwners, Lengthens, MiniOverwrites, Shortens, TellsStream}
+use Rattle.cfb_mini.specs.Files.{HasCounts, HasHeader, LeavesFile}
 use Rattle.cfb_mini.specs.LinkViews.{minis_of}
 use Rattle.cfb_mini.specs.Minis.{all_words, mini_joined, mini_sector, AreInside}
 use Rattle.cfb_mini.specs.Strays.{IsStrayIn}
 use Rattle.cfb_mini.specs.Views.{allocator_of, directory_of, mini_fat_of, mini_stream_ids, mini_stream_len, mini_stream_of}
 use Rattle.cfb_mini.specs.declared.links.MiniLinks.{MiniLinks}
 use Rattle.cfb_mini.specs.declared.mini_allocator.MiniAllocator.{MiniAllocator}
+use Rattle.cfb_mini.proofs.Headers.{header_stays, u32_same, KeepsFront}
 use Rattle.cfb_mini.proofs.Keeping.{pick, pick_mine, pick_other}
 use Rattle.cfb_mini.proofs.Longer.{all_less, lengthened_owners, lengthened_strays, now_other, own_now, stream_size}
 use Rattle.cfb_mini.proofs.Parts.{parts_are}
-use Rattle.cfb_mini.proofs.Strays.{none_left_out, strays_before}
+use Rattle.cfb_mini.proofs.Strays.{leaves_same, none_left_out, strays_before}
 use Rattle.cfb_owned.specs.Chains.{GoesOn}
 use Rattle.cfb_owners.specs.Held.{mini_joined as held_joined, mini_places_of}
 use Rattle.cfb_owners.specs.Owners.{first_of, mini_stream_owner, stream_owner, Owners}
+use Rattle.cfb_sectors.specs.Header.{IsHeader}
 use Rattle.cfb_sectors.specs.Sectors.{end_of_chain, free, places, sector, Chain as IsChain}
 use Rattle.cfb_siblings.proofs.Frames.{set_found}
 use Rattle.cfb_tree.specs.Directory.{kind_root, Entry}
 use Rattle.cfb_tree.proofs.OneContent.{Some_same}
 use Rattle.cfb_writing.specs.Moving.{CarriesOthers, Moves, MovesRoot}
 use Rattle.cfb_writing.proofs.LongBytes.{all_at, all_by_index, length-places}
+use Rattle.cfb_writing.proofs.LongChains.{lost_free}
 use Rattle.cfb_writing.proofs.MiniBytes.{parts_front, parts_of, places_both}
 use Rattle.cfb_mini.proofs.Padded.{joined_padded}
 
@@ -63,49 +68,68 @@ module _ (table : List ℕ) (start : ℕ) (ids taken : List ℕ) (chain : IsChai
   none_taken : AreNoneOf ids taken
   none_taken = all_by_index (IsNoneOf ids) taken (λ j there. in_use table start ids (get_or taken j 0) chain (all_at (IsFreeIn table) taken j were there))
 
--- an owner of nothing took in what was free, in a table that may have become longer
-module _ (old new : List ℕ) (own : ℕ → List ℕ) (key : ℕ) (taken : List ℕ) (owned : Owned old [] own) (were : AllByRecursion (IsFreeIn old) taken) (stays : StayBut taken old new) (linked : IsLinked new taken) where
-  abbrev later : ℕ → List ℕ
-  later = pick own key taken
+-- what holds of each in two lists
+all_both : (P : ℕ → Type 0) (xs ys : List ℕ) → AllByRecursion P xs → AllByRecursion P ys → AllByRecursion P (xs ++ ys)
+all_both P [] ys first second = second
+all_both P (x ∷ xs) ys first second = (first.0, all_both P xs ys first.1 second)
 
-  others_linked : (k : ℕ) → IsLinked new (own k)
-  others_linked k = chain_stays taken old new stays (slice_index_or (own k) 0 end_of_chain) (own k) (owned.linked k) (taken_none old (slice_index_or (own k) 0 end_of_chain) (own k) taken (owned.linked k) were)
+-- or in the front of one
+all_front : (P : ℕ → Type 0) (xs : List ℕ) (n : ℕ) → AllByRecursion P xs → AllByRecursion P (take n xs)
+all_front P xs zero all = tt
+all_front P [] (suc n) all = tt
+all_front P (x ∷ xs) (suc n) all = (all.0, all_front P xs n all.1)
 
-  pub owned_more : Owned new [] (pick own key taken)
+-- an owner took in what was free behind what it had, in a table that may have become longer
+module _ (old new : List ℕ) (own : ℕ → List ℕ) (key : ℕ) (before taken later : List ℕ) (owned : Owned old [] own) (mine : own key ≡ before) (is : later ≡ before ++ taken) (were : AllByRecursion (IsFreeIn old) taken) (stays : StayBut later old new)
+    (linked : IsLinked new later) where
+  abbrev then : ℕ → List ℕ
+  then = pick own key later
+
+  later_none : (k : ℕ) → (k ≡ key → ⊥) → AreNoneOf later (own k)
+  later_none k other =
+      let first : AreNoneOf before (own k) = subst (λ x. AreNoneOf x (own k)) mine (owned.apart key k (λ same. other (sym same))) in
+      let second = taken_none old (slice_index_or (own k) 0 end_of_chain) (own k) taken (owned.linked k) were in
+      all_by_index (IsNoneOf later) (own k) (λ j below. subst (λ l. IsNoneOf l (get_or (own k) j 0)) (sym is) (none_both before taken (get_or (own k) j 0) (all_at (IsNoneOf before) (own k) j first below) (all_at (IsNoneOf taken) (own k) j second below)))
+
+  none_later : (k : ℕ) → (k ≡ key → ⊥) → AreNoneOf (own k) later
+  none_later k other =
+      subst (AreNoneOf (own k)) (sym is)
+      (all_both (IsNoneOf (own k)) before taken (subst (AreNoneOf (own k)) mine (owned.apart k key other)) (none_taken old (slice_index_or (own k) 0 end_of_chain) (own k) taken (owned.linked k) were))
+
+  pub owned_more : Owned new [] (pick own key later)
   owned_more = record {
     linked = λ k. ⊎_elim
-        (λ same. subst (IsLinked new) (sym (ap later same.1 ∙ pick_mine own key taken)) linked)
-        (λ other. subst (IsLinked new) (sym (pick_other own key taken k other.1)) (others_linked k))
+        (λ same. subst (IsLinked new) (sym (ap then same.1 ∙ pick_mine own key later)) linked)
+        (λ other. subst (IsLinked new) (sym (pick_other own key later k other.1)) (chain_stays later old new stays (slice_index_or (own k) 0 end_of_chain) (own k) (owned.linked k) (later_none k other.1)))
         (eqb_tells k key);
     apart = λ k l differ. ⊎_elim
         (λ first. ⊎_elim
         (λ second. absurd (differ (first.1 ∙ sym second.1)))
-        (λ other. subst (λ x. AreNoneOf x (later l)) (sym (ap later first.1 ∙ pick_mine own key taken))
-        (subst (AreNoneOf taken) (sym (pick_other own key taken l other.1)) (taken_none old (slice_index_or (own l) 0 end_of_chain) (own l) taken (owned.linked l) were)))
+        (λ other. subst (λ x. AreNoneOf x (then l)) (sym (ap then first.1 ∙ pick_mine own key later)) (subst (AreNoneOf later) (sym (pick_other own key later l other.1)) (later_none l other.1)))
         (eqb_tells l key))
         (λ other. ⊎_elim
-        (λ second. subst (λ x. AreNoneOf x (later l)) (sym (pick_other own key taken k other.1))
-        (subst (AreNoneOf (own k)) (sym (ap later second.1 ∙ pick_mine own key taken)) (none_taken old (slice_index_or (own k) 0 end_of_chain) (own k) taken (owned.linked k) were)))
-        (λ both. subst (λ x. AreNoneOf x (later l)) (sym (pick_other own key taken k other.1)) (subst (AreNoneOf (own k)) (sym (pick_other own key taken l both.1)) (owned.apart k l differ)))
+        (λ second. subst (λ x. AreNoneOf x (then l)) (sym (pick_other own key later k other.1)) (subst (AreNoneOf (own k)) (sym (ap then second.1 ∙ pick_mine own key later)) (none_later k other.1)))
+        (λ both. subst (λ x. AreNoneOf x (then l)) (sym (pick_other own key later k other.1)) (subst (AreNoneOf (own k)) (sym (pick_other own key later l both.1)) (owned.apart k l differ)))
         (eqb_tells l key))
         (eqb_tells k key);
-    beside = λ k. none_of_nothing (later k);
+    beside = λ k. none_of_nothing (then k);
     marked = λ n freed k inside same. absurd (omega (arith, inside));
   }
 
 -- and no more are in use without an owner than were
-more_strays : (old new : List ℕ) (own : ℕ → List ℕ) (key : ℕ) (later : List ℕ) → own key ≡ [] → StayBut later old new → ((n : ℕ) → length old ≤ n → n < length new → IsNoneOf later n → slice_index new n ≡ free)
+more_strays : (old new : List ℕ) (own : ℕ → List ℕ) (key : ℕ) (before taken later : List ℕ) → own key ≡ before → later ≡ before ++ taken → StayBut later old new → ((n : ℕ) → length old ≤ n → n < length new → IsNoneOf later n → slice_index new n ≡ free)
     → (n : ℕ) → IsStrayIn new [] (pick own key later) n → IsStrayIn old [] own n
-more_strays old new own key later nothing stays unused n s =
+more_strays old new own key before taken later mine is stays unused n s =
     let apart : IsNoneOf later n = subst (λ l. IsNoneOf l n) (pick_mine own key later) (s.unowned key) in
+    let first : IsNoneOf before n = none_first before taken n (subst (λ l. IsNoneOf l n) is apart) in
     ⊎_elim
     (λ past. absurd (s.in_use (unused n past.1 s.below apart)))
-    (λ before. record {
-      below = before.1;
-      in_use = λ is. s.in_use (stays.others n before.1 apart ∙ is);
+    (λ inside. record {
+      below = inside.1;
+      in_use = λ freed. s.in_use (stays.others n inside.1 apart ∙ freed);
       beside = s.beside;
       unowned = λ k. ⊎_elim
-          (λ same. subst (λ l. IsNoneOf l n) (sym (ap own same.1 ∙ nothing)) (λ j inside. absurd (omega (arith, inside))))
+          (λ same. subst (λ l. IsNoneOf l n) (sym (ap own same.1 ∙ mine)) first)
           (λ other. subst (λ l. IsNoneOf l n) (pick_other own key later k other.1) (s.unowned k))
           (eqb_tells k key);
     })
@@ -226,6 +250,32 @@ module _ {F : Type 0} {g : Ghosts F} (old new : MiniAllocator F g) (who : Owners
   pub mini_moves : (it : Moves id old new who) × (it.now ≡ record { sectors = own'; minis = minis' })
   mini_moves = (record { now = now; stands = stands_now; carries = carries; entries = entries; strays = strays }, refl)
 
+module _ {F : Type 0} {g : Ghosts F} (old new : MiniAllocator F g) (goes : GoesOn (allocator_of old) (allocator_of new)) where
+  -- where of the sectors at most the mini FAT's were written, the header tells what it told, and the mini stream is what it was
+  pub leaves_file : (own : ℕ → List ℕ) → HasOwners old own → HasOwners new own → Becomes (sector (version_of (allocator_of old))) [] (own 1) [] (own 1) (seen_of (allocator_of old)) (seen_of (allocator_of new))
+      → entries_held (directory_of new) ≡ entries_held (directory_of old) → (HasHeader old → HasCounts old → HasCounts new) → LeavesFile old new
+  unfolding seen_of
+  leaves_file own h now becomes entries counts =
+      let a = bytes_of (allocator_of old) in
+      let b = bytes_of (allocator_of new) in
+      let v = version_of (allocator_of old) in
+      let longer : length a ≤ length b = becomes.leaves.longer in
+      let front : KeepsFront 68 a b = λ place count front beside. becomes.leaves.header place count front (⊎_elim (λ before. inl (omega (arith, before))) (λ behind. inr (omega (arith, behind))) beside, tt) in
+      record {
+        longer = longer;
+        header = λ was.
+            let whole = was.header.whole in
+            record {
+              header = subst (λ u. IsHeader u b) (sym goes.version) (header_stays 68 (omega arith) a b whole longer front (omega arith) v was.header);
+              directory = u32_same 68 (omega arith) a b whole longer front 48 (omega arith) (inr (omega arith)) ∙ was.directory ∙ ap (λ l. slice_index_or l 0 end_of_chain) (sym h.directory ∙ now.directory);
+              mini_fat = u32_same 68 (omega arith) a b whole longer front 60 (omega arith) (inr (omega arith)) ∙ was.mini_fat ∙ ap (λ l. slice_index_or l 0 end_of_chain) (sym h.mini_fat ∙ now.mini_fat);
+            };
+        counts = counts;
+        more = [];
+        stream = sym now.mini_stream ∙ h.mini_stream ∙ sym (append-nil (mini_stream_ids old));
+        sizes = λ fit. subst (λ u. SizesFit u (entries_held (directory_of new))) (sym goes.version) (subst (SizesFit v) (sym entries) fit);
+      }
+
 -- where the root's entry tells of another mini stream
 root_moved : {F : Type 0} {g : Ghosts F} (old new : MiniAllocator F g) (root : Entry) → slice_get (entries_held (directory_of old)) 0 ≡ Some root → TellsStream old new → MovesRoot (entries_held (directory_of old)) (entries_held (directory_of new))
 root_moved old new root found tells = ⊎_elim (λ same. inl same.0) (λ told. inr (root, _, _, found, told root found)) tells
@@ -255,22 +305,53 @@ module _ {F : Type 0} {g : Ghosts F} (old new : MiniAllocator F g) (who : Owners
         strict = strict_over old new (header_here old who m) over.file.counts over.entries;
       })
 
-  -- a stream without mini sectors took some in
-  pub moves_more : (later : List ℕ) → who.minis (stream_owner id) ≡ [] → (l : Lengthens old new [] later who.sectors)
+  -- a stream took mini sectors in behind those that it had
+  pub moves_more : (before later : List ℕ) → who.minis (stream_owner id) ≡ before → (l : Lengthens old new before later who.sectors)
       → (it : Moves id old new who) × (it.now ≡ record { sectors = own_now new who.sectors; minis = pick who.minis (stream_owner id) later })
-  moves_more later nothing l =
+  moves_more before later mine l =
       let key = stream_owner id in
-      let is : l.taken ≡ later = sym l.minis_are in
+      let taken = l.taken in
+      let own' = own_now new who.sectors in
+      let has = lengthened_owners old new before later who.sectors l in
       let root = root_moved old new m.root (root_there old who m) l.entries in
-      let owned = owned_more (mini_fat_of old) (mini_fat_of new) who.minis key later (minis_owned old who m) (subst (AllByRecursion (IsFreeIn (mini_fat_of old))) is l.were_free) l.numbers l.linked in
-      mini_moves old new who id m goes live l.file (own_now new who.sectors) (lengthened_owners old new [] later who.sectors l)
+      let owned = owned_more (mini_fat_of old) (mini_fat_of new) who.minis key before taken later (minis_owned old who m) mine l.minis_are l.were_free l.numbers l.linked in
+      let first : AllByRecursion (λ n. 64 * n + 64 ≤ mini_stream_len new) before =
+      subst (AllByRecursion (λ n. 64 * n + 64 ≤ mini_stream_len new)) mine (all_less (mini_stream_len old) (mini_stream_len new) (who.minis key) (longer_stream old new who m goes l.file own' has) (minis_there old who m key)) in
+      mini_moves old new who id m goes live l.file own' has
       (λ k past. now_other new who.sectors k (λ same. omega (arith, same, past)) (λ same. omega (arith, same, past))) l.others
       (pick who.minis key later) owned (pick_other who.minis key later)
-      (subst (AllByRecursion (λ n. 64 * n + 64 ≤ mini_stream_len new)) (is ∙ sym (pick_mine who.minis key later)) l.inside)
+      (subst (AllByRecursion (λ n. 64 * n + 64 ≤ mini_stream_len new)) (sym l.minis_are ∙ sym (pick_mine who.minis key later)) (all_both (λ n. 64 * n + 64 ≤ mini_stream_len new) before taken first l.inside))
       (λ k other. ap (λ s. mini_joined s (who.minis k)) l.stream ∙ joined_padded (mini_stream_of old) l.zeros (who.minis k))
       root
       (record {
-        sectors = lengthened_strays old new [] later who.sectors l;
-        minis = more_strays (mini_fat_of old) (mini_fat_of new) who.minis key later nothing l.numbers l.unused;
+        sectors = lengthened_strays old new before later who.sectors l;
+        minis = more_strays (mini_fat_of old) (mini_fat_of new) who.minis key before taken later mine l.minis_are l.numbers l.unused;
         strict = strict_by old new (header_here old who m) l.file.counts (facts_moved (entries_held (directory_of old)) (entries_held (directory_of new)) root);
+      })
+
+  -- a stream kept those at the front
+  pub moves_fewer : (count : ℕ) (before later : List ℕ) → who.minis (stream_owner id) ≡ before → Shortens count old new before later who.sectors
+      → (it : Moves id old new who) × (it.now ≡ record { sectors = who.sectors; minis = pick who.minis (stream_owner id) later })
+  unfolding mini_seen
+  moves_fewer count before later mine s =
+      let key = stream_owner id in
+      let becomes : Becomes mini_sector all_words (who.minis key) [] later (mini_seen old) (mini_seen new) = subst (λ l. Becomes mini_sector all_words l [] later (mini_seen old) (mini_seen new)) (sym mine) s.changes.becomes in
+      let is = pick_mine who.minis key later in
+      let others = pick_other who.minis key later in
+      let moved : MovesOne mini_sector all_words key later [] (mini_seen old) (mini_seen new) who.minis (pick who.minis key later) = record { becomes = becomes; mine = is; others = others } in
+      let owned = minis_owned old who m in
+      let left = other_left mini_sector (mini_seen old) (mini_seen new) who.minis (pick who.minis key later) key all_words later [] owned moved in
+      let file = leaves_file old new goes who.sectors m.owners s.changes.owners s.becomes s.entries s.counts in
+      let there : AllByRecursion (λ n. 64 * n + 64 ≤ mini_stream_len new) before =
+      subst (AllByRecursion (λ n. 64 * n + 64 ≤ mini_stream_len new)) mine (all_less (mini_stream_len old) (mini_stream_len new) (who.minis key) (longer_stream old new who m goes file who.sectors s.changes.owners) (minis_there old who m key)) in
+      mini_moves old new who id m goes live file who.sectors s.changes.owners (λ k past. refl) s.changes.others (pick who.minis key later)
+      (owned_changed mini_sector (mini_seen old) (mini_seen new) who.minis (pick who.minis key later) key all_words later [] owned moved) others
+      (subst (AllByRecursion (λ n. 64 * n + 64 ≤ mini_stream_len new)) (sym s.minis_are ∙ sym is) (all_front (λ n. 64 * n + 64 ≤ mini_stream_len new) before count there))
+      (λ k other. (left k other).bytes) (inl s.entries)
+      (record {
+        sectors = leaves_same (allocator_of old) (allocator_of new) who.sectors 1 s.becomes;
+        minis = strays_before mini_sector all_words (who.minis key) [] later key (mini_seen old) (mini_seen new) who.minis (pick who.minis key later) becomes refl is others
+            (subst (λ l. (n : ℕ) → IsNoneOf later n → (IsNoneOf (l ++ []) n → ⊥) → slice_index (mini_fat_of new) n ≡ free) (sym mine)
+            (lost_free (mini_fat_of new) before [] later count (s.minis_are ∙ sym (append-nil (take count before))) s.freed));
+        strict = strict_over old new (header_here old who m) s.counts s.entries;
       })

@@ -46,24 +46,34 @@ module _ (key : ℕ) (s t : LiveFile) (who now : Owners) (c : CarriesOthers key 
             );
       }
 
--- where the whole mini stream stays, other streams do
-pub carries_others : (key : ℕ) (s t : LiveFile) (who now : Owners) → mini_stream_owner < key → CarriesBut key s t who now → CarriesOthers key s t who now
-carries_others key s t who now past c =
-    let apart : mini_stream_owner ≡ key → ⊥ = λ same. omega (arith, same, past) in
-    let stream : now.sectors mini_stream_owner ≡ who.sectors mini_stream_owner = c.sectors mini_stream_owner (omega arith) apart in
-    let mini_is : joined t.version t.bytes (now.sectors mini_stream_owner) ≡ joined s.version s.bytes (who.sectors mini_stream_owner) =
-    ap (λ v. joined v t.bytes (now.sectors mini_stream_owner)) c.version ∙ ap (joined s.version t.bytes) stream ∙ c.joined mini_stream_owner (omega arith) apart in
-    let mini_at : places t.version (now.sectors mini_stream_owner) ≡ places s.version (who.sectors mini_stream_owner) =
-    ap (λ v. places v (now.sectors mini_stream_owner)) c.version ∙ ap (places s.version) stream in
-    record {
-      version = c.version;
-      longer = c.longer;
-      sectors = λ k above other. c.sectors k (let a = above in omega (arith, a)) other;
-      minis = c.minis;
-      joined = λ k above other. c.joined k (let a = above in omega (arith, a)) other;
-      mini_joined = λ k other. ap (λ l. flat_map (λ n. slice_range l (64 * n) (64 * n + 64)) (who.minis k)) mini_is;
-      mini_places = λ k other. ap (λ l. flat_map (λ n. slice_range l (64 * n) (64 * n + 64)) (who.minis k)) mini_at;
-    }
+-- where the whole mini stream stays
+module _ (key : ℕ) (s t : LiveFile) (who now : Owners) (past : mini_stream_owner < key) (c : CarriesBut key s t who now) where
+  stream_stays : now.sectors mini_stream_owner ≡ who.sectors mini_stream_owner
+  stream_stays = c.sectors mini_stream_owner (omega arith) (λ same. omega (arith, same, past))
+
+  -- all mini sectors have their bytes
+  pub minis_carried : (ids : List ℕ) → mini_joined t now ids ≡ mini_joined s who ids
+  minis_carried ids =
+      ap (λ l. flat_map (λ n. slice_range l (64 * n) (64 * n + 64)) ids)
+      (ap (λ v. joined v t.bytes (now.sectors mini_stream_owner)) c.version ∙ ap (joined s.version t.bytes) stream_stays ∙ c.joined mini_stream_owner (omega arith) (λ same. omega (arith, same, past)))
+
+  -- and places
+  pub mini_places_carried : (ids : List ℕ) → mini_places_of t now ids ≡ mini_places_of s who ids
+  mini_places_carried ids =
+      ap (λ l. flat_map (λ n. slice_range l (64 * n) (64 * n + 64)) ids)
+      (ap (λ v. places v (now.sectors mini_stream_owner)) c.version ∙ ap (places s.version) stream_stays)
+
+  -- and other streams stay
+  pub carries_others : CarriesOthers key s t who now
+  carries_others = record {
+    version = c.version;
+    longer = c.longer;
+    sectors = λ k above other. c.sectors k (let a = above in omega (arith, a)) other;
+    minis = c.minis;
+    joined = λ k above other. c.joined k (let a = above in omega (arith, a)) other;
+    mini_joined = λ k other. minis_carried (who.minis k);
+    mini_places = λ k other. mini_places_carried (who.minis k);
+  }
 
 -- one change, and then another
 pub others_then : (key : ℕ) (r s t : LiveFile) (was who now : Owners) → CarriesOthers key r s was who → CarriesOthers key s t who now → CarriesOthers key r t was now

@@ -1,12 +1,10 @@
--- A short stream that took sectors, and then gave up its mini sectors.
-use Rattle.std.proofs.Common.{◌≡◌, ℕ, ◌+◌, ◌*◌, ◌<◌, ◌≤◌, inl, inr, false, List, [], append-nil, length, take, refl, ap, sym, subst, ◌∙◌, ⊎_elim, arith}
-use Rattle.std.specs.Prelude.{slice_index_or}
+-- A stream that took its home on the other level, and then gave up the one that it had.
+use Rattle.std.proofs.Common.{◌≡◌, ℕ, ◌+◌, ◌*◌, ◌<◌, ◌≤◌, inl, false, List, [], length, take, refl, ap, sym, subst, ◌∙◌, arith}
 use Rattle.std.specs.List.{AllByRecursion}
 use Rattle.cfb_chains.specs.LinkViews.{ids_of, links_version}
 use Rattle.cfb_chains.specs.declared.links.Links.{Links}
 use Rattle.cfb_chains.specs.Owned.{Moves as MovesOne}
 use Rattle.cfb_chains.proofs.Owners.{other_left, owned_changed}
-use Rattle.cfb_directory.specs.Entries.{SizesFit}
 use Rattle.cfb_directory.specs.Views.{entries_held}
 use Rattle.cfb_fat.specs.Orderly.{AreBelow}
 use Rattle.cfb_fat.specs.Seeing.{seen_of}
@@ -18,58 +16,32 @@ use Rattle.cfb_live.proofs.Freed.{chain_below, own_minis}
 use Rattle.cfb_live.proofs.Strays.{short_strays, strays_then}
 use Rattle.cfb_live.proofs.StrictFacts.{header_here}
 use Rattle.cfb_medium.specs.declared.medium.ReadMedium.{Ghosts}
-use Rattle.cfb_mini.specs.Changing.{mini_seen, Frees, HasOwners}
-use Rattle.cfb_mini.specs.Files.{LeavesFile}
+use Rattle.cfb_mini.specs.Changing.{mini_seen, Frees}
 use Rattle.cfb_mini.specs.LinkViews.{minis_of}
 use Rattle.cfb_mini.specs.Minis.{all_words, mini_sector}
-use Rattle.cfb_mini.specs.Views.{allocator_of, directory_of, mini_fat_of, mini_stream_ids, mini_stream_len}
+use Rattle.cfb_mini.specs.Views.{allocator_of, directory_of, mini_fat_of, mini_stream_len}
 use Rattle.cfb_mini.specs.declared.links.MiniLinks.{MiniLinks}
 use Rattle.cfb_mini.specs.declared.mini_allocator.MiniAllocator.{MiniAllocator}
-use Rattle.cfb_mini.proofs.Headers.{header_stays, u32_same, KeepsFront}
 use Rattle.cfb_mini.proofs.Keeping.{pick, pick_mine, pick_other}
 use Rattle.cfb_owned.specs.Chains.{GoesOn}
-use Rattle.cfb_owners.specs.Held.{EntryLiesIn, HasStream}
+use Rattle.cfb_owners.specs.Held.{mini_joined, mini_places_of, EntryLiesIn, HasStream}
 use Rattle.cfb_owners.specs.Owners.{first_of, stream_owner, Owners}
-use Rattle.cfb_sectors.specs.Header.{mini_cutoff, IsHeader}
-use Rattle.cfb_sectors.specs.Sectors.{end_of_chain, joined, places}
+use Rattle.cfb_sectors.specs.Header.{mini_cutoff}
+use Rattle.cfb_sectors.specs.Sectors.{joined, places}
 use Rattle.cfb_streams.specs.declared.opening.StreamLinks.TheVariants.{Long, Short}
 use Rattle.cfb_tree.specs.Changes.{changed, with_bytes}
 use Rattle.cfb_tree.specs.Directory.{Entry}
 use Rattle.cfb_tree.specs.Names.{Letters}
 use Rattle.cfb_tree.specs.Paths.{Path}
 use Rattle.cfb_tree.specs.Tree.{Tree}
-use Rattle.cfb_writing.specs.Moving.{Moves, Places, TakesLong}
+use Rattle.cfb_writing.specs.Moving.{Moves, MovesLong, MovesRoot, Places, TakesLong, TakesShort}
 use Rattle.cfb_writing.specs.Streams.{AreLinksOf, IsStreamAt}
-use Rattle.cfb_writing.proofs.MiniMoves.{mini_moves, minis_owned}
+use Rattle.cfb_writing.proofs.MiniMoves.{leaves_file, mini_moves, minis_owned}
 use Rattle.cfb_writing.proofs.Others.{lies_still, others_then}
-use Rattle.cfb_writing.proofs.Placed.{entry_of, placed_links, placed_strays, stream_placed}
+use Rattle.cfb_writing.proofs.Placed.{entry_of, placed_links, placed_minis, placed_strays, stream_placed}
 use Rattle.cfb_writing.proofs.ShortAt.{short_below, short_owned}
 
 module _ {F : Type 0} {g : Ghosts F} (old new : MiniAllocator F g) (goes : GoesOn (allocator_of old) (allocator_of new)) where
-  -- the header tells what it told, and the mini stream is what it was
-  leaves_file : (own : ℕ → List ℕ) (minis : List ℕ) → HasOwners old own → Frees minis old new own → LeavesFile old new
-  unfolding seen_of
-  leaves_file own minis h f =
-      let a = bytes_of (allocator_of old) in
-      let b = bytes_of (allocator_of new) in
-      let v = version_of (allocator_of old) in
-      let longer : length a ≤ length b = f.becomes.leaves.longer in
-      let front : KeepsFront 68 a b = λ place count front beside. f.becomes.leaves.header place count front (⊎_elim (λ before. inl (omega (arith, before))) (λ behind. inr (omega (arith, behind))) beside, tt) in
-      record {
-        longer = longer;
-        header = λ was.
-            let whole = was.header.whole in
-            record {
-              header = subst (λ u. IsHeader u b) (sym goes.version) (header_stays 68 (omega arith) a b whole longer front (omega arith) v was.header);
-              directory = u32_same 68 (omega arith) a b whole longer front 48 (omega arith) (inr (omega arith)) ∙ was.directory ∙ ap (λ l. slice_index_or l 0 end_of_chain) (sym h.directory ∙ f.changes.owners.directory);
-              mini_fat = u32_same 68 (omega arith) a b whole longer front 60 (omega arith) (inr (omega arith)) ∙ was.mini_fat ∙ ap (λ l. slice_index_or l 0 end_of_chain) (sym h.mini_fat ∙ f.changes.owners.mini_fat);
-            };
-        counts = f.counts;
-        more = [];
-        stream = sym f.changes.owners.mini_stream ∙ h.mini_stream ∙ sym (append-nil (mini_stream_ids old));
-        sizes = λ fit. subst (λ u. SizesFit u (entries_held (directory_of new))) (sym goes.version) (subst (SizesFit v) (sym f.entries) fit);
-      }
-
   -- a stream gave up its mini sectors, whatever sectors it has
   vacated : (who : Owners) (id : ℕ) → Stands old who → has_failed_here (allocator_of new) ≡ false → Frees (who.minis (stream_owner id)) old new who.sectors
       → (it : Moves id old new who) × (it.now ≡ record { sectors = who.sectors; minis = pick who.minis (stream_owner id) [] })
@@ -81,7 +53,7 @@ module _ {F : Type 0} {g : Ghosts F} (old new : MiniAllocator F g) (goes : GoesO
       let moved : MovesOne mini_sector all_words key [] [] (mini_seen old) (mini_seen new) who.minis (pick who.minis key []) = record { becomes = f.changes.becomes; mine = mine; others = others } in
       let owned = minis_owned old who m in
       let left = other_left mini_sector (mini_seen old) (mini_seen new) who.minis (pick who.minis key []) key all_words [] [] owned moved in
-      mini_moves old new who id m goes live (leaves_file who.sectors (who.minis key) m.owners f) who.sectors f.changes.owners (λ k past. refl) f.changes.others (pick who.minis key [])
+      mini_moves old new who id m goes live (leaves_file old new goes who.sectors m.owners f.changes.owners f.becomes f.entries f.counts) who.sectors f.changes.owners (λ k past. refl) f.changes.others (pick who.minis key [])
       (owned_changed mini_sector (mini_seen old) (mini_seen new) who.minis (pick who.minis key []) key all_words [] [] owned moved) others
       (subst (AllByRecursion (λ n. 64 * n + 64 ≤ mini_stream_len new)) (sym mine) tt)
       (λ k other. (left k other).bytes) (inl f.entries) (short_strays old new who id (header_here old who m) f)
@@ -154,6 +126,64 @@ module _ {F : Type 0} {g : Ghosts F} (letters : Letters) (m0 m1 m2 new : MiniAll
       let has = rehoused_has m0 m1 m2 who id (ids_of links) content' took goes1 live1 frees (record p.entry { start = start; size = len }) starts size up in (
         stream_placed letters m0 m2 new tree path id content content' at moved start len p goes live has,
         placed_links letters m0 m2 new tree path id content content' at moved start len p goes live has links mine version up,
+        placed_strays letters m0 m2 new tree path id content content' at moved start len p goes live has,
+      )
+
+-- so did a long one that took mini sectors
+module _ {F : Type 0} {g : Ghosts F} (m0 m1 m2 : MiniAllocator F g) (who : Owners) (id : ℕ) (later content : List ℕ) (took : TakesShort id later content m0 m1 who) (freed : MovesLong id [] m1 m2 took.short.moves.now) where
+  abbrev short_mid : Owners
+  short_mid = took.short.moves.now
+
+  pub shortened_moves : Moves id m0 m2 who
+  unfolding live_of
+  shortened_moves = record {
+    now = freed.moves.now;
+    stands = freed.moves.stands;
+    carries = others_then (stream_owner id) (live_of m0) (live_of m1) (live_of m2) who short_mid freed.moves.now took.short.moves.carries freed.moves.carries;
+    entries = subst (MovesRoot (entries_held (directory_of m0))) (sym freed.entries) took.short.moves.entries;
+    strays = strays_then m0 m1 m2 who short_mid freed.moves.now took.short.moves.strays freed.moves.strays;
+  }
+
+  pub shortened_mine : shortened_moves.now.minis (stream_owner id) ≡ later
+  unfolding shortened_moves
+  shortened_mine = freed.minis ∙ took.short.mine
+
+  -- it has its bytes in the mini sectors, where its entry tells of them
+  pub shortened_has : (f : Entry) → f.start ≡ first_of later → f.size ≡ length content → f.size < mini_cutoff → HasStream (live_of m2) shortened_moves.now id f content
+  unfolding live_of seen_of shortened_moves
+  shortened_has f start size below =
+      let now = freed.moves.now in
+      let b1 = bytes_of (allocator_of m1) in
+      let b2 = bytes_of (allocator_of m2) in
+      let mine : now.minis (stream_owner id) ≡ later = freed.minis ∙ took.short.mine in
+      let first : EntryLiesIn b1 f later (mini_joined (live_of m1) short_mid later) (mini_places_of (live_of m1) short_mid later) content =
+      record {
+        start = start;
+        content_is = took.content_is ∙ ap (λ n. take n (mini_joined (live_of m1) short_mid later)) (sym size);
+        whole = sym size;
+        there = subst (λ n. AllByRecursion (λ p. p < length b1) (take n (mini_places_of (live_of m1) short_mid later))) (sym size) took.there;
+      } in
+      record {
+        short = λ few. (
+          freed.mine,
+          lies_still b1 b2 f f later (now.minis (stream_owner id)) _ _ _ _ content freed.moves.carries.longer refl refl mine
+              (ap (mini_joined (live_of m2) now) mine ∙ freed.mini_joined later) (ap (mini_places_of (live_of m2) now) mine ∙ freed.mini_places later) first,
+        );
+        long = λ up. absurd (let high = up in omega (arith, high, below));
+      }
+
+module _ {F : Type 0} {g : Ghosts F} (letters : Letters) (m0 m1 m2 new : MiniAllocator F g) (tree : Tree) (path : Path) (id : ℕ) (content content' : List ℕ) (at : IsStreamAt letters m0 tree path id content)
+    (minis : MiniLinks) (took : TakesShort id (minis_of minis) content' m0 m1 at.means.who) (freed : MovesLong id [] m1 m2 took.short.moves.now) (start len : ℕ) (starts : start ≡ first_of (minis_of minis)) (size : len ≡ length content') (below : len < mini_cutoff)
+    (p : Places id start len m2 new) (goes : GoesOn (allocator_of m2) (allocator_of new)) (live : has_failed_here (allocator_of new) ≡ false) where
+  -- it lies there, with its new bytes, and there are no more strays
+  pub shortened : (then : IsStreamAt letters new (changed letters (with_bytes content') path tree) path id content') × AreLinksOf id (Short minis) new × StaysTidy m0 new at.means.who then.means.who
+  shortened =
+      let who = at.means.who in
+      let moved = shortened_moves m0 m1 m2 who id (minis_of minis) content' took freed in
+      let mine = shortened_mine m0 m1 m2 who id (minis_of minis) content' took freed in
+      let has = shortened_has m0 m1 m2 who id (minis_of minis) content' took freed (record p.entry { start = start; size = len }) starts size below in (
+        stream_placed letters m0 m2 new tree path id content content' at moved start len p goes live has,
+        placed_minis letters m0 m2 new tree path id content content' at moved start len p goes live has minis mine below,
         placed_strays letters m0 m2 new tree path id content content' at moved start len p goes live has,
       )
 

@@ -18,7 +18,8 @@ use Rattle.cfb_medium.specs.Versions.{sector_len}
 use Rattle.cfb_medium.specs.declared.medium.ReadMedium.{Ghosts}
 use Rattle.cfb_medium.specs.declared.version.Version.{Version}
 use Rattle.cfb_medium.specs.declared.version.Version.TheVariants.{V3, V4}
-use Rattle.cfb_mini.specs.Views.{allocator_of}
+use Rattle.cfb_mini.specs.Changing.{LacksMini}
+use Rattle.cfb_mini.specs.Views.{allocator_of, IsMini, MiniRests}
 use Rattle.cfb_mini.specs.declared.mini_allocator.MiniAllocator.{MiniAllocator}
 use Rattle.cfb_owned.specs.Chains.{content_of, place_of, LacksSectors, Resizes}
 use Rattle.cfb_sectors.specs.Copies.{copies}
@@ -27,8 +28,9 @@ use Rattle.cfb_sectors.specs.Initial.{initial}
 use Rattle.cfb_sectors.specs.Sectors.{free, greatest_regular}
 use Rattle.cfb_sectors.specs.declared.initial.SectorInit.TheVariants.{Zero}
 use Rattle.cfb_writing.specs.Sizes.{sectors_of_stream}
-use Rattle.cfb_writing.specs.Streams.{IsPastNumbers, LacksRoom}
+use Rattle.cfb_writing.specs.Streams.{IsPastNumbers, LacksRoom, LacksSectorsFor}
 use Rattle.cfb_writing.proofs.LongBytes.{copies_zero, get_grown, get_taken, get_zeros, joined_front, place_kept, place_new}
+use Rattle.cfb_mini.proofs.Longer.{lacks_rest}
 use Rattle.cfb_mini.proofs.Padded.{zero_at, zeros}
 
 -- so many sectors hold so many bytes
@@ -243,6 +245,11 @@ lacks_by v fat size len = (greatest_regular + 1 + count_by (λ entry. nat_eq ent
 few_more : (a b few more : ℕ) → a < b + few → few ≤ more → a < b + more
 few_more a b few more lacks most = omega (arith, lacks, most)
 
+-- a size for which no file has numbers is none of a short stream
+past_cutoff : (v : Version) (len : ℕ) → IsPastNumbers v len → mini_cutoff ≤ len
+past_cutoff V3 len past = omega (arith, past)
+past_cutoff V4 len past = omega (arith, past)
+
 module _ {F : Type 0} {g : Ghosts F} where
   pub lacks_more : (a : Allocator F g) (links : Links) (size len : ℕ) → size ≤ len → LacksSectors a links (sectors_for (links_version links) size) → LacksSectors a links (sectors_for (links_version links) len)
   lacks_more a links size len more lacks =
@@ -251,8 +258,8 @@ module _ {F : Type 0} {g : Ghosts F} where
 
   -- what is missing for the chain of a stream of `size` bytes is missing for the stream
   pub lacks_room : (it : MiniAllocator F g) (links : Links) (size len : ℕ) → size ≤ length (ids_of links) * sector_len (links_version links) → links_version links ≡ version_of (allocator_of it)
-      → LacksSectors (allocator_of it) links (sectors_for (links_version links) len) → LacksRoom it size len
-  unfolding LacksRoom
+      → LacksSectors (allocator_of it) links (sectors_for (links_version links) len) → LacksSectorsFor it size len
+  unfolding LacksSectorsFor
   lacks_room it links size len room version lacks =
       let a = allocator_of it in
       let few = fewer_for (links_version links) (length (ids_of links)) size room in
@@ -261,19 +268,35 @@ module _ {F : Type 0} {g : Ghosts F} where
       (⊎_elim (λ lack. inl (few_more _ _ (sectors_for (links_version links) len - length (ids_of links)) _ lack (omega (arith, few, some)))) (λ long. inr long) lacks)
 
   -- they were missing before reads too
-  pub lacks_resting : (old new : MiniAllocator F g) (size len : ℕ) → AllRests (allocator_of old) (allocator_of new) → LacksRoom new size len → LacksRoom old size len
-  unfolding LacksRoom
-  lacks_resting old new size len rests lacks =
+  pub lacks_sectors_resting : (old new : MiniAllocator F g) (size len : ℕ) → AllRests (allocator_of old) (allocator_of new) → LacksSectorsFor new size len → LacksSectorsFor old size len
+  unfolding LacksSectorsFor
+  lacks_sectors_resting old new size len rests lacks =
       subst (λ v. lacks_by v (fat_of (allocator_of old)) size len) rests.sectors.version (subst (λ f. lacks_by (version_of (allocator_of new)) f size len) rests.fat lacks)
 
   -- a short stream lacks what one without bytes does
-  pub lacks_as_short : (it : MiniAllocator F g) (size len : ℕ) → size < mini_cutoff → LacksRoom it 0 len → LacksRoom it size len
-  unfolding LacksRoom
+  pub lacks_as_short : (it : MiniAllocator F g) (size len : ℕ) → size < mini_cutoff → LacksSectorsFor it 0 len → LacksSectorsFor it size len
+  unfolding LacksSectorsFor
   lacks_as_short it size len below lacks =
       let v = version_of (allocator_of it) in
       subst (λ n. LacksNumbers (allocator_of it) (sectors_for v len - n) ⊎ (greatest_regular + 1 < sectors_for v len)) (short_has v 0 (omega arith) ∙ sym (short_has v size below)) lacks
 
+  -- so a stream lacks room that comes to 4096 bytes
+  pub lacks_long : (it : MiniAllocator F g) (size len : ℕ) → mini_cutoff ≤ len → LacksSectorsFor it size len → LacksRoom it size len
+  unfolding LacksRoom
+  lacks_long it size len up lacks = inl (up, lacks)
+
+  -- or that stays below, or comes there
+  pub lacks_short : (it : MiniAllocator F g) (size len : ℕ) → len < mini_cutoff → (size < mini_cutoff → size < len) → LacksMini it → LacksRoom it size len
+  unfolding LacksRoom
+  lacks_short it size len below more lacks = inr (below, more, lacks)
+
+  -- it lacked it before reads too
+  pub lacks_resting : (old new : MiniAllocator F g) (size len : ℕ) → IsMini old → MiniRests old new → LacksRoom new size len → LacksRoom old size len
+  unfolding LacksRoom
+  lacks_resting old new size len is rests lacks =
+      ⊎_elim (λ long. inl (long.0, lacks_sectors_resting old new size len rests.directory.allocator long.1)) (λ short. inr (short.0, short.1, lacks_rest old new is rests short.2)) lacks
+
   -- a size for which no file has numbers
   pub past_lacks : (it : MiniAllocator F g) (size len : ℕ) → IsPastNumbers (version_of (allocator_of it)) len → LacksRoom it size len
-  unfolding LacksRoom
-  past_lacks it size len past = inr past
+  unfolding LacksSectorsFor
+  past_lacks it size len past = lacks_long it size len (past_cutoff (version_of (allocator_of it)) len past) (inr past)

@@ -11,7 +11,9 @@ use Rattle.cfb_fat.specs.Tables.{bytes_of, version_of}
 use Rattle.cfb_medium.specs.Versions.{stream_len_mask}
 use Rattle.cfb_medium.specs.declared.medium.ReadMedium.{Ghosts}
 use Rattle.cfb_mini.specs.Changing.{ChangesDirectory, HasOwners}
+use Rattle.cfb_mini.specs.LinkViews.{minis_of}
 use Rattle.cfb_mini.specs.Views.{allocator_of, directory_of}
+use Rattle.cfb_mini.specs.declared.links.MiniLinks.{MiniLinks}
 use Rattle.cfb_mini.specs.declared.mini_allocator.MiniAllocator.{MiniAllocator}
 use Rattle.cfb_owners.specs.Held.{mini_joined, mini_places_of, HasStream}
 use Rattle.cfb_owners.specs.LiveFile.{LiveFile}
@@ -55,18 +57,33 @@ module _ {F : Type 0} {g : Ghosts F} where
     pub set : entries_held (directory_of new) ≡ slice_set (entries_held (directory_of old)) id (record entry { start = start; size = size })
     pub changes : (own : ℕ → List ℕ) → HasOwners old own → (id ≡ 0 → ⊥) → ChangesDirectory [] old new own
 
-  -- the sectors of the stream of entry `id` became these, with what was free; all else that is owned stays, and the entries
+  -- the sectors of the stream of entry `id` became these, with what was free; all else that is owned stays, with the bytes of all
+  -- mini sectors and their places, and the entries
   pub record MovesLong (id : ℕ) (later : List ℕ) (old new : MiniAllocator F g) (who : Owners) : Type 0 where
     pub moves : Moves id old new who
     pub mine : moves.now.sectors (stream_owner id) ≡ later
     pub minis : moves.now.minis (stream_owner id) ≡ who.minis (stream_owner id)
+    pub mini_joined : (ids : List ℕ) → mini_joined (live_of new) moves.now ids ≡ mini_joined (live_of old) who ids
+    pub mini_places : (ids : List ℕ) → mini_places_of (live_of new) moves.now ids ≡ mini_places_of (live_of old) who ids
     pub entries : entries_held (directory_of new) ≡ entries_held (directory_of old)
+
+  -- the mini sectors of the stream of entry `id` became these, with what was free, and it keeps its sectors
+  pub record MovesShort (id : ℕ) (later : List ℕ) (old new : MiniAllocator F g) (who : Owners) : Type 0 where
+    pub moves : Moves id old new who
+    pub mine : moves.now.minis (stream_owner id) ≡ later
+    pub sectors : moves.now.sectors (stream_owner id) ≡ who.sectors (stream_owner id)
 
   -- so they did, and the first of their bytes are these, which lie in the file
   pub record TakesLong (id : ℕ) (later content : List ℕ) (old new : MiniAllocator F g) (who : Owners) : Type 0 where
     pub long : MovesLong id later old new who
     pub content_is : content ≡ take (length content) (joined (version_of (allocator_of new)) (bytes_of (allocator_of new)) later)
     pub there : AllByRecursion (λ p. p < length (bytes_of (allocator_of new))) (take (length content) (places (version_of (allocator_of new)) later))
+
+  -- so the mini sectors did, and the first of their bytes are these, which lie in the file
+  pub record TakesShort (id : ℕ) (later content : List ℕ) (old new : MiniAllocator F g) (who : Owners) : Type 0 where
+    pub short : MovesShort id later old new who
+    pub content_is : content ≡ take (length content) (mini_joined (live_of new) short.moves.now later)
+    pub there : AllByRecursion (λ p. p < length (bytes_of (allocator_of new))) (take (length content) (mini_places_of (live_of new) short.moves.now later))
 
   -- where its entry tells of this start and of as many bytes, the stream of entry `id` has these bytes then; all other streams have
   -- what they had
@@ -83,3 +100,13 @@ module _ {F : Type 0} {g : Ghosts F} where
   Stretches size len old new before after = (who : Owners) (id : ℕ) (e : Entry) (content : List ℕ) → Stands old who → HasStream (live_of old) who id e content
       → e.size ≡ size → mini_cutoff ≤ size → mini_cutoff ≤ len → who.sectors (stream_owner id) ≡ ids_of before → links_version before ≡ version_of (allocator_of old)
       → (it : Houses id (first_of (ids_of after)) (resized len content) old new who) × (it.moves.now.sectors (stream_owner id) ≡ ids_of after)
+
+  -- a short stream of `size` bytes in the mini sectors `before` has then its first bytes, `len` with zeros behind them, in `after`
+  abbrev pub StretchesShort : ℕ → ℕ → MiniAllocator F g → MiniAllocator F g → MiniLinks → MiniLinks → Type 0
+  StretchesShort size len old new before after = (who : Owners) (id : ℕ) (e : Entry) (content : List ℕ) → Stands old who → HasStream (live_of old) who id e content
+      → e.size ≡ size → size < mini_cutoff → len < mini_cutoff → who.minis (stream_owner id) ≡ minis_of before
+      → (it : Houses id (first_of (minis_of after)) (resized len content) old new who) × (it.moves.now.minis (stream_owner id) ≡ minis_of after)
+
+  -- no stream that stands has the mini sectors of these links
+  abbrev pub IsNoMiniChain : MiniLinks → MiniAllocator F g → Type 0
+  IsNoMiniChain links it = (who : Owners) (id : ℕ) → Stands it who → who.minis (stream_owner id) ≡ minis_of links → ⊥

@@ -1,5 +1,5 @@
 -- A stream of a live file, and what a call does to its bytes ([MS-CFB] 2.6.3).
-use Rattle.std.specs.Prelude.{◌≡◌, ◌⊎◌, ℕ, ◌+◌, ◌-◌, ◌<◌, ◌++◌, List, length, replicate, slice_get, take, Option, Some}
+use Rattle.std.specs.Prelude.{◌≡◌, ◌⊎◌, ℕ, ◌+◌, ◌-◌, ◌<◌, ◌≤◌, ◌++◌, List, length, replicate, slice_get, take, Option, Some}
 use Rattle.cfb_chains.specs.LinkViews.{ids_of, links_version}
 use Rattle.cfb_chains.specs.Positions.{sectors_for}
 use Rattle.cfb_directory.specs.Views.{entries_held}
@@ -9,10 +9,12 @@ use Rattle.cfb_live.specs.Live.{MeansLive}
 use Rattle.cfb_live.specs.Strays.{StaysTidy}
 use Rattle.cfb_medium.specs.declared.medium.ReadMedium.{Ghosts}
 use Rattle.cfb_medium.specs.declared.version.Version.{Version}
+use Rattle.cfb_mini.specs.Changing.{LacksMini}
 use Rattle.cfb_mini.specs.LinkViews.{minis_of}
 use Rattle.cfb_mini.specs.Views.{allocator_of, directory_of}
 use Rattle.cfb_mini.specs.declared.mini_allocator.MiniAllocator.{MiniAllocator}
 use Rattle.cfb_owners.specs.Owners.{Owners}
+use Rattle.cfb_sectors.specs.Header.{mini_cutoff}
 use Rattle.cfb_sectors.specs.Sectors.{greatest_regular}
 use Rattle.cfb_siblings.specs.Places.{LeadsTo}
 use Rattle.cfb_streams.specs.Streams.{sectors_in, IsOfLevel, StreamLiesIn}
@@ -82,11 +84,6 @@ module _ {F : Type 0} {g : Ghosts F} where
   RewritesIn id change before after old new = (letters : Letters) (tree : Tree) (path : Path) (content : List ℕ) → (at : IsStreamAt letters old tree path id content) → AreLinksOf id before old
       → (then : IsStreamAt letters new (changed letters (with_bytes (change content)) path tree) path id (change content)) × AreLinksOf id after new × StaysTidy old new at.means.who then.means.who
 
-  -- a stream of entry `id` has then these bytes, in these sectors, and nothing else of the tree is changed; there are no more strays
-  abbrev pub Replaces : ℕ → List ℕ → StreamLinks → MiniAllocator F g → MiniAllocator F g → Type 0
-  Replaces id bytes after old new = (letters : Letters) (tree : Tree) (path : Path) (content : List ℕ) → (at : IsStreamAt letters old tree path id content)
-      → (then : IsStreamAt letters new (changed letters (with_bytes bytes) path tree) path id bytes) × AreLinksOf id after new × StaysTidy old new at.means.who then.means.who
-
   -- entry `id` is no stream with these sectors
   abbrev pub HasNoLinks : ℕ → StreamLinks → MiniAllocator F g → Type 0
   HasNoLinks id links it = (letters : Letters) (tree : Tree) (path : Path) (content : List ℕ) → IsStreamAt letters it tree path id content → AreLinksOf id links it → ⊥
@@ -95,11 +92,15 @@ module _ {F : Type 0} {g : Ghosts F} where
   abbrev pub IsPast : ℕ → StreamLinks → ℕ → ℕ → MiniAllocator F g → Type 0
   IsPast id links at count it = (letters : Letters) (tree : Tree) (path : Path) (content : List ℕ) → IsStreamAt letters it tree path id content → AreLinksOf id links it → length content < at + count
 
-  -- numbers of sectors are missing, in the FAT or in a chain, for the further ones that a stream of `size` bytes needs to have `len`
-  -- ([MS-CFB] 2.2 to 2.4)
-  unfoldable pub LacksRoom : MiniAllocator F g → ℕ → ℕ → Type 0
-  LacksRoom it size len = LacksNumbers (allocator_of it) (sectors_for (version_of (allocator_of it)) len - sectors_of_stream (version_of (allocator_of it)) size)
+  -- numbers of sectors are missing, in the FAT or in a chain, for the further ones that a stream of `size` bytes needs to have `len`,
+  -- which are at least 4096 ([MS-CFB] 2.2 to 2.4)
+  unfoldable pub LacksSectorsFor : MiniAllocator F g → ℕ → ℕ → Type 0
+  LacksSectorsFor it size len = LacksNumbers (allocator_of it) (sectors_for (version_of (allocator_of it)) len - sectors_of_stream (version_of (allocator_of it)) size)
       ⊎ (greatest_regular + 1 < sectors_for (version_of (allocator_of it)) len)
+
+  -- so they are, or below 4096 bytes nothing is left for a mini sector more, where the stream isn't a short one that gets no longer
+  unfoldable pub LacksRoom : MiniAllocator F g → ℕ → ℕ → Type 0
+  LacksRoom it size len = ((mini_cutoff ≤ len) × LacksSectorsFor it size len) ⊎ ((len < mini_cutoff) × (size < mini_cutoff → size < len) × LacksMini it)
 
   -- so they are for the stream of entry `id` and these sectors to have `len` bytes
   abbrev pub LacksRoomFor : ℕ → StreamLinks → ℕ → MiniAllocator F g → Type 0

@@ -10,7 +10,7 @@ ghost use Rattle.cfb_mini.specs.Views.{allocator_of, directory_of};
 ghost use Rattle.cfb_owned.specs.Chains.{GoesOn, IsInvalidPlaceOrFull};
 ghost use Rattle.cfb_sectors.specs.Header.{mini_cutoff};
 ghost use Rattle.cfb_streams.specs.declared.opening.StreamLinks.TheVariants.{Long, Short};
-ghost use Rattle.cfb_writing.specs.Streams.{resized, AreAlike, HasNoLinks, IsShort, LacksRoom, LacksRoomFor, RewritesIn};
+ghost use Rattle.cfb_writing.specs.Streams.{resized, AreAlike, HasNoLinks, IsShort, LacksRoomFor, LacksSectorsFor, RewritesIn};
 ghost use Rattle.std.specs.Prelude.{false, length, true, IfOk, IsErrOf, OnErr, OnOk, ◌<◌, ◌≡◌, ◌≤◌, ◌⊎◌};
 
 use crate::moving::read_front;
@@ -48,7 +48,7 @@ fn move_to_sectors<F: Medium>(
     ensures rests { OnErr result ((has_failed_here (allocator_of mini.new) ≡ true)
         ⊎ KeepsOwners mini.old mini.new) }
     ensures full { IsErrOf result Full → has_failed_here (allocator_of mini.new) ≡ false
-        → LacksRoom mini.old 0 len }
+        → LacksSectorsFor mini.old 0 len }
     ensures goes_on { GoesOn (allocator_of mini.old) (allocator_of mini.new) }
     ensures answers { FatAnswers IsInvalidPlaceOrFull result (allocator_of mini.old)
         (allocator_of mini.new) }

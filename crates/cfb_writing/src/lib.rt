@@ -9,6 +9,7 @@ mod lengths;
 mod moving;
 mod overwriting;
 mod placing;
+mod short_lengths;
 mod streams;
 mod taking;
 mod writing;

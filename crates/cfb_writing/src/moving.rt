@@ -1,23 +1,26 @@
-//! Streams that move to other mini sectors ([MS-CFB] 2.4, 2.6.3).
+//! Long streams that come below 4096 bytes: they take mini sectors before they give up their sectors ([MS-CFB] 2.4, 2.6.3).
 ghost use Rattle.cfb_chains.specs.ChainCalls.{IsInvalidPlace};
 ghost use Rattle.cfb_directory.specs.Views.{entries_held};
 ghost use Rattle.cfb_fat.specs.Calls.{FatAnswers};
 ghost use Rattle.cfb_fat.specs.Tables.{has_failed_here, version_of, HasCauseBelow};
+ghost use Rattle.cfb_live.specs.Freeing.{Stands};
 ghost use Rattle.cfb_medium.specs.Calls.{IsFaultUnless};
 ghost use Rattle.cfb_medium.specs.Versions.{stream_len_mask};
 ghost use Rattle.cfb_medium.specs.declared.error.Error.TheVariants.{Full, InvalidData, InvalidInput};
-ghost use Rattle.cfb_mini.specs.Changing.{KeepsOwners};
+ghost use Rattle.cfb_mini.specs.Changing.{KeepsOwners, LacksMini};
 ghost use Rattle.cfb_mini.specs.Views.{allocator_of, directory_of, MiniRests};
 ghost use Rattle.cfb_owned.specs.Chains.{GoesOn, IsInvalidPlaceOrFull};
+ghost use Rattle.cfb_owners.specs.Owners.{Owners};
 ghost use Rattle.cfb_sectors.specs.Header.{mini_cutoff};
 ghost use Rattle.cfb_streams.specs.Content.{HasContent};
-ghost use Rattle.cfb_streams.specs.declared.opening.StreamLinks.TheVariants.{Short};
-ghost use Rattle.cfb_writing.specs.Streams.{resized, AreAlike, HasNoLinks, IsNoStream, Replaces, RewritesIn};
+ghost use Rattle.cfb_streams.specs.declared.opening.StreamLinks.TheVariants.{Long, Short};
+ghost use Rattle.cfb_writing.specs.Streams.{resized, AreAlike, HasNoLinks, IsShort, LacksRoomFor, RewritesIn};
 ghost use Rattle.std.specs.Prelude.{false, length, take, true, IfErr, IfOk, IsErrOf, List, OnErr, OnOk, ℕ, ◌<◌, ◌≡◌, ◌≤◌, ◌⊎◌};
 
+use crate::lengths::resize_chain;
 use crate::placing::set_place;
 use crate::taking::take_short;
-use cfb_live::free_stream;
+use cfb_chains::Links;
 use cfb_medium::{Error, Medium};
 use cfb_mini::{MiniAllocator, MiniLinks};
 use cfb_sectors::HasSectors;
@@ -76,60 +79,69 @@ pub(crate) fn read_front<F: Medium>(
     Ok(bytes)
 }
 
-// Gives the stream that has this entry these bytes, fewer than 4096, in place of its own: its sectors or mini sectors are free then,
-// and it lies in other mini sectors. After an error nothing is changed, or the file has failed.
-fn replace_stream<F: Medium>(
+// Gives the long stream that has this entry and these sectors these bytes, fewer than 4096, in place of its own: it takes mini
+// sectors, and then its sectors are free. So nothing is changed where nothing is left for mini sectors. After an error nothing is
+// changed, or the file has failed.
+fn move_to_minis<F: Medium>(
     alloc: Global,
     mini: &mut MiniAllocator<F>,
     id: u32,
+    links: &mut Links,
     bytes: &[u8],
 ) -> Result<MiniLinks, Error>
     requires there { id < length (entries_held (directory_of mini.old)) }
     requires short { length bytes.now < mini_cutoff }
-    ensures replaced { IfOk result (λ links.
-        Replaces id bytes.now (Short links) mini.old mini.new) }
+    ensures moved { IfOk result (λ home. RewritesIn id (λ content. bytes.now)
+        (Long links.old) (Short home) mini.old mini.new) }
+    ensures kept { OnErr result (has_failed_here (allocator_of mini.new) ≡ false
+        → AreAlike (Long links.old) (Long links.new)) }
     ensures large { IsErrOf result InvalidInput
         → stream_len_mask (version_of (allocator_of mini.old)) < length bytes.now }
-    ensures refused { IsErrOf result InvalidData → IsNoStream id mini.old }
+    ensures refused { IsErrOf result InvalidData → HasNoLinks id (Long links.old) mini.old }
     ensures rests { OnErr result ((has_failed_here (allocator_of mini.new) ≡ true)
         ⊎ KeepsOwners mini.old mini.new) }
-    ensures full { IsErrOf result Full → has_failed_here (allocator_of mini.new) ≡ true }
+    ensures full { IsErrOf result Full → has_failed_here (allocator_of mini.new) ≡ false
+        → (who : Owners) → Stands mini.old who → LacksMini mini.old }
     ensures goes_on { GoesOn (allocator_of mini.old) (allocator_of mini.new) }
     ensures answers { FatAnswers IsInvalidPlaceOrFull result (allocator_of mini.old)
         (allocator_of mini.new) }
 {
-    if let Err(error) = free_stream(mini, id) {
-        return Err(error);
-    }
-    let links = match take_short(alloc, mini, bytes) {
-        Ok(links) => links,
+    let home = match take_short(alloc, mini, bytes) {
+        Ok(home) => home,
         Err(error) => return Err(error),
     };
-    if let Err(error) = set_place(mini, id, links.start_sector_id(), bytes.len() as u64) {
+    if let Err(error) = resize_chain(mini, links, 0) {
+        mini.fail();
         return Err(error);
     }
-    Ok(links)
+    if let Err(error) = set_place(mini, id, home.start_sector_id(), bytes.len() as u64) {
+        return Err(error);
+    }
+    Ok(home)
 }
 
-// Makes the stream that has this entry and these sectors so many bytes long, fewer than 4096, in other mini sectors than it had: it
-// keeps its first bytes, and has zeros behind them. After an error nothing is changed, or the file has failed.
-pub(crate) fn move_stream<F: Medium>(
+// Makes the long stream that has this entry and these sectors so many bytes long, fewer than 4096: it keeps its first bytes, in mini
+// sectors that it takes before its sectors are freed. After an error nothing is changed, or the file has failed.
+pub(crate) fn shorten_long<F: Medium>(
     alloc: Global,
     mini: &mut MiniAllocator<F>,
     id: u32,
     links: &mut StreamLinks,
     len: u64,
 ) -> Result<(), Error>
-    requires { len < mini_cutoff }
+    requires short { len < mini_cutoff }
+    requires long { IsShort links.old → ⊥ }
     ensures resized { OnOk result (RewritesIn id (resized len) links.old links.new
         mini.old mini.new) }
-    ensures kept { OnErr result (AreAlike links.old links.new) }
+    ensures kept { OnErr result (has_failed_here (allocator_of mini.new) ≡ false
+        → AreAlike links.old links.new) }
     ensures large { IsErrOf result InvalidInput
         → stream_len_mask (version_of (allocator_of mini.old)) < len }
     ensures refused { IsErrOf result InvalidData → HasNoLinks id links.old mini.old }
     ensures rests { OnErr result ((has_failed_here (allocator_of mini.new) ≡ true)
         ⊎ KeepsOwners mini.old mini.new) }
-    ensures full { IsErrOf result Full → has_failed_here (allocator_of mini.new) ≡ true }
+    ensures full { IsErrOf result Full → has_failed_here (allocator_of mini.new) ≡ false
+        → LacksRoomFor id links.old len mini.old }
     ensures goes_on { GoesOn (allocator_of mini.old) (allocator_of mini.new) }
     ensures answers { FatAnswers IsInvalidPlaceOrFull result (allocator_of mini.old)
         (allocator_of mini.new) }
@@ -145,10 +157,14 @@ pub(crate) fn move_stream<F: Medium>(
         Ok(bytes) => bytes,
         Err(error) => return Err(error),
     };
-    let home = match replace_stream(alloc, mini, id, &bytes) {
-        Ok(home) => home,
-        Err(error) => return Err(error),
+    let StreamLinks::Long(long) = links else {
+        return Err(Error::InvalidData);
     };
-    *links = StreamLinks::Short(home);
-    Ok(())
+    match move_to_minis(alloc, mini, id, long, &bytes) {
+        Ok(home) => {
+            *links = StreamLinks::Short(home);
+            Ok(())
+        }
+        Err(error) => Err(error),
+    }
 }

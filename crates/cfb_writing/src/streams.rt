@@ -8,12 +8,14 @@ ghost use Rattle.cfb_medium.specs.declared.error.Error.TheVariants.{Full, Invali
 ghost use Rattle.cfb_mini.specs.Changing.{KeepsOwners};
 ghost use Rattle.cfb_mini.specs.Views.{allocator_of};
 ghost use Rattle.cfb_owned.specs.Chains.{GoesOn, IsInvalidPlaceOrFull};
+ghost use Rattle.cfb_sectors.specs.Header.{mini_cutoff};
 ghost use Rattle.cfb_streams.specs.declared.opening.StreamLinks.TheVariants.{Short};
 ghost use Rattle.cfb_writing.specs.Streams.{resized, AreAlike, HasNoLinks, IsPast, IsPastNumbers, LacksRoomFor, RewritesIn};
 ghost use Rattle.std.specs.Prelude.{false, length, true, IsErrOf, IsTrue, OnErr, OnOk, ◌<◌, ◌≡◌, ◌⊎◌, ◌↔◌};
 
 use crate::lengthening::lengthen_short;
-use crate::moving::move_stream;
+use crate::moving::shorten_long;
+use crate::short_lengths::resize_short_stream;
 use crate::writing::{lies_in, overwrite_long_stream, resize_long_stream};
 use cfb_medium::{Error, Medium, Version};
 use cfb_mini::{MiniAllocator, MiniLinks};
@@ -91,13 +93,45 @@ fn is_past_numbers(version: Version, len: u64) -> bool
     len.div_ceil(version.sector_len() as u64) > u64::from(MAX_REGULAR_SECTOR) + 1
 }
 
+// Makes the stream that has this entry and these sectors so many bytes long, fewer than 4096: it keeps its first bytes, and has zeros
+// behind them. After an error nothing is changed, or the file has failed.
+fn resize_to_short<F: Medium>(
+    alloc: Global,
+    mini: &mut MiniAllocator<F>,
+    id: u32,
+    links: &mut StreamLinks,
+    len: u64,
+) -> Result<(), Error>
+    requires { len < mini_cutoff }
+    ensures resized { OnOk result (RewritesIn id (resized len) links.old links.new
+        mini.old mini.new) }
+    ensures kept { OnErr result (has_failed_here (allocator_of mini.new) ≡ false
+        → AreAlike links.old links.new) }
+    ensures large { IsErrOf result InvalidInput
+        → stream_len_mask (version_of (allocator_of mini.old)) < len }
+    ensures refused { IsErrOf result InvalidData → HasNoLinks id links.old mini.old }
+    ensures rests { OnErr result ((has_failed_here (allocator_of mini.new) ≡ true)
+        ⊎ KeepsOwners mini.old mini.new) }
+    ensures full { IsErrOf result Full → has_failed_here (allocator_of mini.new) ≡ false
+        → LacksRoomFor id links.old len mini.old }
+    ensures goes_on { GoesOn (allocator_of mini.old) (allocator_of mini.new) }
+    ensures answers { FatAnswers IsInvalidPlaceOrFull result (allocator_of mini.old)
+        (allocator_of mini.new) }
+{
+    match links {
+        StreamLinks::Short(minis) => resize_short_stream(mini, id, minis, len),
+        StreamLinks::Long(_) => shorten_long(alloc, mini, id, links, len),
+    }
+}
+
 /// Makes the stream that has this entry and these sectors so many bytes long: it keeps its first bytes, and has zeros behind them.
-/// A stream whose size comes to 4096 moves from mini sectors to sectors, and one whose size falls below it to mini sectors; a
-/// short one gets other mini sectors. The links are the stream's afterwards. `InvalidInput` where the size doesn't fit into an
-/// entry (in version 3 past 2^32 - 1), and then nothing is changed; `InvalidData` where no such stream is there, or the file
-/// hasn't its sectors; `Full` where numbers are missing for the further sectors that it needs: a size for which no file has
-/// numbers is refused before anything is changed. The other errors are `Memory`, `Device`, and `Failed` after an earlier fault.
-/// After an error nothing is changed, or the file has failed ([MS-CFB] 2.2 to 2.4, 2.6.3).
+/// A stream whose size comes to 4096 moves from mini sectors to sectors, and one whose size falls below it to mini sectors, which
+/// it takes before it gives up those that it had. The links are the stream's afterwards. `InvalidInput` where the size doesn't fit
+/// into an entry (in version 3 past 2^32 - 1), and then nothing is changed; `InvalidData` where no such stream is there, or the
+/// file hasn't its sectors; `Full` where numbers are missing for the further sectors that it needs, or for those of a mini sector
+/// more, or no room for the mini stream's size: a size for which no file has numbers is refused before anything is changed. The
+/// other errors are `Memory`, `Device`, and `Failed` after an earlier fault. After an error nothing is changed, or the file has
+/// failed ([MS-CFB] 2.2 to 2.4, 2.6.3).
 pub fn resize_stream<F: Medium>(
     alloc: Global,
     mini: &mut MiniAllocator<F>,
@@ -132,7 +166,7 @@ pub fn resize_stream<F: Medium>(
         return Err(Error::Full);
     }
     if len < u64::from(MINI_STREAM_CUTOFF) {
-        return move_stream(alloc, mini, id, links, len);
+        return resize_to_short(alloc, mini, id, links, len);
     }
     match links {
         StreamLinks::Long(long) => resize_long_stream(mini, id, long, len),

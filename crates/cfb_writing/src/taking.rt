@@ -2,19 +2,18 @@
 ghost use Rattle.cfb_chains.specs.ChainCalls.{IsInvalidOrFull};
 ghost use Rattle.cfb_chains.specs.LinkViews.{ids_of, links_version};
 ghost use Rattle.cfb_fat.specs.Calls.{FatAnswers};
-ghost use Rattle.cfb_fat.specs.Tables.{has_failed_here, version_of, HasCauseBelow};
+ghost use Rattle.cfb_fat.specs.Tables.{has_failed_here, version_of};
 ghost use Rattle.cfb_live.specs.Freeing.{Stands};
-ghost use Rattle.cfb_medium.specs.Calls.{IsFaultUnless};
 ghost use Rattle.cfb_medium.specs.declared.error.Error.TheVariants.{Full, InvalidData};
-ghost use Rattle.cfb_mini.specs.Changing.{KeepsOwners};
+ghost use Rattle.cfb_mini.specs.Changing.{KeepsOwners, LacksMini};
 ghost use Rattle.cfb_mini.specs.LinkViews.{minis_of};
 ghost use Rattle.cfb_mini.specs.Views.{allocator_of};
 ghost use Rattle.cfb_owned.specs.Chains.{GoesOn};
-ghost use Rattle.cfb_owners.specs.Owners.{first_of, stream_owner, Owners, OwnsNothing};
+ghost use Rattle.cfb_owners.specs.Owners.{stream_owner, Owners};
 ghost use Rattle.cfb_sectors.specs.Header.{mini_cutoff};
-ghost use Rattle.cfb_writing.specs.Moving.{Houses, TakesLong};
-ghost use Rattle.cfb_writing.specs.Streams.{resized, LacksRoom};
-ghost use Rattle.std.specs.Prelude.{[], false, length, true, IfErr, IfOk, IsErrOf, OnErr, OnOk, ℕ, ◌<◌, ◌≡◌, ◌≤◌, ◌⊎◌};
+ghost use Rattle.cfb_writing.specs.Moving.{TakesLong, TakesShort};
+ghost use Rattle.cfb_writing.specs.Streams.{resized, LacksSectorsFor};
+ghost use Rattle.std.specs.Prelude.{[], false, length, true, IfOk, IsErrOf, OnErr, OnOk, ℕ, ◌<◌, ◌≡◌, ◌≤◌, ◌⊎◌};
 
 use crate::lengths::resize_chain;
 use crate::overwriting::overwrite_long;
@@ -44,7 +43,7 @@ pub(crate) fn take_long<F: Medium>(
     ensures rests { OnErr result ((has_failed_here (allocator_of mini.new) ≡ true)
         ⊎ KeepsOwners mini.old mini.new) }
     ensures full { IsErrOf result Full → has_failed_here (allocator_of mini.new) ≡ false
-        → LacksRoom mini.old 0 len }
+        → LacksSectorsFor mini.old 0 len }
     ensures goes_on { GoesOn (allocator_of mini.old) (allocator_of mini.new) }
     ensures answers { FatAnswers IsInvalidOrFull result (allocator_of mini.old)
         (allocator_of mini.new) }
@@ -66,31 +65,31 @@ pub(crate) fn take_long<F: Medium>(
     Ok(links)
 }
 
-// Takes mini sectors for a short stream of these bytes that owns none. The stream's entry is to tell of them then. `Full` where
-// fewer numbers are left, `InvalidData` where the FAT's tables can't be changed. After an error it has failed ([MS-CFB] 2.4).
+// Takes mini sectors for a short stream of these bytes that owns none. What it owns besides stays, and its entry is to tell of them
+// then. `Full` where nothing is left for a mini sector more, `InvalidData` where the FAT's tables can't be changed. After an error
+// nothing is changed, or it has failed ([MS-CFB] 2.4).
 pub(crate) fn take_short<F: Medium>(
     alloc: Global,
     mini: &mut MiniAllocator<F>,
     bytes: &[u8],
 ) -> Result<MiniLinks, Error>
-    requires live { has_failed_here (allocator_of mini.old) ≡ false }
-    requires short { length bytes.now < mini_cutoff }
+    requires { length bytes.now < mini_cutoff }
     ensures taken { IfOk result (λ links. (who : Owners) (id : ℕ) → Stands mini.old who
-        → OwnsNothing who (stream_owner id)
-        → (it : Houses id (first_of (minis_of links)) bytes.now mini.old mini.new who)
-        × (it.moves.now.minis (stream_owner id) ≡ minis_of links)) }
+        → who.minis (stream_owner id) ≡ []
+        → TakesShort id (minis_of links) bytes.now mini.old mini.new who) }
     ensures refused { IsErrOf result InvalidData → (who : Owners) (id : ℕ) → Stands mini.old who
-        → OwnsNothing who (stream_owner id) → ⊥ }
-    ensures live { OnOk result (has_failed_here (allocator_of mini.new) ≡ false) }
-    ensures failed { OnErr result (has_failed_here (allocator_of mini.new) ≡ true) }
+        → who.minis (stream_owner id) ≡ [] → ⊥ }
+    ensures rests { OnErr result ((has_failed_here (allocator_of mini.new) ≡ true)
+        ⊎ KeepsOwners mini.old mini.new) }
+    ensures full { IsErrOf result Full → has_failed_here (allocator_of mini.new) ≡ false
+        → (who : Owners) → Stands mini.old who → LacksMini mini.old }
     ensures goes_on { GoesOn (allocator_of mini.old) (allocator_of mini.new) }
-    ensures cause { IfErr result (HasCauseBelow (allocator_of mini.old) (allocator_of mini.new)) }
-    ensures fault { IfErr result (λ e. IsFaultUnless ⊥ e ⊎ IsInvalidOrFull e) }
+    ensures answers { FatAnswers IsInvalidOrFull result (allocator_of mini.old)
+        (allocator_of mini.new) }
 {
     let mut links = MiniLinks::new(alloc);
     let count = bytes.len().div_ceil(MINI_SECTOR_LEN);
     if let Err(error) = mini.lengthen_mini_chain(&mut links, count) {
-        mini.fail();
         return Err(error);
     }
     if let Err(error) = mini.overwrite_mini_chain(&links, 0, bytes) {

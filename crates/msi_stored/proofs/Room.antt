@@ -44,7 +44,7 @@ module _ {F : Type 0} {g : Ghosts F} where
           at_path = h.at_path;
           content = h.content;
           answer = subst (λ (l : Letters). (tree_step l tree (open_stream h.names)).1 ≡ has_bytes h.content) r.letters h.answer;
-          lacks = lacks_resting (mini_of old) (mini_of new) (length h.content) len r.mini.directory.allocator h.lacks;
+          lacks = lacks_resting (mini_of old) (mini_of new) (length h.content) len m.live.owners.memory r.mini h.lacks;
         }
 
     pub room_before : (name : List ℕ) (len : ℕ) → IsFullForName new name len → IsFullForName old name len

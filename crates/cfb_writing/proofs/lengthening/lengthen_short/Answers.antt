@@ -23,7 +23,7 @@ use Rattle.cfb_writing.proofs.MiniBytes.{resized_again}
 use Rattle.cfb_writing.proofs.Moved.{kept_rests, links_kept, moved_as}
 use Rattle.cfb_writing.proofs.Placed.{entry_of, found_at}
 use Rattle.cfb_writing.proofs.ShortAt.{content_there, kept_strays, short_size_below, size_there, stream_kept}
-use Rattle.cfb_writing.proofs.Stretching.{lacks_as_short, lacks_resting}
+use Rattle.cfb_writing.proofs.Stretching.{lacks_as_short, lacks_long, lacks_sectors_resting}
 use Rattle.cfb_writing.proofs.lengthening.lengthen_short.Goals as goal
 
 pub returns-then-id-dir_entries-clause-refused : goal.returns-then-id-dir_entries-clause-refused
@@ -112,8 +112,8 @@ returns-clause-full g c = λ wrong live letters tree path content at are.
     let was = entry_of letters it tree path id content at in
     let is : c.in-Err-move_to_sectors.error ≡ Full = cc in
     let below = short_size_below it was.entry.size c.args.links.now c.requires.short (are was.entry (found_at letters it tree path id content at)).1 in
-    lacks_as_short it (length content) c.args.len (subst (λ n. n < mini_cutoff) (sym (size_there letters it tree path id content at)) below)
-    (lacks_resting it mid 0 c.args.len c.read_front.ensures.rests.directory.allocator (c.in-Err-move_to_sectors.ensures.full (ap Err is) live))
+    lacks_long it (length content) c.args.len c.requires.long (lacks_as_short it (length content) c.args.len (subst (λ n. n < mini_cutoff) (sym (size_there letters it tree path id content at)) below)
+    (lacks_sectors_resting it mid 0 c.args.len c.read_front.ensures.rests.directory.allocator (c.in-Err-move_to_sectors.ensures.full (ap Err is) live)))
 
 pub returns-clause-goes_on : goal.returns-clause-goes_on
 returns-clause-goes_on g c =

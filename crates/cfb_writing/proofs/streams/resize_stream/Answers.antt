@@ -44,6 +44,3 @@ returns-in-Short-clause-spared g c = λ past.
     let wrong = c.is_past_numbers.ensures.1 (subst (λ v. IsPastNumbers v c.args.len) (sym c.version-2.ensures) past) in
     let not = c.if-is_past_numbers.false in
     absurd (cc)
-
-pub returns-then-len-from-clause-full : goal.returns-then-len-from-clause-full
-returns-then-len-from-clause-full g c = λ wrong live. let failed = c.move_stream.ensures.full wrong in absurd (cc)

@@ -16,7 +16,7 @@ use Rattle.cfb_writing.proofs.Links.{entries_count}
 use Rattle.cfb_writing.proofs.LongAt.{long_owned, long_room, long_size, long_up, long_version}
 use Rattle.cfb_writing.proofs.LongBytes.{length-resized}
 use Rattle.cfb_writing.proofs.Placed.{entry_moved, entry_of, found_at, placed_links, placed_strays, stream_placed}
-use Rattle.cfb_writing.proofs.Stretching.{lacks_room}
+use Rattle.cfb_writing.proofs.Stretching.{lacks_long, lacks_room}
 use Rattle.cfb_writing.proofs.writing.resize_long_stream.Goals as goal
 
 pub returns-then-id-dir_entries-clause-refused : goal.returns-then-id-dir_entries-clause-refused
@@ -98,7 +98,7 @@ returns-in-Err-clause-full g c = λ wrong live letters tree path content at are.
     let links = c.args.links.now in
     let id = c.args.id in
     let room = subst (λ n. n ≤ len_of links) (sym (long_size letters it tree path id content at links are)) (long_room letters it tree path id content at links are) in
-    lacks_room it links (length content) c.args.len room (long_version letters it tree path id content at links are) (c.in-Err.ensures.full wrong live)
+    lacks_long it (length content) c.args.len c.requires (lacks_room it links (length content) c.args.len room (long_version letters it tree path id content at links are) (c.in-Err.ensures.full wrong live))
 
 pub returns-in-Err-set_place-clause-goes_on : goal.returns-in-Err-set_place-clause-goes_on
 returns-in-Err-set_place-clause-goes_on g c = goes_then _ _ _ c.stretch_long.ensures.goes_on c.set_place.ensures.goes_on

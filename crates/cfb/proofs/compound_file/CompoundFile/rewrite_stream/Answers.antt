@@ -103,5 +103,5 @@ returns-in-Err-overwrite_bytes-clause-full g c = λ full live. absurd (not_full 
 
 pub returns-in-Err-extend_bytes-clause-full : goal.returns-in-Err-extend_bytes-clause-full
 returns-in-Err-extend_bytes-clause-full g c = λ full live tree m.
-    full_at c.args.self.now c.find_written.new.self c.find_written.ensures.rests (names_in c.args.path.now) tree _ _ (length c.args.bytes.now) m.live.who (c.in-Ok.ensures.found tree m)
+    full_at c.args.self.now c.find_written.new.self c.find_written.ensures.rests m.live.owners.memory (names_in c.args.path.now) tree _ _ (length c.args.bytes.now) m.live.who (c.in-Ok.ensures.found tree m)
     (let is : c.in-Err-extend_bytes.error ≡ Full = cc in c.in-Err-extend_bytes.ensures.full (ap Err is) live)

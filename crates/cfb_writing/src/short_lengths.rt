@@ -1,0 +1,160 @@
+//! Short streams that become longer and shorter, and stay short ([MS-CFB] 2.4, 2.6.3).
+ghost use Rattle.cfb_chains.specs.ChainCalls.{IsInvalidOrFull};
+ghost use Rattle.cfb_chains.specs.Grown.{IsLinked};
+ghost use Rattle.cfb_fat.specs.Calls.{FatAnswers};
+ghost use Rattle.cfb_fat.specs.Tables.{has_failed_here, orderly_of, version_of};
+ghost use Rattle.cfb_live.specs.Freeing.{Stands};
+ghost use Rattle.cfb_medium.specs.Versions.{stream_len_mask};
+ghost use Rattle.cfb_medium.specs.declared.error.Error.TheVariants.{Full, InvalidData, InvalidInput};
+ghost use Rattle.cfb_mini.specs.Changing.{HasOwners, KeepsOwners, LacksMini, Lengthens};
+ghost use Rattle.cfb_mini.specs.LinkViews.{minis_of};
+ghost use Rattle.cfb_mini.specs.Views.{allocator_of, mini_fat_of, IsMini, MiniRests};
+ghost use Rattle.cfb_owned.specs.Chains.{GoesOn, IsInvalidPlaceOrFull};
+ghost use Rattle.cfb_owners.specs.Owners.{Owners};
+ghost use Rattle.cfb_sectors.specs.Header.{mini_cutoff};
+ghost use Rattle.cfb_streams.specs.declared.opening.StreamLinks.TheVariants.{Short};
+ghost use Rattle.cfb_writing.specs.Moving.{IsNoMiniChain, StretchesShort};
+ghost use Rattle.cfb_writing.specs.Streams.{resized, AreAlike, HasNoLinks, LacksRoomFor, RewritesIn};
+ghost use Rattle.std.specs.Prelude.{false, length, true, IsErrOf, IsTrue, List, OnErr, OnOk, ℕ, ◌*◌, ◌<◌, ◌≡◌, ◌≤◌, ◌⊎◌};
+
+use crate::placing::set_place;
+use cfb_medium::{Error, Medium};
+use cfb_mini::{MiniAllocator, MiniLinks};
+use cfb_sectors::{HasSectors, MINI_SECTOR_LEN, MINI_STREAM_CUTOFF};
+
+// Takes mini sectors in behind a mini chain's last one, until it has room for so many bytes, fewer than 4096; one that has it stays.
+// After an error nothing is changed, or it has failed.
+fn take_room<F: Medium>(
+    mini: &mut MiniAllocator<F>,
+    links: &mut MiniLinks,
+    len: u64,
+) -> Result<(), Error>
+    requires live { has_failed_here (allocator_of mini.old) ≡ false }
+    requires short { len < mini_cutoff }
+    ensures lengthened { OnOk result ((own : ℕ → List ℕ) → HasOwners mini.old own
+        → IsLinked (mini_fat_of mini.old) (minis_of links.old)
+        → Lengthens mini.old mini.new (minis_of links.old) (minis_of links.new) own) }
+    ensures room { OnOk result (len ≤ 64 * length (minis_of links.new)) }
+    ensures kept { OnErr result (has_failed_here (allocator_of mini.new) ≡ false
+        → minis_of links.new ≡ minis_of links.old) }
+    ensures refused { IsErrOf result InvalidData → (own : ℕ → List ℕ) → HasOwners mini.old own
+        → IsLinked (mini_fat_of mini.old) (minis_of links.old)
+        → IsTrue (orderly_of (allocator_of mini.old)) → ⊥ }
+    ensures full { IsErrOf result Full → has_failed_here (allocator_of mini.new) ≡ false
+        → IsMini mini.old → LacksMini mini.old }
+    ensures rests { OnErr result ((has_failed_here (allocator_of mini.new) ≡ true)
+        ⊎ MiniRests mini.old mini.new) }
+    ensures goes_on { GoesOn (allocator_of mini.old) (allocator_of mini.new) }
+    ensures answers { FatAnswers IsInvalidOrFull result (allocator_of mini.old)
+        (allocator_of mini.new) }
+{
+    if len <= links.len() {
+        return Ok(());
+    }
+    mini.lengthen_mini_chain(links, (len as usize).div_ceil(MINI_SECTOR_LEN))
+}
+
+// As `stretch_short`, for a stream that becomes longer: it takes in what it needs of mini sectors first, so that nothing is changed
+// where nothing is left for them.
+fn lengthen_minis<F: Medium>(
+    mini: &mut MiniAllocator<F>,
+    links: &mut MiniLinks,
+    size: u64,
+    len: u64,
+) -> Result<(), Error>
+    requires live { has_failed_here (allocator_of mini.old) ≡ false }
+    requires more { size ≤ len }
+    requires short { len < mini_cutoff }
+    ensures stretched { OnOk result (StretchesShort size len mini.old mini.new links.old
+        links.new) }
+    ensures refused { IsErrOf result InvalidData → IsNoMiniChain links.old mini.old }
+    ensures kept { OnErr result (has_failed_here (allocator_of mini.new) ≡ false
+        → minis_of links.new ≡ minis_of links.old) }
+    ensures rests { OnErr result ((has_failed_here (allocator_of mini.new) ≡ true)
+        ⊎ KeepsOwners mini.old mini.new) }
+    ensures full { IsErrOf result Full → has_failed_here (allocator_of mini.new) ≡ false
+        → (who : Owners) → Stands mini.old who → LacksMini mini.old }
+    ensures goes_on { GoesOn (allocator_of mini.old) (allocator_of mini.new) }
+    ensures answers { FatAnswers IsInvalidOrFull result (allocator_of mini.old)
+        (allocator_of mini.new) }
+{
+    if let Err(error) = take_room(mini, links, len) {
+        return Err(error);
+    }
+    let zeros = [0; MINI_STREAM_CUTOFF as usize];
+    if let Err(error) = mini.overwrite_mini_chain(links, size, &zeros[..(len - size) as usize]) {
+        mini.fail();
+        return Err(error);
+    }
+    Ok(())
+}
+
+// Makes a short stream of so many bytes one of another number, fewer than 4096, in the mini sectors that it has: it keeps its first
+// bytes, and has zeros behind them. After an error nothing is changed, or it has failed.
+fn stretch_short<F: Medium>(
+    mini: &mut MiniAllocator<F>,
+    links: &mut MiniLinks,
+    size: u64,
+    len: u64,
+) -> Result<(), Error>
+    requires live { has_failed_here (allocator_of mini.old) ≡ false }
+    requires short { len < mini_cutoff }
+    ensures stretched { OnOk result (StretchesShort size len mini.old mini.new links.old
+        links.new) }
+    ensures refused { IsErrOf result InvalidData → IsNoMiniChain links.old mini.old }
+    ensures kept { OnErr result (has_failed_here (allocator_of mini.new) ≡ false
+        → minis_of links.new ≡ minis_of links.old) }
+    ensures rests { OnErr result ((has_failed_here (allocator_of mini.new) ≡ true)
+        ⊎ KeepsOwners mini.old mini.new) }
+    ensures full { IsErrOf result Full → has_failed_here (allocator_of mini.new) ≡ false
+        → (size < len) × ((who : Owners) → Stands mini.old who → LacksMini mini.old) }
+    ensures goes_on { GoesOn (allocator_of mini.old) (allocator_of mini.new) }
+    ensures answers { FatAnswers IsInvalidOrFull result (allocator_of mini.old)
+        (allocator_of mini.new) }
+{
+    if len <= size {
+        return mini.shorten_mini_chain(links, (len as usize).div_ceil(MINI_SECTOR_LEN));
+    }
+    lengthen_minis(mini, links, size, len)
+}
+
+// Makes the short stream that has this entry and these mini sectors so many bytes long, fewer than 4096: it keeps its first bytes,
+// and has zeros behind them. `Full` where it becomes longer and nothing is left for a mini sector more. After an error nothing is
+// changed, or the file has failed.
+pub(crate) fn resize_short_stream<F: Medium>(
+    mini: &mut MiniAllocator<F>,
+    id: u32,
+    links: &mut MiniLinks,
+    len: u64,
+) -> Result<(), Error>
+    requires { len < mini_cutoff }
+    ensures resized { OnOk result (RewritesIn id (resized len) (Short links.old) (Short links.new)
+        mini.old mini.new) }
+    ensures kept { OnErr result (has_failed_here (allocator_of mini.new) ≡ false
+        → AreAlike (Short links.old) (Short links.new)) }
+    ensures large { IsErrOf result InvalidInput
+        → stream_len_mask (version_of (allocator_of mini.old)) < len }
+    ensures refused { IsErrOf result InvalidData → HasNoLinks id (Short links.old) mini.old }
+    ensures rests { OnErr result ((has_failed_here (allocator_of mini.new) ≡ true)
+        ⊎ KeepsOwners mini.old mini.new) }
+    ensures full { IsErrOf result Full → has_failed_here (allocator_of mini.new) ≡ false
+        → LacksRoomFor id (Short links.old) len mini.old }
+    ensures goes_on { GoesOn (allocator_of mini.old) (allocator_of mini.new) }
+    ensures answers { FatAnswers IsInvalidPlaceOrFull result (allocator_of mini.old)
+        (allocator_of mini.new) }
+{
+    if mini.directory().allocator().is_failed() {
+        return Err(Error::Failed);
+    }
+    if id as usize >= mini.directory().dir_entries().len() {
+        return Err(Error::InvalidData);
+    }
+    let size = mini.directory().dir_entry(id).stream_len;
+    if let Err(error) = stretch_short(mini, links, size, len) {
+        return Err(error);
+    }
+    if let Err(error) = set_place(mini, id, links.start_sector_id(), len) {
+        return Err(error);
+    }
+    Ok(())
+}
