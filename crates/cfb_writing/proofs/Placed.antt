@@ -1,5 +1,5 @@
 -- A stream whose sectors were changed, and whose entry tells of them then.
-use Rattle.std.proofs.Common.{◌≡◌, ℕ, ◌+◌, ◌<◌, ◌≤◌, ◌⊎◌, inl, false, List, [], ◌∷◌, refl, ap, sym, subst, ◌∙◌, arith, IsTrue}
+use Rattle.std.proofs.Common.{◌≡◌, ℕ, ◌+◌, ◌<◌, ◌≤◌, ◌⊎◌, inl, false, List, [], refl, ap, sym, subst, ◌∙◌, arith, IsTrue}
 use Rattle.std.specs.Prelude.{slice_get, slice_set, Some}
 use Rattle.cfb_chains.specs.LinkViews.{ids_of, links_version}
 use Rattle.cfb_chains.specs.declared.links.Links.{Links}

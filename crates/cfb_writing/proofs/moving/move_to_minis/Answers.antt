@@ -43,7 +43,7 @@ returns-in-Err-set_place-clause-refused g c = λ wrong letters tree path content
     let was = entry_of letters it tree path id content at in
     let took = c.in-Ok.ensures.taken at.means.who id (stands_of letters it tree at.means) (long_without letters it tree path id content at links are) in
     let freed = c.in_default.ensures.resized took.short.moves.now id took.short.moves.stands (took.short.sectors ∙ long_owned letters it tree path id content at links are)
-        (long_version letters it tree path id content at links are ∙ sym c.take_short.ensures.goes_on.version) in
+    (long_version letters it tree path id content at links are ∙ sym c.take_short.ensures.goes_on.version) in
     let none = emptied (links_version links) (ids_of c.resize_chain.new.links) c.in_default.ensures.size in
     let moved = shortened_moves it m1 m2 at.means.who id (minis_of c.in-Ok.home) c.args.bytes.now took (subst (λ l. MovesLong id l m1 m2 took.short.moves.now) none freed.0) in
     c.in-Err-set_place.ensures.refused (ap Err is) moved.now.sectors moved.stands.owners (slice_get_within _ id was.entry (entry_moved letters it tree path id content at m2 moved))
@@ -58,7 +58,7 @@ returns-clause-moved g c = λ letters tree path content at are.
     let bytes = c.args.bytes.now in
     let took = c.in-Ok.ensures.taken at.means.who id (stands_of letters it tree at.means) (long_without letters it tree path id content at links are) in
     let freed = c.in_default.ensures.resized took.short.moves.now id took.short.moves.stands (took.short.sectors ∙ long_owned letters it tree path id content at links are)
-        (long_version letters it tree path id content at links are ∙ sym c.take_short.ensures.goes_on.version) in
+    (long_version letters it tree path id content at links are ∙ sym c.take_short.ensures.goes_on.version) in
     let none = emptied (links_version links) (ids_of c.resize_chain.new.links) c.in_default.ensures.size in
     let did = c.in_default-set_place.ensures in
     shortened letters it m1 m2 c.set_place.new.mini tree path id content bytes at c.in-Ok.home took (subst (λ l. MovesLong id l m1 m2 took.short.moves.now) none freed.0)

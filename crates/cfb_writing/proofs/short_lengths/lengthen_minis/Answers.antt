@@ -1,4 +1,4 @@
-use Rattle.std.proofs.Common.{◌≡◌, [], inl, inr, ◌+◌, ◌-◌, ◌*◌, ◌≤◌, ℕ, length, take, ap, subst, ◌∙◌, ⊎_elim, arith}
+use Rattle.std.proofs.Common.{◌≡◌, [], inl, inr, ◌-◌, ℕ, length, take, ap, subst, ◌∙◌, ⊎_elim, arith}
 use Rattle.std.specs.Prelude.{Err}
 use Rattle.std.proofs.lemmas.List.{length-replicate, take-replicate}
 use Rattle.cfb_fat.specs.Keeping.{fails_cause}

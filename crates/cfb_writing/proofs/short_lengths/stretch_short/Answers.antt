@@ -1,4 +1,4 @@
-use Rattle.std.proofs.Common.{◌*◌, ◌<◌, ◌≤◌, arith}
+use Rattle.std.proofs.Common.{arith}
 use Rattle.cfb_directory.proofs.Results.{two_ok}
 use Rattle.cfb_live.proofs.Freed.{chain_below}
 use Rattle.cfb_mini.specs.LinkViews.{minis_of}

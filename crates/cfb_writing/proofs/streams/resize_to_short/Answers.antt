@@ -1,8 +1,8 @@
 use Rattle.std.proofs.Common.{sym, subst}
 use Rattle.cfb_sectors.proofs.Appending.{on_ok}
 use Rattle.cfb_streams.specs.declared.opening.StreamLinks.{StreamLinks}
-use Rattle.cfb_streams.specs.declared.opening.StreamLinks.TheVariants.{Long, Short}
-use Rattle.cfb_writing.specs.Streams.{resized, HasNoLinks, IsShort, LacksRoomFor, RewritesIn}
+use Rattle.cfb_streams.specs.declared.opening.StreamLinks.TheVariants.{Short}
+use Rattle.cfb_writing.specs.Streams.{resized, HasNoLinks, LacksRoomFor, RewritesIn}
 use Rattle.cfb_writing.proofs.streams.resize_to_short.Goals as goal
 
 pub returns-in-Short-clause-resized : goal.returns-in-Short-clause-resized

@@ -1,4 +1,4 @@
-use Rattle.std.proofs.Common.{◌≡◌, [], inl, inr, ◌+◌, ◌*◌, ◌≤◌, length, refl, ap, sym, subst, ⊎_elim, arith}
+use Rattle.std.proofs.Common.{◌≡◌, [], inl, inr, ◌*◌, ◌≤◌, length, refl, ap, sym, subst, ⊎_elim, arith}
 use Rattle.std.specs.Prelude.{Err}
 use Rattle.cfb_chains.specs.Grown.{IsLinked}
 use Rattle.cfb_fat.specs.Keeping.{fails_cause}
