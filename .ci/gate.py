@@ -1,7 +1,9 @@
 """The merge gate: proves every crate from nothing, looks at the layout, runs the programs, tries each wrong body whose
-line in must-fail.tried is missing or differs (many at a time, rt-many), runs the rows of msidb, ends runs of it by force,
-gives it commands at random, looks at the order of its writes and syncs, counts the uses of texts in packages that it
-adopts, and refuses each request for memory of test_changes and test_packages in turn. It works on a copy."""
+line in must-fail.tried is missing or differs (many at a time, rt-many), runs the rows of msidb and compares what it tells
+of packages of other makers, ends runs of it by force, gives it commands at random, looks at the order of its writes and
+syncs, fails each of its calls on the files of a package, makes each state in which a stop may leave them, counts the uses
+of texts in packages that it adopts, refuses each request for memory of test_changes and of msidb in turn, and checks
+beginnings of a package. It works on a copy."""
 import os
 import re
 import resource
@@ -52,10 +54,13 @@ TRIALS = (
     ("kill-runs", "msidb"),
     ("random-runs", "msidb"),
     ("trace-commit", "msidb"),
+    ("fail-calls", "msidb"),
+    ("stop-commits", "msidb"),
     ("count-uses", "msidb"),
     ("show-terminal", "msidb"),
     ("refuse-memory", "test_changes", "memory"),
-    ("refuse-memory", "test_packages", "memory", "counted_c_empty.msi", "course.json"),
+    ("refuse-memory", "msidb", "run", "counted_c_empty.msi", "course.json"),
+    ("check-beginnings", "msidb", "counted_c_empty.msi"),
 )
 
 

@@ -1,4 +1,4 @@
-//! What the programs of faults and stops share: cases and how they are told, calls of a store, open logs, files that a stop might leave.
+//! What cases of faults and stops stand on: cases and how they are told, calls of a store, open logs, files that a stop might leave.
 #![tactic(auto)]
 
 mod cases;
@@ -15,4 +15,4 @@ pub use store_calls::{
     may_be_left, open_failing, open_recovered, read, recover, stopping, sync_home, write,
     write_home,
 };
-pub use tears::{Pair, pairs_left, torn_pairs};
+pub use tears::{Pair, pairs_left};

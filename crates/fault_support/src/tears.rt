@@ -169,22 +169,3 @@ fn left_of(
     }
     Ok(all)
 }
-
-/// One such pair, with half of the home file as it shows, for longer files: which tear of the log is tried goes by turns.
-pub fn torn_pairs(
-    alloc: Global,
-    device: &MemoryDevice,
-    before: &Pair,
-    turn: u64,
-) -> Result<Vec<Pair>, Error> {
-    let tear = match turn % 3 {
-        0 => Tear::Shown,
-        1 => Tear::Filled,
-        _ => Tear::First(1),
-    };
-    let home = Tear::Half.of(alloc, &before.home, home_of(device))?;
-    let log = tear.of(alloc, &before.log, log_of(device))?;
-    let mut all = Vec::new(alloc);
-    push_left(alloc, device, &home, &vec![in alloc; log]?, &mut all)?;
-    Ok(all)
-}

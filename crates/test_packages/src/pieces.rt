@@ -1,17 +1,14 @@
 //! Streams that are written piece by piece.
-use cfb_medium::{Error, Medium};
-use msi::{Package, StreamWriter};
+use crate::calls::Stored;
+use cfb_medium::Error;
+use msi::StreamWriter;
 use std::alloc::Global;
 use std::io::SeekFrom;
-use test_support::{Row, bytes_at};
+use test_support::{Row, Survivor, bytes_at};
 
 /// Writes a stream as a row says: its name, bytes, a place from its beginning or from its end, and bytes that are written there. What is
 /// written first is put into the package before the place is sought.
-pub fn write_pieces<F: Medium>(
-    alloc: Global,
-    package: &mut Package<F>,
-    row: &Row,
-) -> Result<(), Error> {
+pub fn write_pieces(alloc: Global, package: &mut Stored, row: &Row) -> Result<(), Error> {
     let first = bytes_at(alloc, row, 2)?;
     let second = bytes_at(alloc, row, 4)?;
     let mut writer = package.write_stream(row.text(1))?;
@@ -20,13 +17,13 @@ pub fn write_pieces<F: Medium>(
     close(writer)
 }
 
-fn write_first<F: Medium>(writer: &mut StreamWriter<'_, F>, bytes: &[u8]) -> Result<(), Error> {
+fn write_first(writer: &mut StreamWriter<'_, Survivor>, bytes: &[u8]) -> Result<(), Error> {
     writer.write(bytes)?;
     writer.flush()
 }
 
-fn write_at<F: Medium>(
-    writer: &mut StreamWriter<'_, F>,
+fn write_at(
+    writer: &mut StreamWriter<'_, Survivor>,
     place: i64,
     bytes: &[u8],
 ) -> Result<(), Error> {
@@ -39,6 +36,6 @@ fn write_at<F: Medium>(
     Ok(())
 }
 
-fn close<F: Medium>(writer: StreamWriter<'_, F>) -> Result<(), Error> {
+fn close(writer: StreamWriter<'_, Survivor>) -> Result<(), Error> {
     writer.close()
 }
