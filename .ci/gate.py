@@ -4,6 +4,7 @@ of packages of other makers, ends runs of it by force, gives it commands at rand
 syncs, fails each of its calls on the files of a package, makes each state in which a stop may leave them, counts the uses
 of texts in packages that it adopts, refuses each request for memory of test_changes and of msidb in turn, and checks
 beginnings of a package. It works on a copy."""
+import concurrent.futures
 import os
 import re
 import resource
@@ -64,14 +65,26 @@ TRIALS = (
 )
 
 
-def is_well(room, script, name, *words):
-    """Whether a program stands its trial, where there is such a one; the script says what was seen."""
+def trial(room, script, name, *words):
+    """Whether a program stands its trial, where there is such a one, and what the script says of it."""
     folder = f"{room}/crates/{name}"
     program = f"{folder}/out/{name}"
     if not os.path.isfile(program):
-        return True
+        return True, ""
     inside = f"{folder}/data" if os.path.isdir(f"{folder}/data") else folder
-    return subprocess.run([tried.ROOT / ".ci" / script, program, *words], cwd=inside, stdin=subprocess.DEVNULL).returncode == 0
+    how = {"cwd": inside, "stdin": subprocess.DEVNULL, "stdout": subprocess.PIPE, "stderr": subprocess.STDOUT, "text": True}
+    ran = subprocess.run([tried.ROOT / ".ci" / script, program, *words], errors="replace", **how)
+    return ran.returncode == 0, ran.stdout
+
+
+def are_well(room):
+    """Whether the programs stand all their trials, two at a time; what the scripts say is printed."""
+    well = True
+    with concurrent.futures.ThreadPoolExecutor(2) as lanes:
+        for is_well, said in lanes.map(lambda it: trial(room, *it), TRIALS):
+            print(said, end="", flush=True)
+            well = well and is_well
+    return well
 
 
 def main():
@@ -80,7 +93,7 @@ def main():
     with tempfile.TemporaryDirectory(prefix="gate-") as room:
         copy_to(f"{room}/checkout", standing)
         last, status = run(f"{room}/checkout")
-        if not status and not all([is_well(f"{room}/checkout", *it) for it in TRIALS]):
+        if not status and not are_well(f"{room}/checkout"):
             last, status = "0 passed, 1 failed", 1
     used = resource.getrusage(resource.RUSAGE_CHILDREN)
     print(f"processor minutes: {(used.ru_utime + used.ru_stime) / 60:.0f}")
