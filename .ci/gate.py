@@ -48,20 +48,20 @@ def run(room):
     return last, ran.returncode
 
 
-# Scripts that try a program from outside, each with the program and its words, which are read in the program's data.
+# Scripts that try a program from outside, each with the program and its words, which are read in the program's data; the longest first.
 TRIALS = (
-    ("run-rows", "msidb"),
-    ("compare-packages", "msidb"),
-    ("kill-runs", "msidb"),
-    ("random-runs", "msidb"),
-    ("trace-commit", "msidb"),
+    ("refuse-memory", "msidb", "run", "counted_c_empty.msi", "course.json"),
     ("fail-calls", "msidb"),
+    ("run-rows", "msidb"),
     ("stop-commits", "msidb"),
+    ("random-runs", "msidb"),
+    ("kill-runs", "msidb"),
+    ("compare-packages", "msidb"),
+    ("check-beginnings", "msidb", "counted_c_empty.msi"),
+    ("trace-commit", "msidb"),
     ("count-uses", "msidb"),
     ("show-terminal", "msidb"),
     ("refuse-memory", "test_changes", "memory"),
-    ("refuse-memory", "msidb", "run", "counted_c_empty.msi", "course.json"),
-    ("check-beginnings", "msidb", "counted_c_empty.msi"),
 )
 
 
