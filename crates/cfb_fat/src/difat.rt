@@ -262,9 +262,7 @@ pub(crate) fn append_sector<F: Medium>(
     ensures cause { IfErr result (HasItsCause sectors.old sectors.new) }
     ensures fault { IfErr result (IsFaultUnless ⊥) }
 {
-    let sector_id = sectors.reserve_sector()?;
-    sectors.init_sector(sector_id, init)?;
-    Ok(sector_id)
+    sectors.append_sector(init)
 }
 
 // Writes a number in its place. After a fault it has failed.

@@ -1,15 +1,12 @@
--- Zeros of a sector, and faults without the refusals that can't come.
-use Rattle.std.proofs.Common.{◌≡◌, ℕ, ◌≤◌, List, take, replicate, ◌∙◌, ap, arith}
+-- The length of a sector, and faults without the refusals that can't come.
+use Rattle.std.proofs.Common.{◌≤◌, arith}
 use Rattle.std.specs.Prelude.{Result, Ok, Err, IfErr}
-use Rattle.std.proofs.lemmas.List.{take-replicate}
-use Rattle.cfb_medium.specs.Bytes.{overwritten}
 use Rattle.cfb_medium.specs.Calls.{IsFaultUnless}
 use Rattle.cfb_medium.specs.declared.error.Error.{Error}
 use Rattle.cfb_medium.specs.declared.error.Error.TheVariants.{InvalidData, InvalidInput, NotFound, AlreadyExists, UnexpectedEof, Full, Memory, Device, Failed}
 use Rattle.cfb_medium.specs.declared.version.Version.{Version}
 use Rattle.cfb_medium.specs.declared.version.Version.TheVariants.{V3, V4}
 use Rattle.cfb_medium.specs.Versions.{sector_len}
-use Rattle.cfb_sectors.specs.Sectors.{sector_start}
 
 -- a refusal by a rule that can't hold is none
 pub fault_only : (P : Type 0) (e : Error) → (P → ⊥) → IsFaultUnless P e → IsFaultUnless ⊥ e
@@ -30,10 +27,3 @@ faults_only P (Err e) never h = fault_only P e never h
 pub longest : (v : Version) → sector_len v ≤ 4096
 longest V3 = omega arith
 longest V4 = omega arith
-
--- zeros of one sector, from those of the longest
-pub zeros_written : (v : Version) (old new : List ℕ) (place len n : ℕ) → place ≡ sector_start v n → len ≡ sector_len v
-    → new ≡ overwritten old place (take len (replicate 4096 0)) → new ≡ overwritten old (sector_start v n) (replicate (sector_len v) 0)
-zeros_written v old new place len n at long is =
-    is ∙ ap (λ p. overwritten old p (take len (replicate 4096 0))) at ∙ ap (λ k. overwritten old (sector_start v n) (take k (replicate 4096 0))) long
-    ∙ ap (λ l. overwritten old (sector_start v n) l) (take-replicate (sector_len v) 4096 0 (longest v))

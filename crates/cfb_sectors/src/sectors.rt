@@ -316,12 +316,13 @@ impl<F: Medium> Sectors<F> {
         self.write_at(place, bytes)
     }
 
-    /// Appends a sector of zeros, and gives its number. `Full` where no number is left. After a fault it has failed.
-    pub fn reserve_sector(&mut self) -> Result<u32, Error>
+    /// Appends a sector that holds what it does when it is taken into use, and gives its number. `Full` where no number is left.
+    /// After a fault it has failed.
+    pub fn append_sector(&mut self, init: SectorInit) -> Result<u32, Error>
         ensures number { IfOk result (λ n. n ≡ count_of self.old) }
         ensures changes { count_of self.old ≤ greatest_regular
             → Changes (λ b. overwritten b (sector_start (version_of self.old) (count_of self.old))
-            (replicate (sector_len (version_of self.old)) 0)) self.old self.new }
+            (initial init (sector_len (version_of self.old)))) self.old self.new }
         ensures count { has_failed_here self.new ≡ false → count_of self.old ≤ greatest_regular
             → count_of self.new ≡ count_of self.old + 1 }
         ensures live { OnOk result (has_failed_here self.new ≡ false) }
@@ -341,12 +342,34 @@ impl<F: Medium> Sectors<F> {
         if sector_id > MAX_REGULAR_SECTOR {
             return Err(Error::Full);
         }
-        let zeros = [0; LONGEST];
+        let mut sector = [0; LONGEST];
         let len = self.sector_len();
-        self.begin_write(self.start(sector_id), &zeros[..len])?;
+        init.fill(&mut sector[..len]);
+        self.begin_write(self.start(sector_id), &sector[..len])?;
         self.num_sectors = sector_id + 1;
         self.failed = false;
         Ok(sector_id)
+    }
+
+    /// Appends a sector of zeros, and gives its number. `Full` where no number is left. After a fault it has failed.
+    pub fn reserve_sector(&mut self) -> Result<u32, Error>
+        ensures number { IfOk result (λ n. n ≡ count_of self.old) }
+        ensures changes { count_of self.old ≤ greatest_regular
+            → Changes (λ b. overwritten b (sector_start (version_of self.old) (count_of self.old))
+            (replicate (sector_len (version_of self.old)) 0)) self.old self.new }
+        ensures count { has_failed_here self.new ≡ false → count_of self.old ≤ greatest_regular
+            → count_of self.new ≡ count_of self.old + 1 }
+        ensures live { OnOk result (has_failed_here self.new ≡ false) }
+        ensures failed { has_failed_here self.old ≡ true
+            → IsErrOf result Failed × Rests self.old self.new }
+        ensures full { IsErrOf result Full ↔ ((has_failed_here self.old ≡ false)
+            × (greatest_regular < count_of self.old)) }
+        ensures rests { greatest_regular < count_of self.old → Rests self.old self.new }
+        ensures cause { IfErr result (HasItsCause self.old self.new) }
+        ensures fault { IfErr result (λ e. (IsFaultUnless ⊥ e × (has_failed_here self.new ≡ true))
+            ⊎ (e ≡ Full)) }
+    {
+        self.append_sector(SectorInit::Zero)
     }
 
     /// Fills a sector with what it holds when it is taken into use. `InvalidData` where it isn't there, and then nothing is
