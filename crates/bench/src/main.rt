@@ -6,13 +6,9 @@ mod contents;
 mod deep;
 mod file_calls;
 mod files;
-mod inserts;
-mod joins;
 mod places;
-mod pools;
 mod stores;
 mod streams;
-mod tables;
 
 use anyhow::{Result, bail};
 use std::env;
@@ -22,11 +18,6 @@ use streams::Order;
 // A line for each benchmark: its word, what its size counts, and what it does.
 const LIST: &str = "\
 chain SECTORS     appends sectors to one chain, a call each, frees the chain, and appends as many again
-insert ROWS       inserts so many rows into a table of as many, by one insert
-insert-one ROWS   inserts one row into a table of so many
-join ROWS         joins two tables of so many rows by equal numbers
-pool TEXTS        counts a use of each of so many texts, and then another one of each
-pool-insert ROWS  inserts so many rows, an insert each, over a pool of 65535 texts
 store WRITES      writes 4,096 bytes to a store so often, at places far apart, and commits
 commit PAGES      writes so many pages of 512 bytes side by side to a store, and commits
 streams COUNT     makes so many streams of 100 bytes, in shuffled order, reads them from the file opened again, and removes them
@@ -67,11 +58,6 @@ fn print_list(rt: &HostRuntime) -> Result<()> {
 fn run(rt: &HostRuntime, name: &str, size: usize) -> Result<()> {
     match name {
         "chain" => chains::append_and_free(rt, size),
-        "insert" => inserts::insert(rt, size),
-        "insert-one" => inserts::insert_one(rt, size),
-        "join" => joins::join(rt, size),
-        "pool" => pools::count_twice(rt, size),
-        "pool-insert" => pools::insert_one_each(rt, size),
         "write" => contents::write_and_read(rt, size),
         "large" => contents::write_large(rt, size),
         "copy" => contents::write_and_copy(rt, size),
