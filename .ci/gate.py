@@ -1,7 +1,7 @@
 """The merge gate: proves every crate from nothing, looks at the layout, runs the programs, tries each wrong body whose
 line in must-fail.tried is missing or differs (many at a time, rt-many), runs the rows of msidb and compares what it tells
-of packages of other makers, ends runs of it by force, gives it commands at random, looks at the order of its writes and
-syncs, fails each of its calls on the files of a package, makes each state in which a stop may leave them, counts the uses
+of packages of other makers, ends runs of it by force, gives it commands at random, looks at the writes and syncs of its
+commits, fails each of its calls on the files of a package, makes each state in which a stop may leave them, counts the uses
 of texts in packages that it adopts, refuses each request for memory of test_changes and of msidb in turn, and checks
 beginnings of a package. It works on a copy."""
 import concurrent.futures

@@ -1,4 +1,4 @@
-//! What the test programs share: rows of data, tables on a shelf, a device and media that fail a call or survive stops.
+//! What the test programs share: rows of data, tables on a shelf, media that fail a call or survive stops.
 #![tactic(auto)]
 
 mod bytes;
@@ -10,7 +10,7 @@ mod survivor;
 mod told;
 
 pub use bytes::{bytes_at, hex_of, part_of, runs};
-pub use failing::{Failing, FailingDevice, FailingMedium};
+pub use failing::FailingMedium;
 pub use printing::{Subject, print_rows};
 pub use row::{Row, copy_of, yes_or_no};
 pub use shelf::Shelf;
