@@ -1,4 +1,5 @@
-"""A reader of compound files by [MS-CFB] alone, and of the names that a package's streams have. It shares nothing with the program."""
+"""A reader of compound files by [MS-CFB] alone, of the names that a package's streams have, and of its texts. It shares nothing with the
+program."""
 import struct
 
 LETTERS = "0123456789ABCDEFGHIJKLMNOPQRSTUVWXYZabcdefghijklmnopqrstuvwxyz._"
@@ -65,3 +66,18 @@ def streams(path):
 
     found = siblings(struct.unpack_from("<I", entries[0], 76)[0])
     return {plain(name(it)): content(it) for it in found if it[66] == 2}
+
+
+def pool(found):
+    """The texts and the counts of the pool's places, from place 0 on, and how many bytes a reference has."""
+    words, data = numbers(found["!_StringPool"], 2), found["!_StringData"]
+    texts, counts, at, begin = [b""], [0], 2, 0
+    while at < len(words):
+        length, count = words[at : at + 2]
+        if not length and count:
+            at += 2
+            length, count = count << 16 | words[at], words[at + 1]
+        texts.append(data[begin : begin + length])
+        counts.append(count)
+        begin, at = begin + length, at + 2
+    return texts, counts, 3 if words[1] & 0x8000 else 2
