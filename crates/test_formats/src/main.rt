@@ -3,18 +3,19 @@
 
 mod columns;
 mod commands;
-mod edits;
-mod logs;
+mod pool;
 mod summary;
+mod tables;
 mod texts;
 mod values;
 
 use anyhow::{Result, bail};
 use columns::Columns;
 use commands::Commands;
-use logs::Logs;
+use pool::Pools;
 use std::{env, fs};
 use summary::Properties;
+use tables::Tables;
 use test_support::print_rows;
 use texts::Texts;
 use values::Values;
@@ -32,9 +33,10 @@ fn print_file(rt: &HostRuntime, path: &str) -> Result<()> {
     println!(rt; "== {path}")?;
     match path {
         "columns.rows" => print_rows(rt, text.as_str(), Columns),
-        "commands.rows" | "forms.rows" => print_rows(rt, text.as_str(), Commands),
-        "logs.rows" => print_rows(rt, text.as_str(), Logs::new(rt.alloc())),
+        "commands.rows" => print_rows(rt, text.as_str(), Commands),
+        "pool.rows" => print_rows(rt, text.as_str(), Pools::new(rt.alloc())),
         "summary.rows" => print_rows(rt, text.as_str(), Properties::new(rt.alloc())?),
+        "tables.rows" => print_rows(rt, text.as_str(), Tables),
         "texts.rows" => print_rows(rt, text.as_str(), Texts),
         "values.rows" => print_rows(rt, text.as_str(), Values),
         _ => bail!("{path}: no such rows"),

@@ -1,12 +1,10 @@
-//! Property sets and summaries.
-use crate::values::languages_at;
+//! Property sets, and what summaries tell.
 use cfb_medium::{Error, Timestamp};
 use msi_props::{OperatingSystem, PropertySet, PropertyValue};
 use msi_summary::SummaryInfo;
-use msi_texts::{CodePage, LanguageId};
+use msi_texts::CodePage;
 use std::alloc::Global;
 use test_support::{Row, Subject, bytes_at, copy_of, hex_of, shown, with_parts, yes_or_no};
-use uuid::Uuid;
 
 /// Answers calls on one property set and one summary.
 #[derive(Drop)]
@@ -35,11 +33,6 @@ impl Properties {
         set_told(alloc, &self.set)
     }
 
-    fn renew_summary(&mut self, alloc: Global) -> Result<String, Error> {
-        self.summary = SummaryInfo::new(alloc)?;
-        copy_of(alloc, "done")
-    }
-
     fn read_summary(&mut self, alloc: Global, row: &Row) -> Result<String, Error> {
         let bytes = bytes_at(alloc, row, 1)?;
         self.summary = SummaryInfo::read(alloc, &bytes)?;
@@ -54,9 +47,8 @@ impl Subject for Properties {
             "read set" => self.read_set(alloc, row),
             "put" | "set page" | "remove" => changed_set(alloc, &mut self.set, row),
             "get" | "write set" | "page" => of_set(alloc, &self.set, row),
-            "new summary" => self.renew_summary(alloc),
             "read summary" => self.read_summary(alloc, row),
-            _ => of_summary(alloc, &mut self.summary, row),
+            _ => of_summary(alloc, &self.summary, row),
         }
     }
 }
@@ -131,28 +123,12 @@ fn summary_written(alloc: Global, summary: &SummaryInfo) -> Result<String, Error
     hex_of(alloc, &bytes)
 }
 
-fn of_summary(alloc: Global, summary: &mut SummaryInfo, row: &Row) -> Result<String, Error> {
+fn of_summary(alloc: Global, summary: &SummaryInfo, row: &Row) -> Result<String, Error> {
     match row.call() {
         "write summary" => summary_written(alloc, summary),
-        "properties" => properties_told(alloc, summary),
         "texts give back" => yes_or_no(alloc, summary.texts_give_back()),
         "tell" => field(alloc, summary, row.text(1)),
-        "set" => done(alloc, change(alloc, summary, row)),
-        "clear" => done(alloc, clear(summary, row.text(1))),
         _ => Err(Error::NotFound),
-    }
-}
-
-fn properties_told(alloc: Global, summary: &SummaryInfo) -> Result<String, Error> {
-    let properties = summary.properties();
-    Ok(format!(in alloc; "{properties:?}")?)
-}
-
-// What is told of a change.
-fn done(alloc: Global, change: Result<(), Error>) -> Result<String, Error> {
-    match change {
-        Ok(()) => copy_of(alloc, "done"),
-        Err(error) => Err(error),
     }
 }
 
@@ -231,55 +207,4 @@ fn languages_told(alloc: Global, summary: &SummaryInfo) -> Result<String, Error>
         text.push(' ')?;
     }
     Ok(text)
-}
-
-fn change(alloc: Global, summary: &mut SummaryInfo, row: &Row) -> Result<(), Error> {
-    match row.text(1) {
-        "title" => summary.set_title(row.text(2)),
-        "author" => summary.set_author(row.text(2)),
-        "arch" => summary.set_arch(row.text(2)),
-        "uuid" => set_uuid(summary, row.text(2)),
-        "word count" => summary.set_word_count(i32::try_from(row.number(2)).unwrap_or(0)),
-        "creation time" => summary.set_creation_time(Timestamp::from_unix(row.number(2), 0)),
-        "languages" => set_languages(summary, &languages_at(alloc, row, 2)?),
-        "keywords" => set_keywords(summary, &keywords_at(alloc, row)?),
-        _ => Err(Error::NotFound),
-    }
-}
-
-fn set_uuid(summary: &mut SummaryInfo, text: &str) -> Result<(), Error> {
-    match Uuid::parse_str(text) {
-        Ok(uuid) => summary.set_uuid(uuid),
-        Err(_) => Err(Error::InvalidInput),
-    }
-}
-
-fn set_languages(summary: &mut SummaryInfo, languages: &[LanguageId]) -> Result<(), Error> {
-    summary.set_languages(languages)
-}
-
-fn set_keywords(summary: &mut SummaryInfo, words: &[String]) -> Result<(), Error> {
-    summary.set_keywords(words)
-}
-
-fn keywords_at(alloc: Global, row: &Row) -> Result<Vec<String>, Error> {
-    let mut words = Vec::new(alloc);
-    for cell in row.list(2) {
-        words.push(copy_of(alloc, cell.as_str().unwrap_or(""))?)?;
-    }
-    Ok(words)
-}
-
-fn clear(summary: &mut SummaryInfo, name: &str) -> Result<(), Error> {
-    match name {
-        "author" => summary.clear_author(),
-        "uuid" => summary.clear_uuid(),
-        "word count" => summary.clear_word_count(),
-        "creation time" => summary.clear_creation_time(),
-        "arch" => return summary.clear_arch(),
-        "languages" => return summary.clear_languages(),
-        "keywords" => return summary.clear_keywords(),
-        _ => return Err(Error::NotFound),
-    }
-    Ok(())
 }

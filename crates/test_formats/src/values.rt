@@ -26,7 +26,6 @@ fn laid_out(alloc: Global, row: &Row) -> Result<String, Error> {
     let value = value_at(alloc, row, 2)?;
     match row.text(1) {
         ">6" => in_six(alloc, &value),
-        ">7" => in_seven(alloc, &value),
         "~>8" => behind_marks(alloc, &value),
         "^9" => in_middle(alloc, &value),
         _ => cut_value(alloc, row.text(1), &value),
@@ -35,10 +34,6 @@ fn laid_out(alloc: Global, row: &Row) -> Result<String, Error> {
 
 fn in_six(alloc: Global, value: &Value) -> Result<String, Error> {
     Ok(format!(in alloc; "{value:>6}")?)
-}
-
-fn in_seven(alloc: Global, value: &Value) -> Result<String, Error> {
-    Ok(format!(in alloc; "{value:>7}")?)
 }
 
 fn behind_marks(alloc: Global, value: &Value) -> Result<String, Error> {
@@ -52,15 +47,10 @@ fn in_middle(alloc: Global, value: &Value) -> Result<String, Error> {
 // A value under a layout that may cut it.
 fn cut_value(alloc: Global, layout: &str, value: &Value) -> Result<String, Error> {
     match layout {
-        ".2" => first_two(alloc, value),
         ".3" => first_three(alloc, value),
         "-<6.4" => first_four(alloc, value),
         _ => shown(alloc, value),
     }
-}
-
-fn first_two(alloc: Global, value: &Value) -> Result<String, Error> {
-    Ok(format!(in alloc; "{value:.2}")?)
 }
 
 fn first_three(alloc: Global, value: &Value) -> Result<String, Error> {
@@ -77,8 +67,8 @@ fn joined_texts(alloc: Global, row: &Row) -> Result<String, Error> {
     copy_of(alloc, both.as_str().unwrap_or(""))
 }
 
-/// The languages of a list of numbers.
-pub fn languages_at(alloc: Global, row: &Row, place: usize) -> Result<Vec<LanguageId>, Error> {
+// The languages of a list of numbers.
+fn languages_at(alloc: Global, row: &Row, place: usize) -> Result<Vec<LanguageId>, Error> {
     let mut languages = Vec::new(alloc);
     for cell in row.list(place) {
         let id = cell.as_u64().unwrap_or(0);

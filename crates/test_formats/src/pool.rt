@@ -37,7 +37,17 @@ impl Subject for Pools {
             "reference bytes" => reference_bytes(alloc, row),
             "new pool" => self.empty(alloc),
             "read pool" => self.read(alloc, row),
-            _ => of_pool(alloc, &mut self.pool, row),
+            "string" => string(alloc, &self.pool, row),
+            "count" => count_use(alloc, &mut self.pool, copy_of(alloc, row.text(1))?),
+            "uncount" => uncount(alloc, &mut self.pool, place_of(row.number(1))),
+            "cell" => cell_made(alloc, &mut self.pool, row),
+            "cell's value" => value_of_cell(alloc, &self.pool, place_of(row.number(1))),
+            "remove cell" => remove_cell(alloc, &mut self.pool, place_of(row.number(1))),
+            "pool stream" | "data stream" => stream(alloc, &self.pool, row),
+            "unmodified" => mark_unmodified(alloc, &mut self.pool),
+            "modified" => yes_or_no(alloc, self.pool.is_modified()),
+            "sum" => sum_of_pool(alloc, &self.pool),
+            _ => Err(Error::NotFound),
         }
     }
 }
@@ -79,23 +89,6 @@ fn pool_of(alloc: Global, heads: &[u8], texts: &[u8]) -> Result<StringPool, Erro
     let (mut heads, mut texts) = (heads, texts);
     let builder = StringPoolBuilder::read_from_pool(alloc, &mut heads)?;
     builder.build_from_data(alloc, &mut texts)
-}
-
-/// Answers a call on a pool.
-pub fn of_pool(alloc: Global, pool: &mut StringPool, row: &Row) -> Result<String, Error> {
-    match row.call() {
-        "string" => string(alloc, pool, row),
-        "count" => count_use(alloc, pool, copy_of(alloc, row.text(1))?),
-        "uncount" => uncount(alloc, pool, place_of(row.number(1))),
-        "cell" => cell_made(alloc, pool, row),
-        "cell's value" => value_of_cell(alloc, pool, place_of(row.number(1))),
-        "remove cell" => remove_cell(alloc, pool, place_of(row.number(1))),
-        "pool stream" | "data stream" => stream(alloc, pool, row),
-        "unmodified" => mark_unmodified(alloc, pool),
-        "modified" => yes_or_no(alloc, pool.is_modified()),
-        "sum" | "read pool" => sum_of_pool(alloc, pool),
-        _ => Err(Error::NotFound),
-    }
 }
 
 fn mark_unmodified(alloc: Global, pool: &mut StringPool) -> Result<String, Error> {
@@ -191,35 +184,8 @@ fn place_text(alloc: Global, place: StringRef) -> Result<String, Error> {
 fn stream(alloc: Global, pool: &StringPool, row: &Row) -> Result<String, Error> {
     let mut bytes = Vec::new(alloc);
     match row.call() {
-        "pool stream" => write_pool(pool, &mut bytes)?,
-        _ => write_data(pool, &mut bytes)?,
+        "pool stream" => pool.write_pool(&mut bytes)?,
+        _ => pool.write_data(&mut bytes)?,
     }
     hex_of(alloc, &bytes)
-}
-
-fn write_pool(pool: &StringPool, bytes: &mut Vec<u8>) -> Result<(), Error> {
-    pool.write_pool(bytes)
-}
-
-fn write_data(pool: &StringPool, bytes: &mut Vec<u8>) -> Result<(), Error> {
-    pool.write_data(bytes)
-}
-
-/// Rows of cells as a text.
-pub fn rows_text(alloc: Global, rows: &[Vec<ValueRef>]) -> Result<String, Error> {
-    let mut text = copy_of(alloc, "rows:")?;
-    for row in rows {
-        push_row(alloc, &mut text, row)?;
-    }
-    Ok(text)
-}
-
-fn push_row(alloc: Global, text: &mut String, row: &[ValueRef]) -> Result<(), Error> {
-    text.push_str(" (")?;
-    for cell in row {
-        text.push(' ')?;
-        text.push_str(cell_text(alloc, *cell)?.as_str())?;
-    }
-    text.push_str(" )")?;
-    Ok(())
 }
