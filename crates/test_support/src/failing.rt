@@ -1,5 +1,5 @@
 //! A medium in memory that counts its calls, and fails one of them.
-ghost use Rattle.std.specs.Prelude.{◌≡◌, ◌≤◌, ⊤, [], false, refl};
+ghost use Rattle.std.specs.Prelude.{◌≤◌, ⊤, [], false, refl};
 ghost use Rattle.std.proofs.Common.{arith, inl};
 ghost use Rattle.staged.specs.Counts.{counted_failures};
 
