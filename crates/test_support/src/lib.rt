@@ -1,11 +1,10 @@
-//! What the test programs share: rows of data, tables on a shelf, media that fail a call or survive stops.
+//! What the test programs share: rows of data, media that fail a call or survive stops.
 #![tactic(auto)]
 
 mod bytes;
 mod failing;
 mod printing;
 mod row;
-mod shelf;
 mod survivor;
 mod told;
 
@@ -13,6 +12,5 @@ pub use bytes::{bytes_at, hex_of, part_of, runs};
 pub use failing::FailingMedium;
 pub use printing::{Subject, print_rows};
 pub use row::{Row, copy_of, yes_or_no};
-pub use shelf::Shelf;
 pub use survivor::Survivor;
 pub use told::{named, shown, value_at, with_parts};
