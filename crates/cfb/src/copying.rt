@@ -21,7 +21,7 @@ impl<F: ReadMedium> CompoundFile<F> {
     /// sector that serves no use; what the file holds in sectors and mini sectors of streams is copied whole. A strict reader takes
     /// the copy where the root has its name and the entries are coloured right, as of a file that it takes. The file is only read.
     /// The copy is made in memory, and takes as much as it has bytes, besides a list of the file's entries; then it is written to
-    /// the medium by one call, and nothing is published. `Failed` after an earlier fault of the file, before all else;
+    /// the medium, and nothing is published. `Failed` after an earlier fault of the file, before all else;
     /// `InvalidData` where the file isn't sound. The other errors are `Memory`, `Device`, and `Failed` of a medium that has failed;
     /// `Full` never of a file that means a tree: a copy has no more sectors than the file. After an error the medium is as it was
     /// ([MS-CFB] 2).

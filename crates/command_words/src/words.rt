@@ -90,7 +90,7 @@ fn with_paths<'a>(
 // What stands behind the help of the word that runs commands: an example of each op.
 fn help_on_commands<'a>() -> &'a str {
     r#"Example: msidb run setup.msi commands.json
-Prints an answer for each command, a line of JSON each. A log that isn't there is made, once the package was found to be a sound one.
+Prints an answer for each command, a line of JSON each. A log that isn't there is made, once the package was found to be one.
 A command file has a command of these, or several:
 [{"op":"create_table","table":"T","columns":[{"name":"Id","type":"int16","key":true}]},
  {"op":"insert","table":"T","rows":[[1],[2]]},

@@ -107,7 +107,8 @@ impl<D: Device> SessionOver<Staged<D>> {
 
     /// Recovers, and goes on with the package of the home file, whose names are compared under the letter table. `InvalidData` for a
     /// malformed log, which leaves both files; then as `Package::open` is refused. An error hands the device back. A package that isn't
-    /// sound is read alone. What a session committed is opened as the same package, sound, unless there is a fault.
+    /// sound is read alone. A package that a session committed under this letter table, where it can be written as it is, is opened as
+    /// the same one, sound, unless there is a fault.
     pub fn open(
         alloc: Global,
         device: D,
@@ -150,8 +151,8 @@ impl<D: Device> SessionOver<Staged<D>> {
 
     /// Runs commands in order, with an answer for each. Inserts into one table that follow one another are carried out as one, if all of
     /// them are done by that; what is answered, and what is held then, is the same. `Memory` where there is no room for the answers: then
-    /// none was run. On every device, also one that lies, and whatever the file holds, answers name faults alone that there were. No
-    /// command of a package that isn't sound changes what a recovery gives. Letter table and soundness stay.
+    /// none was run. On every device, also one that lies, and whatever the file holds, `Device` and `Failed` are answered only where there
+    /// was such a fault. No command of a package that isn't sound changes what a recovery gives. Letter table and soundness stay.
     pub fn run(&mut self, commands: &[Command]) -> Result<Vec<Answer>, Error>
         ensures followed { IfOk result (λ answers. FollowAll (map said commands.now)
             (map told_by answers.items) self.old self.new) }

@@ -28,8 +28,7 @@ use std::rc::Rc;
 impl<F: ReadMedium> Package<F> {
     /// The rows that a query asks for, all in memory. `Failed` after a fault in a write, before all else; `NotFound` where a table that it
     /// names is missing, `InvalidInput` where a column is, the left side of a join before the right; `InvalidData` where a table that it
-    /// names has too many rows or its chain breaks. Other errors are faults. The package is only read. It needn't be sound, and a table
-    /// that the query doesn't name may have what it likes.
+    /// names has too many rows or its chain breaks. Other errors are faults. The package is only read, and needn't be sound.
     pub fn select_rows(&mut self, query: &Select) -> Result<Rows, Error>
         ensures answer { (P : Packed) → PackageHolds self.old P → TellsOrFault rows_shown
             (selected_in P (query_of query.now)) result }
