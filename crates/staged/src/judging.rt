@@ -7,7 +7,7 @@ use crate::layout::{FIRST_MAGIC, HEAD, MAGIC};
 use cfb_medium::{Error, ReadMedium};
 
 /// Whether a file may be a log: it has at most one byte, begins with 00, or has the magic of one of the two forms behind its first
-/// byte. No open log that a recovery applies is told to be none. It only reads, nine bytes at most.
+/// byte. No open log that a recovery applies is told to be none. It only reads.
 pub fn is_log<F: ReadMedium>(file: &mut F) -> Result<bool, Error>
     ensures told { IsTrue (F.honest file.old) → IfOk result (λ is. is ≡ is_log (F.bytes file.old)) }
     ensures not_open { IsTrue (F.honest file.old)
