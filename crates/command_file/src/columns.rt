@@ -3,13 +3,14 @@ ghost use Rattle.std.specs.Prelude.{◌≡◌, ◌^◌, IfErr, IfOk, codes, if�
 ghost use Rattle.cfb_medium.specs.declared.error.Error.TheVariants.{Memory};
 ghost use Rattle.serde_json.specs.Find.{as_str, get};
 ghost use Rattle.serde_json.specs.View.{items_view, view};
+ghost use Rattle.msi_columns.specs.declared.column.ColumnType.TheVariants.{Str};
 ghost use Rattle.msi_columns.specs.Column.{as_key, as_localizable, but_null, from_to, of_category, refers_to};
 ghost use Rattle.msi_texts.specs.Category.{category_named};
 ghost use Rattle.msi_columns.specs.Held.{built, column_of, columns_of, Builds};
 ghost use Rattle.command_file.specs.Built.{changed_by, referred, choices_in, foreign_in, category_in, range_in};
 ghost use Rattle.command_file.specs.Commands.{column_from, column_in, flag_in, is_text_column, keys_of_column, kind_in};
 ghost use Rattle.json_parts.specs.Reads.{Gives};
-ghost use Rattle.json_parts.specs.Values.{all_in, list_in, only_keys};
+ghost use Rattle.json_parts.specs.Values.{all_in, at_key, list_in, only_keys, whole_in};
 
 use cfb_medium::Error;
 use json_parts::{
@@ -128,9 +129,18 @@ fn kind_of(json: &Json) -> Result<ColumnType, Error>
         "int16" => Ok(ColumnType::Int16),
         "int32" => Ok(ColumnType::Int32),
         "binary" => Ok(ColumnType::Binary),
-        "string" => Ok(ColumnType::Str(whole_of(member(json, "len")?)? as usize)),
+        "string" => text_kind_of(json),
         _ => Err(Error::InvalidInput),
     }
+}
+
+// A text of so many characters.
+fn text_kind_of(json: &Json) -> Result<ColumnType, Error>
+    ensures { Gives (λ kind. kind) result
+        (option_map Str (at_key (codes "len") (whole_in (2 ^ 64)) (view json.now))) }
+{
+    let len = whole_of(member(json, "len")?)?;
+    Ok(ColumnType::Str(len as usize))
 }
 
 // The word true, or nothing.

@@ -6,11 +6,11 @@ ghost use Rattle.serde_json.specs.Read.{read};
 ghost use Rattle.serde_json.specs.View.{items_view, view};
 ghost use Rattle.msi_changes.specs.Said.{delete_condition, delete_name, insert_name, insert_rows, update_condition, update_name, update_sets};
 ghost use Rattle.serde_json.specs.Find.{as_object, as_str};
-ghost use Rattle.msi_values.specs.Datum.{datum_of};
+ghost use Rattle.msi_values.specs.Datum.{data_of, datum_of};
 ghost use Rattle.command_file.specs.Commands.{alone, command_in, commands_in, create_in, delete_in, edit_in, insert_in, of_text, page_in, update_in, with_keys, write_in};
 ghost use Rattle.command_file.specs.Expressions.{select_in};
 ghost use Rattle.json_parts.specs.Reads.{Gives};
-ghost use Rattle.command_file.specs.Request.{Request, select, set_codepage, set_summary};
+ghost use Rattle.command_file.specs.Request.{Request, insert, select, set_codepage, set_summary};
 ghost use Rattle.command_file.specs.Said.{said};
 ghost use Rattle.json_parts.specs.Values.{all_in, at_key, hex_bytes, pair_in, value_in};
 
@@ -130,9 +130,13 @@ fn create_of(alloc: Global, json: &Json) -> Result<Command, Error>
     if !has_only(json, &["op", "table", "columns"]) {
         return Err(Error::InvalidInput);
     }
-    let table = String::from_str(alloc, text_at(json, "table")?)?;
-    let columns = columns_of(alloc, member(json, "columns")?)?;
-    Ok(Command::CreateTable(table, columns))
+    let table = text_at(json, "table")?;
+    let columns = member(json, "columns")?;
+    let table = String::from_str(alloc, table)?;
+    match columns_of(alloc, columns) {
+        Ok(columns) => Ok(Command::CreateTable(table, columns)),
+        Err(error) => Err(error),
+    }
 }
 
 // A table and rows for it.
@@ -143,9 +147,20 @@ fn insert_of(alloc: Global, json: &Json) -> Result<Command, Error>
     if !has_only(json, &["op", "table", "rows"]) {
         return Err(Error::InvalidInput);
     }
-    let insert = Insert::into(alloc, text_at(json, "table")?)?;
+    let table = text_at(json, "table")?;
     let rows = rows_of(alloc, member(json, "rows")?)?;
-    Ok(Command::Insert(insert.rows(rows)?))
+    inserted_rows(alloc, table, rows)
+}
+
+// These rows for the table of this name.
+fn inserted_rows(alloc: Global, table: &str, rows: Vec<Vec<Value>>) -> Result<Command, Error>
+    ensures { Gives said result (Some
+        (insert table.now (map (λ row. data_of row.items) rows.items))) }
+{
+    match Insert::into(alloc, table)?.rows(rows) {
+        Ok(insert) => Ok(Command::Insert(insert)),
+        Err(error) => Err(error),
+    }
 }
 
 // A table, what is set, and a condition.
@@ -185,7 +200,11 @@ pub(crate) fn set_of<'a>(alloc: Global, json: &'a Json) -> Result<(&'a str, Valu
         (pair_in as_str value_in (view json.now)) }
 {
     let (column, value) = two_of(json)?;
-    Ok((text_of(column)?, value_of(alloc, value)?))
+    let column = text_of(column)?;
+    match value_of(alloc, value) {
+        Ok(value) => Ok((column, value)),
+        Err(error) => Err(error),
+    }
 }
 
 // A table and a condition.
@@ -223,9 +242,13 @@ fn write_of(alloc: Global, json: &Json) -> Result<Command, Error>
     if !has_only(json, &["op", "name", "hex"]) {
         return Err(Error::InvalidInput);
     }
-    let name = String::from_str(alloc, text_at(json, "name")?)?;
-    let bytes = bytes_of(alloc, text_at(json, "hex")?)?;
-    Ok(Command::WriteStream(name, bytes))
+    let name = text_at(json, "name")?;
+    let digits = text_at(json, "hex")?;
+    let name = String::from_str(alloc, name)?;
+    match bytes_of(alloc, digits) {
+        Ok(bytes) => Ok(Command::WriteStream(name, bytes)),
+        Err(error) => Err(error),
+    }
 }
 
 // Bytes from pairs of hexadecimal digits.

@@ -30,7 +30,7 @@ pub enum Refusal {
 }
 
 // The keys of an op besides `op`: those that it needs, and those that it may have.
-#[derive(Drop)]
+#[derive(Clone, Copy)]
 struct Keys {
     needed: &'static [&'static str],
     optional: &'static [&'static str],

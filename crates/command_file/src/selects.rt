@@ -1,6 +1,5 @@
 //! Selects: tables, joins, columns and conditions.
-ghost use Rattle.std.specs.Prelude.{◌≡◌, ◌⊎◌, MatchResult, None, Some, codes, if◌then◌else◌, map, option_and_then, option_map};
-ghost use Rattle.cfb_medium.specs.declared.error.Error.TheVariants.{InvalidInput, Memory};
+ghost use Rattle.std.specs.Prelude.{◌≡◌, None, Some, codes, if◌then◌else◌, map, option_and_then, option_map};
 ghost use Rattle.serde_json.specs.Find.{as_object};
 ghost use Rattle.serde_json.specs.View.{view};
 ghost use Rattle.msi_expr.specs.Formula.{Formula, formula_of};
@@ -13,7 +12,7 @@ ghost use Rattle.json_parts.specs.Values.{at_key, text_at};
 
 use crate::expressions::{condition_of, expression_at};
 use cfb_medium::Error;
-use json_parts::{are_among, borrowed_texts, has_only, member, text_at};
+use json_parts::{are_among, borrowed_texts, find_text, has_only, member};
 use msi_expr::Expr;
 use msi_query::Select;
 use serde_json::Value as Json;
@@ -30,13 +29,12 @@ pub(crate) fn select_of(alloc: Global, json: &Json) -> Result<Select, Error>
 fn select_at(alloc: Global, json: &Json) -> Result<Select, Error>
     ensures { Gives query_of result (select_at (view json.now)) }
 {
-    let select = source_at(alloc, json)?;
     let names = names_of(alloc, json)?;
-    let condition = condition_of(alloc, json)?;
-    let select = select.columns(alloc, &names)?;
-    match condition {
-        Some(condition) => select.with(alloc, condition),
-        None => Ok(select),
+    let select = source_at(alloc, json)?.columns(alloc, &names)?;
+    match condition_of(alloc, json) {
+        Ok(Some(condition)) => select.with(alloc, condition),
+        Ok(None) => Ok(select),
+        Err(error) => Err(error),
     }
 }
 
@@ -82,28 +80,36 @@ fn source_of(alloc: Global, json: &Json) -> Result<Select, Error>
 fn join_of(alloc: Global, json: &Json) -> Result<Select, Error>
     ensures { Gives query_of result (option_map all_of (join_in (view json.now))) }
 {
-    let is_left = match is_left_join(json) {
-        Ok(is_left) => is_left,
-        Err(error) => return Err(error),
+    let Some(is_left) = is_left_join(json) else {
+        return Err(Error::InvalidInput);
     };
-    let left = side_at(alloc, json, "left")?;
-    let right = side_at(alloc, json, "right")?;
     let on = expression_at(alloc, json, "on")?;
-    joined_select(alloc, is_left, left, right, on)
+    let left = side_at(alloc, json, "left")?;
+    match side_at(alloc, json, "right") {
+        Ok(right) => joined_select(alloc, is_left, left, right, on),
+        Err(error) => Err(error),
+    }
 }
 
 // Whether the join keeps each row of its left side.
-fn is_left_join(json: &Json) -> Result<bool, Error>
-    ensures { MatchResult result
-        (λ is_left. (l r : Query) (on : Formula) → joined (text_at (codes "join") (view json.now)) l r on
-        ≡ Some (if is_left then left_join l r on else inner_join l r on))
-        (λ e. (e ≡ Memory) ⊎ ((e ≡ InvalidInput) × ((l r : Query) (on : Formula)
-        → joined (text_at (codes "join") (view json.now)) l r on ≡ None))) }
+fn is_left_join(json: &Json) -> Option<bool>
+    ensures { (l r : Query) (on : Formula) → joined (text_at (codes "join") (view json.now)) l r on
+        ≡ option_map (λ is_left. if is_left then left_join l r on else inner_join l r on) result }
 {
-    match text_at(json, "join")? {
-        "inner" => Ok(false),
-        "left" => Ok(true),
-        _ => Err(Error::InvalidInput),
+    match find_text(json, "join") {
+        Some(kind) => is_left(kind),
+        None => None,
+    }
+}
+
+fn is_left(kind: &str) -> Option<bool>
+    ensures { (l r : Query) (on : Formula) → joined (Some kind.now) l r on
+        ≡ option_map (λ is_left. if is_left then left_join l r on else inner_join l r on) result }
+{
+    match kind {
+        "inner" => Some(false),
+        "left" => Some(true),
+        _ => None,
     }
 }
 

@@ -1,4 +1,4 @@
-use Rattle.std.proofs.Common.{◌≡◌, ◌<◌, ◌∙◌, ap, sym, arith, refl, codes, inl, inr, ⊎_elim, option_map}
+use Rattle.std.proofs.Common.{◌≡◌, ◌<◌, ◌∙◌, ap, sym, arith, refl, codes, inr, option_map}
 use Rattle.serde_json.proofs.Views.{view-Object}
 use Rattle.serde_json.specs.Data.{depth}
 use Rattle.serde_json.specs.View.{view, members_view}
@@ -29,5 +29,7 @@ source_of-returns-then-are_among t c =
     rw (ap view c.in-Object.is ∙ view-Object c.in-Object.members) (join_is (members_view c.in-Object.members.entries) (sym c.are_among.ensures ∙ c.if-are_among.true)) in
     rw same c.join_of.ensures
 
-pub join_of-returns-in-Err : goal.join_of-returns-in-Err
-join_of-returns-in-Err t c = ⊎_elim (λ memory. inl memory) (λ other. inr (other.0, ap (option_map all_of) (join_refused (view c.args.json.now) other.1))) c.in-Err.ensures
+pub join_of-returns-in_default : goal.join_of-returns-in_default
+join_of-returns-in_default t c =
+    let refused = rw c.in_default.is at c.is_left_join.ensures in
+    inr (refl, ap (option_map all_of) (join_refused (view c.args.json.now) refused))
