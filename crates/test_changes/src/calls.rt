@@ -1,17 +1,7 @@
 //! Calls on a compound file, a function for each: what is told of a call costs the prover time wherever it is seen.
 use cfb::CompoundFile;
 use cfb_medium::{Error, Medium, Timestamp};
-use cfb_tree::CaseMapper;
-use std::alloc::Global;
 use uuid::Uuid;
-
-pub fn open<F: Medium>(
-    alloc: Global,
-    medium: F,
-    letters: CaseMapper,
-) -> Result<CompoundFile<F>, (F, Error)> {
-    CompoundFile::open(alloc, medium, letters)
-}
 
 pub fn create_storage<F: Medium>(
     file: &mut CompoundFile<F>,
@@ -87,6 +77,10 @@ pub fn set_storage_clsid<F: Medium>(
     clsid: Uuid,
 ) -> Result<(), Error> {
     file.set_storage_clsid(path, clsid)
+}
+
+pub fn flush<F: Medium>(file: &mut CompoundFile<F>) -> Result<(), Error> {
+    file.flush()
 }
 
 pub fn commit<F: Medium>(file: &mut CompoundFile<F>) -> Result<(), Error> {

@@ -1,45 +1,36 @@
-//! Calls over a medium that fails once, at each of its calls in turn.
-use crate::calls;
-use crate::files::change;
+//! Files over a medium that fails once, at each of its calls in turn.
+use crate::answers::change;
 use crate::told::tree_of;
 use cfb::CompoundFile;
-use cfb_medium::{Error, MemoryMedium};
+use cfb_medium::Error;
 use cfb_tree::CaseMapper;
 use std::alloc::Global;
 use test_support::{FailingMedium, Row, copy_of};
 
-// More calls of a medium than any row makes.
-const MANY: u64 = 100_000;
+/// A compound file in memory.
+pub type File = CompoundFile<FailingMedium>;
 
-// The file of these bytes, over a medium whose call after so many fails.
-fn file_over_faults(
+/// More calls of a medium than are made on any.
+pub const MANY: u64 = u64::MAX;
+
+/// The file that a medium holds, opened leniently.
+pub fn open_leniently(
     alloc: Global,
-    bytes: &[u8],
-    failing: u64,
-) -> Result<CompoundFile<FailingMedium>, (FailingMedium, Error)> {
-    let bytes = match Vec::from_slice(alloc, bytes) {
-        Ok(bytes) => bytes,
-        Err(_) => return Err((empty_medium(alloc), Error::Memory)),
-    };
-    let medium = FailingMedium::new(MemoryMedium::from_bytes(alloc, bytes), failing);
+    medium: FailingMedium,
+) -> Result<File, (FailingMedium, Error)> {
     match CaseMapper::ascii(alloc) {
-        Ok(letters) => calls::open(alloc, medium, letters),
+        Ok(letters) => CompoundFile::open(alloc, medium, letters),
         Err(error) => Err((medium, error)),
     }
-}
-
-// A medium without bytes.
-fn empty_medium(alloc: Global) -> FailingMedium {
-    FailingMedium::new(MemoryMedium::new(alloc), MANY)
 }
 
 /// Opens these bytes while each call of the medium fails in turn: the fault is told and the bytes stay, until none is left.
 pub fn open_fails(alloc: Global, bytes: &[u8]) -> Result<String, Error> {
     for failing in 0..MANY {
-        match file_over_faults(alloc, bytes, failing) {
+        let medium = FailingMedium::new(alloc, Vec::from_slice(alloc, bytes)?, failing);
+        match open_leniently(alloc, medium) {
             Ok(file) => return end_of_call(alloc, file.into_inner().failures()),
-            Err((medium, Error::Device))
-                if medium.failures() == 1 && medium.inner().bytes() == bytes => {}
+            Err((medium, Error::Device)) if medium.failures() == 1 && medium.bytes() == bytes => {}
             Err((_, error)) => return Ok(format!(in alloc; "{error:?} at call {failing}")?),
         }
     }
@@ -49,10 +40,9 @@ pub fn open_fails(alloc: Global, bytes: &[u8]) -> Result<String, Error> {
 /// Makes a row's call on the file of these bytes while each call of the medium fails in turn: the fault is told, and the file is as
 /// it was or has failed, until none is left.
 pub fn call_fails(alloc: Global, bytes: &[u8], row: &Row) -> Result<String, Error> {
-    let file = file_over_faults(alloc, bytes, MANY).map_err(|refused| refused.1)?;
-    let first = file.into_inner().calls();
+    let first = file_over_faults(alloc, bytes, MANY)?.into_inner().calls();
     for failing in first..MANY {
-        let mut file = file_over_faults(alloc, bytes, failing).map_err(|refused| refused.1)?;
+        let mut file = file_over_faults(alloc, bytes, failing)?;
         let before = tree_of(alloc, &file)?;
         match change(alloc, &mut file, row) {
             Ok(()) => return end_of_call(alloc, file.into_inner().failures()),
@@ -62,6 +52,12 @@ pub fn call_fails(alloc: Global, bytes: &[u8], row: &Row) -> Result<String, Erro
         }
     }
     copy_of(alloc, "endless")
+}
+
+// The file of these bytes, over a medium whose call after so many fails.
+fn file_over_faults(alloc: Global, bytes: &[u8], failing: u64) -> Result<File, Error> {
+    let medium = FailingMedium::new(alloc, Vec::from_slice(alloc, bytes)?, failing);
+    open_leniently(alloc, medium).map_err(|refused| refused.1)
 }
 
 // It was done: no call has failed meanwhile.

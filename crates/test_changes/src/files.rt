@@ -1,87 +1,82 @@
-//! Calls on a compound file in memory.
-use crate::calls;
-use crate::faults::{call_fails, open_fails};
-use crate::names::names_sum;
-use crate::streams::{append, open_limited, pieces_of, set_len, sum_of, sums_of, write_at};
-use crate::told::{bytes_of, count_of, tree_of};
-use cfb::CompoundFile;
-use cfb_medium::{Error, Medium, MemoryMedium, Timestamp};
+//! A compound file in memory.
+use crate::answers::answer_of;
+use crate::faults::{File, MANY, call_fails, open_fails, open_leniently};
+use crate::streams::sum_of;
+use cfb::{CompoundFile, OpenOptions};
+use cfb_medium::{Error, Version};
 use cfb_tree::CaseMapper;
 use std::alloc::Global;
-use test_support::{Row, Subject, bytes_at, copy_of, part_of, yes_or_no};
-use uuid::Uuid;
+use test_support::{FailingMedium, Row, Subject, bytes_at, part_of};
 
 /// A compound file in memory, under the letters of ASCII.
 #[derive(Drop)]
-pub struct Files {
-    file: Option<CompoundFile<MemoryMedium>>,
+pub struct FileInMemory {
+    file: Option<File>,
 }
 
-impl Files {
+impl FileInMemory {
     /// Without a file.
-    pub fn new() -> Files {
-        Files { file: None }
+    pub fn new() -> FileInMemory {
+        FileInMemory { file: None }
     }
 
-    // The file's bytes, which it gives up.
-    fn take_medium(&mut self) -> Result<MemoryMedium, Error> {
+    // What holds the file's bytes, which it gives up.
+    fn take_medium(&mut self) -> Result<FailingMedium, Error> {
         let file = self.file.take().ok_or(Error::NotFound)?;
         Ok(file.into_inner())
     }
 
+    // Opens the file again: so that at most so many bytes of a stream are read at once, or strictly. A file that is refused stays, as a
+    // lenient reader has it.
+    fn reopen(&mut self, alloc: Global, row: &Row) -> Result<(), Error> {
+        let medium = self.take_medium()?;
+        let answer = match row.call() {
+            "at most" => open_limited(alloc, medium, row.number(1)),
+            _ => open_strictly(alloc, medium),
+        };
+        match answer {
+            Ok(file) => {
+                self.file = Some(file);
+                Ok(())
+            }
+            Err((medium, error)) => {
+                self.file = open_leniently(alloc, medium).ok();
+                Err(error)
+            }
+        }
+    }
+
     // Copies the file, which then is the copy, and tells how many bytes that has.
     fn copy(&mut self, alloc: Global) -> Result<String, Error> {
-        let mut target = MemoryMedium::new(alloc);
+        let mut target = FailingMedium::new(alloc, Vec::new(alloc), MANY);
         match &mut self.file {
             Some(file) => file.copy_to(&mut target)?,
             None => return Err(Error::NotFound),
         }
         let len = target.bytes().len();
-        self.file = Some(open_strictly(alloc, target)?);
+        self.file = Some(open_strictly(alloc, target).map_err(|refused| refused.1)?);
         Ok(format!(in alloc; "{len} bytes")?)
     }
 
-    // Some of the file's own bytes, or how many it has with their sum.
+    // What is answered of the file's bytes.
     fn own_bytes(&mut self, alloc: Global, row: &Row) -> Result<String, Error> {
         let bytes = self.take_medium()?.into_bytes();
-        let said = match row.call() {
-            "part" => part_of(alloc, &bytes, row)?,
-            _ => format!(in alloc; "{} bytes, {}", bytes.len(), sum_of(&bytes))?,
-        };
-        self.file = Some(open_leniently(alloc, MemoryMedium::from_bytes(alloc, bytes))?);
-        Ok(said)
-    }
-
-    // Opens the file, or makes a call on it, over media that fail.
-    fn call_that_fails(&mut self, alloc: Global, row: &Row) -> Result<String, Error> {
-        let bytes = self.take_medium()?.into_bytes();
-        let said = match row.cell(1) {
-            Some(call) => call_fails(alloc, &bytes, &Row::of(alloc, call)?)?,
-            None => open_fails(alloc, &bytes)?,
-        };
-        self.file = Some(open_leniently(alloc, MemoryMedium::from_bytes(alloc, bytes))?);
-        Ok(said)
+        let told = bytes_told(alloc, &bytes, row);
+        self.file = Some(file_of(alloc, bytes)?);
+        told
     }
 }
 
-impl Subject for Files {
+impl Subject for FileInMemory {
     fn answer(&mut self, alloc: Global, row: &Row) -> Result<String, Error> {
         match row.call() {
-            "file" => {
-                let medium = MemoryMedium::from_bytes(alloc, bytes_at(alloc, row, 1)?);
-                self.file = Some(open_leniently(alloc, medium)?);
+            "file" => self.file = Some(file_of(alloc, bytes_at(alloc, row, 1)?)?),
+            "create" | "create with" | "create version 3" | "create version 4" => {
+                self.file = Some(created(alloc, row)?);
             }
-            "again" => {
-                let medium = self.take_medium()?;
-                self.file = Some(open_strictly(alloc, medium)?);
-            }
-            "at most" => {
-                let medium = self.take_medium()?;
-                self.file = Some(open_limited(alloc, medium, row.number(1))?);
-            }
-            "open fails" | "fails" => return self.call_that_fails(alloc, row),
+            "again" | "at most" => self.reopen(alloc, row)?,
             "copy" => return self.copy(alloc),
-            "part" | "whole" => return self.own_bytes(alloc, row),
+            "part" | "whole" | "open fails" | "fails" => return self.own_bytes(alloc, row),
             _ => {}
         }
         match &mut self.file {
@@ -91,112 +86,56 @@ impl Subject for Files {
     }
 }
 
-fn open_leniently(
+// The file of these bytes, opened leniently.
+fn file_of(alloc: Global, bytes: Vec<u8>) -> Result<File, Error> {
+    open_leniently(alloc, FailingMedium::new(alloc, bytes, MANY)).map_err(|refused| refused.1)
+}
+
+fn open_strictly(alloc: Global, medium: FailingMedium) -> Result<File, (FailingMedium, Error)> {
+    match CaseMapper::ascii(alloc) {
+        Ok(letters) => CompoundFile::open_strict(alloc, medium, letters),
+        Err(error) => Err((medium, error)),
+    }
+}
+
+fn open_limited(
     alloc: Global,
-    medium: MemoryMedium,
-) -> Result<CompoundFile<MemoryMedium>, Error> {
+    medium: FailingMedium,
+    limit: i64,
+) -> Result<File, (FailingMedium, Error)> {
+    let limit = usize::try_from(limit).unwrap_or(1);
+    match OpenOptions::new(alloc) {
+        Ok(options) => options.max_buffer_size(limit).open_with(alloc, medium),
+        Err(error) => Err((medium, error)),
+    }
+}
+
+// A new file, which is made over the bytes of a row.
+fn created(alloc: Global, row: &Row) -> Result<File, Error> {
+    let bytes = bytes_at(alloc, row, 1)?;
     let letters = CaseMapper::ascii(alloc)?;
-    calls::open(alloc, medium, letters).map_err(|refused| refused.1)
+    let options = OpenOptions::new(alloc)?;
+    let medium = FailingMedium::new(alloc, bytes, MANY);
+    let answer = match row.call() {
+        "create" => CompoundFile::create(alloc, medium, letters),
+        "create with" => options.create_with(alloc, medium),
+        "create version 3" => {
+            CompoundFile::create_with_version(alloc, Version::V3, medium, letters)
+        }
+        _ => CompoundFile::create_with_version(alloc, Version::V4, medium, letters),
+    };
+    answer.map_err(|refused| refused.1)
 }
 
-fn open_strictly(alloc: Global, medium: MemoryMedium) -> Result<CompoundFile<MemoryMedium>, Error> {
-    let letters = CaseMapper::ascii(alloc)?;
-    CompoundFile::open_strict(alloc, medium, letters).map_err(|refused| refused.1)
-}
-
-// What a row's call answers; one that changes the file answers "done".
-fn answer_of(
-    alloc: Global,
-    file: &mut CompoundFile<MemoryMedium>,
-    row: &Row,
-) -> Result<String, Error> {
+// Some of the bytes, what calls answer over media that fail, or how many bytes there are, with their sum.
+fn bytes_told(alloc: Global, bytes: &Vec<u8>, row: &Row) -> Result<String, Error> {
     match row.call() {
-        "file" | "again" | "at most" => yes_or_no(alloc, file.is_sound()),
-        "tree" => tree_of(alloc, file),
-        "count" => count_of(alloc, file),
-        "bytes" => bytes_of(alloc, file, row.text(1)),
-        "pieces" => pieces_of(alloc, file, row),
-        "sums" => sums_of(alloc, file),
-        "names" => names_sum(alloc, file, row),
-        "each" => each(alloc, file, row),
-        _ => {
-            change(alloc, file, row)?;
-            copy_of(alloc, "done")
+        "part" => part_of(alloc, bytes, row),
+        "open fails" => open_fails(alloc, bytes),
+        "fails" => {
+            let call = row.cell(1).ok_or(Error::InvalidInput)?;
+            call_fails(alloc, bytes, &Row::of(alloc, call)?)
         }
+        _ => Ok(format!(in alloc; "{} bytes, {}", bytes.len(), sum_of(bytes))?),
     }
-}
-
-// The answers to calls in a row, a word each.
-fn each(alloc: Global, file: &mut CompoundFile<MemoryMedium>, row: &Row) -> Result<String, Error> {
-    let mut words = String::new(alloc);
-    for call in row.list(1) {
-        let call = Row::of(alloc, call)?;
-        match change(alloc, file, &call) {
-            Ok(()) => words.push_str("done ")?,
-            Err(error) => words.push_str(format!(in alloc; "{error:?} ")?.as_str())?,
-        }
-    }
-    Ok(words)
-}
-
-/// Changes a file.
-pub fn change<F: Medium>(
-    alloc: Global,
-    file: &mut CompoundFile<F>,
-    row: &Row,
-) -> Result<(), Error> {
-    let path = row.text(1);
-    let moment = Timestamp::from_unix(row.number(2), 0);
-    match row.call() {
-        "storage" => calls::create_storage(file, path, moment),
-        "storages" => calls::create_storage_all(file, path, moment),
-        "nested" => nest(alloc, file, path, row.number(2)),
-        "beside" => make_beside(alloc, file, path, row.number(2)),
-        "stream" => calls::create_new_stream(file, path),
-        "stream anew" => calls::create_stream(file, path),
-        "write" => write_at(alloc, file, row),
-        "append" => append(alloc, file, row),
-        "set len" => set_len(file, row),
-        "remove" => calls::remove_stream(file, path),
-        "remove storage" => calls::remove_storage(file, path),
-        "remove all" => calls::remove_storage_all(file, path),
-        "touch" => calls::touch(file, path, moment),
-        "created" => calls::set_created_time(file, path, moment),
-        "modified" => calls::set_modified_time(file, path, moment),
-        "bits" => calls::set_state_bits(file, path, u32::try_from(row.number(2)).unwrap_or(0)),
-        "class" => {
-            let clsid = Uuid::parse_str(row.text(2)).map_err(|_| Error::InvalidData)?;
-            calls::set_storage_clsid(file, path, clsid)
-        }
-        _ => Err(Error::InvalidInput),
-    }
-}
-
-// Makes so many storages of a name, each in the one before.
-fn nest<F: Medium>(
-    alloc: Global,
-    file: &mut CompoundFile<F>,
-    name: &str,
-    count: i64,
-) -> Result<(), Error> {
-    let mut path = String::new(alloc);
-    for _ in 0..count {
-        path.push_str(name)?;
-        calls::create_storage(file, &path, Timestamp::zero())?;
-    }
-    Ok(())
-}
-
-// Makes so many streams beside each other, whose names are one with a number.
-fn make_beside<F: Medium>(
-    alloc: Global,
-    file: &mut CompoundFile<F>,
-    name: &str,
-    count: i64,
-) -> Result<(), Error> {
-    for number in 0..count {
-        let path = format!(in alloc; "{name}{number}")?;
-        calls::create_new_stream(file, &path)?;
-    }
-    Ok(())
 }

@@ -1,7 +1,7 @@
 //! Streams with many names in one storage, made and removed one by one.
 use crate::calls;
 use cfb::CompoundFile;
-use cfb_medium::{Error, MemoryMedium};
+use cfb_medium::{Error, Medium, ReadMedium};
 use std::alloc::Global;
 use test_support::Row;
 
@@ -10,9 +10,9 @@ const STEP: u32 = 2_654_435_761;
 
 /// Makes so many streams in the root, in rising, falling or shuffled order of their names, and removes them in the order in which
 /// they were made: the sum of all names that the root lists after each of these steps.
-pub fn names_sum(
+pub fn names_sum<F: Medium>(
     alloc: Global,
-    file: &mut CompoundFile<MemoryMedium>,
+    file: &mut CompoundFile<F>,
     row: &Row,
 ) -> Result<String, Error> {
     let count = u32::try_from(row.number(2)).unwrap_or(0);
@@ -39,7 +39,7 @@ fn path_of(alloc: Global, order: &str, number: u32, count: u32) -> Result<String
 }
 
 // The sum with the names that the root lists, a slash behind each: to each byte 257 times the sum so far is added.
-fn sum_of_names(file: &CompoundFile<MemoryMedium>, before: u32) -> Result<u32, Error> {
+fn sum_of_names<F: ReadMedium>(file: &CompoundFile<F>, before: u32) -> Result<u32, Error> {
     let mut sum = before;
     for entry in file.read_root_storage()? {
         for byte in entry.name().as_bytes() {

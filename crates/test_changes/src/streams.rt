@@ -1,29 +1,24 @@
-//! Streams of a compound file in memory that are written and read.
-use cfb::{CompoundFile, OpenOptions, Stream};
-use cfb_medium::{Error, Medium, MemoryMedium, ReadMedium};
+//! Streams of a compound file that are written and read.
+use cfb::{CompoundFile, Stream};
+use cfb_medium::{Error, Medium, ReadMedium};
 use std::alloc::Global;
 use std::io::SeekFrom;
 use test_support::{Row, bytes_at, runs};
 
-/// Writes bytes into the stream at a path, from a place on.
-pub fn write_at<F: Medium>(
+/// Writes bytes into the stream at a path, from a place on or from its end on, or gives it so many bytes.
+pub fn change_stream<F: Medium>(
     alloc: Global,
     file: &mut CompoundFile<F>,
     row: &Row,
 ) -> Result<(), Error> {
-    let at = u64::try_from(row.number(2)).unwrap_or(0);
-    write_bytes(file, row.text(1), at, &bytes_at(alloc, row, 3)?)
-}
-
-/// The same from one that is told.
-pub fn write_bytes<F: Medium>(
-    file: &mut CompoundFile<F>,
-    path: &str,
-    at: u64,
-    bytes: &[u8],
-) -> Result<(), Error> {
-    let mut stream = file.open_stream(path)?;
-    let done = write(&mut stream, at, bytes);
+    let bytes = bytes_at(alloc, row, 3)?;
+    let number = u64::try_from(row.number(2)).unwrap_or(0);
+    let mut stream = file.open_stream(row.text(1))?;
+    let done = match row.call() {
+        "write" => write(&mut stream, number, &bytes),
+        "append" => append(&mut stream, number, &bytes),
+        _ => stream.set_len(number),
+    };
     let closed = stream.close();
     done?;
     closed
@@ -35,51 +30,20 @@ fn write<F: Medium>(stream: &mut Stream<'_, F>, at: u64, bytes: &[u8]) -> Result
     stream.flush()
 }
 
-/// Writes bytes into the stream at a path, from its end on, in pieces of so many.
-pub fn append<F: Medium>(
-    alloc: Global,
-    file: &mut CompoundFile<F>,
-    row: &Row,
-) -> Result<(), Error> {
-    let bytes = bytes_at(alloc, row, 3)?;
-    let count = usize::try_from(row.number(2)).unwrap_or(1);
-    let mut stream = file.open_stream(row.text(1))?;
-    let done = append_pieces(&mut stream, count, &bytes);
-    let closed = stream.close();
-    done?;
-    closed
-}
-
-fn append_pieces<F: Medium>(
-    stream: &mut Stream<'_, F>,
-    count: usize,
-    bytes: &[u8],
-) -> Result<(), Error> {
+// Writes bytes in pieces of so many.
+fn append<F: Medium>(stream: &mut Stream<'_, F>, count: u64, bytes: &[u8]) -> Result<(), Error> {
     stream.seek(SeekFrom::End(0))?;
+    let count = usize::try_from(count).unwrap_or(1);
     for piece in bytes.chunks(count.max(1)) {
         stream.write(piece)?;
     }
     Ok(())
 }
 
-/// Gives the stream at a path so many bytes.
-pub fn set_len<F: Medium>(file: &mut CompoundFile<F>, row: &Row) -> Result<(), Error> {
-    lengthen(file, row.text(1), u64::try_from(row.number(2)).unwrap_or(0))
-}
-
-/// The same of a number that is told.
-pub fn lengthen<F: Medium>(file: &mut CompoundFile<F>, path: &str, len: u64) -> Result<(), Error> {
-    let mut stream = file.open_stream(path)?;
-    let done = stream.set_len(len);
-    let closed = stream.close();
-    done?;
-    closed
-}
-
 /// The bytes of the stream at a path as runs, which are read in pieces of so many.
-pub fn pieces_of(
+pub fn pieces_of<F: Medium>(
     alloc: Global,
-    file: &mut CompoundFile<MemoryMedium>,
+    file: &mut CompoundFile<F>,
     row: &Row,
 ) -> Result<String, Error> {
     let count = usize::try_from(row.number(2)).unwrap_or(1).max(1);
@@ -107,28 +71,12 @@ fn read_pieces<F: ReadMedium>(
     Ok(bytes)
 }
 
-/// The file, opened so that at most so many bytes of a stream are read at once.
-pub fn open_limited(
-    alloc: Global,
-    medium: MemoryMedium,
-    limit: i64,
-) -> Result<CompoundFile<MemoryMedium>, Error> {
-    let limit = usize::try_from(limit).unwrap_or(1);
-    let options = OpenOptions::new(alloc)?.max_buffer_size(limit);
-    options
-        .open_with(alloc, medium)
-        .map_err(|refused| refused.1)
-}
-
 /// Each stream with its length and the sum of its bytes.
-pub fn sums_of(alloc: Global, file: &mut CompoundFile<MemoryMedium>) -> Result<String, Error> {
+pub fn sums_of<F: ReadMedium>(alloc: Global, file: &mut CompoundFile<F>) -> Result<String, Error> {
     let mut text = String::new(alloc);
     for entry in file.walk()? {
         if entry.is_stream() {
-            let mut bytes = Vec::new(alloc);
-            let mut stream = file.open_read_stream(entry.path())?;
-            stream.read_to_end(&mut bytes)?;
-            let sum = sum_of(&bytes);
+            let sum = sum_of(&file.read_stream(entry.path())?);
             let (path, len) = (entry.path(), entry.len());
             text.push_str(format!(in alloc; "{path} {len} {sum}, ")?.as_str())?;
         }

@@ -1,6 +1,6 @@
 //! What a compound file holds, as a text.
 use cfb::{CompoundFile, Entry};
-use cfb_medium::{Error, MemoryMedium, ReadMedium};
+use cfb_medium::{Error, ReadMedium};
 use std::alloc::Global;
 use test_support::runs;
 
@@ -36,9 +36,9 @@ fn object_told(alloc: Global, entry: &Entry) -> Result<String, Error> {
 }
 
 /// The bytes of the stream at a path, as runs.
-pub fn bytes_of(
+pub fn bytes_of<F: ReadMedium>(
     alloc: Global,
-    file: &mut CompoundFile<MemoryMedium>,
+    file: &mut CompoundFile<F>,
     path: &str,
 ) -> Result<String, Error> {
     let mut bytes = Vec::new(alloc);

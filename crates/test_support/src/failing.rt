@@ -5,6 +5,7 @@ ghost use Rattle.staged.specs.Counts.{counted_failures};
 
 use cfb_medium::{Error, Medium, MemoryMedium, ReadMedium};
 use staged::Counts;
+use std::alloc::Global;
 
 // Counts calls, and tells the one that is to fail.
 #[derive(Drop)]
@@ -21,27 +22,36 @@ impl Fuse {
     }
 }
 
-/// A medium in memory. One of its calls fails, and changes nothing.
+/// A medium in memory. One of its calls fails, and changes nothing. It goes back to what was committed last, if anything was.
 #[derive(Drop)]
 pub struct FailingMedium {
+    alloc: Global,
     inner: MemoryMedium,
+    committed: Option<Vec<u8>>,
     fuse: Fuse,
     counts: Counts,
 }
 
 impl FailingMedium {
-    /// One whose call after this many fails.
-    pub fn new(inner: MemoryMedium, failing: u64) -> Self {
+    /// One of these bytes, whose call after so many fails.
+    pub fn new(alloc: Global, bytes: Vec<u8>, failing: u64) -> Self {
         FailingMedium {
-            inner,
+            alloc,
+            inner: MemoryMedium::from_bytes(alloc, bytes),
+            committed: None,
             fuse: Fuse { calls: 0, failing },
             counts: Counts::new(),
         }
     }
 
-    /// What it passes its calls on to.
-    pub fn inner(&self) -> &MemoryMedium {
-        &self.inner
+    /// The bytes.
+    pub fn bytes(&self) -> &[u8] {
+        self.inner.bytes()
+    }
+
+    /// The bytes, without the medium.
+    pub fn into_bytes(self) -> Vec<u8> {
+        self.inner.into_bytes()
     }
 
     /// How many calls were made.
@@ -121,11 +131,22 @@ impl Medium for FailingMedium {
         if self.fuse.blows() {
             return Err(self.counts.fault());
         }
+        self.committed = Some(Vec::from_slice(self.alloc, self.inner.bytes())?);
         Ok(())
     }
 
     fn roll_back(&mut self) -> Result<(), Error> {
-        Err(Error::InvalidInput)
+        if self.fuse.blows() {
+            return Err(self.counts.fault());
+        }
+        match &self.committed {
+            Some(bytes) => {
+                let copy = Vec::from_slice(self.alloc, bytes)?;
+                self.inner = MemoryMedium::from_bytes(self.alloc, copy);
+                Ok(())
+            }
+            None => Err(Error::InvalidInput),
+        }
     }
 
     fn has_failed(&self) -> bool {
