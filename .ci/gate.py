@@ -61,7 +61,7 @@ TRIALS = (
     ("trace-commit", "msidb"),
     ("count-uses", "msidb"),
     ("show-terminal", "msidb"),
-    ("refuse-memory", "test_changes", "memory"),
+    ("refuse-memory", "test_changes", "rows"),
 )
 
 
