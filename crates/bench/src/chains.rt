@@ -7,20 +7,14 @@ use cfb_sectors::{SectorInit, Sectors};
 use std::alloc::Global;
 use std::time::Instant;
 
-// A header that lists sector 0 as that of the FAT, to the end of its sector.
-fn header(alloc: Global) -> Result<Vec<u8>, Error> {
+// The header of a file of version 4 that lists sector 0 as that of the FAT, and that sector without an entry for another.
+fn bytes(alloc: Global) -> Result<Vec<u8>, Error> {
     let mut bytes = vec![in alloc; 0u8; 44]?;
     bytes.extend_from_slice(&[1, 0, 0, 0])?;
     bytes.resize(68, 0)?;
     bytes.extend_from_slice(&[0xFE, 0xFF, 0xFF, 0xFF, 0, 0, 0, 0, 0, 0, 0, 0])?;
     bytes.resize(512, 0xFF)?;
     bytes.resize(4096, 0)?;
-    Ok(bytes)
-}
-
-// A file of version 4 whose FAT, in sector 0, has no entry for another sector.
-fn bytes(alloc: Global) -> Result<Vec<u8>, Error> {
-    let mut bytes = header(alloc)?;
     bytes.extend_from_slice(&[0xFD, 0xFF, 0xFF, 0xFF])?;
     bytes.resize(8192, 0xFF)?;
     Ok(bytes)
@@ -41,22 +35,9 @@ fn allocator(alloc: Global) -> Result<Allocator<MemoryMedium>, Error> {
     }
 }
 
-// A function for each call: what is told of a call costs time wherever it is seen.
-fn begin_chain(allocator: &mut Allocator<MemoryMedium>) -> Result<u32, Error> {
-    allocator.begin_chain(SectorInit::Zero)
-}
-
-fn extend_chain(allocator: &mut Allocator<MemoryMedium>, last: u32) -> Result<u32, Error> {
-    allocator.extend_chain(last, SectorInit::Zero)
-}
-
-fn free_chain(allocator: &mut Allocator<MemoryMedium>, start: u32) -> Result<(), Error> {
-    allocator.free_chain(start)
-}
-
-// Makes a chain of so many sectors: its start.
+// Makes a chain of so many sectors, a call for each: its start.
 fn append(allocator: &mut Allocator<MemoryMedium>, count: usize) -> Result<u32, Error> {
-    let start = begin_chain(allocator)?;
+    let start = allocator.begin_chain(SectorInit::Zero)?;
     let mut last = start;
     for _ in 1..count {
         last = extend_chain(allocator, last)?;
@@ -64,34 +45,24 @@ fn append(allocator: &mut Allocator<MemoryMedium>, count: usize) -> Result<u32, 
     Ok(start)
 }
 
+// A function of its own, since what is told of the call costs time wherever it is seen.
+fn extend_chain(allocator: &mut Allocator<MemoryMedium>, last: u32) -> Result<u32, Error> {
+    allocator.extend_chain(last, SectorInit::Zero)
+}
+
 /// Appends sectors to a chain, a call for each, frees the chain, and appends as many to another.
 pub fn append_and_free(rt: &HostRuntime, count: usize) -> Result<()> {
-    let mut allocator = allocator(rt.alloc())?;
-    let start = append_and_tell(rt, &mut allocator, "sectors appended", count)?;
-    free_and_tell(rt, &mut allocator, start, count)?;
-    append_and_tell(rt, &mut allocator, "sectors appended again", count)?;
-    Ok(())
+    run(rt, &mut allocator(rt.alloc())?, count)
 }
 
-fn append_and_tell(
-    rt: &HostRuntime,
-    allocator: &mut Allocator<MemoryMedium>,
-    part: &str,
-    count: usize,
-) -> Result<u32> {
+fn run(rt: &HostRuntime, allocator: &mut Allocator<MemoryMedium>, count: usize) -> Result<()> {
     let begin = Instant::now(rt)?;
     let start = append(allocator, count)?;
-    print_time(rt, part, count, begin)?;
-    Ok(start)
-}
-
-fn free_and_tell(
-    rt: &HostRuntime,
-    allocator: &mut Allocator<MemoryMedium>,
-    start: u32,
-    count: usize,
-) -> Result<()> {
+    print_time(rt, "sectors appended", begin)?;
     let begin = Instant::now(rt)?;
-    free_chain(allocator, start)?;
-    print_time(rt, "sectors freed", count, begin)
+    allocator.free_chain(start)?;
+    print_time(rt, "sectors freed", begin)?;
+    let begin = Instant::now(rt)?;
+    append(allocator, count)?;
+    print_time(rt, "sectors appended again", begin)
 }

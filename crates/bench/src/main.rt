@@ -2,18 +2,13 @@
 #![tactic(auto)]
 
 mod chains;
-mod contents;
-mod deep;
-mod file_calls;
 mod files;
-mod places;
 mod stores;
-mod streams;
 
 use anyhow::{Result, bail};
+use files::{Order, Part};
 use std::env;
 use std::time::Instant;
-use streams::Order;
 
 // A line for each benchmark: its word, what its size counts, and what it does.
 const LIST: &str = "\
@@ -24,11 +19,10 @@ streams COUNT     makes so many streams of 100 bytes, in shuffled order, reads t
 streams-up COUNT  the same in rising order
 streams-down COUNT  the same in falling order
 deep COUNT        makes so many storages, each in the last one, and removes them by one call
-write COUNT       writes so many streams of 100 bytes and as many of 10,000, and reads them from the file that is opened again
+write COUNT       makes so many streams of 100 bytes and as many of 10,000, and reads them from the file that is opened again
 large MEGABYTES   so with one stream of so many megabytes, in pieces of 4,096 bytes
 places COUNT      reads and writes so many pieces of 4,096 bytes at places far apart of a stream that has 10,000 bytes for each
 copy COUNT        copies a file of so many streams of 100 bytes
-read FILE         opens the compound file of that path, lists it, and reads each stream whole
 ";
 
 fn main(rt: HostRuntime) -> Result<()> {
@@ -42,39 +36,51 @@ fn main(rt: HostRuntime) -> Result<()> {
 // Runs the benchmark that the words name.
 fn run_words(rt: &HostRuntime, words: &[String]) -> Result<()> {
     match words {
-        [] => print_list(rt),
-        [name, path] if name.as_str() == "read" => files::read(rt, path),
-        [name, size] => run(rt, name, size.as_str().parse::<usize>()?),
+        [] => {
+            print!(rt; "{LIST}")?;
+            Ok(())
+        }
+        [name, size] => run(rt, name, size.as_str().parse::<u32>()?),
         _ => bail!("a benchmark and its size are wanted"),
     }
 }
 
-fn print_list(rt: &HostRuntime) -> Result<()> {
-    print!(rt; "{LIST}")?;
-    Ok(())
-}
-
 // Runs one benchmark.
-fn run(rt: &HostRuntime, name: &str, size: usize) -> Result<()> {
+fn run(rt: &HostRuntime, name: &str, size: u32) -> Result<()> {
     match name {
-        "chain" => chains::append_and_free(rt, size),
-        "write" => contents::write_and_read(rt, size),
-        "large" => contents::write_large(rt, size),
-        "copy" => contents::write_and_copy(rt, size),
-        "deep" => deep::make_and_remove(rt, size),
-        "places" => places::read_and_write(rt, size),
-        "store" => stores::write_apart(rt, size),
-        "commit" => stores::commit_pages(rt, size),
-        "streams" => streams::make_and_remove(rt, size, Order::Shuffled),
-        "streams-up" => streams::make_and_remove(rt, size, Order::Rising),
-        "streams-down" => streams::make_and_remove(rt, size, Order::Falling),
+        "chain" => chains::append_and_free(rt, size as usize),
+        "store" => stores::write_apart(rt, size as usize),
+        "commit" => stores::commit_pages(rt, size as usize),
+        "streams" => run_streams(rt, size, Order::Shuffled),
+        "streams-up" => run_streams(rt, size, Order::Rising),
+        "streams-down" => run_streams(rt, size, Order::Falling),
+        "deep" => files::run(rt, size, &[Part::Nest, Part::RemoveNested], &[]),
+        "write" => {
+            let made = [Part::Make(Order::Rising), Part::MakeLong(Order::Behind)];
+            files::run(rt, size, &made, &[Part::Read])
+        }
+        "large" => files::run(rt, size, &[Part::Write], &[Part::Read]),
+        "places" => {
+            let parts = [Part::MakeRoom, Part::ReadPiece, Part::WritePiece];
+            files::run(rt, size, &parts, &[])
+        }
+        "copy" => files::run(rt, size, &[Part::Make(Order::Rising), Part::Copy], &[]),
         _ => bail!("there is no benchmark of this name"),
     }
 }
 
+fn run_streams(rt: &HostRuntime, size: u32, order: Order) -> Result<()> {
+    files::run(
+        rt,
+        size,
+        &[Part::Make(order)],
+        &[Part::Read, Part::Remove(order)],
+    )
+}
+
 // Prints what a part of a benchmark took that began then.
-fn print_time(rt: &HostRuntime, part: &str, size: usize, begin: Instant) -> Result<()> {
+fn print_time(rt: &HostRuntime, part: &str, begin: Instant) -> Result<()> {
     let time = begin.elapsed(rt)?.as_micros();
-    println!(rt; "{part} {size}: {time} microseconds")?;
+    println!(rt; "{part}: {time} microseconds")?;
     Ok(())
 }

@@ -23,10 +23,6 @@ fn write_at(store: &mut Staged<MemoryDevice>, at: u64, bytes: &[u8]) -> Result<(
     store.write_at(at, bytes)
 }
 
-fn read_at(store: &mut Staged<MemoryDevice>, at: u64, buffer: &mut [u8]) -> Result<usize, Error> {
-    store.read_at(at, buffer)
-}
-
 fn commit(store: &mut Staged<MemoryDevice>) -> Result<(), Error> {
     store.commit()
 }
@@ -50,14 +46,14 @@ pub fn write_apart(rt: &HostRuntime, count: usize) -> Result<()> {
 fn run(rt: &HostRuntime, store: &mut Staged<MemoryDevice>, count: usize) -> Result<()> {
     let begin = Instant::now(rt)?;
     write_all(store, count)?;
-    print_time(rt, "writes", count, begin)?;
+    print_time(rt, "writes", begin)?;
     let mut whole = vec![in rt.alloc(); 0u8; count.saturating_mul(ROOM as usize)]?;
     let begin = Instant::now(rt)?;
-    let read = read_at(store, 0, &mut whole)?;
-    print_time(rt, "bytes read", read, begin)?;
+    store.read_at(0, &mut whole)?;
+    print_time(rt, "bytes read", begin)?;
     let begin = Instant::now(rt)?;
     commit(store)?;
-    print_time(rt, "commit of as many writes", count, begin)
+    print_time(rt, "commit of as many writes", begin)
 }
 
 /// Writes so many pages of 512 bytes side by side, in one call, and commits them.
@@ -66,8 +62,8 @@ pub fn commit_pages(rt: &HostRuntime, count: usize) -> Result<()> {
     let mut store = store(rt.alloc(), 0)?;
     let begin = Instant::now(rt)?;
     write_at(&mut store, 0, &bytes)?;
-    print_time(rt, "pages written", count, begin)?;
+    print_time(rt, "pages written", begin)?;
     let begin = Instant::now(rt)?;
     commit(&mut store)?;
-    print_time(rt, "commit of as many pages", count, begin)
+    print_time(rt, "commit of as many pages", begin)
 }
