@@ -32,8 +32,10 @@ pub fn answer_of<F: Medium>(
         "names" => names_sum(alloc, file, row),
         "each" => each(alloc, file, row),
         _ => {
+            // (memory for the answer comes first, so that a call is refused or told to be done)
+            let done = copy_of(alloc, "done")?;
             change(alloc, file, row)?;
-            copy_of(alloc, "done")
+            Ok(done)
         }
     }
 }
