@@ -32,7 +32,7 @@ pub whole_over : (v : Version) (b after xs : List ℕ) (count place : ℕ) → c
 whole_over v b after xs count place counted some written fits whole =
     subst (λ n. n % sector_len v ≡ 0) (sym (ap length written ∙ length_within b xs place (reach v b count place (length xs) counted some whole fits))) whole
 
-in_sector : (v : Version) (n k count : ℕ) → n < count → k ≤ sector_len v → sector_start v n + k ≤ sector_start v count
+pub in_sector : (v : Version) (n k count : ℕ) → n < count → k ≤ sector_len v → sector_start v n + k ≤ sector_start v count
 in_sector V3 n k count below fits = omega (arith, below, fits)
 in_sector V4 n k count below fits = omega (arith, below, fits)
 

@@ -20,6 +20,7 @@ pub mod ListsNow
 pub mod Packed
 pub mod Places
 pub mod Readied
+pub mod Rising
 pub mod Sparing
 pub mod TableWords
 pub mod Taken

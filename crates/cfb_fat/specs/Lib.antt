@@ -6,5 +6,6 @@ pub mod Keeping
 pub mod Listed
 pub mod Orderly
 pub mod Resting
+pub mod Rising
 pub mod Seeing
 pub mod Tables

@@ -1,10 +1,10 @@
 //! Reading, and writing beside the tables.
-ghost use Rattle.cfb_chains.specs.Changes.{IsBeside};
 ghost use Rattle.cfb_chains.specs.Owned.{Leaves};
 ghost use Rattle.cfb_fat.specs.Changing.{MayWrite, WritesBeside};
 ghost use Rattle.cfb_fat.specs.Keeping.{fails_cause, fails_keep, may_part, own_cause, rests_cause, rests_keep, writes_cause, writes_keep};
 ghost use Rattle.cfb_fat.specs.Orderly.{IsBesideWords};
 ghost use Rattle.cfb_fat.specs.Resting.{all_rest_refl, all_rest_then};
+ghost use Rattle.cfb_fat.specs.Rising.{IsBesideFrom, RiseFrom};
 ghost use Rattle.cfb_medium.specs.Calls.{IsFaultUnless};
 ghost use Rattle.cfb_medium.specs.Versions.{sector_len};
 ghost use Rattle.cfb_medium.specs.declared.error.Error.TheVariants.{Failed, InvalidData};
@@ -36,18 +36,24 @@ fn sectors_met(version: Version, place: u64, count: usize) -> (u32, u32)
     (first as u32, last as u32)
 }
 
-// Whether a part of the file has no byte of these sectors.
-fn is_beside(version: Version, sector_ids: &[u32], place: u64, count: usize) -> bool
-    requires { place + count < 2 ^ 63 }
-    ensures { IsTrue result ↔ IsBeside version sector_ids.now place count }
+// Whether a part of the file has no byte of these sectors from an index on, where they rise.
+fn is_beside(version: Version, sector_ids: &[u32], from: usize, place: u64, count: usize) -> bool
+    requires few { place + count < 2 ^ 63 }
+    requires rise { RiseFrom from sector_ids.now }
+    ensures { IsTrue result ↔ IsBesideFrom from version sector_ids.now place count }
 {
     let (first, last) = sectors_met(version, place, count);
-    let mut is_met = false;
-    for sector_id in sector_ids {
-        // (without a way out, so that many are compared at once)
-        is_met |= first <= *sector_id && *sector_id <= last;
+    let mut low = from;
+    let mut high = sector_ids.len();
+    while low < high {
+        let mid = low + (high - low) / 2;
+        if sector_ids[mid] < first {
+            low = mid + 1;
+        } else {
+            high = mid;
+        }
     }
-    !is_met
+    low >= sector_ids.len() || sector_ids[low] > last
 }
 
 // Whether a part of the file has no byte of what the header says of the tables.
@@ -173,10 +179,19 @@ impl<F: ReadMedium> Allocator<F> {
             return false;
         }
         let version = self.sectors.version();
-        if !is_beside(version, &self.fat_sectors, place, count) {
+        if !is_beside(version, &self.read.ids, 0, place, count) {
             return false;
         }
-        is_beside(version, &self.difat_sectors, place, count)
+        if !is_beside(version, &self.fat_sectors, self.read.num_fat, place, count) {
+            return false;
+        }
+        is_beside(
+            version,
+            &self.difat_sectors,
+            self.read.num_difat,
+            place,
+            count,
+        )
     }
 }
 

@@ -5,6 +5,7 @@ ghost use Rattle.cfb_medium.specs.declared.error.Error.TheVariants.{Failed, Inva
 ghost use Rattle.cfb_chains.specs.Changes.{IsNoneOf};
 ghost use Rattle.cfb_fat.specs.Listed.{Lists};
 ghost use Rattle.cfb_fat.specs.Orderly.{AreBelow, IsOrderly};
+ghost use Rattle.cfb_fat.specs.Rising.{AreRead};
 ghost use Rattle.cfb_runs.specs.Longest.{runs_in, IsRunOf};
 ghost use Rattle.cfb_runs.specs.Tables.{entries_of};
 ghost use Rattle.cfb_sectors.specs.Held.{bytes_of as sectors_bytes, count_of as sectors_count, has_failed_here as sectors_failed, medium_of as sectors_medium, version_of as sectors_version, AreCounted, IsHonest as AreHonest, IsRefused, LeavesOldOrBytes, Rests};
@@ -13,6 +14,7 @@ ghost use Rattle.cfb_sectors.specs.Sectors.{fat_in, free, Chain as IsChain};
 ghost use Rattle.std.specs.Prelude.{false, length, slice_get, slice_index, take, true, IfErr, IfOk, IsErrOf, IsTrue, List, MatchOption, None, OnErr, OnOk, Some, ℕ, ◌*◌, ◌++◌, ◌/◌, ◌<◌, ◌≡◌, ◌≤◌, ◌↔◌, ◌⊎◌, ◌||◌};
 
 use crate::fat::{both, read_parts};
+use crate::reading::ReadTables;
 use cfb_chains::Links;
 use cfb_medium::{Error, Medium, ReadMedium, Version};
 use cfb_runs::Table;
@@ -30,12 +32,16 @@ pub struct Allocator<F: ReadMedium> {
     pub(crate) is_orderly: bool,
     // No sector below this number can be taken into use.
     pub(crate) first_free: usize,
+    pub(crate) read: ReadTables,
     ghost same: { sectors_failed sectors ≡ false → AreHonest sectors → entries_of fat ≡ take (sectors_count sectors) (fat_in (sectors_version sectors) (sectors_bytes sectors) fat_sectors.items) },
     ghost there: { sectors_failed sectors ≡ false → AreBelow (sectors_count sectors) fat_sectors.items },
     ghost inside: { sectors_failed sectors ≡ false → length (entries_of fat) ≤ sectors_count sectors },
     ghost whole: { length (entries_of fat) ≤ length fat_sectors.items * (sector_len (sectors_version sectors) / 4) },
     ghost orderly: { IsTrue is_orderly → IsOrderly (sectors_version sectors) (sectors_count sectors) (entries_of fat) fat_sectors.items difat_sectors.items },
     ghost packed: { (k : ℕ) → k < first_free → slice_index (entries_of fat) k ≡ free → IsNoneOf difat_sectors.items k → IsNoneOf fat_sectors.items k → ⊥ },
+    ghost read_difat: { AreRead read.ids.items read.num_difat difat_sectors.items },
+    ghost read_fat: { AreRead read.ids.items read.num_fat fat_sectors.items },
+    ghost read_alone: { (n : ℕ) → IsNoneOf difat_sectors.items n → IsNoneOf fat_sectors.items n → IsNoneOf read.ids.items n },
     ghost listed: { sectors_failed sectors ≡ false → AreHonest sectors → IsTrue is_orderly
         ↔ (IsOrderly (sectors_version sectors) (sectors_count sectors) (entries_of fat) fat_sectors.items difat_sectors.items × ∥ Lists (sectors_version sectors) (sectors_bytes sectors) difat_sectors.items fat_sectors.items ∥₁) },
 }
@@ -69,6 +75,9 @@ impl<F: ReadMedium> Allocator<F> {
         ensures bytes { IfErr result (λ e. AreHonest sectors
             → F.bytes e.0 ≡ sectors_bytes sectors) }
     {
+        let Ok(read) = ReadTables::new(alloc, &difat_sectors, &fat_sectors) else {
+            return Err((sectors.into_inner(), Error::Memory));
+        };
         match read_parts(alloc, &mut sectors, &difat_sectors, &fat_sectors) {
             Ok((fat, is_orderly)) => Ok(Allocator {
                 alloc,
@@ -78,6 +87,7 @@ impl<F: ReadMedium> Allocator<F> {
                 fat,
                 is_orderly,
                 first_free: 0,
+                read,
             }),
             Err(error) => Err((sectors.into_inner(), error)),
         }
@@ -97,6 +107,11 @@ impl<F: ReadMedium> Allocator<F> {
             fat: Table::new(alloc),
             is_orderly: false,
             first_free: 0,
+            read: ReadTables {
+                ids: Vec::new(alloc),
+                num_difat: 0,
+                num_fat: 0,
+            },
         }
     }
 
@@ -133,6 +148,7 @@ impl<F: ReadMedium> Allocator<F> {
             fat: _,
             is_orderly: _,
             first_free: _,
+            read: _,
         } = self;
         sectors.into_inner()
     }
@@ -311,6 +327,7 @@ impl<F: Medium> Allocator<F> {
             fat,
             is_orderly,
             first_free,
+            read,
         } = self;
         match sectors.roll_back() {
             Ok(medium) => Ok(medium),
@@ -323,6 +340,7 @@ impl<F: Medium> Allocator<F> {
                     fat,
                     is_orderly,
                     first_free,
+                    read,
                 };
                 Err((same, error))
             }

@@ -1,5 +1,5 @@
 //! The FAT as its sectors hold it, and whether it can be changed ([MS-CFB] 2.3).
-ghost use Rattle.cfb_chains.specs.Changes.{AreOnce, IsNoneOf};
+ghost use Rattle.cfb_chains.specs.Changes.{AreOnce};
 ghost use Rattle.cfb_fat.specs.Listed.{Lists};
 ghost use Rattle.cfb_fat.specs.Orderly.{AreBelow, IsOrderly};
 ghost use Rattle.cfb_medium.specs.Bytes.{overwritten};
@@ -135,18 +135,6 @@ pub(crate) fn are_same(first: &[u32], second: &[u32]) -> bool
     ensures { IsTrue result ↔ (first.now ≡ second.now) }
 {
     first == second
-}
-
-// Whether none of these is the number.
-pub(crate) fn is_none_of(ids: &[u32], number: u32) -> bool
-    ensures { IsTrue result ↔ IsNoneOf ids.now number }
-{
-    for id in ids {
-        if *id == number {
-            return false;
-        }
-    }
-    true
 }
 
 // Whether the tables of a file of so many sectors can be changed, if header and DIFAT list them.

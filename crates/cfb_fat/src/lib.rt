@@ -9,6 +9,7 @@ mod fat;
 mod growing;
 mod header;
 mod laws;
+mod reading;
 mod taking;
 
 pub use allocator::Allocator;

@@ -20,7 +20,6 @@ ghost use Rattle.cfb_sectors.specs.Sectors.{end_of_chain, free, greatest_regular
 ghost use Rattle.std.specs.Prelude.{false, length, slice_get, slice_index, slice_set, true, IfErr, IfOk, IsErrOf, IsTrue, List, MatchOption, OnErr, OnOk, Some, [], ℕ, ◌++◌, ◌+◌, ◌-◌, ◌<◌, ◌↔◌, ◌∷◌, ◌≡◌, ◌≤◌, ◌⊎◌};
 
 use crate::Allocator;
-use crate::fat::is_none_of;
 use cfb_chains::{Chain, GrowsChains, Links};
 use cfb_medium::{Error, Medium};
 use cfb_sectors::{END_OF_CHAIN, FREE_SECTOR, MAX_REGULAR_SECTOR, SectorInit};
@@ -75,7 +74,8 @@ impl<F: Medium> Allocator<F> {
 
     // Whether a sector is in no use: its entry is "free", and it holds no part of the tables.
     fn is_spare(&self, sector_id: u32) -> bool
-        requires { sector_id < length (fat_of self.now) }
+        requires live { has_failed_here self.now ≡ false }
+        requires there { sector_id < length (fat_of self.now) }
         ensures { IsTrue result ↔ ((slice_index (fat_of self.now) sector_id ≡ free)
             × IsNoneOf (difat_sectors_of self.now) sector_id
             × IsNoneOf (fat_sectors_of self.now) sector_id) }
@@ -83,10 +83,7 @@ impl<F: Medium> Allocator<F> {
         if self.fat.entry(sector_id as usize) != FREE_SECTOR {
             return false;
         }
-        if !is_none_of(&self.difat_sectors, sector_id) {
-            return false;
-        }
-        is_none_of(&self.fat_sectors, sector_id)
+        self.may_write(self.sectors.start(sector_id), self.sector_len())
     }
 
     // The first sector that is in no use: its entry is "free", and it holds no part of the tables. Those that are known to be

@@ -1,4 +1,4 @@
-use Rattle.std.proofs.Common.{rules, ◌≡◌, ◌≤◌, false, length, replicate, refl, ap, sym, subst, ◌∙◌}
+use Rattle.std.proofs.Common.{rules, ◌≡◌, ◌≤◌, false, length, replicate, refl, ap, sym, subst, ◌∙◌, true}
 use Rattle.cfb_sectors.specs.Held.{count_of}
 use Rattle.cfb_fat.specs.Tables.{bytes_of, difat_sectors_of, fat_of, fat_sectors_of, sectors_of}
 use Rattle.cfb_directory.specs.Views.{entries_held}
@@ -10,36 +10,36 @@ use Rattle.cfb_soundness.specs.Views.{marks_of}
 use Rattle.cfb_soundness.proofs.InMemory.{by_test, if_ok_both, judged_so, sound_where_taken, unsound_tables, unsound_where_refused}
 use Rattle.cfb_soundness.proofs.soundness.is_sound.Goals as goal
 
+no : false ≡ true → ⊥
+no wrong = cc
+
 pub returns-then-not-covers_the_file-clause-sound : goal.returns-then-not-covers_the_file-clause-sound
 returns-then-not-covers_the_file-clause-sound g c = λ letters l tree so len m.
     let same : c.allocator-allocator.result.now ≡ allocator_of c.args.file.now = search rules in (
-      (λ wrong. absurd (cc)),
+      (λ wrong. absurd (no wrong)),
       λ sound.
           let j = judged_so c.args.file.now c.args.file_len letters l tree so len m sound in
-          let wrong = c.if-not-covers_the_file.ensures.1 (subst (λ a. count_of (sectors_of a) ≤ length (fat_of a)) (sym same) j.covers) in
-          absurd (cc),
+          absurd (no (c.if-not-covers_the_file.ensures.1 (subst (λ a. count_of (sectors_of a) ≤ length (fat_of a)) (sym same) j.covers))),
     )
 
 pub returns-then-not-are_in_use-clause-sound : goal.returns-then-not-are_in_use-clause-sound
 returns-then-not-are_in_use-clause-sound g c = λ letters l tree so len m.
     let same : c.allocator-allocator.result.now ≡ allocator_of c.args.file.now = search rules in
     let list : c.fat_sectors.result.now ≡ fat_sectors_of (allocator_of c.args.file.now) = search rules in (
-      (λ wrong. absurd (cc)),
+      (λ wrong. absurd (no wrong)),
       λ sound.
           let j = judged_so c.args.file.now c.args.file_len letters l tree so len m sound in
-          let wrong = c.if-not-are_in_use.ensures.1 (subst (λ a. AreInUse (fat_of a) c.fat_sectors.result.now) (sym same) (subst (AreInUse (fat_of (allocator_of c.args.file.now))) (sym list) j.fat_used)) in
-          absurd (cc),
+          absurd (no (c.if-not-are_in_use.ensures.1 (subst (λ a. AreInUse (fat_of a) c.fat_sectors.result.now) (sym same) (subst (AreInUse (fat_of (allocator_of c.args.file.now))) (sym list) j.fat_used)))),
     )
 
 pub returns-then-not-are_in_use-2-clause-sound : goal.returns-then-not-are_in_use-2-clause-sound
 returns-then-not-are_in_use-2-clause-sound g c = λ letters l tree so len m.
     let same : c.allocator-allocator.result.now ≡ allocator_of c.args.file.now = search rules in
     let list : c.difat_sectors.result.now ≡ difat_sectors_of (allocator_of c.args.file.now) = search rules in (
-      (λ wrong. absurd (cc)),
+      (λ wrong. absurd (no wrong)),
       λ sound.
           let j = judged_so c.args.file.now c.args.file_len letters l tree so len m sound in
-          let wrong = c.if-not-are_in_use-2.ensures.1 (subst (λ a. AreInUse (fat_of a) c.difat_sectors.result.now) (sym same) (subst (AreInUse (fat_of (allocator_of c.args.file.now))) (sym list) j.difat_used)) in
-          absurd (cc),
+          absurd (no (c.if-not-are_in_use-2.ensures.1 (subst (λ a. AreInUse (fat_of a) c.difat_sectors.result.now) (sym same) (subst (AreInUse (fat_of (allocator_of c.args.file.now))) (sym list) j.difat_used)))),
     )
 
 pub returns-then-not-take_tables-clause-sound : goal.returns-then-not-take_tables-clause-sound
@@ -47,7 +47,7 @@ returns-then-not-take_tables-clause-sound g c = λ letters l tree so len m.
     let same : c.allocator-allocator.result.now ≡ allocator_of c.args.file.now = search rules in
     let starts : marks_of c.in_ok-new.field-0 ≡ replicate (count_of (sectors_of (allocator_of c.args.file.now))) false =
     c.in_ok-new.ensures.none ∙ ap (λ n. replicate n false) (c.num_sectors.ensures ∙ ap (λ a. count_of (sectors_of a)) same) in (
-      (λ wrong. absurd (cc)),
+      (λ wrong. absurd (no wrong)),
       λ sound. absurd (unsound_tables c.args.file.now c.args.file_len letters l tree so len m (marks_of c.in_ok-new.field-0) starts (c.if-not-take_tables.ensures.refused refl) sound),
     )
 

@@ -1,3 +1,4 @@
+use Rattle.std.proofs.Common.{⊎_elim}
 use Rattle.cfb_fat.specs.Keeping.{rests_cause}
 use Rattle.cfb_mini.specs.Views.{allocator_of}
 use Rattle.cfb_mini.proofs.Longer.{mini_rests_then}
@@ -18,6 +19,9 @@ returns-in-Ok-read_part-clause-part g c = λ content has ahead. c.in-Ok-read_par
 
 pub returns-in-Ok-read_part-clause-kept : goal.returns-in-Ok-read_part-clause-kept
 returns-in-Ok-read_part-clause-kept g c = λ content has. c.read_part.ensures.kept content (c.read_ahead.ensures.kept content has)
+
+pub returns-in-Err-clause-part : goal.returns-in-Err-clause-part
+returns-in-Err-clause-part g c = λ content has ahead. (tt, ⊎_elim (λ fault. fault) (λ invalid. absurd (invalid.1 content has)) c.in-Err.ensures.fault)
 
 pub returns-in-Err-read_part-clause-part : goal.returns-in-Err-read_part-clause-part
 returns-in-Err-read_part-clause-part g c = λ content has ahead. c.in-Err-read_part.ensures.part content (c.read_ahead.ensures.kept content has) (c.read_ahead.ensures.content content has ahead)

@@ -19,6 +19,9 @@ use Rattle.cfb_fat.proofs.allocator.Allocator.extend_chain_by.Goals as goal
 pub returns-in_err-links-clause-some : goal.returns-in_err-links-clause-some
 returns-in_err-links-clause-some g c = on_err c.from_residual.result _ ([], [], takes_rest [] c.args.self.now c.args.self.now (all_rest_refl c.args.self.now))
 
+pub returns-then-old-eq0-clause-some : goal.returns-then-old-eq0-clause-some
+returns-then-old-eq0-clause-some g c = ([], [], takes_rest [] c.args.self.now c.args.self.now (all_rest_refl c.args.self.now))
+
 pub returns-then-old-eq0-clause-refused : goal.returns-then-old-eq0-clause-refused
 returns-then-old-eq0-clause-refused g c = λ refused. (
   λ orderly ids last chain.

@@ -18,6 +18,8 @@ use Rattle.cfb_fat.proofs.Lean.{lean_longer}
 use Rattle.cfb_fat.specs.Keeping.{lean_same}
 use Rattle.cfb_fat.proofs.Growth.{below_both, below_more, below_one_more, beside_more, fat_same, fat_sectors_stay, once_few, once_front, once_middle, room_more, stays_in_front}
 use Rattle.cfb_fat.proofs.Sparing.{places_after}
+use Rattle.cfb_fat.specs.Rising.{AreRead}
+use Rattle.cfb_fat.proofs.Rising.{read_more}
 use Rattle.cfb_fat.proofs.Packed.{behind_two, not_none, packed_more}
 use Rattle.cfb_fat.proofs.Places.{passed_attempts}
 use Rattle.cfb_fat.proofs.allocator.Allocator.grow_both.Given.{Over}
@@ -136,6 +138,10 @@ invariant_of-self-2 g c =
           (λ there. let at : k ≡ count_of m = omega (arith, there, covered, more) in not_none it.fat_sectors.items (count_of m) (subst (IsNoneOf fs) at (subst (λ l. IsNoneOf l k) (sym all.is_fs) no_fs)))
           (behind_two (entries_of it.fat) (entries_of c.push_reserved-4.new.self) free free k (sym all.is_fat) past is));
       orderly = λ now. order;
+      read_difat = subst (AreRead it.read.ids.items it.read.num_difat) all.is_ds (read_more it.read.ids.items it.difat_sectors.items it.read.num_difat (count_of a) it.read_difat (it.orderly c.requires.orderly).there);
+      read_fat = subst (AreRead it.read.ids.items it.read.num_fat) all.is_fs (read_more it.read.ids.items it.fat_sectors.items it.read.num_fat (count_of m) it.read_fat h.below_fs);
+      read_alone = λ n no_ds no_fs. it.read_alone n (none_first it.difat_sectors.items (count_of a ∷ []) n (subst (λ l. IsNoneOf l n) (sym all.is_ds) no_ds))
+          (none_first it.fat_sectors.items (count_of m ∷ []) n (subst (λ l. IsNoneOf l n) (sym all.is_fs) no_fs));
       listed = λ live honest.
           let mid = subst IsTrue h.appends.honest honest in
           let was = subst IsTrue all.first.honest mid in
@@ -228,4 +234,27 @@ returns-clause-spends g c = λ n had.
       fat = let p = had.fat in omega (arith, p, none, before, c.push_reserved-3.ensures.runs, c.push_reserved-3.ensures.capacity, c.push_reserved-4.ensures.runs, c.push_reserved-4.ensures.capacity);
       fat_sectors = let p = had.fat_sectors in omega (arith, p, long_fs, c.push_reserved-2.ensures.capacity);
       difat_sectors = let p = had.difat_sectors in omega (arith, p, long_ds, c.push_reserved.ensures.capacity);
+    }
+
+-- the DIFAT's new sector is behind all others
+pub invariant_of-self-in-Break-branch-2 : goal.invariant_of-self-in-Break-branch-2
+invariant_of-self-in-Break-branch-2 g c =
+    let it = c.args.self.now in
+    let ds = it.difat_sectors.items in
+    let fs = it.fat_sectors.items in
+    let did = c.in_ok-difat_sector.ensures in
+    let then = c.in_err-fat_sector.ensures in
+    let failed = then.attempts.err in
+    let is_ds : ds ++ count_of it.sectors ∷ [] ≡ c.push_reserved.new.self.items = sym (c.push_reserved.ensures.items ∙ ap (λ n. ds ++ n ∷ []) did.number) in
+    record {
+      same = λ live honest. absurd (cc);
+      there = λ live k inside. absurd (cc);
+      inside = λ live. absurd (cc);
+      whole = subst (λ v. length (entries_of it.fat) ≤ length fs * (sector_len v / 4)) (sym (then.appends.version ∙ did.appends.version)) it.whole;
+      packed = λ k below is no_ds no_fs. it.packed k below is (none_first ds (count_of it.sectors ∷ []) k (subst (λ l. IsNoneOf l k) (sym is_ds) no_ds)) no_fs;
+      orderly = λ now. absurd (cc);
+      read_difat = subst (AreRead it.read.ids.items it.read.num_difat) is_ds (read_more it.read.ids.items ds it.read.num_difat (count_of it.sectors) it.read_difat (it.orderly c.requires.orderly).there);
+      read_fat = it.read_fat;
+      read_alone = λ n no_ds no_fs. it.read_alone n (none_first ds (count_of it.sectors ∷ []) n (subst (λ l. IsNoneOf l n) (sym is_ds) no_ds)) no_fs;
+      listed = λ live honest. absurd (cc);
     }

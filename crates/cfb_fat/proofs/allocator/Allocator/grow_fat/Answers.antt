@@ -15,6 +15,8 @@ use Rattle.cfb_fat.proofs.Lean.{lean_longer}
 use Rattle.cfb_fat.specs.Keeping.{lean_same}
 use Rattle.cfb_fat.proofs.Growth.{beside_more, once_few, once_front, stays_in_front}
 use Rattle.cfb_fat.proofs.Sparing.{places_after}
+use Rattle.cfb_fat.specs.Rising.{AreRead}
+use Rattle.cfb_fat.proofs.Rising.{read_more}
 use Rattle.cfb_fat.proofs.Packed.{behind_one, not_none, packed_more}
 use Rattle.cfb_chains.proofs.Beside.{beside_first, none_first}
 use Rattle.cfb_fat.proofs.allocator.Allocator.grow_fat.Given.{Over}
@@ -74,6 +76,9 @@ invariant_of-self-2 g c =
           let here = (behind_one (entries_of it.fat) (entries_of c.push_reserved-2.new.self) free k (sym has_fat) past is).0 ∙ (it.orderly c.requires.orderly).covered in
           not_none it.fat_sectors.items (count_of a) (subst (IsNoneOf (it.fat_sectors.items ++ count_of a ∷ [])) here (subst (λ l. IsNoneOf l k) (sym has_fs) no_fs)));
       orderly = λ now. order;
+      read_difat = it.read_difat;
+      read_fat = subst (AreRead it.read.ids.items it.read.num_fat) has_fs (read_more it.read.ids.items it.fat_sectors.items it.read.num_fat (count_of a) it.read_fat (it.there c.requires.live));
+      read_alone = λ n no_ds no_fs. it.read_alone n no_ds (none_first it.fat_sectors.items (count_of a ∷ []) n (subst (λ l. IsNoneOf l n) (sym has_fs) no_fs));
       listed = λ live honest.
           let was = subst IsTrue did.appends.honest honest in
           let had = (it.listed c.requires.live was).0 c.requires.orderly in (
