@@ -5,7 +5,7 @@ use Rattle.std.specs.List.{list_all}
 use Rattle.cfb_medium.specs.declared.error.Error.{Error}
 use Rattle.cfb_medium.specs.declared.error.Error.TheVariants.{InvalidData, InvalidInput}
 use Rattle.msi_texts.specs.Results.{◌>>=◌}
-use Rattle.std.proofs.Common.{sym, ◌∙◌, ap, Vec}
+use Rattle.std.proofs.Common.{sym, ◌∙◌, Vec}
 use Rattle.std.proofs.lemmas.List.{length-map}
 use Rattle.msi_pool.specs.declared.stringref.ValueRef.{ValueRef}
 use Rattle.std.proofs.lemmas.List.Folds.{list_all-map}
@@ -19,7 +19,7 @@ use Rattle.msi_columns.specs.declared.column.Column.{Column as HeldColumn}
 use Rattle.msi_pool.specs.Pool.{Pool}
 use Rattle.msi_columns.specs.Column.{Column, are_valid}
 use Rattle.msi_tables.specs.Rows.{Row, max_rows}
-use Rattle.msi_tables.specs.Table.{Table, are_distinct, key_values, keys_of, row_data}
+use Rattle.msi_tables.specs.Table.{Table, are_distinct, key_values, keys_of}
 use Rattle.msi_changes.specs.Keys.{HaveSameKeys, keys_said}
 use Rattle.msi_changes.proofs.NewKeys.{stored_same}
 use Rattle.msi_changes.specs.Applied.{IsAccepted}
@@ -49,27 +49,17 @@ pub rows_valid : (columns : List HeldColumn) (said : List Column) (rows : List (
     → b ≡ list_all (λ row. are_valid (columns_of columns) (data_of row.items)) rows → list_all (are_valid said) (map (λ row. data_of row.items) rows) ≡ b
 rows_valid columns said rows b same is = list_all-map (are_valid said) (λ row. data_of row.items) rows ∙ sym (rw same at is)
 
--- the keys of rows, as they were read
-abbrev pub AreKeys : List HeldColumn → Pool → List Row → List (Vec BorrowedValue Global) → Type 0
-AreKeys columns pool rows keys = keys_said keys ≡ map (λ row. key_values (columns_of columns) (row_data pool row)) rows
-
-pub keys_distinct : (columns : List HeldColumn) (said : List Column) (pool : Pool) (rows : List Row) (keys : List (Vec BorrowedValue Global)) (b : Bool) → columns_of columns ≡ said
-    → AreKeys columns pool rows keys → are_distinct (keys_said keys) ≡ b → are_distinct (map (λ row. key_values said (row_data pool row)) rows) ≡ b
-keys_distinct columns said pool rows keys b same are is =
-    let h : keys_said keys ≡ map (λ row. key_values said (row_data pool row)) rows = rw same at are in
-    ap are_distinct (sym h) ∙ is
-
-pub keys_judged : (columns : List HeldColumn) (said : List Column) (pool : Pool) (rows : List Row) (keys stored : List (Vec BorrowedValue Global)) (new_rows : List (Vec Value Global))
-    (new : List (Vec BorrowedValue Global)) (r : Result (Unit {0}) Error) → columns_of columns ≡ said → AreKeys columns pool rows keys → HaveSameKeys (keys_said keys) (keys_said stored)
+-- which new keys are there, by a set that has just the keys of the rows
+pub keys_judged : (columns : List HeldColumn) (said : List Column) (keys : List (List Datum)) (stored : List (Vec BorrowedValue Global)) (new_rows : List (Vec Value Global))
+    (new : List (Vec BorrowedValue Global)) (r : Result (Unit {0}) Error) → columns_of columns ≡ said → HaveSameKeys keys (keys_said stored)
     → keys_said new ≡ map (key_values (columns_of columns)) (map (λ row. data_of row.items) new_rows) → new_keys (keys_said stored) [] (keys_said new) ≡ r
-    → new_keys (map (λ row. key_values said (row_data pool row)) rows) [] (map (key_values said) (map (λ row. data_of row.items) new_rows)) ≡ r
-keys_judged columns said pool rows keys stored new_rows new r same are held are_new is =
-    let one : keys_said keys ≡ map (λ row. key_values said (row_data pool row)) rows = rw same at are in
-    let two : keys_said new ≡ map (key_values said) (map (λ row. data_of row.items) new_rows) = rw same at are_new in
-    let three : new_keys (keys_said keys) [] (keys_said new) ≡ r = sym (stored_same (keys_said keys) (keys_said stored) [] (keys_said new) held) ∙ is in
-    rw (one, two) at three
+    → new_keys keys [] (map (key_values said) (map (λ row. data_of row.items) new_rows)) ≡ r
+keys_judged columns said keys stored new_rows new r same held are_new is =
+    let known : keys_said new ≡ map (key_values said) (map (λ row. data_of row.items) new_rows) = rw same at are_new in
+    let judged : new_keys keys [] (keys_said new) ≡ r = sym (stored_same keys (keys_said stored) [] (keys_said new) held) ∙ is in
+    rw known at judged
 
 -- how many rows there would be
-pub count_known : (rows : List (Vec ValueRef Global)) (new_rows : List (Vec Value Global)) (b : Bool) → nat_le (length rows + length new_rows) 65536 ≡ b
-    → nat_le (length (rows_held rows) + length (map (λ row. data_of row.items) new_rows)) max_rows ≡ b
-count_known rows new_rows b is = rw (length-map rows (λ row. row.items), length-map new_rows (λ row. data_of row.items)) is
+pub count_known : (rows : List (Vec ValueRef Global)) (said : List Row) (new_rows : List (Vec Value Global)) (b : Bool) → rows_held rows ≡ said → nat_le (length rows + length new_rows) 65536 ≡ b
+    → nat_le (length said + length (map (λ row. data_of row.items) new_rows)) max_rows ≡ b
+count_known rows said new_rows b same is = rw (sym same, length-map rows (λ row. row.items), length-map new_rows (λ row. data_of row.items)) is

@@ -5,3 +5,4 @@ pub mod Laws
 pub mod Printed
 pub mod Said
 pub mod Prepared
+pub mod Stored

@@ -11,8 +11,9 @@ ghost use Rattle.msi_tables.specs.Held.{heading_of, rows_held};
 ghost use Rattle.msi_tables.specs.Rows.{AreWritable};
 
 use crate::counting::count_rows;
-use crate::keys::{check_new_keys, key_set, keys_of, keys_of_values};
+use crate::keys::{check_new_keys, keys_of_values};
 use crate::printing::fmt_rows;
+use crate::stored::StoredRows;
 use crate::validity::are_rows;
 use cfb_medium::Error;
 use msi_pool::{PoolChanges, StringPool, ValueRef};
@@ -92,30 +93,29 @@ impl Insert {
         &self.new_rows
     }
 
-    /// The rows of a table with the new ones behind them, whose texts are counted row by row in a draft of the pool, and what it
-    /// changed. In this order: `InvalidInput` for a row that has not a value for each column, or one that its column doesn't
-    /// take; `InvalidData` where a key is stored twice; for each new key in turn `AlreadyExists` where it is stored,
-    /// `InvalidInput` where an earlier new row has it; `InvalidInput` for more than 65536 rows, and where the pool is full.
-    pub fn prepare(
-        &self,
+    /// The stored rows with the new ones behind them, whose texts are counted row by row in a draft of the pool, and what it changed.
+    /// Only the keys of the new rows are looked up among those stored. In this order: `InvalidInput` for a row that has not a value
+    /// for each column, or one that its column doesn't take; `InvalidData` where a key is stored twice; for each new key in turn
+    /// `AlreadyExists` where it is stored, `InvalidInput` where an earlier new row has it; `InvalidInput` for more than 65536 rows,
+    /// and where the pool is full.
+    pub fn prepare<'a>(
+        &'a self,
         alloc: Global,
-        table: &Table,
-        rows: Vec<Vec<ValueRef>>,
-        pool: &StringPool,
+        stored: StoredRows<'a>,
     ) -> Result<(Vec<Vec<ValueRef>>, PoolChanges), Error>
-        ensures inserts { Answers (λ r. (rows_held r.0.items, pool_after pool.now r.1)) result
-            (inserted true pool.now.pool (with_rows (heading_of table.now) (rows_held rows.items))
-            (insert_rows self.now)) }
-        ensures changes { IfOk result (λ r. AreChangesFor pool.now r.1) }
-        ensures shape { AreWritable pool.now.pool.long (heading_of table.now).columns
-            (rows_held rows.items)
-            → IfOk result (λ r. AreWritable pool.now.pool.long (heading_of table.now).columns
-            (rows_held r.0.items)) }
+        ensures inserts { Answers (λ r. (rows_held r.0.items, pool_after stored.entry.pool r.1))
+            result (inserted true stored.entry.pool.pool
+            (with_rows stored.entry.heading stored.entry.rows) (insert_rows self.now)) }
+        ensures changes { IfOk result (λ r. AreChangesFor stored.entry.pool r.1) }
+        ensures shape { AreWritable stored.entry.pool.pool.long stored.entry.heading.columns
+            stored.entry.rows
+            → IfOk result (λ r. AreWritable stored.entry.pool.pool.long
+            stored.entry.heading.columns (rows_held r.0.items)) }
     {
-        self.prepared_rows(alloc, table, rows, pool)
+        self.prepared_rows(alloc, stored)
     }
 
-    /// The same, and the pool takes the changes over. After an error, `Memory` among them, it is as it was.
+    /// The same of the rows of a table, and the pool takes the changes over. After an error, `Memory` among them, it is as it was.
     pub fn apply(
         &self,
         alloc: Global,
@@ -133,7 +133,8 @@ impl Insert {
         ensures marked { pool.new.modified ≡ false → pool.new ≡ pool.old }
         ensures err { OnErr result (pool.new ≡ pool.old) }
     {
-        let (rows, changes) = match self.prepare(alloc, table, rows, pool) {
+        let stored = StoredRows::new(alloc, table, rows, pool)?;
+        let (rows, changes) = match self.prepare(alloc, stored) {
             Err(error) => return Err(error),
             Ok(prepared) => prepared,
         };
@@ -144,28 +145,26 @@ impl Insert {
     }
 
     // The same without a word on which rows can be written.
-    fn prepared_rows(
-        &self,
+    fn prepared_rows<'a>(
+        &'a self,
         alloc: Global,
-        table: &Table,
-        rows: Vec<Vec<ValueRef>>,
-        pool: &StringPool,
+        stored: StoredRows<'a>,
     ) -> Result<(Vec<Vec<ValueRef>>, PoolChanges), Error>
-        ensures inserts { Answers (λ r. (rows_held r.0.items, pool_after pool.now r.1)) result
-            (inserted true pool.now.pool (with_rows (heading_of table.now) (rows_held rows.items))
-            (insert_rows self.now)) }
-        ensures changes { IfOk result (λ r. AreChangesFor pool.now r.1) }
+        ensures inserts { Answers (λ r. (rows_held r.0.items, pool_after stored.entry.pool r.1))
+            result (inserted true stored.entry.pool.pool
+            (with_rows stored.entry.heading stored.entry.rows) (insert_rows self.now)) }
+        ensures changes { IfOk result (λ r. AreChangesFor stored.entry.pool r.1) }
     {
-        match judge(alloc, table, &rows, pool, &self.new_rows) {
+        match judge(alloc, &stored, &self.new_rows) {
             Err(error) => return Err(error),
             Ok(()) => {}
         }
+        let (mut rows, pool) = stored.into_rows();
         let mut counted = pool.draft();
         let mut new_rows = match count_rows(alloc, &mut counted, &self.new_rows) {
             Err(error) => return Err(error),
             Ok(new_rows) => new_rows,
         };
-        let mut rows = rows;
         rows.append(&mut new_rows)?;
         let changes = counted.into_changes();
         Ok((rows, changes))
@@ -173,34 +172,32 @@ impl Insert {
 }
 
 // Whether the table takes the rows behind those that it has, as far as no text is counted.
-fn judge(
+fn judge<'a>(
     alloc: Global,
-    table: &Table,
-    rows: &[Vec<ValueRef>],
-    pool: &StringPool,
-    new_rows: &[Vec<Value>],
+    stored: &StoredRows<'a>,
+    new_rows: &'a [Vec<Value>],
 ) -> Result<(), Error>
-    ensures accepted { OnOk result (IsAccepted pool.now.pool
-        (with_rows (heading_of table.now) (rows_held rows.now))
+    ensures accepted { OnOk result (IsAccepted stored.now.pool.pool
+        (with_rows stored.now.heading stored.now.rows)
         (map (λ row. data_of row.items) new_rows.now)) }
     ensures refused { IfErr result (λ e. (e ≡ Memory)
-        ⊎ (inserted true pool.now.pool (with_rows (heading_of table.now) (rows_held rows.now))
+        ⊎ (inserted true stored.now.pool.pool (with_rows stored.now.heading stored.now.rows)
         (map (λ row. data_of row.items) new_rows.now) ≡ Err e)) }
 {
-    let columns = table.columns();
+    let columns = stored.columns();
     if !are_rows(columns, new_rows) {
         return Err(Error::InvalidInput);
     }
-    let keys = keys_of(alloc, pool, columns, rows)?;
-    let stored = match key_set(alloc, keys)? {
+    let keys = match stored.keys() {
         None => return Err(Error::InvalidData),
-        Some(stored) => stored,
+        Some(keys) => keys,
     };
     let new = keys_of_values(alloc, columns, new_rows)?;
-    match check_new_keys(alloc, &stored, new) {
+    match check_new_keys(alloc, keys, new) {
         Err(error) => return Err(error),
         Ok(()) => {}
     }
+    let rows = stored.rows();
     if rows.len() + new_rows.len() > MAX_ROWS {
         return Err(Error::InvalidInput);
     }

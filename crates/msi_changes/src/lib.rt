@@ -8,6 +8,7 @@ mod keys;
 mod laws;
 mod printing;
 mod setting;
+mod stored;
 mod update;
 mod validity;
 
@@ -19,4 +20,5 @@ pub use laws::{
     forbidden_inserts_are_refused_likewise, inserts_add_their_rows, inserts_count_their_texts,
     stored_rows_keep_keys_distinct, updates_keep_keys_distinct,
 };
+pub use stored::StoredRows;
 pub use update::Update;

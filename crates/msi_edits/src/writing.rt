@@ -13,7 +13,7 @@ use crate::allowing::{is_system, may_update};
 use crate::listing::{rows_in_order, stored_values, with_new_values};
 use crate::query::RowsQuery;
 use cfb_medium::Error;
-use msi_changes::{Delete, Insert, Update};
+use msi_changes::{Delete, Insert, StoredRows, Update};
 use msi_pool::{PoolChanges, StringPool, ValueRef};
 use msi_tables::Table;
 use std::alloc::Global;
@@ -59,7 +59,8 @@ fn inserted_rows(
     ensures changes { IfOk result (λ r. AreChangesFor pool.now r.1) }
 {
     let values = stored_values(alloc, pool, &rows)?;
-    let (rows, changes) = match insert.prepare(alloc, table, rows, pool) {
+    let stored = StoredRows::new(alloc, table, rows, pool)?;
+    let (rows, changes) = match insert.prepare(alloc, stored) {
         Err(error) => return Err(error),
         Ok(prepared) => prepared,
     };

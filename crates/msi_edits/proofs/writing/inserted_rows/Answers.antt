@@ -14,19 +14,20 @@ use Rattle.msi_edits.proofs.writing.inserted_rows.Goals as goal
 
 pub returns-in-Err-clause-told : goal.returns-in-Err-clause-told
 returns-in-Err-clause-told c =
-    refused_so (heading_of c.args.table.now).name c.args.pool.now.pool (with_rows (heading_of c.args.table.now) (rows_held c.args.rows.items)) (insert_rows c.args.insert.now) c.in-Err.error c.in-Err.ensures.inserts
+    refused_so (heading_of c.args.table.now).name c.args.pool.now.pool (with_rows (heading_of c.args.table.now) (rows_held c.args.rows.items)) (insert_rows c.args.insert.now) c.in-Err.error
+    (rw c.in_ok-stored.ensures.ok at c.in-Err.ensures.inserts)
 
 pub bytes_of_table-requires : goal.bytes_of_table-requires
 bytes_of_table-requires c =
     let h = heading_of c.args.table.now in
-    let are : AreWritable c.args.pool.now.pool.long h.columns (rows_held c.in-Ok.prepared.0.items) = c.in-Ok.ensures.shape c.requires.writable in
+    let are : AreWritable c.args.pool.now.pool.long h.columns (rows_held c.in-Ok.prepared.0.items) = (rw c.in_ok-stored.ensures.ok at c.in-Ok.ensures.shape) c.requires.writable in
     (c.in_ok-rows.ensures.writable c.args.pool.now.pool.long h.columns are).cells
 
 pub returns-in-Err-bytes_of_table-clause-told : goal.returns-in-Err-bytes_of_table-clause-told
 returns-in-Err-bytes_of_table-clause-told c =
     let h = heading_of c.args.table.now in
     let long = c.args.pool.now.pool.long in
-    let are : AreWritable long h.columns (rows_held c.in-Ok.prepared.0.items) = c.in-Ok.ensures.shape c.requires.writable in
+    let are : AreWritable long h.columns (rows_held c.in-Ok.prepared.0.items) = (rw c.in_ok-stored.ensures.ok at c.in-Ok.ensures.shape) c.requires.writable in
     let listed : AreWritable long h.columns (rows_held c.in_ok-rows.rows.items) = c.in_ok-rows.ensures.writable long h.columns are in
     inl (unwritten long h.columns (rows_held c.in_ok-rows.rows.items) c.in-Err-bytes_of_table.error listed
     (subst (λ (l : Bool). IsUnwritten l h.columns (rows_held c.in_ok-rows.rows.items) c.in-Err-bytes_of_table.error) (sym c.requires.wide) c.in-Err-bytes_of_table.ensures))
@@ -38,10 +39,10 @@ returns-in-Ok-bytes_of_table-clause-told c =
     let pool = c.args.pool.now.pool in
     let t = with_rows h (rows_held c.args.rows.items) in
     let news = insert_rows c.args.insert.now in
-    let are : AreWritable long h.columns (rows_held c.in-Ok.prepared.0.items) = c.in-Ok.ensures.shape c.requires.writable in
+    let are : AreWritable long h.columns (rows_held c.in-Ok.prepared.0.items) = (rw c.in_ok-stored.ensures.ok at c.in-Ok.ensures.shape) c.requires.writable in
     let w : IsWrittenAs long h.columns (rows_held c.in_ok-rows.rows.items) c.in-Ok-bytes_of_table.bytes.items =
     subst (λ (l : Bool). IsWrittenAs l h.columns (rows_held c.in_ok-rows.rows.items) c.in-Ok-bytes_of_table.bytes.items) (sym c.requires.wide) c.in-Ok-bytes_of_table.ensures in
-    insert_is h.name pool t news (rows_held c.in-Ok.prepared.0.items) (pool_after c.args.pool.now c.in-Ok.prepared.1) c.in-Ok.ensures.inserts (ap is_system (sym c.name.ensures) ∙ sym c.is_system.ensures ∙ c.if-is_system.false)
+    insert_is h.name pool t news (rows_held c.in-Ok.prepared.0.items) (pool_after c.args.pool.now c.in-Ok.prepared.1) (rw c.in_ok-stored.ensures.ok at c.in-Ok.ensures.inserts) (ap is_system (sym c.name.ensures) ∙ sym c.is_system.ensures ∙ c.if-is_system.false)
     (rows_held c.in_ok-rows.rows.items) c.in-Ok-bytes_of_table.bytes.items (rows_said c.in_ok-values.values.items) (rows_said c.in_ok-values-2.values.items)
     (places_held c.in-Ok.prepared.0.items (subst (λ rows. list_all (λ row. list_all has_place row.items) rows ≡ true) c.deref-2.ensures.value c.have_places.ensures)) are
     (c.in_ok-values.ensures.ok ∙ ap (λ rows. map (row_data pool) (rows_held rows)) c.deref.ensures.value)
