@@ -1,5 +1,5 @@
 -- Places that the FAT's sectors have for entries, against the entries that it has.
-use Rattle.std.proofs.Common.{◌≡◌, ℕ, ◌+◌, ◌*◌, ◌/◌, ◌<◌, ◌≤◌, ◌^◌, List, true, sym, subst, arith}
+use Rattle.std.proofs.Common.{◌≡◌, ℕ, ◌+◌, ◌*◌, ◌/◌, ◌<◌, ◌≤◌, ◌^◌, true, sym, subst, arith}
 use Rattle.std.specs.Prelude.{Result, Ok, Err, IsErrAnd}
 use Rattle.cfb_medium.specs.Calls.{Extends, IsFaultUnless}
 use Rattle.cfb_medium.specs.Versions.{sector_len}
@@ -9,7 +9,6 @@ use Rattle.cfb_medium.specs.declared.version.Version.{Version}
 use Rattle.cfb_medium.specs.declared.version.Version.TheVariants.{V3, V4}
 use Rattle.cfb_sectors.specs.Held as held
 use Rattle.cfb_sectors.specs.Sectors.{greatest_regular, sector_start}
-use Rattle.cfb_chains.specs.Changes.{IsBeside}
 use Rattle.cfb_sectors.specs.declared.sectors.Sectors.{Sectors}
 use Rattle.cfb_fat.specs.Calls.{Attempts}
 use Rattle.cfb_fat.specs.Growing.{HasMemory}
@@ -47,9 +46,6 @@ few_full V4 size count full few = omega (arith, full, few)
 pub few_bytes : (v : Version) (count place size : ℕ) → place + size ≤ sector_start v count → count ≤ greatest_regular + 1 → place + size < 2 ^ 63
 few_bytes V3 count place size ends few = omega (arith, ends, few)
 few_bytes V4 count place size ends few = omega (arith, ends, few)
-
-pub beside_as : (v w : Version) (xs ys : List ℕ) (place size : ℕ) → v ≡ w → xs ≡ ys → IsBeside v xs place size → IsBeside w ys place size
-beside_as v w xs ys place size version list h = subst (λ u. IsBeside u ys place size) version (subst (λ l. IsBeside v l place size) list h)
 
 module _ {F : Type 0} {g : Ghosts F} where
   -- an error that is passed on after a change, by writes alone
