@@ -325,7 +325,8 @@ module _ (may : Bool) (pool : Pool) (t : Table) (sets : List (List ℕ × Datum)
 
 -- ---- what is answered
 
-pub shape_told : (state : PoolState) (t : Table) (r : Result (Vec (Vec ValueRef Global) Global × PoolChanges) Error) (expected : Result (List Row × Pool) Error) → Answers (λ r. (rows_held r.0.items, pool_after state r.1)) r expected
-    → IfOk expected (KeepsShape state.pool t) → AreWritable state.pool.long t.columns t.rows → IfOk r (λ r. AreWritable state.pool.long t.columns (rows_held r.0.items))
-shape_told state t (Ok r) expected is keeps old = let told : KeepsShape state.pool t (rows_held r.0.items, pool_after state r.1) = (rw is at keeps) in told.writable old
-shape_told state t (Err e) expected is keeps old = tt
+pub shape_told : (state : PoolState) (t : Table) (before : List Row) (r : Result (Vec (Vec ValueRef Global) Global × PoolChanges) Error) (expected : Result (List Row × Pool) Error)
+    → Answers (λ r. (before ++ rows_held r.0.items, pool_after state r.1)) r expected
+    → IfOk expected (KeepsShape state.pool t) → AreWritable state.pool.long t.columns t.rows → IfOk r (λ r. AreWritable state.pool.long t.columns (before ++ rows_held r.0.items))
+shape_told state t before (Ok r) expected is keeps old = let told : KeepsShape state.pool t (before ++ rows_held r.0.items, pool_after state r.1) = (rw is at keeps) in told.writable old
+shape_told state t before (Err e) expected is keeps old = tt

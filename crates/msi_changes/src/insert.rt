@@ -93,29 +93,31 @@ impl Insert {
         &self.new_rows
     }
 
-    /// The stored rows with the new ones behind them, whose texts are counted row by row in a draft of the pool, and what it changed.
-    /// Only the keys of the new rows are looked up among those stored. In this order: `InvalidInput` for a row that has not a value
+    /// The new rows as they are to be stored behind the others, and what a draft of the pool changed in which their texts were counted
+    /// row by row. Only their keys are looked up among those stored. In this order: `InvalidInput` for a row that has not a value
     /// for each column, or one that its column doesn't take; `InvalidData` where a key is stored twice; for each new key in turn
     /// `AlreadyExists` where it is stored, `InvalidInput` where an earlier new row has it; `InvalidInput` for more than 65536 rows,
     /// and where the pool is full.
     pub fn prepare<'a>(
         &'a self,
         alloc: Global,
-        stored: StoredRows<'a>,
+        stored: &StoredRows<'a>,
     ) -> Result<(Vec<Vec<ValueRef>>, PoolChanges), Error>
-        ensures inserts { Answers (λ r. (rows_held r.0.items, pool_after stored.entry.pool r.1))
-            result (inserted true stored.entry.pool.pool
-            (with_rows stored.entry.heading stored.entry.rows) (insert_rows self.now)) }
-        ensures changes { IfOk result (λ r. AreChangesFor stored.entry.pool r.1) }
-        ensures shape { AreWritable stored.entry.pool.pool.long stored.entry.heading.columns
-            stored.entry.rows
-            → IfOk result (λ r. AreWritable stored.entry.pool.pool.long
-            stored.entry.heading.columns (rows_held r.0.items)) }
+        ensures inserts { Answers
+            (λ r. (stored.now.rows ++ rows_held r.0.items, pool_after stored.now.pool r.1)) result
+            (inserted true stored.now.pool.pool (with_rows stored.now.heading stored.now.rows)
+            (insert_rows self.now)) }
+        ensures changes { IfOk result (λ r. AreChangesFor stored.now.pool r.1) }
+        ensures shape { AreWritable stored.now.pool.pool.long stored.now.heading.columns
+            stored.now.rows
+            → IfOk result (λ r. AreWritable stored.now.pool.pool.long
+            stored.now.heading.columns (stored.now.rows ++ rows_held r.0.items)) }
     {
         self.prepared_rows(alloc, stored)
     }
 
-    /// The same of the rows of a table, and the pool takes the changes over. After an error, `Memory` among them, it is as it was.
+    /// The rows of a table with the new ones behind them, and the pool takes the changes over. The same is refused. After an error,
+    /// `Memory` among them, it is as it was.
     pub fn apply(
         &self,
         alloc: Global,
@@ -134,10 +136,12 @@ impl Insert {
         ensures err { OnErr result (pool.new ≡ pool.old) }
     {
         let stored = StoredRows::new(alloc, table, rows, pool)?;
-        let (rows, changes) = match self.prepare(alloc, stored) {
+        let (mut new_rows, changes) = match self.prepare(alloc, &stored) {
             Err(error) => return Err(error),
             Ok(prepared) => prepared,
         };
+        let mut rows = stored.into_rows();
+        rows.append(&mut new_rows)?;
         match pool.adopt(changes) {
             Err(error) => Err(error),
             Ok(()) => Ok(rows),
@@ -148,26 +152,25 @@ impl Insert {
     fn prepared_rows<'a>(
         &'a self,
         alloc: Global,
-        stored: StoredRows<'a>,
+        stored: &StoredRows<'a>,
     ) -> Result<(Vec<Vec<ValueRef>>, PoolChanges), Error>
-        ensures inserts { Answers (λ r. (rows_held r.0.items, pool_after stored.entry.pool r.1))
-            result (inserted true stored.entry.pool.pool
-            (with_rows stored.entry.heading stored.entry.rows) (insert_rows self.now)) }
-        ensures changes { IfOk result (λ r. AreChangesFor stored.entry.pool r.1) }
+        ensures inserts { Answers
+            (λ r. (stored.now.rows ++ rows_held r.0.items, pool_after stored.now.pool r.1)) result
+            (inserted true stored.now.pool.pool (with_rows stored.now.heading stored.now.rows)
+            (insert_rows self.now)) }
+        ensures changes { IfOk result (λ r. AreChangesFor stored.now.pool r.1) }
     {
-        match judge(alloc, &stored, &self.new_rows) {
+        match judge(alloc, stored, &self.new_rows) {
             Err(error) => return Err(error),
             Ok(()) => {}
         }
-        let (mut rows, pool) = stored.into_rows();
-        let mut counted = pool.draft();
-        let mut new_rows = match count_rows(alloc, &mut counted, &self.new_rows) {
+        let mut counted = stored.pool().draft();
+        let new_rows = match count_rows(alloc, &mut counted, &self.new_rows) {
             Err(error) => return Err(error),
             Ok(new_rows) => new_rows,
         };
-        rows.append(&mut new_rows)?;
         let changes = counted.into_changes();
-        Ok((rows, changes))
+        Ok((new_rows, changes))
     }
 }
 

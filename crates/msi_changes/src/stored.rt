@@ -89,11 +89,17 @@ impl<'a> StoredRows<'a> {
         self.keys.as_ref()
     }
 
-    // The rows and the pool.
-    pub(crate) fn into_rows(self) -> (Vec<Vec<ValueRef>>, &'a StringPool)
-        ensures rows { rows_held result.0.items ≡ self.entry.rows }
-        ensures pool { result.1.now ≡ self.entry.pool }
+    // The pool.
+    pub(crate) fn pool(&self) -> &StringPool
+        ensures { result.now ≡ self.now.pool }
     {
-        (self.rows, self.pool)
+        self.pool
+    }
+
+    /// The rows, in order.
+    pub fn into_rows(self) -> Vec<Vec<ValueRef>>
+        ensures { rows_held result.items ≡ self.entry.rows }
+    {
+        self.rows
     }
 }

@@ -1,4 +1,4 @@
-use Rattle.std.proofs.Common.{true}
+use Rattle.std.proofs.Common.{[], true}
 use Rattle.std.specs.Rc.{rc_value}
 use Rattle.msi_tables.specs.Held.{heading_of, rows_held}
 use Rattle.msi_changes.specs.Applied.{with_rows}
@@ -9,4 +9,4 @@ use Rattle.msi_changes.proofs.delete.Delete.prepare.Goals as goal
 pub returns-clause-shape : goal.returns-clause-shape
 returns-clause-shape c = λ old.
     let t = with_rows (heading_of (rc_value c.args.table.now)) (rows_held c.args.rows.items) in
-    shape_told c.args.pool.now t c.prepared_rows.result _ c.prepared_rows.ensures.deletes (delete_shape true c.args.pool.now.pool t (delete_condition c.args.self.now)) old
+    shape_told c.args.pool.now t [] c.prepared_rows.result _ c.prepared_rows.ensures.deletes (delete_shape true c.args.pool.now.pool t (delete_condition c.args.self.now)) old
