@@ -3,6 +3,7 @@
 
 mod chains;
 mod files;
+mod rows;
 mod stores;
 
 use anyhow::{Result, bail};
@@ -23,6 +24,7 @@ write COUNT       makes so many streams of 100 bytes and as many of 10,000, and 
 large MEGABYTES   so with one stream of so many megabytes, in pieces of 4,096 bytes
 places COUNT      reads and writes so many pieces of 4,096 bytes at places far apart of a stream that has 10,000 bytes for each
 copy COUNT        copies a file of so many streams of 100 bytes
+rows COUNT        puts so many rows into a table in memory, their keys in order, and prepares 1,000 more, a call each
 ";
 
 fn main(rt: HostRuntime) -> Result<()> {
@@ -65,6 +67,7 @@ fn run(rt: &HostRuntime, name: &str, size: u32) -> Result<()> {
             files::run(rt, size, &parts, &[])
         }
         "copy" => files::run(rt, size, &[Part::Make(Order::Rising), Part::Copy], &[]),
+        "rows" => rows::insert_and_prepare(rt, size),
         _ => bail!("there is no benchmark of this name"),
     }
 }
