@@ -3,7 +3,7 @@ use crate::print_time;
 use anyhow::Result;
 use cfb_fat::Allocator;
 use cfb_medium::{Error, MemoryMedium, Version};
-use cfb_sectors::{SectorInit, Sectors};
+use cfb_sectors::{NewSector, SectorInit, Sectors};
 use std::alloc::Global;
 use std::time::Instant;
 
@@ -37,7 +37,7 @@ fn allocator(alloc: Global) -> Result<Allocator<MemoryMedium>, Error> {
 
 // Makes a chain of so many sectors, a call for each: its start.
 fn append(allocator: &mut Allocator<MemoryMedium>, count: usize) -> Result<u32, Error> {
-    let start = allocator.begin_chain(SectorInit::Zero)?;
+    let start = allocator.begin_chain(NewSector::Init(SectorInit::Zero))?;
     let mut last = start;
     for _ in 1..count {
         last = extend_chain(allocator, last)?;
@@ -47,7 +47,7 @@ fn append(allocator: &mut Allocator<MemoryMedium>, count: usize) -> Result<u32, 
 
 // A function of its own, since what is told of the call costs time wherever it is seen.
 fn extend_chain(allocator: &mut Allocator<MemoryMedium>, last: u32) -> Result<u32, Error> {
-    allocator.extend_chain(last, SectorInit::Zero)
+    allocator.extend_chain(last, NewSector::Init(SectorInit::Zero))
 }
 
 /// Appends sectors to a chain, a call for each, frees the chain, and appends as many to another.

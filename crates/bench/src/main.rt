@@ -24,7 +24,7 @@ write COUNT       makes so many streams of 100 bytes and as many of 10,000, and 
 large MEGABYTES   so with one stream of so many megabytes, in pieces of 4,096 bytes
 places COUNT      reads and writes so many pieces of 4,096 bytes at places far apart of a stream that has 10,000 bytes for each
 copy COUNT        copies a file of so many streams of 100 bytes
-rows COUNT        puts so many rows into a table in memory, their keys in order, and prepares 1,000 more, a call each
+rows COUNT        puts so many rows, up to 65,536, into a table in memory, their keys in order, and prepares 1,000 more, a call each
 ";
 
 fn main(rt: HostRuntime) -> Result<()> {

@@ -26,7 +26,7 @@ ghost use Rattle.std.specs.Prelude.{false, length, true, IfErr, IfOk, IsErrOf, L
 use crate::{CompoundFile, Stream};
 use cfb_medium::{Error, Medium, ReadMedium};
 use cfb_streams::open_stream as find_sectors;
-use cfb_writing::{find_stream, overwrite_stream, resize_stream};
+use cfb_writing::{can_outgrow, find_stream, outgrow_stream, overwrite_stream, resize_stream};
 
 impl<F: ReadMedium> CompoundFile<F> {
     // Finds the entry and the sectors of the stream at a path, and gives the entry's number and how many bytes the stream has.
@@ -191,6 +191,14 @@ impl<F: Medium> CompoundFile<F> {
             × (validation_of self.new ≡ validation_of self.old) }
         ensures most { most_ahead_of self.new ≡ most_ahead_of self.old }
     {
+        if can_outgrow(&self.mini, id, &self.links, at, end) {
+            let (mini, links) = (&mut self.mini, &mut self.links);
+            if let Err(error) = outgrow_stream(self.alloc, mini, id, links, at, bytes, end) {
+                return Err(error);
+            }
+            self.ahead.clear();
+            return Ok(());
+        }
         if let Err(error) = self.resize_bytes(id, end) {
             return Err(error);
         }

@@ -10,9 +10,8 @@ use Rattle.cfb_medium.specs.declared.version.Version.{Version}
 use Rattle.cfb_medium.specs.declared.version.Version.TheVariants.{V3, V4}
 use Rattle.cfb_medium.specs.Bytes.{overwritten}
 use Rattle.cfb_medium.specs.Versions.{sector_len}
-use Rattle.cfb_sectors.specs.Copies.{copies}
-use Rattle.cfb_sectors.specs.Initial.{initial}
-use Rattle.cfb_sectors.specs.declared.initial.SectorInit.{SectorInit}
+use Rattle.cfb_sectors.specs.Initial.{filling, first_bytes}
+use Rattle.cfb_sectors.specs.declared.initial.NewSector.{NewSector}
 use Rattle.cfb_sectors.specs.Sectors.{end_of_chain, filled_part, free, joined, sector, sector_start, Chain as IsChain}
 use Rattle.cfb_sectors.proofs.Chains.{chain_from}
 use Rattle.cfb_sectors.proofs.OneChain.{chain_unique}
@@ -180,20 +179,16 @@ written_there v w new mid s t all xs p q same_version same_sectors same_position
     ap (joined v new) (sym same_sectors) ∙ subst (λ u. joined u new t ≡ overwritten (joined u mid t) q xs) same_version h
     ∙ ap (λ k. overwritten (joined v mid t) k xs) same_position ∙ ap (λ l. overwritten l p xs) before
 
--- copies, and one more
-copies_more : (k : ℕ) (piece : List ℕ) → copies k piece ++ piece ≡ copies (suc k) piece
-copies_more zero piece = sym (append-nil piece)
-copies_more (suc k) piece = append_assoc piece (copies k piece) piece ∙ ap (λ l. piece ++ l) (copies_more k piece)
-
-pub filled_step : (v w : Version) (i j : SectorInit) (old mid new a b c : List ℕ) → w ≡ v → j ≡ i → length c ≡ length b + 1 → length a ≤ length b
-    → joined v mid b ≡ joined v old a ++ copies (length b - length a) (initial i (sector_len v)) → joined w new c ≡ joined w mid b ++ initial j (sector_len w)
-    → joined v new c ≡ joined v old a ++ copies (length c - length a) (initial i (sector_len v))
-filled_step v w i j old mid new a b c same_version same_init longer before was step =
-    let piece = initial i (sector_len v) in
-    let count : suc (length b - length a) ≡ length c - length a = omega (arith, longer, before) in
-    subst (λ u. joined u new c ≡ joined u mid b ++ initial i (sector_len u)) same_version (subst (λ k. joined w new c ≡ joined w mid b ++ initial k (sector_len w)) same_init step)
-    ∙ ap (λ l. l ++ piece) was ∙ append_assoc (joined v old a) (copies (length b - length a) piece) piece
-    ∙ ap (λ l. joined v old a ++ l) (copies_more (length b - length a) piece ∙ ap (λ k. copies k piece) count)
+-- what several sectors hold, and one more
+pub filled_step : (v w : Version) (i n : NewSector) (old mid new a b c : List ℕ) (done : ℕ) → w ≡ v → length c ≡ length b + 1 → length a ≤ length b
+    → done ≡ (length b - length a) * sector_len v → ((count len : ℕ) → done ≡ count * len → filling i count len ++ first_bytes n len ≡ filling i (count + 1) len)
+    → joined v mid b ≡ joined v old a ++ filling i (length b - length a) (sector_len v) → joined w new c ≡ joined w mid b ++ first_bytes n (sector_len w)
+    → joined v new c ≡ joined v old a ++ filling i (length c - length a) (sector_len v)
+filled_step v w i n old mid new a b c done same_version longer before is next was step =
+    let count : (length b - length a) + 1 ≡ length c - length a = omega (arith, longer, before) in
+    subst (λ u. joined u new c ≡ joined u mid b ++ first_bytes n (sector_len u)) same_version step
+    ∙ ap (λ l. l ++ first_bytes n (sector_len v)) was ∙ append_assoc (joined v old a) (filling i (length b - length a) (sector_len v)) (first_bytes n (sector_len v))
+    ∙ ap (λ l. joined v old a ++ l) (next (length b - length a) (sector_len v) is ∙ ap (λ k. filling i k (sector_len v)) count)
 
 -- the sector behind others
 pub sector_behind : (ids : List ℕ) (n : ℕ) → slice_index (ids ++ n ∷ []) (length ids) ≡ n

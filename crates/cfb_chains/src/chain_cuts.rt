@@ -2,11 +2,14 @@
 ghost use Rattle.cfb_chains.specs.ChainCalls.{chain_bytes, len_of, new_sector, ChainAnswers, ChainRests, Cuts, FreesBehind, ChainHolds, IsCutTo, IsInvalid, IsInvalidOrFull, IsShort, IsUnlinked, ChainKeeps, KeepsBytes, Lengthens, StaysLinked, StaysWritable};
 ghost use Rattle.cfb_chains.specs.Positions.{sectors_for};
 ghost use Rattle.cfb_medium.specs.declared.error.Error.TheVariants.{Failed, Full, InvalidData};
+ghost use Rattle.cfb_medium.specs.Versions.{sector_len};
 ghost use Rattle.cfb_sectors.specs.Copies.{copies};
+ghost use Rattle.cfb_sectors.specs.Initial.{padded};
 ghost use Rattle.std.specs.Prelude.{false, length, min, IsErrOf, IsTrue, OnErr, OnOk, ◌*◌, ◌+◌, ◌++◌, ◌-◌, ◌<◌, ◌≡◌, ◌≤◌};
 
 use crate::{Chain, FreesChains, GrowsChains};
 use cfb_medium::{Error, Version};
+use cfb_sectors::NewSector;
 
 impl<'a, H: FreesChains> Chain<'a, H> {
     ghost use Rattle.cfb_chains.specs.ChainViews.{holder_of, position_of, sectors_of, version_of, IsSameBut};
@@ -72,7 +75,7 @@ fn needed_sectors(version: Version, len: u64) -> u64
 }
 
 impl<'a, H: GrowsChains> Chain<'a, H> {
-    ghost use Rattle.cfb_chains.specs.ChainViews.{holder_of, position_of, sectors_of, version_of, IsSameBut};
+    ghost use Rattle.cfb_chains.specs.ChainViews.{holder_of, position_of, sectors_of, version_of, IsSameBut, IsSameButSectors};
 
     /// Gives the chain as many sectors as so many bytes need, in the FAT too. Those at its front stay, with their bytes; it
     /// takes in others behind them, which hold what its `init` says, or frees those that are too many. A position behind the
@@ -107,9 +110,32 @@ impl<'a, H: GrowsChains> Chain<'a, H> {
         if count < self.num_sectors() {
             return self.cut_to(count);
         }
-        if self.holder.is_failed() {
-            return Err(Error::Failed);
-        }
-        self.lengthen_to(count)
+        self.lengthen_to(count, NewSector::Init(self.init))
+    }
+
+    /// Gives the chain as many sectors as so many bytes need, where it has no more of them. Those at its front stay, with their
+    /// bytes; those that it takes in behind them hold these bytes in order, and zeros behind them. `InvalidData` where the tables
+    /// can't be changed or haven't the chain, with nothing changed, and then `Full` where fewer numbers of sectors are left. After
+    /// an error nothing is changed, or the layer has failed ([MS-CFB] 2.3).
+    pub fn lengthen(&mut self, len: u64, bytes: &[u8]) -> Result<(), Error>
+        requires { length (sectors_of self.old) ≤ sectors_for (version_of self.old) len }
+        ensures count { OnOk result (length (sectors_of self.new)
+            ≡ sectors_for (version_of self.old) len) }
+        ensures longer { Lengthens H.GrowsChains self.old (sectors_of self.new)
+            (holder_of self.new) }
+        ensures filled { OnOk result (ChainHolds H.GrowsChains self.old (sectors_of self.new)
+            (holder_of self.new) (chain_bytes H.bytes self.old ++ padded ((length (sectors_of self.new)
+            - length (sectors_of self.old)) * sector_len (version_of self.old)) bytes.now)) }
+        ensures keeps { OnOk result (ChainKeeps H.GrowsChains self.old (sectors_of self.new)
+            (holder_of self.new)) }
+        ensures same { IsSameButSectors self.old self.new }
+        ensures refused { IsErrOf result InvalidData
+            → IsUnlinked H.FreesChains self.old × ChainRests H.rests self.old self.new }
+        ensures full { IsErrOf result Full → IsShort H.GrowsChains
+            (sectors_for (version_of self.old) len) self.old self.new }
+        ensures answers { ChainAnswers H.ChangesSectors IsInvalidOrFull result self.old self.new }
+    {
+        let count = needed_sectors(self.links.version(), len) as usize;
+        self.lengthen_to(count, NewSector::Bytes(bytes))
     }
 }

@@ -1,22 +1,23 @@
 //! Chains that become longer.
-ghost use Rattle.cfb_chains.specs.ChainCalls.{chain_bytes, new_sector, ChainAnswers, ChainRests, HasEnd, HasNoEnd, HasNoNumber, ChainHolds, IsInvalidOrFull, IsUnlinked, ChainKeeps, LacksNumber, Lengthens, MayWriteSector, RunsOut};
+ghost use Rattle.cfb_chains.specs.ChainCalls.{chain_bytes, ChainAnswers, ChainRests, HasEnd, HasNoEnd, HasNoNumber, ChainHolds, IsInvalidOrFull, IsUnlinked, ChainKeeps, LacksNumber, Lengthens, MayWriteSector, RunsOut};
 ghost use Rattle.cfb_chains.specs.Changes.{AreAmong};
 ghost use Rattle.cfb_chains.specs.Grown.{IsLinked};
 ghost use Rattle.cfb_medium.specs.Calls.{IsFaultUnless};
 ghost use Rattle.cfb_medium.specs.declared.error.Error.TheVariants.{Failed, Full, InvalidData};
-ghost use Rattle.cfb_sectors.specs.Copies.{copies};
+ghost use Rattle.cfb_medium.specs.Versions.{sector_len};
+ghost use Rattle.cfb_sectors.specs.Initial.{filling, first_bytes};
 ghost use Rattle.cfb_sectors.specs.Sectors.{greatest_regular, Chain as IsChain};
 ghost use Rattle.std.specs.Prelude.{false, length, slice_index, IfErr, IfOk, IsErrOf, IsTrue, List, OnErr, OnOk, ℕ, [], ◌+◌, ◌++◌, ◌-◌, ◌<◌, ◌∷◌, ◌≡◌, ◌≤◌, ◌⊎◌};
 
 use crate::{Chain, GrowsChains};
 use cfb_medium::Error;
-use cfb_sectors::END_OF_CHAIN;
+use cfb_sectors::{END_OF_CHAIN, NewSector};
 
 impl<'a, H: GrowsChains> Chain<'a, H> {
-    ghost use Rattle.cfb_chains.specs.ChainViews.{holder_of, links_of, sectors_of, IsSameButSectors};
+    ghost use Rattle.cfb_chains.specs.ChainViews.{holder_of, links_of, sectors_of, version_of, IsSameButSectors};
 
     // Takes a sector into use behind the last one, which the FAT then has in the chain.
-    fn take_sector(&mut self) -> Result<u32, Error>
+    fn take_sector(&mut self, init: NewSector<'_>) -> Result<u32, Error>
         ensures grows { IfOk result (λ n. (changed : List ℕ)
             × H.grows (n ∷ []) changed (holder_of self.old) (holder_of self.new)
             × (IsLinked (H.fat (holder_of self.old)) (sectors_of self.old)
@@ -29,7 +30,8 @@ impl<'a, H: GrowsChains> Chain<'a, H> {
             (holder_of self.new)) }
         ensures filled { IfOk result (λ n. ChainHolds H.GrowsChains self.old
             (sectors_of self.old ++ n ∷ []) (holder_of self.new)
-            (chain_bytes H.bytes self.old ++ new_sector self.old)) }
+            (chain_bytes H.bytes self.old
+            ++ first_bytes init.entry (sector_len (version_of self.old)))) }
         ensures same { IsSameButSectors self.old self.new }
         ensures links { links_of self.new ≡ links_of self.old }
         ensures orderly { OnOk result (IsTrue (H.orderly (holder_of self.old))) }
@@ -41,11 +43,11 @@ impl<'a, H: GrowsChains> Chain<'a, H> {
     {
         let count = self.links.sector_ids().len();
         if count == 0 {
-            let sector_id = self.holder.begin_chain(self.init)?;
+            let sector_id = self.holder.begin_chain(init)?;
             return Ok(sector_id);
         }
         let last = self.links.sector_ids()[count - 1];
-        let sector_id = self.holder.extend_chain(last, self.init)?;
+        let sector_id = self.holder.extend_chain(last, init)?;
         Ok(sector_id)
     }
 
@@ -75,8 +77,9 @@ impl<'a, H: GrowsChains> Chain<'a, H> {
         Ok(())
     }
 
-    // Takes in a sector behind the last one, at the same position. What is refused leaves the chain as it was.
-    pub(crate) fn append_sector(&mut self) -> Result<(), Error>
+    // Takes in a sector behind the last one, at the same position, which holds what is said. What is refused leaves the chain as
+    // it was.
+    pub(crate) fn append_sector(&mut self, init: NewSector<'_>) -> Result<(), Error>
         ensures grows { Lengthens H.GrowsChains self.old (sectors_of self.new)
             (holder_of self.new) }
         ensures longer { OnOk result (length (sectors_of self.new)
@@ -89,8 +92,8 @@ impl<'a, H: GrowsChains> Chain<'a, H> {
             (slice_index (sectors_of self.new) (length (sectors_of self.old)))
             (holder_of self.new)) }
         ensures filled { OnOk result (ChainHolds H.GrowsChains self.old (sectors_of self.new)
-            (holder_of self.new)
-            (chain_bytes H.bytes self.old ++ new_sector self.old)) }
+            (holder_of self.new) (chain_bytes H.bytes self.old
+            ++ first_bytes init.entry (sector_len (version_of self.old)))) }
         ensures same { IsSameButSectors self.old self.new }
         ensures orderly { OnOk result (IsTrue (H.orderly (holder_of self.old))) }
         ensures refused { IsErrOf result InvalidData
@@ -111,7 +114,7 @@ impl<'a, H: GrowsChains> Chain<'a, H> {
         if let Err(error) = self.links.reserve_one() {
             return Err(error);
         }
-        match self.take_sector() {
+        match self.take_sector(init) {
             Ok(sector_id) => {
                 self.links.push_reserved(sector_id);
                 Ok(())
@@ -120,9 +123,9 @@ impl<'a, H: GrowsChains> Chain<'a, H> {
         }
     }
 
-    // Takes in sectors until there are so many, where the table can be changed and has a chain from the last sector on. Those
-    // taken in before an error stay.
-    pub(crate) fn grow_to(&mut self, count: usize) -> Result<(), Error>
+    // Takes in sectors until there are so many, which hold what is said, where the table can be changed and has a chain from the last
+    // sector on. Those taken in before an error stay.
+    pub(crate) fn grow_to(&mut self, count: usize, init: NewSector<'_>) -> Result<(), Error>
         requires ready { (H.failed (holder_of self.old) ≡ false)
             × IsTrue (H.orderly (holder_of self.old)) × HasEnd H.fat self.old }
         requires more { length (sectors_of self.old) ≤ count }
@@ -134,8 +137,8 @@ impl<'a, H: GrowsChains> Chain<'a, H> {
             → ChainKeeps H.GrowsChains self.old (sectors_of self.new) (holder_of self.new) }
         ensures filled { H.failed (holder_of self.new) ≡ false
             → ChainHolds H.GrowsChains self.old (sectors_of self.new) (holder_of self.new)
-            (chain_bytes H.bytes self.old ++ copies (length (sectors_of self.new)
-            - length (sectors_of self.old)) (new_sector self.old)) }
+            (chain_bytes H.bytes self.old ++ filling init.entry (length (sectors_of self.new)
+            - length (sectors_of self.old)) (sector_len (version_of self.old))) }
         ensures same { IsSameButSectors self.old self.new }
         ensures live { OnOk result (H.failed (holder_of self.new) ≡ false) }
         ensures full { IsErrOf result Full → (mid : H)
@@ -145,18 +148,19 @@ impl<'a, H: GrowsChains> Chain<'a, H> {
         ensures error { IfErr result (λ e. H.has_cause (holder_of self.old) (holder_of self.new) e
             × (IsFaultUnless ⊥ e ⊎ (e ≡ Full))) }
     {
+        let had = self.num_sectors();
         'grow: while self.num_sectors() < count {
-            if let Err(error) = self.append_sector() {
+            let done = (self.num_sectors() - had) * self.links.version().sector_len();
+            if let Err(error) = self.append_sector(init.behind(done)) {
                 return Err(error);
             }
         }
         Ok(())
     }
 
-    // Takes in sectors until there are so many. What is refused is refused before the first; where it stops half way, the layer
-    // is made to fail.
-    pub(crate) fn lengthen_to(&mut self, count: usize) -> Result<(), Error>
-        requires live { H.failed (holder_of self.old) ≡ false }
+    // Takes in sectors until there are so many, which hold what is said. What is refused is refused before the first; where it stops
+    // half way, the layer is made to fail.
+    pub(crate) fn lengthen_to(&mut self, count: usize, init: NewSector<'_>) -> Result<(), Error>
         requires more { length (sectors_of self.old) ≤ count }
         ensures grows { Lengthens H.GrowsChains self.old (sectors_of self.new)
             (holder_of self.new) }
@@ -166,8 +170,8 @@ impl<'a, H: GrowsChains> Chain<'a, H> {
             (holder_of self.new)) }
         ensures filled { OnOk result (ChainHolds H.GrowsChains self.old (sectors_of self.new)
             (holder_of self.new)
-            (chain_bytes H.bytes self.old ++ copies (length (sectors_of self.new)
-            - length (sectors_of self.old)) (new_sector self.old))) }
+            (chain_bytes H.bytes self.old ++ filling init.entry (length (sectors_of self.new)
+            - length (sectors_of self.old)) (sector_len (version_of self.old)))) }
         ensures same { IsSameButSectors self.old self.new }
         ensures refused { IsErrOf result InvalidData
             → IsUnlinked H.FreesChains self.old × ChainRests H.rests self.old self.new }
@@ -176,6 +180,9 @@ impl<'a, H: GrowsChains> Chain<'a, H> {
         ensures stopped { IsErrOf result Full → RunsOut H.GrowsChains count self.old }
         ensures answers { ChainAnswers H.ChangesSectors IsInvalidOrFull result self.old self.new }
     {
+        if self.holder.is_failed() {
+            return Err(Error::Failed);
+        }
         let wanted = count - self.num_sectors();
         if wanted == 0 {
             return Ok(());
@@ -186,7 +193,7 @@ impl<'a, H: GrowsChains> Chain<'a, H> {
         if let Err(error) = self.links.reserve(wanted) {
             return Err(error);
         }
-        match self.grow_to(count) {
+        match self.grow_to(count, init) {
             Ok(()) => Ok(()),
             Err(error) => {
                 self.holder.fail();

@@ -7,7 +7,7 @@ ghost use Rattle.std.specs.Prelude.{false, length, replicate, take, true, IfErr,
 
 use crate::{Chain, GrowsChains};
 use cfb_medium::Error;
-use cfb_sectors::ChangesSectors;
+use cfb_sectors::{ChangesSectors, NewSector};
 
 // A sector of version 4 has so many bytes.
 const LONGEST: usize = 4096;
@@ -115,7 +115,7 @@ impl<'a, H: GrowsChains> Chain<'a, H> {
             × HasNoNumber H.is_full self.old × ChainRests H.rests self.old self.new }
         ensures answers { ChainAnswers H.ChangesSectors IsInvalidOrFull result self.old self.new }
     {
-        if let Err(error) = self.append_sector() {
+        if let Err(error) = self.append_sector(NewSector::Init(self.init)) {
             return Err(error);
         }
         match self.write_inside(bytes) {

@@ -6,14 +6,14 @@ ghost use Rattle.cfb_medium.specs.Versions.{sector_len};
 ghost use Rattle.cfb_medium.specs.declared.error.Error.{Error};
 ghost use Rattle.cfb_medium.specs.declared.error.Error.TheVariants.{Failed, Full, InvalidData};
 ghost use Rattle.cfb_medium.specs.declared.version.Version.{Version};
-ghost use Rattle.cfb_sectors.specs.Initial.{initial};
+ghost use Rattle.cfb_sectors.specs.Initial.{first_bytes};
 ghost use Rattle.cfb_sectors.specs.Sectors.{filled_part, sector, sector_start, Chain as IsChain};
 ghost use Rattle.std.specs.List.{AllByRecursion};
 ghost use Rattle.std.specs.Prelude.{false, length, true, IfErr, IfOk, IsErrOf, IsTrue, List, OnErr, OnOk, ℕ, [], ◌++◌, ◌∷◌, ◌≡◌, ◌⊎◌, ◌≤◌};
 
 use crate::FreesChains;
 use cfb_medium::Error;
-use cfb_sectors::SectorInit;
+use cfb_sectors::NewSector;
 
 /// A layer that has chains, and takes sectors into use for them.
 pub trait GrowsChains: FreesChains {
@@ -36,13 +36,13 @@ pub trait GrowsChains: FreesChains {
     /// Takes a sector into use, as a chain of its own: a free one, and only where there is none one behind all others.
     /// `InvalidData` where the tables can't be changed, and then `Full` where no sector's number is left; nothing is changed
     /// then. After a fault in a write it has failed.
-    fn begin_chain(&mut self, init: SectorInit) -> Result<u32, Error>
+    fn begin_chain(&mut self, init: NewSector<'_>) -> Result<u32, Error>
         ensures begins { IfOk result (λ n. IsChain (Self.fat self.new) n (n ∷ [])
             × grows (n ∷ []) (n ∷ []) self.old self.new) }
         ensures none { OnErr result (grows [] [] self.old self.new) }
         ensures filled { IfOk result (λ n. IsTrue (Self.honest self.old)
             → sector (version self.old) (Self.bytes self.new) n
-            ≡ initial init (sector_len (version self.old))) }
+            ≡ first_bytes init.entry (sector_len (version self.old))) }
         ensures appended { IfOk result (λ n. length (Self.fat self.old) ≤ n
             → HasNoneSpare (Self.fat self.old) (tables self.old)) }
         ensures writable { IfOk result (λ n. Self.may_write self.new
@@ -63,7 +63,7 @@ pub trait GrowsChains: FreesChains {
     /// Extends the chain from a start by one sector behind its last. `InvalidData` where the FAT has no such chain, it has no
     /// sector, or the tables can't be changed, and then `Full` where no sector's number is left; nothing is changed then. After
     /// a fault in a write it has failed.
-    fn extend_chain(&mut self, start: u32, init: SectorInit) -> Result<u32, Error>
+    fn extend_chain(&mut self, start: u32, init: NewSector<'_>) -> Result<u32, Error>
         ensures extends { IfOk result (λ n. (ids : List ℕ) × (last : ℕ)
             × IsChain (Self.fat self.old) start (ids ++ last ∷ [])
             × IsChain (Self.fat self.new) start (ids ++ last ∷ n ∷ [])
@@ -71,7 +71,7 @@ pub trait GrowsChains: FreesChains {
         ensures none { OnErr result (grows [] [] self.old self.new) }
         ensures filled { IfOk result (λ n. IsTrue (Self.honest self.old)
             → sector (version self.old) (Self.bytes self.new) n
-            ≡ initial init (sector_len (version self.old))) }
+            ≡ first_bytes init.entry (sector_len (version self.old))) }
         ensures appended { IfOk result (λ n. length (Self.fat self.old) ≤ n
             → HasNoneSpare (Self.fat self.old) (tables self.old)) }
         ensures writable { IfOk result (λ n. Self.may_write self.new

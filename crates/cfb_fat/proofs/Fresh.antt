@@ -10,8 +10,11 @@ use Rattle.cfb_medium.specs.Versions.{sector_len}
 use Rattle.cfb_medium.specs.declared.version.Version.{Version}
 use Rattle.cfb_medium.specs.declared.version.Version.TheVariants.{V3, V4}
 use Rattle.cfb_medium.proofs.WrittenNumbers.{length-number_bytes, numbers_again}
-use Rattle.cfb_sectors.specs.Initial.{initial}
+use Rattle.cfb_sectors.specs.Initial.{first_bytes, initial}
+use Rattle.cfb_sectors.proofs.Filling.{length-padded}
 use Rattle.cfb_sectors.specs.Sectors.{end_of_chain, free}
+use Rattle.cfb_sectors.specs.declared.initial.NewSector.{NewSector}
+use Rattle.cfb_sectors.specs.declared.initial.NewSector.TheVariants.{Bytes, Init}
 use Rattle.cfb_sectors.specs.declared.initial.SectorInit.{SectorInit}
 use Rattle.cfb_sectors.specs.declared.initial.SectorInit.TheVariants.{Zero, Fat, Difat, Dir}
 use Rattle.cfb_fat.proofs.FatEntries.{per}
@@ -42,6 +45,10 @@ length-initial Difat v =
     ∙ one_more v
 length-initial Dir V3 = refl
 length-initial Dir V4 = refl
+
+pub length-first : (n : NewSector) (v : Version) → length (first_bytes n (sector_len v)) ≡ sector_len v
+length-first (Init init) v = length-initial init v
+length-first (Bytes front) v = length-padded (sector_len v) front.now
 
 small_replicate : (n : ℕ) → AllByRecursion (λ x. x < 2 ^ 32) (replicate n free)
 small_replicate zero = tt

@@ -12,9 +12,9 @@ use Rattle.std.proofs.Math.Seq.{get_or-append_right}
 use Rattle.std.proofs.lemmas.Option.{slice_get-get_or}
 use Rattle.cfb_medium.specs.declared.medium.ReadMedium.{Ghosts}
 use Rattle.cfb_medium.specs.declared.error.Error.{Error}
-use Rattle.cfb_sectors.specs.Initial.{initial}
+use Rattle.cfb_sectors.specs.Initial.{first_bytes}
 use Rattle.cfb_sectors.specs.Sectors.{end_of_chain, filled_part, free, greatest_regular, sector, sector_start, Chain as IsChain}
-use Rattle.cfb_sectors.specs.declared.initial.SectorInit.{SectorInit}
+use Rattle.cfb_sectors.specs.declared.initial.NewSector.{NewSector}
 use Rattle.cfb_fat.specs.Calls.{Occupies}
 use Rattle.cfb_fat.specs.declared.allocator.Allocator.{Allocator}
 use Rattle.cfb_fat.specs.Changing.{ChangesFat, MayWrite, WritesBeside}
@@ -174,11 +174,11 @@ module _ {F : Type 0} {g : Ghosts F} where
   grows_again = grows_then [] [] [] []
 
   -- tables became longer, and then a sector came into use
-  pub occupies_after : (init : SectorInit) (a b c : Allocator F g) (n : ℕ) → GrowsFat [] [] a b → Occupies init b c n → Occupies init a c n
+  pub occupies_after : (init : NewSector) (a b c : Allocator F g) (n : ℕ) → GrowsFat [] [] a b → Occupies init b c n → Occupies init a c n
   occupies_after init a b c n h k = record {
     grows = grows_then [] [] (n ∷ []) (n ∷ []) a b c h k.grows;
     fresh = record {
-      filled = λ honest. subst (λ v. sector v (bytes_of c) n ≡ initial init (sector_len v)) h.version (k.fresh.filled (subst IsTrue (sym h.honest) honest));
+      filled = λ honest. subst (λ v. sector v (bytes_of c) n ≡ first_bytes init (sector_len v)) h.version (k.fresh.filled (subst IsTrue (sym h.honest) honest));
       writable = subst (λ v. MayWrite c (sector_start v n) (sector_len v)) h.version k.fresh.writable;
     };
     whole = λ honest. k.whole (subst IsTrue (sym h.honest) honest);

@@ -4,7 +4,7 @@ use Rattle.std.specs.Prelude.{slice_get, slice_index, Some}
 use Rattle.std.proofs.lemmas.Option.{slice_get_within, get_or_from_slice_get}
 use Rattle.cfb_medium.specs.declared.medium.ReadMedium.{Ghosts}
 use Rattle.cfb_sectors.specs.Sectors.{end_of_chain, free, greatest_regular, Chain as IsChain}
-use Rattle.cfb_sectors.specs.declared.initial.SectorInit.{SectorInit}
+use Rattle.cfb_sectors.specs.declared.initial.NewSector.{NewSector}
 use Rattle.cfb_runs.specs.Tables.{IsEasy}
 use Rattle.cfb_chains.specs.Behind.{IsMarkedBehind}
 use Rattle.cfb_chains.specs.Changes.{IsFreeIn, IsNoneOf, StayBut}
@@ -39,7 +39,7 @@ easy_link old mid ids start last n was loose stay one = (stay.others last within
         loose
 
 module _ {F : Type 0} {g : Ghosts F} where
-  pub one_after : (init : SectorInit) (a m b : Allocator F g) (n : ℕ) → AllRests a m → TakesOne init m b n → TakesOne init a b n
+  pub one_after : (init : NewSector) (a m b : Allocator F g) (n : ℕ) → AllRests a m → TakesOne init m b n → TakesOne init a b n
   one_after init a m b n rests h = record {
     free = subst (λ l. IsFreeIn l n) rests.fat h.free;
     chain = h.chain;

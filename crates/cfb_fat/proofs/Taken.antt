@@ -13,7 +13,7 @@ use Rattle.cfb_chains.proofs.Extending.{used_begun, used_extended}
 use Rattle.cfb_chains.proofs.Staying.{apart}
 use Rattle.cfb_fat.specs.declared.allocator.Allocator.{Allocator}
 use Rattle.cfb_fat.specs.Changing.{ChangesFat, MayWrite}
-use Rattle.cfb_sectors.specs.declared.initial.SectorInit.{SectorInit}
+use Rattle.cfb_sectors.specs.declared.initial.NewSector.{NewSector}
 use Rattle.cfb_fat.specs.Calls.{TakesOne}
 use Rattle.cfb_fat.specs.Growing.{TakesIn}
 use Rattle.cfb_fat.specs.Keeping.{grows_then}
@@ -49,7 +49,7 @@ module _ {F : Type 0} {g : Ghosts F} where
         whole = never (has_failed_here b) failed;
       }
 
-  pub takes_begun : (init : SectorInit) (n : ℕ) (a b : Allocator F g) → TakesOne init a b n → TakesIn (n ∷ []) (n ∷ []) a b
+  pub takes_begun : (init : NewSector) (n : ℕ) (a b : Allocator F g) → TakesOne init a b n → TakesIn (n ∷ []) (n ∷ []) a b
   takes_begun init n a b one = record {
     grows = one.occupies.grows;
     free = λ live. (one.free, tt);
@@ -58,7 +58,7 @@ module _ {F : Type 0} {g : Ghosts F} where
     whole = λ live. one.occupies.whole;
   }
 
-  pub takes_extended : (init : SectorInit) (ids : List ℕ) (start last n : ℕ) (a m b : Allocator F g) → IsChain (fat_of a) start (ids ++ last ∷ []) → has_failed_here m ≡ false → TakesOne init a m n
+  pub takes_extended : (init : NewSector) (ids : List ℕ) (start last n : ℕ) (a m b : Allocator F g) → IsChain (fat_of a) start (ids ++ last ∷ []) → has_failed_here m ≡ false → TakesOne init a m n
       → ChangesFat (last ∷ []) m b → (has_failed_here b ≡ false → fat_of b ≡ set (fat_of m) last n) → TakesIn (n ∷ []) (last ∷ n ∷ []) a b
   takes_extended init ids start last n a m b was live one changes is = record {
     grows = grows_but (n ∷ []) (n ∷ last ∷ []) (n ∷ []) (last ∷ n ∷ []) a b (omega arith)

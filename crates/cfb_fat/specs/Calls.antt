@@ -6,8 +6,9 @@ use Rattle.cfb_medium.specs.declared.error.Error.{Error}
 use Rattle.cfb_medium.specs.declared.error.Error.TheVariants.{Failed, Full}
 use Rattle.cfb_medium.specs.declared.medium.ReadMedium.{Ghosts}
 use Rattle.cfb_sectors.specs.Held as held
-use Rattle.cfb_sectors.specs.Initial.{initial}
+use Rattle.cfb_sectors.specs.Initial.{first_bytes, initial}
 use Rattle.cfb_sectors.specs.Sectors.{end_of_chain, free, greatest_regular, joined, sector, sector_start, Chain as IsChain}
+use Rattle.cfb_sectors.specs.declared.initial.NewSector.{NewSector}
 use Rattle.cfb_sectors.specs.declared.initial.SectorInit.{SectorInit}
 use Rattle.cfb_sectors.specs.declared.sectors.Sectors.{Sectors}
 use Rattle.cfb_sectors.specs.Copies.{copies}
@@ -56,9 +57,9 @@ module _ {F : Type 0} {g : Ghosts F} where
     pub cause : IfErr result (HasCauseBelow old new)
     pub fault : IfErr result (λ e. IsFaultUnless ⊥ e ⊎ refuses e)
 
-  -- the sector holds what one of this kind does at first, and may be written whole
-  pub record IsFresh (init : SectorInit) (old new : Allocator F g) (n : ℕ) : Type 0 where
-    pub filled : IsTrue (is_honest old) → sector (version_of old) (bytes_of new) n ≡ initial init (sector_len (version_of old))
+  -- the sector holds what is said of a new one, and may be written whole
+  pub record IsFresh (init : NewSector) (old new : Allocator F g) (n : ℕ) : Type 0 where
+    pub filled : IsTrue (is_honest old) → sector (version_of old) (bytes_of new) n ≡ first_bytes init (sector_len (version_of old))
     pub writable : MayWrite new (sector_start (version_of old) n) (sector_len (version_of old))
 
   -- a sector behind all others is one only where no sector is spare: none is "free" but a table's
@@ -94,15 +95,15 @@ module _ {F : Type 0} {g : Ghosts F} where
     pub fat : fat_of new ≡ fat_of old ++ end_of_chain ∷ []
     pub tables : (difat_sectors_of new ≡ difat_sectors_of old) × (fat_sectors_of new ≡ fat_sectors_of old)
 
-  -- the sector came into use, lies in the file whole, and holds what one of this kind does at first; of the old FAT's entries
+  -- the sector came into use, lies in the file whole, and holds what is said of a new one; of the old FAT's entries
   -- and sectors this one alone is changed
-  pub record Occupies (init : SectorInit) (old new : Allocator F g) (n : ℕ) : Type 0 where
+  pub record Occupies (init : NewSector) (old new : Allocator F g) (n : ℕ) : Type 0 where
     pub grows : GrowsFat (n ∷ []) (n ∷ []) old new
     pub fresh : IsFresh init old new n
     pub whole : IsTrue (is_honest old) → HasWhole (n ∷ []) new
 
   -- so it did as a chain of its own; it had been in no use, or where none was spare, was none of the file
-  pub record TakesOne (init : SectorInit) (old new : Allocator F g) (n : ℕ) : Type 0 where
+  pub record TakesOne (init : NewSector) (old new : Allocator F g) (n : ℕ) : Type 0 where
     pub free : IsFreeIn (fat_of old) n
     pub chain : IsChain (fat_of new) n (n ∷ [])
     pub occupies : Occupies init old new n

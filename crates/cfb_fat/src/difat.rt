@@ -11,7 +11,7 @@ ghost use Rattle.cfb_medium.specs.Versions.{sector_len};
 ghost use Rattle.cfb_medium.specs.declared.error.Error.TheVariants.{InvalidData};
 ghost use Rattle.cfb_sectors.specs.Header.{difat_sector_count, fat_sector_count, first_difat_sector};
 ghost use Rattle.cfb_sectors.specs.Held.{bytes_of, count_of, has_failed_here, version_of, AreCounted, Changes, EndsIn, HasItsCause, IsHonest, Rests};
-ghost use Rattle.cfb_sectors.specs.Initial.{initial};
+ghost use Rattle.cfb_sectors.specs.Initial.{first_bytes, initial};
 ghost use Rattle.cfb_sectors.specs.Sectors.{difat, end_of_chain, free, greatest_regular, sector, sector_start, DifatChain};
 ghost use Rattle.cfb_sectors.specs.declared.initial.SectorInit.TheVariants.{Fat};
 ghost use Rattle.std.specs.Int.{to_le_bytes, w32};
@@ -20,8 +20,8 @@ ghost use Rattle.std.specs.Prelude.{false, length, replicate, slice_index, take,
 use crate::fat::{LONGEST, are_same};
 use cfb_medium::{Error, Medium, ReadMedium, Version};
 use cfb_sectors::{
-    ChangesSectors, END_OF_CHAIN, FREE_SECTOR, HasSectors, NUM_DIFAT_ENTRIES_IN_HEADER, SectorInit,
-    Sectors, numbers_in,
+    ChangesSectors, END_OF_CHAIN, FREE_SECTOR, HasSectors, NUM_DIFAT_ENTRIES_IN_HEADER, NewSector,
+    SectorInit, Sectors, numbers_in,
 };
 use std::alloc::Global;
 
@@ -243,17 +243,17 @@ pub(crate) fn are_listed<F: ReadMedium>(
     }
 }
 
-// Appends a sector that holds what a sector of this kind does at first, and gives its number. After a fault it has failed.
+// Appends a sector that holds what is said, and gives its number. After a fault it has failed.
 pub(crate) fn append_sector<F: Medium>(
     sectors: &mut Sectors<F>,
-    init: SectorInit,
+    init: NewSector<'_>,
 ) -> Result<u32, Error>
     requires few { count_of sectors.old ≤ greatest_regular }
     ensures number { IfOk result (λ n. n ≡ count_of sectors.old) }
     ensures appends { Appends (λ _ _. ⊤) sectors.old sectors.new }
     ensures content { has_failed_here sectors.new ≡ false → IsHonest sectors.old
         → sector (version_of sectors.old) (bytes_of sectors.new) (count_of sectors.old)
-        ≡ initial init (sector_len (version_of sectors.old)) }
+        ≡ first_bytes init.entry (sector_len (version_of sectors.old)) }
     ensures whole { has_failed_here sectors.new ≡ false → IsHonest sectors.old
         → sector_start (version_of sectors.old) (count_of sectors.old)
         + sector_len (version_of sectors.old) ≤ length (bytes_of sectors.new) }
@@ -365,7 +365,7 @@ pub(crate) fn add_fat_sector<F: Medium>(
     ensures attempts { Attempts result sectors.old sectors.new }
 {
     let place = entry_place(sectors.version(), difat_sectors, fat_count);
-    let sector_id = append_sector(sectors, SectorInit::Fat)?;
+    let sector_id = append_sector(sectors, NewSector::Init(SectorInit::Fat))?;
     write_word(sectors, place, sector_id)?;
     write_counts(sectors, fat_count as u32 + 1, difat_sectors.len() as u32)?;
     Ok(sector_id)
@@ -393,7 +393,7 @@ pub(crate) fn add_difat_sector<F: Medium>(
     ensures fault { IfErr result (IsFaultUnless ⊥) }
 {
     let place = link_place(sectors.version(), difat_sectors);
-    let sector_id = append_sector(sectors, SectorInit::Difat)?;
+    let sector_id = append_sector(sectors, NewSector::Init(SectorInit::Difat))?;
     write_word(sectors, place, sector_id)?;
     Ok(sector_id)
 }

@@ -14,7 +14,7 @@ use crate::difat::{add_difat_sector, add_fat_sector, append_sector, can_name};
 use crate::fat::{ENTRY_LEN, write_number};
 use cfb_medium::{Error, Medium};
 use cfb_sectors::{
-    DIFAT_SECTOR, END_OF_CHAIN, FAT_SECTOR, FREE_SECTOR, MAX_REGULAR_SECTOR, SectorInit,
+    DIFAT_SECTOR, END_OF_CHAIN, FAT_SECTOR, FREE_SECTOR, MAX_REGULAR_SECTOR, NewSector,
 };
 use std::alloc::AllocError;
 
@@ -182,13 +182,13 @@ impl<F: Medium> Allocator<F> {
 
     // Appends a sector, for which the FAT has a place and memory, as a chain of its own, where none is free. After a fault in
     // a write it has failed.
-    pub(crate) fn append(&mut self, init: SectorInit) -> Result<u32, Error>
+    pub(crate) fn append(&mut self, init: NewSector<'_>) -> Result<u32, Error>
         requires live { has_failed_here self.old ≡ false }
         requires orderly { IsTrue (orderly_of self.old) }
         requires place { HasPlace self.old }
         requires crowded { HasNoneBelow self.old (length (fat_of self.old)) }
         ensures ends { IfOk result (EndsBehind self.old self.new) }
-        ensures occupies { IfOk result (Occupies init self.old self.new) }
+        ensures occupies { IfOk result (Occupies init.entry self.old self.new) }
         ensures none { OnErr result (GrowsFat [] [] self.old self.new) }
         ensures spends { (n : ℕ) → HasMemory self.old 1 n
             → OnOk result (HasMemory self.new 0 n) }

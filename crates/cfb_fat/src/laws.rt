@@ -12,7 +12,7 @@ ghost use Rattle.std.specs.Prelude.{length, true, IsErrOf, IsTrue, List, OnOk, �
 
 use crate::Allocator;
 use cfb_medium::{Error, Medium};
-use cfb_sectors::SectorInit;
+use cfb_sectors::{NewSector, SectorInit};
 
 /// That the DIFAT lists these sectors is a fact, which holds where it merely holds; and so is where its chain stops.
 pub fn lists_are_facts()
@@ -35,9 +35,9 @@ pub fn use_a_chain<F: Medium>(allocator: &mut Allocator<F>, bytes: &[u8]) -> Res
         (seen_of allocator.new) (own k)) }
     ensures failed { has_failed_here allocator.old ≡ true → IsErrOf result Failed }
 {
-    let start = allocator.begin_chain(SectorInit::Zero)?;
+    let start = allocator.begin_chain(NewSector::Init(SectorInit::Zero))?;
     allocator.write_contiguous(start, 0, bytes)?;
-    let next = allocator.extend_chain(start, SectorInit::Zero)?;
+    let next = allocator.extend_chain(start, NewSector::Init(SectorInit::Zero))?;
     allocator.write_contiguous(next, 0, bytes)?;
     allocator.free_chain_after(start)?;
     allocator.free_chain(start)

@@ -15,14 +15,14 @@ ghost use Rattle.cfb_medium.specs.Versions.{sector_len};
 ghost use Rattle.cfb_medium.specs.declared.error.Error.TheVariants.{Failed, Full, InvalidData, Memory};
 ghost use Rattle.cfb_sectors.specs.Copies.{copies};
 ghost use Rattle.cfb_sectors.specs.Held.{count_of};
-ghost use Rattle.cfb_sectors.specs.Initial.{initial};
+ghost use Rattle.cfb_sectors.specs.Initial.{first_bytes, initial};
 ghost use Rattle.cfb_sectors.specs.Sectors.{end_of_chain, free, greatest_regular, joined, sector, sector_start, Chain as IsChain};
 ghost use Rattle.std.specs.Prelude.{false, length, slice_get, slice_index, slice_set, true, IfErr, IfOk, IsErrOf, IsTrue, List, MatchOption, OnErr, OnOk, Some, [], ℕ, ◌++◌, ◌+◌, ◌-◌, ◌<◌, ◌↔◌, ◌∷◌, ◌≡◌, ◌≤◌, ◌⊎◌};
 
 use crate::Allocator;
 use cfb_chains::{Chain, GrowsChains, Links};
 use cfb_medium::{Error, Medium};
-use cfb_sectors::{END_OF_CHAIN, FREE_SECTOR, MAX_REGULAR_SECTOR, SectorInit};
+use cfb_sectors::{END_OF_CHAIN, FREE_SECTOR, MAX_REGULAR_SECTOR, NewSector, SectorInit};
 
 impl<F: Medium> Allocator<F> {
     ghost use Rattle.cfb_fat.specs.Tables.{bytes_of, capacity_of, difat_sectors_of, fat_of, fat_sectors_of, has_failed_here, is_honest, orderly_of, runs_of, sectors_of, tables_of, version_of, AllRests, HasCauseBelow};
@@ -107,7 +107,7 @@ impl<F: Medium> Allocator<F> {
     }
 
     // Fills the first sector that is in no use. After a fault it has failed.
-    fn init_beside(&mut self, sector_id: u32, init: SectorInit) -> Result<(), Error>
+    fn init_beside(&mut self, sector_id: u32, init: NewSector<'_>) -> Result<(), Error>
         requires live { has_failed_here self.old ≡ false }
         requires there { sector_id < count_of (sectors_of self.old) }
         requires no_difat { IsNoneOf (difat_sectors_of self.old) sector_id }
@@ -115,7 +115,7 @@ impl<F: Medium> Allocator<F> {
         requires lowest { (k : ℕ) → k < sector_id → slice_index (fat_of self.old) k ≡ free
             → IsNoneOf (difat_sectors_of self.old) k → IsNoneOf (fat_sectors_of self.old) k → ⊥ }
         ensures writes { WritesBeside (sector_start (version_of self.old) sector_id)
-            (initial init (sector_len (version_of self.old))) self.old self.new }
+            (first_bytes init.entry (sector_len (version_of self.old))) self.old self.new }
         ensures runs { (runs_of self.new ≡ runs_of self.old)
             × (capacity_of self.new ≡ capacity_of self.old) }
         ensures memory { KeepsMemory self.old self.new }
@@ -129,7 +129,7 @@ impl<F: Medium> Allocator<F> {
     }
 
     // Takes the first sector that is in no use into use, as a chain of its own. After a fault it has failed.
-    fn take_free(&mut self, sector_id: u32, init: SectorInit) -> Result<(), Error>
+    fn take_free(&mut self, sector_id: u32, init: NewSector<'_>) -> Result<(), Error>
         requires live { has_failed_here self.old ≡ false }
         requires orderly { IsTrue (orderly_of self.old) }
         requires there { sector_id < length (fat_of self.old) }
@@ -137,7 +137,7 @@ impl<F: Medium> Allocator<F> {
         requires no_fat { IsNoneOf (fat_sectors_of self.old) sector_id }
         requires lowest { HasNoneBelow self.old sector_id }
         requires room { runs_of self.old + 2 ≤ capacity_of self.old }
-        ensures occupies { OnOk result (Occupies init self.old self.new sector_id) }
+        ensures occupies { OnOk result (Occupies init.entry self.old self.new sector_id) }
         ensures fat { OnOk result (fat_of self.new
             ≡ slice_set (fat_of self.old) sector_id end_of_chain) }
         ensures none { OnErr result (GrowsFat [] [] self.old self.new) }
@@ -152,10 +152,10 @@ impl<F: Medium> Allocator<F> {
 
     // Takes a sector into use as a chain of its own: a free one, or where there is none but a table's, one behind all others.
     // `Full` where no number is left, and `Memory`, each with nothing changed; after a fault in a write it has failed.
-    fn take(&mut self, init: SectorInit) -> Result<u32, Error>
+    fn take(&mut self, init: NewSector<'_>) -> Result<u32, Error>
         requires live { has_failed_here self.old ≡ false }
         requires orderly { IsTrue (orderly_of self.old) }
-        ensures takes { IfOk result (TakesOne init self.old self.new) }
+        ensures takes { IfOk result (TakesOne init.entry self.old self.new) }
         ensures full { IsErrOf result Full → IsFull self.old × AllRests self.old self.new }
         ensures none { OnErr result (GrowsFat [] [] self.old self.new) }
         ensures spends { Spends 0 (λ e. e ≡ Full) result self.old self.new }
@@ -166,11 +166,11 @@ impl<F: Medium> Allocator<F> {
     }
 
     // The same, where there is memory for it.
-    fn take_reserved(&mut self, init: SectorInit) -> Result<u32, Error>
+    fn take_reserved(&mut self, init: NewSector<'_>) -> Result<u32, Error>
         requires live { has_failed_here self.old ≡ false }
         requires orderly { IsTrue (orderly_of self.old) }
         requires memory { HasMemory self.old 0 1 }
-        ensures takes { IfOk result (TakesOne init self.old self.new) }
+        ensures takes { IfOk result (TakesOne init.entry self.old self.new) }
         ensures full { IsErrOf result Full → IsFull self.old × AllRests self.old self.new }
         ensures none { OnErr result (GrowsFat [] [] self.old self.new) }
         ensures spends { Spends 0 (λ e. e ≡ Full) result self.old self.new }
@@ -187,13 +187,13 @@ impl<F: Medium> Allocator<F> {
     /// Takes a sector into use as a chain of its own: a free one, or where there is none but a table's, one behind all others.
     /// `InvalidData` where the tables can't be changed, and then `Full` where no number is left and no sector is spare, or
     /// `Memory`, each with nothing changed. After a fault in a write it has failed.
-    pub fn begin_chain(&mut self, init: SectorInit) -> Result<u32, Error>
+    pub fn begin_chain(&mut self, init: NewSector<'_>) -> Result<u32, Error>
         ensures chain { IfOk result (λ n. IsChain (fat_of self.new) n (n ∷ [])) }
         ensures takes { IfOk result (λ n. TakesIn (n ∷ []) (n ∷ []) self.old self.new) }
         ensures leaves { IfOk result (λ n. IsTrue (is_honest self.old)
             → Leaves (sector (version_of self.old)) [] (n ∷ n ∷ []) (seen_of self.old)
             (seen_of self.new)) }
-        ensures fresh { IfOk result (IsFresh init self.old self.new) }
+        ensures fresh { IfOk result (IsFresh init.entry self.old self.new) }
         ensures appended { IfOk result (IsLastResort self.old) }
         ensures refused { IsErrOf result InvalidData
             → (IsTrue (orderly_of self.old) → ⊥) × AllRests self.old self.new }
@@ -240,7 +240,7 @@ impl<F: Medium> Allocator<F> {
     /// but a table's, one behind all others. `InvalidData` where the FAT has no such chain, it has no sector, or the tables
     /// can't be changed, and then `Full` where no number is left and no sector is spare, or `Memory`, each with nothing
     /// changed. After a fault in a write it has failed ([MS-CFB] 2.3).
-    pub fn extend_chain(&mut self, start: u32, init: SectorInit) -> Result<u32, Error>
+    pub fn extend_chain(&mut self, start: u32, init: NewSector<'_>) -> Result<u32, Error>
         ensures extends { IfOk result (λ n. (ids : List ℕ) × (last : ℕ)
             × IsChain (fat_of self.old) start (ids ++ last ∷ [])
             × IsChain (fat_of self.new) start (ids ++ last ∷ n ∷ [])
@@ -251,7 +251,7 @@ impl<F: Medium> Allocator<F> {
             → Leaves (sector (version_of self.old)) [] (n ∷ last ∷ n ∷ []) (seen_of self.old)
             (seen_of self.new))) }
         ensures none { OnErr result (TakesIn [] [] self.old self.new) }
-        ensures fresh { IfOk result (IsFresh init self.old self.new) }
+        ensures fresh { IfOk result (IsFresh init.entry self.old self.new) }
         ensures appended { IfOk result (IsLastResort self.old) }
         ensures refused { IsErrOf result InvalidData
             → (IsTrue (orderly_of self.old) → (ids : List ℕ) (last : ℕ)
@@ -357,11 +357,11 @@ impl<F: Medium> GrowsChains for Allocator<F> {
 
     ghost grows = { TakesIn };
 
-    fn begin_chain(&mut self, init: SectorInit) -> Result<u32, Error> {
+    fn begin_chain(&mut self, init: NewSector<'_>) -> Result<u32, Error> {
         Allocator::begin_chain(self, init)
     }
 
-    fn extend_chain(&mut self, start: u32, init: SectorInit) -> Result<u32, Error> {
+    fn extend_chain(&mut self, start: u32, init: NewSector<'_>) -> Result<u32, Error> {
         Allocator::extend_chain(self, start, init)
     }
 

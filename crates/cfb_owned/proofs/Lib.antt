@@ -1,3 +1,4 @@
+pub mod FrontWritten
 pub mod GoingOn
 pub mod WrittenParts
 pub mod Owning

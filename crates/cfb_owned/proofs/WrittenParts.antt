@@ -185,6 +185,7 @@ module _ {F : Type 0} {g : Ghosts F} where
     chain = h.chain;
     becomes = h.becomes;
     content = h.content ∙ ap (λ l. overwritten l at bytes) (sym (append-nil (content_of a links)));
+    there = h.there;
   }
 
   pub writes_behind : (init : SectorInit) (at count : ℕ) (bytes : List ℕ) (a m b : Allocator F g) (before after : Links) → length (ids_of before) ≤ count → version_of m ≡ version_of a → Resizes init count a m before after → Overwrites at bytes m b after
@@ -201,4 +202,5 @@ module _ {F : Type 0} {g : Ghosts F} where
             (subst (λ u. Becomes (sector u) [] (ids_of after) [] (ids_of after) (seen_of m) (seen_of b)) same over.becomes)
             (none_behind_all (tables_of b) (ids_of before) grown.more (subst (AreNoneOf (tables_of b)) sectors over.chain.beside));
         content = over.content ∙ ap (λ l. overwritten l at bytes) (grown.content ∙ ap (λ l. joined (version_of a) (bytes_of a) l ++ copies (length grown.more) (initial init (sector_len (version_of a)))) whole);
+        there = subst (λ u. (k : ℕ) → at ≤ k → k < at + length bytes → place_of u (ids_of after) k < length (bytes_of b)) same over.there;
       }

@@ -8,7 +8,7 @@ use Rattle.cfb_medium.specs.declared.error.Error.TheVariants.{Full}
 use Rattle.cfb_medium.specs.declared.medium.ReadMedium.{Ghosts}
 use Rattle.cfb_medium.specs.declared.version.Version.{Version}
 use Rattle.cfb_sectors.specs.Copies.{copies}
-use Rattle.cfb_sectors.specs.Initial.{initial}
+use Rattle.cfb_sectors.specs.Initial.{initial, padded}
 use Rattle.cfb_sectors.specs.Sectors.{free, greatest_regular, joined, sector, sector_start}
 use Rattle.cfb_sectors.specs.declared.initial.SectorInit.{SectorInit}
 use Rattle.cfb_chains.specs.Behind.{AreWhole}
@@ -82,14 +82,24 @@ module _ {F : Type 0} {g : Ghosts F} where
     pub content : content_of new after
         ≡ joined (version_of old) (bytes_of old) (take count (ids_of before)) ++ copies (length more) (initial init (sector_len (version_of old)))
 
+  -- The chain took in sectors that were in no use; they hold these bytes in order, and zeros behind them, and lie in the file whole.
+  pub record TakesBytes (bytes : List ℕ) (old new : Allocator F g) (before after : Links) : Type 0 where
+    pub more : List ℕ
+    pub sectors : ids_of after ≡ ids_of before ++ more
+    pub chain : HasChain new after
+    pub becomes : Becomes (sector (version_of old)) [] (ids_of before) more (ids_of after) (seen_of old) (seen_of new)
+    pub whole : AreWhole (version_of old) (bytes_of new) more
+    pub content : content_of new after ≡ content_of old before ++ padded (length more * sector_len (version_of old)) bytes
+
   -- The chain took in sectors that were in no use, which held what a sector of this kind does at first, and then these bytes lie
-  -- over its own from a place on.
+  -- over its own from a place on, and in the file.
   pub record Writes (init : SectorInit) (at : ℕ) (bytes : List ℕ) (old new : Allocator F g) (before after : Links) : Type 0 where
     pub more : List ℕ
     pub sectors : ids_of after ≡ ids_of before ++ more
     pub chain : HasChain new after
     pub becomes : Becomes (sector (version_of old)) [] (ids_of before) more (ids_of after) (seen_of old) (seen_of new)
     pub content : content_of new after ≡ overwritten (content_of old before ++ copies (length more) (initial init (sector_len (version_of old)))) at bytes
+    pub there : (k : ℕ) → at ≤ k → k < at + length bytes → place_of (version_of old) (ids_of after) k < length (bytes_of new)
 
   -- numbers are missing for a chain of so many sectors, in the FAT or in a chain
   abbrev pub LacksSectors : Allocator F g → Links → ℕ → Type 0

@@ -5,9 +5,9 @@ ghost use Rattle.cfb_chains.specs.Positions.{sectors_for};
 ghost use Rattle.cfb_fat.specs.Calls.{FatAnswers};
 ghost use Rattle.cfb_fat.specs.Tables.{has_failed_here, orderly_of, AllRests};
 ghost use Rattle.cfb_medium.specs.declared.error.Error.TheVariants.{Full, InvalidData};
-ghost use Rattle.cfb_owned.specs.Chains.{GoesOn, HasChain, LacksSectors, Resizes, RunsOut, StaysLean};
+ghost use Rattle.cfb_owned.specs.Chains.{GoesOn, HasChain, LacksSectors, Resizes, RunsOut, StaysLean, TakesBytes};
 ghost use Rattle.cfb_sectors.specs.declared.initial.SectorInit.TheVariants.{Zero};
-ghost use Rattle.std.specs.Prelude.{false, length, IsErrOf, IsTrue, OnErr, OnOk, [], ◌≡◌};
+ghost use Rattle.std.specs.Prelude.{false, length, IsErrOf, IsTrue, OnErr, OnOk, [], ◌≡◌, ◌≤◌};
 
 use cfb_chains::{Chain, Links};
 use cfb_fat::Allocator;
@@ -48,6 +48,35 @@ pub fn set_chain_len<F: Medium>(
 {
     let mut chain = Chain::new(allocator, links, init);
     chain.set_len(len)
+}
+
+/// Gives a chain as many sectors as so many bytes need, where it has no more of them. Those that it takes in behind its own hold these
+/// bytes in order, and zeros behind them. `InvalidData` where the tables can't be changed or haven't the chain, with nothing changed,
+/// and then `Full` where fewer numbers of sectors are left. After an error nothing is changed, or it has failed ([MS-CFB] 2.3).
+pub fn lengthen_chain<F: Medium>(
+    allocator: &mut Allocator<F>,
+    links: &mut Links,
+    len: u64,
+    bytes: &[u8],
+) -> Result<(), Error>
+    requires { length (ids_of links.old) ≤ sectors_for (links_version links.old) len }
+    ensures extended { OnOk result (HasChain allocator.old links.old
+        → TakesBytes bytes.now allocator.old allocator.new links.old links.new) }
+    ensures size { OnOk result (length (ids_of links.new)
+        ≡ sectors_for (links_version links.old) len) }
+    ensures refused { IsErrOf result InvalidData → HasChain allocator.old links.old
+        → IsTrue (orderly_of allocator.old) → ⊥ }
+    ensures orderly { IsErrOf result Full → IsTrue (orderly_of allocator.old) }
+    ensures full { IsErrOf result Full → has_failed_here allocator.new ≡ false
+        → LacksSectors allocator.old links.old (sectors_for (links_version links.old) len) }
+    ensures version { links_version links.new ≡ links_version links.old }
+    ensures kept { OnErr result (has_failed_here allocator.new ≡ false
+        → ids_of links.new ≡ ids_of links.old) }
+    ensures goes_on { GoesOn allocator.old allocator.new }
+    ensures answers { FatAnswers IsInvalidOrFull result allocator.old allocator.new }
+{
+    let mut chain = Chain::new(allocator, links, SectorInit::Zero);
+    chain.lengthen(len, bytes)
 }
 
 /// Frees all sectors of a chain; it has none then. `InvalidData` where the tables can't be changed or haven't the chain. After

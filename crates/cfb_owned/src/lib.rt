@@ -8,6 +8,6 @@ mod reading;
 mod writing;
 
 pub use header::write_word;
-pub use lengths::{free_chain, set_chain_len};
+pub use lengths::{free_chain, lengthen_chain, set_chain_len};
 pub use reading::read_chain;
 pub use writing::{overwrite_chain, write_chain};

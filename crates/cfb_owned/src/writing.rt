@@ -6,9 +6,10 @@ ghost use Rattle.cfb_fat.specs.Calls.{FatAnswers};
 ghost use Rattle.cfb_fat.specs.Tables.{has_failed_here, orderly_of, KeepsTables};
 ghost use Rattle.cfb_medium.specs.declared.error.Error.TheVariants.{Full, InvalidData, InvalidInput};
 ghost use Rattle.cfb_owned.specs.Chains.{len_of, GoesOn, HasChain, IsInvalidPlaceOrFull, LacksSectors, Overwrites, Writes};
+ghost use Rattle.cfb_sectors.specs.declared.initial.SectorInit.TheVariants.{Zero};
 ghost use Rattle.std.specs.Prelude.{false, length, max, true, IfErr, IsErrOf, IsTrue, OnErr, OnOk, ◌+◌, ◌<◌, ◌≡◌, ◌≤◌, ◌↔◌, ◌⊎◌};
 
-use crate::lengths::set_chain_len;
+use crate::lengths::{lengthen_chain, set_chain_len};
 use crate::places::{chain_len, lies_in, spot};
 use cfb_chains::Links;
 use cfb_fat::Allocator;
@@ -59,6 +60,74 @@ pub fn overwrite_chain<F: Medium>(
     Ok(())
 }
 
+// Writes bytes that begin in the chain or at its end and end behind it: it takes in the sectors of those behind its end with them, and
+// zeros behind them. So none is written twice. After an error nothing is changed, or it has failed.
+fn write_behind<F: Medium>(
+    allocator: &mut Allocator<F>,
+    links: &mut Links,
+    at: u64,
+    bytes: &[u8],
+) -> Result<(), Error>
+    requires from { at ≤ len_of links.old }
+    requires past { len_of links.old < at + length bytes.now }
+    ensures written { OnOk result (HasChain allocator.old links.old
+        → Writes Zero at bytes.now allocator.old allocator.new links.old links.new) }
+    ensures size { OnOk result (length (ids_of links.new)
+        ≡ sectors_for (links_version links.old) (at + length bytes.now)) }
+    ensures refused { IsErrOf result InvalidData → HasChain allocator.old links.old
+        → IsTrue (orderly_of allocator.old) → ⊥ }
+    ensures orderly { IsErrOf result Full → IsTrue (orderly_of allocator.old) }
+    ensures full { IsErrOf result Full → has_failed_here allocator.new ≡ false
+        → LacksSectors allocator.old links.old
+        (sectors_for (links_version links.old) (at + length bytes.now)) }
+    ensures version { links_version links.new ≡ links_version links.old }
+    ensures kept { OnErr result (has_failed_here allocator.new ≡ false
+        → ids_of links.new ≡ ids_of links.old) }
+    ensures goes_on { GoesOn allocator.old allocator.new }
+    ensures inside { IsErrOf result InvalidInput → ⊥ }
+    ensures answers { FatAnswers IsInvalidPlaceOrFull result allocator.old allocator.new }
+{
+    let front = (chain_len(links) - at) as usize;
+    let end = at + bytes.len() as u64;
+    if let Err(error) = lengthen_chain(allocator, links, end, &bytes[front..]) {
+        return Err(error);
+    }
+    overwrite_chain(allocator, links, at, &bytes[..front])
+}
+
+// The same where what it takes in holds at first what `init` says.
+fn write_filled<F: Medium>(
+    allocator: &mut Allocator<F>,
+    links: &mut Links,
+    at: u64,
+    bytes: &[u8],
+    init: SectorInit,
+) -> Result<(), Error>
+    requires from { at ≤ len_of links.old }
+    requires past { len_of links.old < at + length bytes.now }
+    ensures written { OnOk result (HasChain allocator.old links.old
+        → Writes init at bytes.now allocator.old allocator.new links.old links.new) }
+    ensures size { OnOk result (length (ids_of links.new)
+        ≡ sectors_for (links_version links.old) (at + length bytes.now)) }
+    ensures refused { IsErrOf result InvalidData → HasChain allocator.old links.old
+        → IsTrue (orderly_of allocator.old) → ⊥ }
+    ensures orderly { IsErrOf result Full → IsTrue (orderly_of allocator.old) }
+    ensures full { IsErrOf result Full → has_failed_here allocator.new ≡ false
+        → LacksSectors allocator.old links.old
+        (sectors_for (links_version links.old) (at + length bytes.now)) }
+    ensures version { links_version links.new ≡ links_version links.old }
+    ensures kept { OnErr result (has_failed_here allocator.new ≡ false
+        → ids_of links.new ≡ ids_of links.old) }
+    ensures goes_on { GoesOn allocator.old allocator.new }
+    ensures inside { IsErrOf result InvalidInput → ⊥ }
+    ensures answers { FatAnswers IsInvalidPlaceOrFull result allocator.old allocator.new }
+{
+    if let Err(error) = set_chain_len(allocator, links, at + bytes.len() as u64, init) {
+        return Err(error);
+    }
+    overwrite_chain(allocator, links, at, bytes)
+}
+
 /// Writes over a chain's bytes from a place in it or at its end on; where they end behind it, it takes in sectors first, which
 /// hold at first what `init` says. `InvalidInput` where the place is behind the chain's end; `InvalidData` where the tables
 /// can't be changed or haven't the chain, or one of its sectors holds a table, and then `Full` where fewer numbers of sectors
@@ -97,8 +166,8 @@ pub fn write_chain<F: Medium>(
     if lies_in(links, at, bytes.len()) {
         return overwrite_chain(allocator, links, at, bytes);
     }
-    if let Err(error) = set_chain_len(allocator, links, at + bytes.len() as u64, init) {
-        return Err(error);
+    match init {
+        SectorInit::Zero => write_behind(allocator, links, at, bytes),
+        _ => write_filled(allocator, links, at, bytes, init),
     }
-    overwrite_chain(allocator, links, at, bytes)
 }

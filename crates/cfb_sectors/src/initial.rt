@@ -1,7 +1,7 @@
 //! What sectors hold when they are taken into use.
 ghost use Rattle.cfb_medium.specs.Numbers.{number_bytes};
 ghost use Rattle.cfb_sectors.specs.Copies.{copies};
-ghost use Rattle.std.specs.Prelude.{length, replicate, take, ◌*◌, ◌/◌, ◌%◌, ◌<◌, ◌≡◌, ◌≤◌};
+ghost use Rattle.std.specs.Prelude.{ℕ, length, replicate, take, ◌*◌, ◌/◌, ◌%◌, ◌+◌, ◌++◌, ◌<◌, ◌≡◌, ◌≤◌};
 
 use crate::consts::{DIR_ENTRY_LEN, END_OF_CHAIN, FREE_SECTOR};
 
@@ -13,7 +13,7 @@ const LINKS: usize = 68;
 
 const LINKS_END: usize = 80;
 
-/// What a sector holds when it is taken into use.
+/// What a sector of a kind holds when it is taken into use.
 #[derive(Clone, Copy, Debug, PartialEq, Eq)]
 pub enum SectorInit {
     /// Zeros.
@@ -24,6 +24,15 @@ pub enum SectorInit {
     Difat,
     /// Directory entries in no use.
     Dir,
+}
+
+/// What a sector holds when it is taken into use: what one of a kind does, or bytes that are at hand.
+#[derive(Clone, Copy)]
+pub enum NewSector<'a> {
+    /// What a sector of this kind holds.
+    Init(SectorInit),
+    /// These bytes, as many as it takes, and zeros behind them.
+    Bytes(&'a [u8]),
 }
 
 // Fills the bytes with a number.
@@ -69,6 +78,41 @@ impl SectorInit {
                 entry[LINKS..LINKS_END].fill(0xFF);
                 fill_entries(bytes, &entry);
             }
+        }
+    }
+}
+
+impl NewSector<'_> {
+    ghost use Rattle.cfb_sectors.specs.Initial.{filling, first_bytes};
+
+    // Fills the bytes with what they hold at first.
+    pub(crate) fn fill(self, bytes: &mut [u8])
+        requires whole { length bytes.old % 128 ≡ 0 }
+        requires some { 0 < length bytes.old }
+        ensures { bytes.new ≡ first_bytes self.entry (length bytes.old) }
+    {
+        match self {
+            NewSector::Init(init) => init.fill(bytes),
+            NewSector::Bytes(front) => {
+                let count = front.len().min(bytes.len());
+                bytes[..count].copy_from_slice(&front[..count]);
+                bytes[count..].fill(0);
+            }
+        }
+    }
+
+    /// What the next sector holds once so many bytes of sectors before it were taken into use.
+    pub fn behind(self, done: usize) -> Self
+        ensures { (count len : ℕ) → done ≡ count * len
+            → filling self.entry count len ++ first_bytes result len
+            ≡ filling self.entry (count + 1) len }
+    {
+        match self {
+            NewSector::Bytes(front) => {
+                let (_, rest) = front.split_at(done.min(front.len()));
+                NewSector::Bytes(rest)
+            }
+            NewSector::Init(_) => self,
         }
     }
 }

@@ -3,13 +3,13 @@ ghost use Rattle.cfb_medium.specs.Bytes.{overwritten};
 ghost use Rattle.cfb_medium.specs.Calls.{Extends, HasCauseSince, IsFaultUnless};
 ghost use Rattle.cfb_medium.specs.Versions.{sector_len};
 ghost use Rattle.cfb_medium.specs.declared.error.Error.TheVariants.{Failed, Full, InvalidData};
-ghost use Rattle.cfb_sectors.specs.Initial.{initial};
+ghost use Rattle.cfb_sectors.specs.Initial.{first_bytes};
 ghost use Rattle.cfb_sectors.specs.RollingBack.{RollsBack};
 ghost use Rattle.cfb_sectors.specs.Sectors.{filled_part, greatest_regular, sector_start, sectors_in};
 ghost use Rattle.std.specs.Prelude.{false, length, replicate, true, IfErr, IfOk, IsErrOf, IsTrue, MatchOption, OnErr, OnOk, ◌+◌, ◌<◌, ◌≡◌, ◌≤◌, ◌↔◌, ◌⊎◌, ◌||◌, ◌^◌};
 
 use crate::consts::{HEADER_LEN, MAX_REGULAR_SECTOR};
-use crate::{Part, SectorInit};
+use crate::{NewSector, Part, SectorInit};
 use cfb_medium::{Error, Medium, ReadMedium, Version};
 
 // A sector of version 4 has so many bytes.
@@ -318,11 +318,11 @@ impl<F: Medium> Sectors<F> {
 
     /// Appends a sector that holds what it does when it is taken into use, and gives its number. `Full` where no number is left.
     /// After a fault it has failed.
-    pub fn append_sector(&mut self, init: SectorInit) -> Result<u32, Error>
+    pub fn append_sector(&mut self, init: NewSector<'_>) -> Result<u32, Error>
         ensures number { IfOk result (λ n. n ≡ count_of self.old) }
         ensures changes { count_of self.old ≤ greatest_regular
             → Changes (λ b. overwritten b (sector_start (version_of self.old) (count_of self.old))
-            (initial init (sector_len (version_of self.old)))) self.old self.new }
+            (first_bytes init.entry (sector_len (version_of self.old)))) self.old self.new }
         ensures count { has_failed_here self.new ≡ false → count_of self.old ≤ greatest_regular
             → count_of self.new ≡ count_of self.old + 1 }
         ensures live { OnOk result (has_failed_here self.new ≡ false) }
@@ -369,15 +369,15 @@ impl<F: Medium> Sectors<F> {
         ensures fault { IfErr result (λ e. (IsFaultUnless ⊥ e × (has_failed_here self.new ≡ true))
             ⊎ (e ≡ Full)) }
     {
-        self.append_sector(SectorInit::Zero)
+        self.append_sector(NewSector::Init(SectorInit::Zero))
     }
 
     /// Fills a sector with what it holds when it is taken into use. `InvalidData` where it isn't there, and then nothing is
     /// changed. After a fault it has failed.
-    pub fn init_sector(&mut self, sector_id: u32, init: SectorInit) -> Result<(), Error>
+    pub fn init_sector(&mut self, sector_id: u32, init: NewSector<'_>) -> Result<(), Error>
         ensures changes { sector_id < count_of self.old
             → Changes (λ b. overwritten b (sector_start (version_of self.old) sector_id)
-            (initial init (sector_len (version_of self.old)))) self.old self.new }
+            (first_bytes init.entry (sector_len (version_of self.old)))) self.old self.new }
         ensures rests { count_of self.old ≤ sector_id → Rests self.old self.new }
         ensures refused { IsErrOf result InvalidData
             ↔ ((has_failed_here self.old ≡ false) × (count_of self.old ≤ sector_id)) }

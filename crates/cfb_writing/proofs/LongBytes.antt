@@ -1,11 +1,12 @@
 -- Bytes and places of chains, told by index.
-use Rattle.std.proofs.Common.{◌≡◌, ℕ, ◌+◌, ◌-◌, ◌*◌, ◌/◌, ◌%◌, ◌<◌, ◌≤◌, List, [], ◌∷◌, ◌++◌, zero, suc, length, take, replicate, get_or, refl, ap, sym, subst, ◌∙◌, ⊎_elim, arith, length-take, length-append}
+use Rattle.std.proofs.Common.{◌≡◌, ℕ, ◌+◌, ◌-◌, ◌*◌, ◌/◌, ◌%◌, ◌<◌, ◌≤◌, List, [], ◌∷◌, ◌++◌, zero, suc, length, drop, take, replicate, get_or, refl, ap, sym, subst, ◌∙◌, ⊎_elim, arith, length-take, length-append}
 use Rattle.std.specs.Prelude.{min}
 use Rattle.std.specs.List.{range_with_len, AllByRecursion}
 use Rattle.std.proofs.lemmas.Bool.Decides.{leb_tells}
-use Rattle.std.proofs.lemmas.List.{ext_get_or, get_or-append_right, get_or-take, get_or_append_left, get_or_past, length-replicate}
+use Rattle.std.proofs.lemmas.List.{append-nil, drop_all, ext_get_or, get_or-append_right, get_or-take, get_or_append_left, get_or_past, length-replicate, length-take-le, take_all}
 use Rattle.std.proofs.lemmas.List.FromFn.{get_or-range_with_len, length-range_with_len}
 use Rattle.cfb_medium.specs.Bytes.{overwritten}
+use Rattle.cfb_medium.proofs.Grown.{inside_written}
 use Rattle.cfb_medium.specs.Versions.{sector_len}
 use Rattle.cfb_medium.specs.declared.version.Version.{Version}
 use Rattle.cfb_medium.specs.declared.version.Version.TheVariants.{V3, V4}
@@ -13,7 +14,7 @@ use Rattle.cfb_chains.specs.Behind.{AreWhole}
 use Rattle.cfb_chains.proofs.ChainWriting.{length_within, split}
 use Rattle.cfb_chains.proofs.Overwriting.{get_before, get_behind, get_written}
 use Rattle.cfb_owned.specs.Chains.{place_of}
-use Rattle.cfb_sectors.specs.Copies.{copies}
+use Rattle.cfb_owned.proofs.FrontWritten.{all_at}
 use Rattle.cfb_sectors.specs.Sectors.{joined, places, sector, sector_start}
 use Rattle.cfb_writing.specs.Streams.{resized}
 use Rattle.cfb_mini.proofs.Padded.{get_padded, zero_at, zeros}
@@ -22,11 +23,6 @@ use Rattle.cfb_mini.proofs.Padded.{get_padded, zero_at, zeros}
 pub all_by_index : (P : ℕ → Type 0) (xs : List ℕ) → ((k : ℕ) → k < length xs → P (get_or xs k 0)) → AllByRecursion P xs
 all_by_index P [] each = tt
 all_by_index P (x ∷ xs) each = (each 0 (omega arith), all_by_index P xs (λ k below. each (suc k) (omega (arith, below))))
-
-pub all_at : (P : ℕ → Type 0) (xs : List ℕ) (k : ℕ) → AllByRecursion P xs → k < length xs → P (get_or xs k 0)
-all_at P [] k all below = absurd (omega (arith, below))
-all_at P (x ∷ xs) zero all below = all.0
-all_at P (x ∷ xs) (suc k) all below = all_at P xs k all.1 (omega (arith, below))
 
 pub get_taken : (xs : List ℕ) (n k : ℕ) → n ≤ k → get_or (take n xs) k 0 ≡ 0
 get_taken xs n k past = get_or_past (take n xs) k 0 (let size = length-take n xs in omega (arith, size, past))
@@ -81,17 +77,6 @@ get_grown old new n count k is below = ap (λ l. get_or l k 0) is ∙ get_padded
 
 pub get_zeros : (old new : List ℕ) (n count k : ℕ) → new ≡ take n old ++ replicate count 0 → n ≤ k → get_or new k 0 ≡ 0
 get_zeros old new n count k is past = ap (λ l. get_or l k 0) is ∙ get_padded (take n old) count k ∙ get_taken old n k past
-
-zeros_more : (m n : ℕ) → zeros m ++ zeros n ≡ zeros (m + n)
-zeros_more m n = ext_get_or 0 (zeros m ++ zeros n) (zeros (m + n))
-    (let one = length-append (zeros m) (zeros n) in let two = length-replicate {A = ℕ} m 0 in let three = length-replicate {A = ℕ} n 0 in let four = length-replicate {A = ℕ} (m + n) 0 in omega (arith, one, two, three, four))
-    (λ k below. get_padded (zeros m) n k ∙ zero_at m k ∙ sym (zero_at (m + n) k))
-
--- sectors of zeros
-pub copies_zero : (count len : ℕ) → copies count (zeros len) ≡ zeros (count * len)
-copies_zero zero len = ap zeros (let none : 0 ≡ 0 * len = omega arith in none)
-copies_zero (suc count) len =
-    ap (λ l. zeros len ++ l) (copies_zero count len) ∙ zeros_more len (count * len) ∙ ap zeros (let same : len + count * len ≡ suc count * len = omega arith in same)
 
 -- the front of a chain has the front of its bytes
 pub joined_front : (v : Version) (b ids : List ℕ) (n : ℕ) → joined v b (take n ids) ≡ take (n * sector_len v) (joined v b ids)
@@ -187,18 +172,33 @@ place_kept v old new more n k is below there =
     within : (i n o t : ℕ) → t ≡ min n o → i < n → i < o → i < t
     within i n o t size below there = omega (arith, size, below, there)
 
-pub place_new : (v : Version) (bytes front new more : List ℕ) (k : ℕ) → new ≡ front ++ more → AreWhole v bytes more → length front ≤ k / sector_len v → k / sector_len v < length new → place_of v new k < length bytes
-place_new v bytes front new more k is whole past below =
-    let i = k / sector_len v in
-    let size = ap length is ∙ length-append front more in
-    let inside : i - length front < length more = lower i (length front) (length more) (length new) size past below in
-    let at : get_or new i 0 ≡ get_or more (i - length front) 0 = ap (λ l. get_or l i 0) is ∙ get_or-append_right front more (length front) i 0 refl past in
-    let there = all_at (λ n. sector_start v n + sector_len v ≤ length bytes) more (i - length front) whole inside in
-    let rest = (split v k).1 in
-    subst (λ x. sector_start v x + k % sector_len v < length bytes) (sym at) (upper (sector_start v (get_or more (i - length front) 0)) (sector_len v) (k % sector_len v) (length bytes) there rest)
-  where
-    lower : (i f m n : ℕ) → n ≡ f + m → f ≤ i → i < n → i - f < m
-    lower i f m n size past below = omega (arith, size, past, below)
+-- bytes that are written from a place in others on to their end
+pub resized_whole : (xs : List ℕ) (n : ℕ) → length xs ≡ n → resized n xs ≡ xs
+resized_whole xs n size =
+    let none : n - length xs ≡ 0 = omega (arith, size) in
+    ap (λ k. take n xs ++ replicate k 0) none ∙ append-nil (take n xs) ∙ take_all n xs (omega (arith, size))
 
-    upper : (s l r b : ℕ) → s + l ≤ b → r < l → s + r < b
-    upper s l r b there rest = omega (arith, there, rest)
+pub written_on : (x0 x1 zeros content bytes : List ℕ) (at size len : ℕ) → x1 ≡ overwritten (x0 ++ zeros) at bytes → content ≡ take size x0 → size ≤ length x0 → at ≤ size → size ≤ len → len ≡ at + length bytes
+    → (k : ℕ) → k < len → get_or x1 k 0 ≡ get_or (overwritten (resized len content) at bytes) k 0
+written_on x0 x1 zeros content bytes at size len is was fits from longer end k below =
+    ap (λ l. get_or l k 0) is ∙ ⊎_elim
+    (λ past.
+    let same : at + (k - at) ≡ k = omega (arith, past.1) in
+    let inside : k - at < length bytes = omega (arith, past.1, below, end) in
+    ap (λ i. get_or (overwritten (x0 ++ zeros) at bytes) i 0) (sym same) ∙ get_written (x0 ++ zeros) at bytes (k - at) inside
+    ∙ sym (get_written (resized len content) at bytes (k - at) inside) ∙ ap (λ i. get_or (overwritten (resized len content) at bytes) i 0) same)
+    (λ front.
+    let short : k < size = omega (arith, front.1, from) in
+    let kept : length content ≡ size = ap length was ∙ length-take-le size x0 fits in
+    let there : k < length (take len content) = let all = length-take len content in omega (arith, all, kept, short, below) in
+    get_before (x0 ++ zeros) at bytes k front.1 ∙ get_or_append_left x0 zeros 0 k (omega (arith, short, fits))
+    ∙ sym (get_or-take size x0 k 0 short) ∙ ap (λ l. get_or l k 0) (sym was) ∙ sym (get_or-take len content k 0 below)
+    ∙ sym (get_or_append_left (take len content) (replicate (len - length content) 0) 0 k there) ∙ sym (get_before (resized len content) at bytes k front.1))
+    (leb_tells at k)
+
+-- bytes that are written over as many
+pub over_whole : (old xs : List ℕ) → length old ≡ length xs → overwritten old 0 xs ≡ xs
+over_whole old [] size = sym (take_all 0 old (omega (arith, size)))
+over_whole old (x ∷ xs) size =
+    let none : drop (0 + length (x ∷ xs)) old ≡ [] = drop_all (0 + length (x ∷ xs)) old (omega (arith, size)) in
+    sym (inside_written old 0 (x ∷ xs) (omega arith) (omega (arith, size))) ∙ ap (λ l. (x ∷ xs) ++ l) none ∙ append-nil (x ∷ xs)

@@ -157,3 +157,11 @@ module _ {F : Type 0} {g : Ghosts F} (old : MiniAllocator F g) (b : Allocator F 
     mini_places = mini_places_carried key (live_of old) (live_of (with_allocator old b)) who now (omega arith) carries;
     entries = refl;
   }
+
+-- it kept its sectors, and took in others
+module _ {F : Type 0} {g : Ghosts F} where
+  pub moves_more : (old : MiniAllocator F g) (b : Allocator F g) (who : Owners) (id : ℕ) (m : Stands old who) → GoesOn (allocator_of old) b → has_failed_here b ≡ false → IsKeptOver old → (ids more later : List ℕ) → who.sectors (stream_owner id) ≡ ids
+      → later ≡ ids ++ more → Becomes (sector (version_of (allocator_of old))) [] ids more later (seen_of (allocator_of old)) (seen_of b) → MovesLong id later old (with_allocator old b) who
+  moves_more old b who id m goes live kept ids more later is all becomes =
+      moves_long old b who id m goes live kept more later (subst (λ l. Becomes (sector (version_of (allocator_of old))) [] l more later (seen_of (allocator_of old)) (seen_of b)) (sym is) becomes)
+      (λ n none one. absurd (one (subst (λ l. IsNoneOf l n) (all ∙ ap (λ l. l ++ more) (sym is)) none)))

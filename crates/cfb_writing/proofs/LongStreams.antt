@@ -1,20 +1,23 @@
 -- A long stream that became longer or shorter.
-use Rattle.std.proofs.Common.{◌≡◌, ℕ, ◌+◌, ◌*◌, ◌<◌, ◌≤◌, inl, List, length, take, get_or, ap, sym, subst, ◌∙◌, arith, length-take}
+use Rattle.std.proofs.Common.{◌≡◌, ℕ, ◌+◌, ◌*◌, ◌<◌, ◌≤◌, ◌++◌, ⊎_elim, inl, List, length, take, get_or, ap, sym, subst, ◌∙◌, arith, length-take}
 use Rattle.std.specs.List.{AllByRecursion}
+use Rattle.std.proofs.lemmas.Bool.Decides.{leb_tells}
+use Rattle.std.proofs.lemmas.List.{take_all}
 use Rattle.cfb_chains.specs.Behind.{AreWhole}
 use Rattle.cfb_chains.specs.LinkViews.{ids_of}
 use Rattle.cfb_chains.specs.Positions.{sectors_for, tail_in}
 use Rattle.cfb_chains.specs.declared.links.Links.{Links}
-use Rattle.cfb_chains.proofs.ChainWriting.{length-joined}
+use Rattle.cfb_chains.proofs.ChainWriting.{length_within, length-joined, split_below}
 use Rattle.cfb_fat.specs.Tables.{bytes_of, version_of}
 use Rattle.cfb_live.specs.Live.{live_of}
 use Rattle.cfb_live.proofs.Strays.{strays_then}
+use Rattle.cfb_medium.specs.Bytes.{overwritten}
 use Rattle.cfb_medium.specs.Versions.{sector_len}
 use Rattle.cfb_medium.specs.declared.medium.ReadMedium.{Ghosts}
 use Rattle.cfb_medium.specs.declared.version.Version.{Version}
 use Rattle.cfb_mini.specs.Views.{allocator_of}
 use Rattle.cfb_mini.specs.declared.mini_allocator.MiniAllocator.{MiniAllocator}
-use Rattle.cfb_owned.specs.Chains.{content_of, place_of, Overwrites, Resizes}
+use Rattle.cfb_owned.specs.Chains.{content_of, place_of, Overwrites, Resizes, Writes}
 use Rattle.cfb_owners.specs.Held.{HasStream, EntryLiesIn}
 use Rattle.cfb_owners.specs.Owners.{first_of, stream_owner, Owners}
 use Rattle.cfb_sectors.specs.Header.{mini_cutoff}
@@ -23,7 +26,7 @@ use Rattle.cfb_sectors.specs.declared.initial.SectorInit.TheVariants.{Zero}
 use Rattle.cfb_tree.specs.Directory.{Entry}
 use Rattle.cfb_writing.specs.Moving.{Houses, MovesLong}
 use Rattle.cfb_writing.specs.Streams.{resized}
-use Rattle.cfb_writing.proofs.LongBytes.{length-resized, place_there, places_there, resized_is}
+use Rattle.cfb_writing.proofs.LongBytes.{length-resized, place_kept, place_there, places_there, resized_is, resized_whole, written_on}
 use Rattle.cfb_writing.proofs.Others.{others_then}
 use Rattle.cfb_writing.proofs.Stretching.{cut_bytes, cut_places, grown_bytes, lengthened_bytes, lengthened_places, room_for, stretched_bytes, stretched_places, tight_for, whole_for}
 use Rattle.cfb_mini.proofs.Padded.{zeros}
@@ -85,23 +88,23 @@ module _ {F : Type 0} {g : Ghosts F} where
 
     module _ (len : ℕ) (more_up : mini_cutoff ≤ len) where
       -- the stream has its bytes in another chain, where that has each at its index, and in the file
-      housed : (m : MiniAllocator F g) (links : Links) (long : MovesLong id (ids_of links) m0 m who) → length (ids_of links) ≡ sectors_for v len
-          → ((k : ℕ) → k < len → get_or (content_of (allocator_of m) links) k 0 ≡ get_or content k 0) → ((k : ℕ) → k < len → place_of v (ids_of links) k < length (bytes_of (allocator_of m)))
-          → (it : Houses id (first_of (ids_of links)) (resized len content) m0 m who) × (it.moves.now.sectors (stream_owner id) ≡ ids_of links)
+      housed : (held : List ℕ) (m : MiniAllocator F g) (links : Links) (long : MovesLong id (ids_of links) m0 m who) → length (ids_of links) ≡ sectors_for v len
+          → ((k : ℕ) → k < len → get_or (content_of (allocator_of m) links) k 0 ≡ get_or held k 0) → ((k : ℕ) → k < len → place_of v (ids_of links) k < length (bytes_of (allocator_of m)))
+          → (it : Houses id (first_of (ids_of links)) (resized len held) m0 m who) × (it.moves.now.sectors (stream_owner id) ≡ ids_of links)
       unfolding live_of
-      housed m links long count bytes_at places_at =
+      housed held m links long count bytes_at places_at =
           let b = bytes_of (allocator_of m) in
           let u = version_of (allocator_of m) in
           let same : u ≡ v = version_then id (ids_of links) m0 m who long in
           let room : len ≤ length (ids_of links) * sector_len v = subst (λ n. len ≤ n * sector_len v) (sym count) (room_for v len) in
           let whole : len ≤ length (content_of (allocator_of m) links) = subst (λ n. len ≤ n) (sym (length-joined u b (ids_of links))) (subst (λ w. len ≤ length (ids_of links) * sector_len w) (sym same) room) in
-          let bytes_then : resized len content ≡ take len (content_of (allocator_of m) links) = resized_is (content_of (allocator_of m) links) content len whole bytes_at in
+          let bytes_then : resized len held ≡ take len (content_of (allocator_of m) links) = resized_is (content_of (allocator_of m) links) held len whole bytes_at in
           let places_then : AllByRecursion (λ p. p < length b) (take len (places u (ids_of links))) =
           subst (λ w. AllByRecursion (λ p. p < length b) (take len (places w (ids_of links)))) (sym same) (places_there v (ids_of links) (length b) len room places_at) in (
             record {
               moves = long.moves;
               has = λ f start size_is.
-                  let new : f.size ≡ len = size_is ∙ length-resized content len in
+                  let new : f.size ≡ len = size_is ∙ length-resized held len in
                   record {
                     short = λ below. absurd (let few = below in omega (arith, few, new, more_up));
                     long = λ most. (
@@ -125,7 +128,7 @@ module _ {F : Type 0} {g : Ghosts F} where
       cut m1 links1 few long1 grown1 count1 =
           let b0 = bytes_of (allocator_of m0) in
           let b1 = bytes_of (allocator_of m1) in
-          housed m1 links1 long1 count1
+          housed content m1 links1 long1 count1
           (cut_bytes (content_of (allocator_of m0) links0) (content_of (allocator_of m1) links1) content _ _ size len (grown_bytes (sectors_for v len) (allocator_of m0) (allocator_of m1) links0 links1 grown1) content_was (room_for v len) few)
           (cut_places v (ids_of links0) (ids_of links1) grown1.more b0 b1 (sectors_for v len) size len grown1.sectors room_was (room_for v len) few (longer_then id (ids_of links1) m0 m1 who long1) place_was)
 
@@ -140,12 +143,35 @@ module _ {F : Type 0} {g : Ghosts F} where
           let b2 = bytes_of (allocator_of m2) in
           let v1 : version_of (allocator_of m1) ≡ v = version_then id (ids_of links1) m0 m1 who long1 in
           let ends = tight_for v (length (ids_of links0)) size tight in
-          housed m2 links1 (long_then id (ids_of links1) (ids_of links1) m0 m1 m2 who long1 long2) count1
+          housed content m2 links1 (long_then id (ids_of links1) (ids_of links1) m0 m1 m2 who long1 long2) count1
           (lengthened_bytes (content_of (allocator_of m0) links0) (content_of (allocator_of m1) links1) (content_of (allocator_of m2) links1) content _ _ size (tail_in v size) len
           (grown_bytes (sectors_for v len) (allocator_of m0) (allocator_of m1) links0 links1 grown1) over.content content_was (subst (λ n. n ≤ size + tail_in v size) (sym (length-joined v b0 (ids_of links0))) ends) (room_for v len))
           (lengthened_places v (ids_of links0) (ids_of links1) grown1.more b0 b1 b2 (sectors_for v len) size (tail_in v size) len grown1.sectors count1 ends room_was (room_for v len)
           (longer_then id (ids_of links1) m0 m1 who long1) (longer_then id (ids_of links1) m1 m2 long1.moves.now long2) place_was
           (λ k past below. subst (λ u. place_of u (ids_of links1) k < length b2) v1 (over.there k past below)) grown1.whole)
+
+      -- written from a place in it on to its end, where no sector was to spare
+      pub outgrown : (m1 : MiniAllocator F g) (links1 : Links) (at : ℕ) (bytes : List ℕ) → at ≤ size → size ≤ len → len ≡ at + length bytes → (long1 : MovesLong id (ids_of links1) m0 m1 who) → Writes Zero at bytes (allocator_of m0) (allocator_of m1) links0 links1
+          → length (ids_of links1) ≡ sectors_for v len → (it : Houses id (first_of (ids_of links1)) (overwritten (resized len content) at bytes) m0 m1 who) × (it.moves.now.sectors (stream_owner id) ≡ ids_of links1)
+      outgrown m1 links1 at bytes from longer end long1 wrote count1 =
+          let b0 = bytes_of (allocator_of m0) in
+          let b1 = bytes_of (allocator_of m1) in
+          let held = overwritten (resized len content) at bytes in
+          let all : length held ≡ len = length_within (resized len content) bytes at (let whole = length-resized content len in omega (arith, whole, end)) ∙ length-resized content len in
+          let room : size ≤ length (content_of (allocator_of m0) links0) = fits_in size content (content_of (allocator_of m0) links0) content_was (lay.whole ∙ is_size) in
+          subst (λ l. (it : Houses id (first_of (ids_of links1)) l m0 m1 who) × (it.moves.now.sectors (stream_owner id) ≡ ids_of links1)) (resized_whole held len all)
+          (housed held m1 links1 long1 count1
+          (written_on (content_of (allocator_of m0) links0) (content_of (allocator_of m1) links1) _ content bytes at size len wrote.content content_was room from longer end)
+          (λ k below. ⊎_elim
+          (λ past. wrote.there k past.1 (omega (arith, below, end)))
+          (λ front.
+          let short : k < size = omega (arith, front.1, from) in
+          let inside = split_below v k (length (ids_of links0)) (omega (arith, short, room_was)) in
+          let same : place_of v (ids_of links0) k ≡ place_of v (ids_of links1) k = place_kept v (ids_of links0) (ids_of links1) wrote.more (length (ids_of links0)) k (wrote.sectors ∙ ap (λ l. l ++ wrote.more) (sym (take_all (length (ids_of links0)) (ids_of links0) (omega arith)))) inside inside in
+          let was = place_was k short in
+          let later = longer_then id (ids_of links1) m0 m1 who long1 in
+          subst (λ p. p < length b1) same (omega (arith, was, later)))
+          (leb_tells at k)))
 
       -- cut to its bytes, and then of another length
       pub stretched : (m1 m2 m3 : MiniAllocator F g) (links1 links3 : Links)
@@ -164,7 +190,7 @@ module _ {F : Type 0} {g : Ghosts F} where
           let first = longer_then id (ids_of links1) m0 m1 who long1 in
           let second = longer_then id (ids_of links1) m1 m2 long1.moves.now long2 in
           let both = long_then id (ids_of links1) (ids_of links1) m0 m1 m2 who long1 long2 in
-          housed m3 links3 (long_then id (ids_of links1) (ids_of links3) m0 m2 m3 who both long3) count3
+          housed content m3 links3 (long_then id (ids_of links1) (ids_of links3) m0 m2 m3 who both long3) count3
           (stretched_bytes (content_of (allocator_of m0) links0) (content_of (allocator_of m1) links1) (content_of (allocator_of m2) links1) (content_of (allocator_of m3) links3) content _ _ size (tail_in v size) _ _ len
           (grown_bytes (sectors_for v size) (allocator_of m0) (allocator_of m1) links0 links1 grown1) over.content (grown_bytes (sectors_for v len) (allocator_of m2) (allocator_of m3) links1 links3 grown3) content_was (whole_for v size)
           (subst (λ u. len ≤ sectors_for v len * sector_len u) (sym v2) (room_for v len)))

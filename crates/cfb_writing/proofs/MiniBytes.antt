@@ -17,7 +17,8 @@ use Rattle.cfb_mini.proofs.Parts.{parts_are}
 use Rattle.cfb_owned.specs.Chains.{place_of}
 use Rattle.cfb_sectors.specs.Sectors.{places, sector_start}
 use Rattle.cfb_writing.specs.Streams.{resized}
-use Rattle.cfb_writing.proofs.LongBytes.{all_at, all_by_index, get_places, length-places, length-resized, place_kept}
+use Rattle.cfb_writing.proofs.LongBytes.{all_by_index, get_places, length-places, length-resized, place_kept}
+use Rattle.cfb_owned.proofs.FrontWritten.{all_at}
 use Rattle.cfb_mini.proofs.Padded.{joined_padded, zeros}
 
 -- the parts of 64 bytes of a list, at these mini sectors

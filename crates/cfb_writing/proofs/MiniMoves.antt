@@ -45,7 +45,8 @@ use Rattle.cfb_siblings.proofs.Frames.{set_found}
 use Rattle.cfb_tree.specs.Directory.{kind_root, Entry}
 use Rattle.cfb_tree.proofs.OneContent.{Some_same}
 use Rattle.cfb_writing.specs.Moving.{CarriesOthers, Moves, MovesRoot}
-use Rattle.cfb_writing.proofs.LongBytes.{all_at, all_by_index, length-places}
+use Rattle.cfb_writing.proofs.LongBytes.{all_by_index, length-places}
+use Rattle.cfb_owned.proofs.FrontWritten.{all_at}
 use Rattle.cfb_writing.proofs.LongChains.{lost_free}
 use Rattle.cfb_writing.proofs.MiniBytes.{parts_front, parts_of, places_both}
 use Rattle.cfb_mini.proofs.Padded.{joined_padded}

@@ -29,7 +29,8 @@ use Rattle.cfb_sectors.specs.Sectors.{free, greatest_regular}
 use Rattle.cfb_sectors.specs.declared.initial.SectorInit.TheVariants.{Zero}
 use Rattle.cfb_writing.specs.Sizes.{sectors_of_stream}
 use Rattle.cfb_writing.specs.Streams.{IsPastNumbers, LacksRoom, LacksSectorsFor}
-use Rattle.cfb_writing.proofs.LongBytes.{copies_zero, get_grown, get_taken, get_zeros, joined_front, place_kept, place_new}
+use Rattle.cfb_writing.proofs.LongBytes.{get_grown, get_taken, get_zeros, joined_front, place_kept}
+use Rattle.cfb_owned.proofs.FrontWritten.{place_new, zeros_joined}
 use Rattle.cfb_mini.proofs.Longer.{lacks_rest}
 use Rattle.cfb_mini.proofs.Padded.{zero_at, zeros}
 
@@ -75,7 +76,7 @@ module _ {F : Type 0} {g : Ghosts F} where
   unfolding initial
   grown_bytes count a b before after r =
       let v = version_of a in
-      r.content ∙ ap (λ l. l ++ copies (length r.more) (zeros (sector_len v))) (joined_front v (bytes_of a) (ids_of before) count) ∙ ap (λ l. take (count * sector_len v) (content_of a before) ++ l) (copies_zero (length r.more) (sector_len v))
+      r.content ∙ ap (λ l. l ++ copies (length r.more) (zeros (sector_len v))) (joined_front v (bytes_of a) (ids_of before) count) ∙ ap (λ l. take (count * sector_len v) (content_of a before) ++ l) (zeros_joined (length r.more) (sector_len v))
 
 -- zeros that were written over
 get_zeroed : (xs : List ℕ) (size tail k : ℕ) → size ≤ k → k < size + tail → get_or (overwritten xs size (zeros tail)) k 0 ≡ 0

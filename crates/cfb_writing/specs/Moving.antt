@@ -1,5 +1,5 @@
 -- What a live file is while the sectors of one of its streams are in change: all others stay.
-use Rattle.std.specs.Prelude.{◌≡◌, ℕ, ◌<◌, ◌≤◌, ◌⊎◌, List, [], length, slice_get, slice_set, take, Some}
+use Rattle.std.specs.Prelude.{◌≡◌, ℕ, ◌+◌, ◌<◌, ◌≤◌, ◌⊎◌, List, [], length, slice_get, slice_set, take, Some}
 use Rattle.std.specs.List.{AllByRecursion}
 use Rattle.cfb_chains.specs.LinkViews.{ids_of, links_version}
 use Rattle.cfb_chains.specs.declared.links.Links.{Links}
@@ -8,6 +8,7 @@ use Rattle.cfb_live.specs.Freeing.{Stands}
 use Rattle.cfb_live.specs.Live.{live_of}
 use Rattle.cfb_live.specs.Strays.{StaysTidy}
 use Rattle.cfb_fat.specs.Tables.{bytes_of, version_of}
+use Rattle.cfb_medium.specs.Bytes.{overwritten}
 use Rattle.cfb_medium.specs.Versions.{stream_len_mask}
 use Rattle.cfb_medium.specs.declared.medium.ReadMedium.{Ghosts}
 use Rattle.cfb_mini.specs.Changing.{ChangesDirectory, HasOwners}
@@ -100,6 +101,12 @@ module _ {F : Type 0} {g : Ghosts F} where
   Stretches size len old new before after = (who : Owners) (id : ℕ) (e : Entry) (content : List ℕ) → Stands old who → HasStream (live_of old) who id e content
       → e.size ≡ size → mini_cutoff ≤ size → mini_cutoff ≤ len → who.sectors (stream_owner id) ≡ ids_of before → links_version before ≡ version_of (allocator_of old)
       → (it : Houses id (first_of (ids_of after)) (resized len content) old new who) × (it.moves.now.sectors (stream_owner id) ≡ ids_of after)
+
+  -- a long stream of `size` bytes in the sectors `before` has then these bytes from a place on to its end, in `after`
+  abbrev pub Outgrows : ℕ → ℕ → List ℕ → MiniAllocator F g → MiniAllocator F g → Links → Links → Type 0
+  Outgrows size at bytes old new before after = (who : Owners) (id : ℕ) (e : Entry) (content : List ℕ) → Stands old who → HasStream (live_of old) who id e content
+      → e.size ≡ size → mini_cutoff ≤ size → who.sectors (stream_owner id) ≡ ids_of before → links_version before ≡ version_of (allocator_of old)
+      → (it : Houses id (first_of (ids_of after)) (overwritten (resized (at + length bytes) content) at bytes) old new who) × (it.moves.now.sectors (stream_owner id) ≡ ids_of after)
 
   -- a short stream of `size` bytes in the mini sectors `before` has then its first bytes, `len` with zeros behind them, in `after`
   abbrev pub StretchesShort : ℕ → ℕ → MiniAllocator F g → MiniAllocator F g → MiniLinks → MiniLinks → Type 0

@@ -92,6 +92,12 @@ module _ {F : Type 0} {g : Ghosts F} where
   abbrev pub IsPast : ℕ → StreamLinks → ℕ → ℕ → MiniAllocator F g → Type 0
   IsPast id links at count it = (letters : Letters) (tree : Tree) (path : Path) (content : List ℕ) → IsStreamAt letters it tree path id content → AreLinksOf id links it → length content < at + count
 
+  -- Bytes from a place on, which end there, can be written to the stream of entry `id` and these sectors in one go: they begin in it and
+  -- end at its end or behind it, and its chain has just the sectors that it needs; or they are all that it has then, 4096 or more.
+  abbrev pub CanOutgrow : ℕ → StreamLinks → ℕ → ℕ → MiniAllocator F g → Type 0
+  CanOutgrow id (Long links) at end it = (e : Entry) → slice_get (entries_held (directory_of it)) id ≡ Some e → (at ≤ e.size) × (e.size ≤ end) × (length (ids_of links) ≡ sectors_for (links_version links) e.size)
+  CanOutgrow id (Short minis) at end it = (at ≡ 0) × (mini_cutoff ≤ end)
+
   -- numbers of sectors are missing, in the FAT or in a chain, for the further ones that a stream of `size` bytes needs to have `len`,
   -- which are at least 4096 ([MS-CFB] 2.2 to 2.4)
   unfoldable pub LacksSectorsFor : MiniAllocator F g → ℕ → ℕ → Type 0

@@ -27,7 +27,7 @@ use std::alloc::Global;
 // Gives the short stream that has this entry and these mini sectors these bytes, and zeros behind them up to so many, at least 4096:
 // it takes sectors, and then its mini sectors are free. So nothing is changed where numbers of sectors or memory are missing. After
 // an error nothing is changed, or the file has failed.
-fn move_to_sectors<F: Medium>(
+pub(crate) fn move_to_sectors<F: Medium>(
     alloc: Global,
     mini: &mut MiniAllocator<F>,
     id: u32,

@@ -8,7 +8,7 @@ ghost use Rattle.cfb_live.specs.Freeing.{Stands};
 ghost use Rattle.cfb_medium.specs.declared.error.Error.TheVariants.{Full, InvalidData, InvalidInput};
 ghost use Rattle.cfb_mini.specs.Changing.{KeepsOwners};
 ghost use Rattle.cfb_mini.specs.Views.{allocator_of};
-ghost use Rattle.cfb_owned.specs.Chains.{len_of, GoesOn, LacksSectors, Overwrites, Resizes};
+ghost use Rattle.cfb_owned.specs.Chains.{len_of, GoesOn, LacksSectors, Overwrites, Resizes, TakesBytes};
 ghost use Rattle.cfb_owners.specs.Owners.{stream_owner, Owners};
 ghost use Rattle.cfb_sectors.specs.declared.initial.SectorInit.TheVariants.{Zero};
 ghost use Rattle.cfb_writing.specs.Moving.{IsNoChain, MovesLong, Stretches};
@@ -18,7 +18,7 @@ use crate::overwriting::overwrite_long;
 use cfb_chains::Links;
 use cfb_medium::{Error, Medium};
 use cfb_mini::MiniAllocator;
-use cfb_owned::set_chain_len;
+use cfb_owned::{lengthen_chain, set_chain_len};
 use cfb_sectors::SectorInit;
 
 // The bytes of a sector, at most.
@@ -53,6 +53,38 @@ pub(crate) fn resize_chain<F: Medium>(
         (allocator_of mini.new) }
 {
     set_chain_len(mini.allocator_mut(), links, len, SectorInit::Zero)
+}
+
+// Gives a long stream as many sectors as so many bytes need, where it has no more; those that it takes in hold these bytes in order, and
+// zeros behind them. After an error nothing is changed, or it has failed.
+pub(crate) fn take_in<F: Medium>(
+    mini: &mut MiniAllocator<F>,
+    links: &mut Links,
+    len: u64,
+    bytes: &[u8],
+) -> Result<(), Error>
+    requires { length (ids_of links.old) ≤ sectors_for (links_version links.old) len }
+    ensures taken { OnOk result ((who : Owners) (id : ℕ) → Stands mini.old who
+        → who.sectors (stream_owner id) ≡ ids_of links.old
+        → links_version links.old ≡ version_of (allocator_of mini.old)
+        → MovesLong id (ids_of links.new) mini.old mini.new who
+        × TakesBytes bytes.now (allocator_of mini.old) (allocator_of mini.new) links.old links.new) }
+    ensures refused { IsErrOf result InvalidData → IsNoChain links.old mini.old }
+    ensures size { OnOk result (length (ids_of links.new)
+        ≡ sectors_for (links_version links.old) len) }
+    ensures kept { OnErr result (has_failed_here (allocator_of mini.new) ≡ false
+        → ids_of links.new ≡ ids_of links.old) }
+    ensures version { links_version links.new ≡ links_version links.old }
+    ensures rests { OnErr result ((has_failed_here (allocator_of mini.new) ≡ true)
+        ⊎ KeepsOwners mini.old mini.new) }
+    ensures full { IsErrOf result Full → has_failed_here (allocator_of mini.new) ≡ false
+        → LacksSectors (allocator_of mini.old) links.old
+        (sectors_for (links_version links.old) len) }
+    ensures goes_on { GoesOn (allocator_of mini.old) (allocator_of mini.new) }
+    ensures answers { FatAnswers IsInvalidOrFull result (allocator_of mini.old)
+        (allocator_of mini.new) }
+{
+    lengthen_chain(mini.allocator_mut(), links, len, bytes)
 }
 
 // Writes zeros behind so many bytes of a long stream, up to the end of the sector in which they end. After an error nothing is

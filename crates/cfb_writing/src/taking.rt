@@ -15,8 +15,7 @@ ghost use Rattle.cfb_writing.specs.Moving.{TakesLong, TakesShort};
 ghost use Rattle.cfb_writing.specs.Streams.{resized, LacksSectorsFor};
 ghost use Rattle.std.specs.Prelude.{[], false, length, true, IfOk, IsErrOf, OnErr, OnOk, ℕ, ◌<◌, ◌≡◌, ◌≤◌, ◌⊎◌};
 
-use crate::lengths::resize_chain;
-use crate::overwriting::overwrite_long;
+use crate::lengths::take_in;
 use cfb_chains::Links;
 use cfb_medium::{Error, Medium};
 use cfb_mini::{MiniAllocator, MiniLinks};
@@ -55,14 +54,10 @@ pub(crate) fn take_long<F: Medium>(
         Ok(links) => links,
         Err(error) => return Err(error),
     };
-    if let Err(error) = resize_chain(mini, &mut links, len) {
-        return Err(error);
+    match take_in(mini, &mut links, len, bytes) {
+        Ok(()) => Ok(links),
+        Err(error) => Err(error),
     }
-    if let Err(error) = overwrite_long(mini, &links, 0, bytes) {
-        mini.fail();
-        return Err(error);
-    }
-    Ok(links)
 }
 
 // Takes mini sectors for a short stream of these bytes that owns none. What it owns besides stays, and its entry is to tell of them

@@ -20,6 +20,6 @@ pub record Stored : Type 0 where
 abbrev pub stored_keys : Stored → List (List Datum)
 stored_keys s = keys_of s.pool.pool (with_rows s.heading s.rows)
 
--- no key stands twice, and the set has just these; there is none where one stands twice (so too)
+-- no key stands twice, and the set has just these; there is none where one stands twice (a step of private functions)
 abbrev pub AreOrdered : List (List Datum) → Option (BTreeSet (Vec BorrowedValue Global)) → Type 0
 AreOrdered keys found = MatchOption found (are_distinct keys ≡ false) (λ set. (are_distinct keys ≡ true) × HaveSameKeys keys (keys_said set.keys))

@@ -116,8 +116,8 @@ impl Insert {
         self.prepared_rows(alloc, stored)
     }
 
-    /// The rows of a table with the new ones behind them, and the pool takes the changes over. The same is refused. After an error,
-    /// `Memory` among them, it is as it was.
+    /// The rows of a table with the new ones behind them, and the pool takes the changes over. Refused as by `prepare`. After an
+    /// error, `Memory` among them, it is as it was.
     pub fn apply(
         &self,
         alloc: Global,
@@ -136,12 +136,11 @@ impl Insert {
         ensures err { OnErr result (pool.new ≡ pool.old) }
     {
         let stored = StoredRows::new(alloc, table, rows, pool)?;
-        let (mut new_rows, changes) = match self.prepare(alloc, &stored) {
+        let (new_rows, changes) = match self.prepare(alloc, &stored) {
             Err(error) => return Err(error),
             Ok(prepared) => prepared,
         };
-        let mut rows = stored.into_rows();
-        rows.append(&mut new_rows)?;
+        let rows = stored.with(new_rows)?;
         match pool.adopt(changes) {
             Err(error) => Err(error),
             Ok(()) => Ok(rows),

@@ -1,6 +1,6 @@
 //! Rows of a table in memory, with their keys in order.
 ghost use Rattle.cfb_medium.specs.declared.error.Error.TheVariants.{Memory};
-ghost use Rattle.std.specs.Prelude.{◌≡◌, false, true, IfErr, IfOk, MatchOption};
+ghost use Rattle.std.specs.Prelude.{◌≡◌, ◌++◌, false, true, IfErr, IfOk, MatchOption};
 ghost use Rattle.msi_changes.specs.Keys.{HaveSameKeys, keys_said};
 ghost use Rattle.msi_changes.specs.Stored.{stored_keys};
 ghost use Rattle.msi_columns.specs.Held.{columns_of};
@@ -96,10 +96,14 @@ impl<'a> StoredRows<'a> {
         self.pool
     }
 
-    /// The rows, in order.
-    pub fn into_rows(self) -> Vec<Vec<ValueRef>>
-        ensures { rows_held result.items ≡ self.entry.rows }
+    /// The rows with these behind them. The one error is `Memory`, which spends both.
+    pub fn with(self, new_rows: Vec<Vec<ValueRef>>) -> Result<Vec<Vec<ValueRef>>, Error>
+        ensures ok { IfOk result (λ all. rows_held all.items
+            ≡ self.entry.rows ++ rows_held new_rows.items) }
+        ensures err { IfErr result (λ e. e ≡ Memory) }
     {
-        self.rows
+        let (mut rows, mut new_rows) = (self.rows, new_rows);
+        rows.append(&mut new_rows)?;
+        Ok(rows)
     }
 }

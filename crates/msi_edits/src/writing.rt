@@ -1,7 +1,7 @@
 //! The rows that a query leaves a table, as bytes of its stream.
 ghost use Rattle.cfb_medium.specs.declared.error.Error.TheVariants.{Memory};
 ghost use Rattle.std.specs.List.{list_all};
-ghost use Rattle.std.specs.Prelude.{◌≡◌, ◌⊎◌, ◌++◌, length, true, IfErr, IfOk, MatchResult};
+ghost use Rattle.std.specs.Prelude.{◌≡◌, ◌⊎◌, length, true, IfErr, IfOk, MatchResult};
 ghost use Rattle.std.specs.Rc.{rc_value};
 ghost use Rattle.msi_changes.specs.Prepared.{AreChangesFor};
 ghost use Rattle.msi_changes.specs.Said.{delete_condition, insert_rows, update_condition, update_sets};
@@ -68,27 +68,13 @@ fn inserted_rows(
         return Err(Error::InvalidInput);
     }
     let values = with_new_values(alloc, values, insert.new_rows())?;
-    let all = with_new_rows(stored.into_rows(), new_rows)?;
+    let all = stored.with(new_rows)?;
     have_places(&all);
     let rows = rows_in_order(alloc, table.columns(), values, all)?;
     match bytes_of_table(alloc, table, rows) {
         Err(error) => Err(error),
         Ok(bytes) => Ok((bytes, changes)),
     }
-}
-
-// Stored rows with new ones behind them.
-fn with_new_rows(
-    rows: Vec<Vec<ValueRef>>,
-    new_rows: Vec<Vec<ValueRef>>,
-) -> Result<Vec<Vec<ValueRef>>, Error>
-    ensures ok { IfOk result (λ all. rows_held all.items
-        ≡ rows_held rows.items ++ rows_held new_rows.items) }
-    ensures err { IfErr result (λ e. e ≡ Memory) }
-{
-    let (mut rows, mut new_rows) = (rows, new_rows);
-    rows.append(&mut new_rows)?;
-    Ok(rows)
 }
 
 // The same of a delete.

@@ -6,7 +6,7 @@ use cfb::{CompoundFile, OpenOptions};
 use cfb_medium::{Error, Version};
 use cfb_tree::CaseMapper;
 use std::alloc::Global;
-use test_support::{FailingMedium, Row, Subject, bytes_at, part_of};
+use test_support::{FailingMedium, Row, Subject, bytes_at, part_of, yes_or_no};
 
 /// A compound file in memory, under the letters of ASCII.
 #[derive(Drop)]
@@ -58,6 +58,15 @@ impl FileInMemory {
         Ok(format!(in alloc; "{len} bytes")?)
     }
 
+    // Whether fewer bytes than so many were written since the file was made or read from a row.
+    fn written_below(&mut self, alloc: Global, row: &Row) -> Result<String, Error> {
+        let medium = self.take_medium()?;
+        let limit = u64::try_from(row.number(1)).unwrap_or(0);
+        let told = yes_or_no(alloc, medium.written() < limit);
+        self.file = Some(open_leniently(alloc, medium).map_err(|refused| refused.1)?);
+        told
+    }
+
     // What is answered of the file's bytes.
     fn own_bytes(&mut self, alloc: Global, row: &Row) -> Result<String, Error> {
         let bytes = self.take_medium()?.into_bytes();
@@ -76,6 +85,7 @@ impl Subject for FileInMemory {
             }
             "again" | "at most" => self.reopen(alloc, row)?,
             "copy" => return self.copy(alloc),
+            "written below" => return self.written_below(alloc, row),
             "part" | "whole" | "open fails" | "fails" => return self.own_bytes(alloc, row),
             _ => {}
         }

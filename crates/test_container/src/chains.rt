@@ -5,7 +5,7 @@ use cfb_fat::{Allocator, read_difat, use_a_chain};
 use cfb_medium::{Error, MemoryMedium, Version};
 use cfb_owned::{free_chain, overwrite_chain, read_chain, set_chain_len, write_chain, write_word};
 use cfb_sectors::{
-    END_OF_CHAIN, FREE_SECTOR, Header, Sector, SectorInit, Sectors, Validation, u32_at,
+    END_OF_CHAIN, FREE_SECTOR, Header, NewSector, Sector, SectorInit, Sectors, Validation, u32_at,
 };
 use plain::parts_of;
 use serde_json::Value;
@@ -64,7 +64,7 @@ fn new_sectors(alloc: Global) -> Result<String, Error> {
     let mut sectors = Sectors::new(Version::V3, 0, MemoryMedium::new(alloc));
     let (first, second) = (sectors.reserve_sector()?, sectors.reserve_sector()?);
     let count = sectors.num_sectors();
-    sectors.init_sector(0, SectorInit::Difat)?;
+    sectors.init_sector(0, NewSector::Init(SectorInit::Difat))?;
     let part = sectors.seek_to_sector(1)?;
     Sector::new(&mut sectors, part).write(b"some")?;
     let mut border = [0; 4];
@@ -140,8 +140,8 @@ fn change_fat(
 ) -> Result<String, Error> {
     let id = id_at(row, 1);
     let found = match row.call() {
-        "begin" => file.begin_chain(init_of(row.text(1)))?,
-        "extend" => file.extend_chain(id, init_of(row.text(2)))?,
+        "begin" => file.begin_chain(NewSector::Init(init_of(row.text(1))))?,
+        "extend" => file.extend_chain(id, NewSector::Init(init_of(row.text(2))))?,
         "extend by" => {
             let count = usize::try_from(row.number(2)).unwrap_or(usize::MAX);
             file.extend_chain_by(id, count, init_of(row.text(3)))?;

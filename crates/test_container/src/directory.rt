@@ -3,7 +3,7 @@ use crate::chains::{open_sectors, version_at};
 use crate::names::texts_at;
 use cfb_directory::{Directory, EntryChange};
 use cfb_medium::{Error, MemoryMedium, Timestamp};
-use cfb_sectors::{SectorInit, Validation};
+use cfb_sectors::{NewSector, SectorInit, Validation};
 use cfb_tree::{CaseMapper, ObjType};
 use std::alloc::Global;
 use test_support::{Row, Subject, copy_of, part_of, yes_or_no};
@@ -72,7 +72,9 @@ fn of_directory(
             Ok(format!(in alloc; "{id}")?)
         }
         "begin" => {
-            let start = directory.allocator_mut().begin_chain(SectorInit::Zero)?;
+            let start = directory
+                .allocator_mut()
+                .begin_chain(NewSector::Init(SectorInit::Zero))?;
             Ok(format!(in alloc; "{start}")?)
         }
         "strict" | "lenient" | "tell" => {

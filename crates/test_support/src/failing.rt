@@ -30,6 +30,7 @@ pub struct FailingMedium {
     committed: Option<Vec<u8>>,
     fuse: Fuse,
     counts: Counts,
+    written: u64,
 }
 
 impl FailingMedium {
@@ -41,6 +42,7 @@ impl FailingMedium {
             committed: None,
             fuse: Fuse { calls: 0, failing },
             counts: Counts::new(),
+            written: 0,
         }
     }
 
@@ -62,6 +64,11 @@ impl FailingMedium {
     /// How many of them have failed.
     pub fn failures(&self) -> u64 {
         self.counts.failures()
+    }
+
+    /// How many bytes were written by calls that didn't fail.
+    pub fn written(&self) -> u64 {
+        self.written
     }
 }
 
@@ -117,6 +124,7 @@ impl Medium for FailingMedium {
         if self.fuse.blows() {
             return Err(self.counts.fault());
         }
+        self.written = self.written.saturating_add(bytes.len() as u64);
         self.inner.write_at(at, bytes)
     }
 

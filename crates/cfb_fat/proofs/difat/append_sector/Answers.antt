@@ -2,10 +2,10 @@ use Rattle.std.proofs.Common.{◌≡◌, ◌+◌, ◌%◌, ◌<◌, ◌≤◌, i
 use Rattle.cfb_medium.specs.Bytes.{overwritten}
 use Rattle.cfb_medium.specs.Versions.{sector_len}
 use Rattle.cfb_sectors.specs.Held.{bytes_of, count_of, version_of}
-use Rattle.cfb_sectors.specs.Initial.{initial}
+use Rattle.cfb_sectors.specs.Initial.{first_bytes}
 use Rattle.cfb_sectors.specs.Sectors.{filled_part, sector_start}
 use Rattle.cfb_fat.proofs.EndsKept.{behind_all, length_past, whole_sector}
-use Rattle.cfb_fat.proofs.Fresh.{length-initial, some_bytes}
+use Rattle.cfb_fat.proofs.Fresh.{length-first, some_bytes}
 use Rattle.cfb_chains.proofs.Overwriting.{beside, over_longer, over_reaches, written}
 use Rattle.cfb_fat.proofs.difat.append_sector.Goals as goal
 
@@ -17,7 +17,7 @@ returns-clause-appends g c =
     let first = did.changes c.requires.few in
     let v = version_of it in
     let start = sector_start v (count_of it) in
-    let fresh = initial c.args.init (sector_len v) in
+    let fresh = first_bytes c.args.init (sector_len v) in
     record {
       honest = first.honest;
       continues = first.continues;
@@ -30,7 +30,7 @@ returns-clause-appends g c =
           omega (arith, more, at);
       whole = λ live honest.
           let past = behind_all v (length (bytes_of it)) (count_of it) (it.counted (first.live live) honest) c.requires.few in
-          let size = length-initial c.args.init v in
+          let size = length-first c.args.init v in
           let some = some_bytes v in
           let end : length (bytes_of now) ≡ start + sector_len v =
           ap length (first.bytes live honest) ∙ length_past (bytes_of it) fresh start (omega (arith, size, some)) (omega (arith, size, past)) ∙ ap (λ n. start + n) size in
@@ -45,8 +45,8 @@ returns-clause-whole g c = λ live honest.
     let it = c.args.sectors.now in
     let v = version_of it in
     let first = c.append_sector.ensures.changes c.requires.few in
-    let fresh = initial c.args.init (sector_len v) in
-    let long = length-initial c.args.init v in
+    let fresh = first_bytes c.args.init (sector_len v) in
+    let long = length-first c.args.init v in
     let reach = over_reaches (bytes_of it) fresh (sector_start v (count_of it)) (subst (λ n. 0 < n) (sym long) (some_bytes v)) in
     let at = ap length (first.bytes live honest) in
     omega (arith, reach, at, long)
@@ -57,7 +57,7 @@ returns-clause-content g c = λ live honest.
     let v = version_of it in
     let start = sector_start v (count_of it) in
     let first = c.append_sector.ensures.changes c.requires.few in
-    let fresh = initial c.args.init (sector_len v) in
+    let fresh = first_bytes c.args.init (sector_len v) in
     ap (λ b. filled_part b start (sector_len v)) (first.bytes live honest)
-    ∙ ap (filled_part (overwritten (bytes_of it) start fresh) start) (sym (length-initial c.args.init v))
+    ∙ ap (filled_part (overwritten (bytes_of it) start fresh) start) (sym (length-first c.args.init v))
     ∙ written (bytes_of it) fresh start

@@ -1,5 +1,7 @@
 use Rattle.std.proofs.Common.{◌≡◌, refl, sym, ap, subst, ◌∙◌}
 use Rattle.std.specs.Prelude.{slice_index_or, OnOk}
+use Rattle.cfb_sectors.specs.Copies.{copies}
+use Rattle.cfb_sectors.specs.Initial.{initial}
 use Rattle.cfb_sectors.specs.Sectors.{end_of_chain, free, joined}
 use Rattle.cfb_sectors.specs.declared.initial.SectorInit.TheVariants.{Zero}
 use Rattle.cfb_sectors.proofs.Appending.{on_ok}
@@ -38,7 +40,7 @@ returns-clause-freed g c =
     let t = sectors_of c.free.new.self in
     let is = c.allocator-1.given.1 (sym (did.same.holder ∙ made.same_reference)) in
     let links_is = c.links-1.given.1 (sym (did.same.links ∙ made.same_links)) in
-    let did_so : OnOk r (Resized {g = g.F.ReadMedium} Zero 0 a v s b t) =
+    let did_so : OnOk r (Resized {g = g.F.ReadMedium} (λ k len. copies k (initial Zero len)) 0 a v s b t) =
     on_ok r _ _ (λ all.
     let none = all.1.1.0 in
     resized_shorter Zero 0 a b v s t did.frees.0 all.0.0 all.0.1 none did.frees.2
@@ -48,6 +50,6 @@ returns-clause-freed g c =
     (λ same may. subst (AreWritable (MayWrite b) v) (sym none) tt)
     (λ honest may. subst (λ l. joined v (bytes_of b) l ≡ joined v (bytes_of a) l) (sym none) refl))
     (on_ok_both r _ _ did.answers.live (on_ok_both r _ _ did.frees.1 did.emptied)) in
-    let told = told_of_lent (λ a v s b t. OnOk r (Resized {g = g.F.ReadMedium} Zero 0 a v s b t))
+    let told = told_of_lent (λ a v s b t. OnOk r (Resized {g = g.F.ReadMedium} (λ k len. copies k (initial Zero len)) 0 a v s b t))
     a c.args.allocator.now b _ v c.args.links.now.version s (ids_of c.args.links.now) t _ made.holder made.chain.0 made.chain.1 is (ap ids_of links_is) did_so in
     on_ok r _ _ (λ had chain. resized_links Zero 0 c.args.allocator.now _ c.args.links.now _ (ap links_version links_is ∙ did.same.version ∙ made.chain.0) had chain) told

@@ -5,6 +5,8 @@ use Rattle.std.specs.Prelude.{OnOk}
 use Rattle.cfb_sectors.proofs.Appending.{on_ok}
 use Rattle.cfb_owned.proofs.Resizing.{on_ok_both, resized_links, resized_longer, resized_shorter, Resized}
 use Rattle.cfb_chains.specs.LinkViews.{ids_of, links_version}
+use Rattle.cfb_sectors.specs.Copies.{copies}
+use Rattle.cfb_sectors.specs.Initial.{initial}
 use Rattle.cfb_chains.specs.Positions.{sectors_for}
 use Rattle.cfb_chains.proofs.Lending.{told_of_lent}
 use Rattle.cfb_fat.specs.Growing.{LacksNumbers}
@@ -45,17 +47,17 @@ returns-clause-resized g c =
     let is = c.allocator-1.given.1 (sym (did.same.holder ∙ made.same_reference)) in
     let links_is = c.links-1.given.1 (sym (did.same.links ∙ made.same_links)) in
     let both = on_ok_both r _ _ did.answers.live did.keeps in
-    let did_so : OnOk r (Resized {g = g.F.ReadMedium} i n a v s b t) =
+    let did_so : OnOk r (Resized {g = g.F.ReadMedium} (λ k len. copies k (initial i len)) n a v s b t) =
     ⊎_elim
     (λ long. let longer = did.longer long.1 in
-    on_ok r _ _ (λ all. resized_longer i n a b v s t longer.0 longer.1 long.1 all.0.0.0 all.0.0.1 longer.2 longer.3 longer.4 all.0.1.linked all.0.1.writable all.1) (on_ok_both r _ _ both (did.filled long.1)))
+    on_ok r _ _ (λ all. resized_longer (λ k len. copies k (initial i len)) n a b v s t longer.0 longer.1 long.1 all.0.0.0 all.0.0.1 longer.2 longer.3 longer.4 all.0.1.linked all.0.1.writable all.1) (on_ok_both r _ _ both (did.filled long.1)))
     (λ short. let cuts = did.shorter short.1 in
     on_ok r _ _ (λ all. resized_shorter i n a b v s t cuts.frees.0 all.0.0.0 all.0.0.1 all.1.0.0 cuts.frees.1 all.1.1.0 all.0.1.linked all.0.1.writable all.1.1.1)
     (on_ok_both r _ _ both (on_ok_both r _ _ cuts.cut (on_ok_both r _ _ cuts.frees.2 cuts.bytes))))
     (leb_tells (length s) n) in
-    let told = told_of_lent (λ a v s b t. OnOk r (Resized {g = g.F.ReadMedium} c.args.init (sectors_for v c.args.len) a v s b t))
+    let told = told_of_lent (λ a v s b t. OnOk r (Resized {g = g.F.ReadMedium} (λ k len. copies k (initial c.args.init len)) (sectors_for v c.args.len) a v s b t))
     a c.args.allocator.now b _ v c.args.links.now.version s (ids_of c.args.links.now) t _ made.holder made.chain.0 made.chain.1 is (ap ids_of links_is)
-    (subst (λ j. OnOk r (Resized {g = g.F.ReadMedium} j n a v s b t)) made.chain.3 did_so) in
+    (subst (λ j. OnOk r (Resized {g = g.F.ReadMedium} (λ k len. copies k (initial j len)) n a v s b t)) made.chain.3 did_so) in
     on_ok r _ _ (λ had chain. resized_links c.args.init (sectors_for c.args.links.now.version c.args.len) c.args.allocator.now _ c.args.links.now _ (ap links_version links_is ∙ did.same.version ∙ made.chain.0) had chain) told
 
 pub returns-clause-unchanged : goal.returns-clause-unchanged

@@ -6,7 +6,6 @@ use Rattle.msi_changes.specs.Applied.{with_rows}
 use Rattle.msi_changes.specs.Changes.{inserted}
 use Rattle.msi_changes.specs.Prepared.{pool_after}
 use Rattle.msi_changes.specs.Said.{insert_rows}
-use Rattle.msi_changes.specs.Stored.{Stored}
 use Rattle.msi_edits.specs.Asked.{IsUnwritten, IsWrittenAs}
 use Rattle.msi_edits.specs.Valued.{rows_said}
 use Rattle.msi_tables.specs.Held.{heading_of, rows_held}
@@ -23,7 +22,7 @@ returns-in-Err-clause-told c =
 pub bytes_of_table-requires : goal.bytes_of_table-requires
 bytes_of_table-requires c =
     let h = heading_of c.args.table.now in
-    let is : rows_held c.in_ok-all.all.items ≡ rows_held c.args.rows.items ++ rows_held c.in-Ok.prepared.0.items = c.in_ok-all.ensures.ok ∙ ap (λ l. l ++ rows_held c.in-Ok.prepared.0.items) (c.into_rows.ensures ∙ ap (λ (s : Stored). s.rows) c.in_ok-stored.ensures.ok) in
+    let is : rows_held c.in_ok-all.all.items ≡ rows_held c.args.rows.items ++ rows_held c.in-Ok.prepared.0.items = rw c.in_ok-stored.ensures.ok at c.in_ok-all.ensures.ok in
     let are : AreWritable c.args.pool.now.pool.long h.columns (rows_held c.in_ok-all.all.items) = subst (AreWritable c.args.pool.now.pool.long h.columns) (sym is) ((rw c.in_ok-stored.ensures.ok at c.in-Ok.ensures.shape) c.requires.writable) in
     (c.in_ok-rows.ensures.writable c.args.pool.now.pool.long h.columns are).cells
 
@@ -31,7 +30,7 @@ pub returns-in-Err-bytes_of_table-clause-told : goal.returns-in-Err-bytes_of_tab
 returns-in-Err-bytes_of_table-clause-told c =
     let h = heading_of c.args.table.now in
     let long = c.args.pool.now.pool.long in
-    let is : rows_held c.in_ok-all.all.items ≡ rows_held c.args.rows.items ++ rows_held c.in-Ok.prepared.0.items = c.in_ok-all.ensures.ok ∙ ap (λ l. l ++ rows_held c.in-Ok.prepared.0.items) (c.into_rows.ensures ∙ ap (λ (s : Stored). s.rows) c.in_ok-stored.ensures.ok) in
+    let is : rows_held c.in_ok-all.all.items ≡ rows_held c.args.rows.items ++ rows_held c.in-Ok.prepared.0.items = rw c.in_ok-stored.ensures.ok at c.in_ok-all.ensures.ok in
     let are : AreWritable long h.columns (rows_held c.in_ok-all.all.items) = subst (AreWritable long h.columns) (sym is) ((rw c.in_ok-stored.ensures.ok at c.in-Ok.ensures.shape) c.requires.writable) in
     let listed : AreWritable long h.columns (rows_held c.in_ok-rows.rows.items) = c.in_ok-rows.ensures.writable long h.columns are in
     inl (unwritten long h.columns (rows_held c.in_ok-rows.rows.items) c.in-Err-bytes_of_table.error listed
@@ -45,7 +44,7 @@ returns-in-Ok-bytes_of_table-clause-told c =
     let t = with_rows h (rows_held c.args.rows.items) in
     let news = insert_rows c.args.insert.now in
     let next = pool_after c.args.pool.now c.in-Ok.prepared.1 in
-    let is : rows_held c.in_ok-all.all.items ≡ rows_held c.args.rows.items ++ rows_held c.in-Ok.prepared.0.items = c.in_ok-all.ensures.ok ∙ ap (λ l. l ++ rows_held c.in-Ok.prepared.0.items) (c.into_rows.ensures ∙ ap (λ (s : Stored). s.rows) c.in_ok-stored.ensures.ok) in
+    let is : rows_held c.in_ok-all.all.items ≡ rows_held c.args.rows.items ++ rows_held c.in-Ok.prepared.0.items = rw c.in_ok-stored.ensures.ok at c.in_ok-all.ensures.ok in
     let are : AreWritable long h.columns (rows_held c.in_ok-all.all.items) = subst (AreWritable long h.columns) (sym is) ((rw c.in_ok-stored.ensures.ok at c.in-Ok.ensures.shape) c.requires.writable) in
     let accepted : inserted true pool t news ≡ Ok (rows_held c.in_ok-all.all.items, next) = subst (λ l. inserted true pool t news ≡ Ok (l, next)) (sym is) (rw c.in_ok-stored.ensures.ok at c.in-Ok.ensures.inserts) in
     let w : IsWrittenAs long h.columns (rows_held c.in_ok-rows.rows.items) c.in-Ok-bytes_of_table.bytes.items =

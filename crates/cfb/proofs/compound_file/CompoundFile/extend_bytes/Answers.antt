@@ -1,4 +1,4 @@
-use Rattle.std.proofs.Common.{[], inl, inr, ap, subst, ◌∙◌, ⊎_elim, arith}
+use Rattle.std.proofs.Common.{[], refl, inl, inr, ap, subst, ◌∙◌, ⊎_elim, arith}
 use Rattle.cfb_fat.specs.Keeping.{fails_cause}
 use Rattle.cfb_fat.specs.Resting.{all_rest_refl}
 use Rattle.cfb_medium.specs.Bytes.{overwritten}
@@ -12,17 +12,38 @@ use Rattle.cfb_writing.proofs.LongBytes.{length-resized}
 use Rattle.cfb.specs.Views.{letters_in, mini_of}
 use Rattle.cfb.specs.Writing.{StreamIsWritten}
 use Rattle.cfb.proofs.Again.{changed_again}
+use Rattle.cfb.proofs.Written.{written_kept, written_so}
 use Rattle.cfb.proofs.compound_file.CompoundFile.extend_bytes.Goals as goal
+
+pub returns-in-Err-clause-large : goal.returns-in-Err-clause-large
+returns-in-Err-clause-large g c = λ wrong path tree content w. c.in-Err.ensures.large wrong
+
+pub returns-in-Err-clause-refused : goal.returns-in-Err-clause-refused
+returns-in-Err-clause-refused g c = λ wrong path tree content w. c.in-Err.ensures.refused wrong (letters_in c.args.self.now) tree path content w.at w.links
+
+pub returns-in-Err-clause-kept : goal.returns-in-Err-clause-kept
+returns-in-Err-clause-kept g c =
+    ⊎_elim
+    (λ failed. inl failed)
+    (λ k. inr (λ path tree content w. written_kept c.args.self.now _ path tree c.args.id content w k refl refl c.in-Err.ensures.kept w.ahead))
+    c.in-Err.ensures.rests
+
+pub returns-in-Err-clause-full : goal.returns-in-Err-clause-full
+returns-in-Err-clause-full g c = λ wrong live path tree content w. c.in-Err.ensures.full wrong live (letters_in c.args.self.now) tree path content w.at w.links
+
+pub returns-then-can_outgrow-clause-written : goal.returns-then-can_outgrow-clause-written
+returns-then-can_outgrow-clause-written g c = λ path tree content w.
+    written_so c.args.self.now _ path tree c.args.id content w (λ held. overwritten (resized c.args.end held) c.args.at c.args.bytes.now) c.in_default.ensures.outgrown refl refl c.clear.ensures.none
 
 pub returns-in-Err-overwrite_bytes-clause-large : goal.returns-in-Err-overwrite_bytes-clause-large
 returns-in-Err-overwrite_bytes-clause-large g c = λ wrong path tree content w.
-    let past = c.in-Err-overwrite_bytes.ensures.past wrong path _ _ (c.in_default.ensures.resized path tree content w).0 in
+    let past = c.in-Err-overwrite_bytes.ensures.past wrong path _ _ (c.in_default-resize_bytes.ensures.resized path tree content w).0 in
     let size = length-resized content c.args.end in
     let is = c.requires in absurd (omega (arith, past, size, is))
 
 pub returns-in-Err-overwrite_bytes-clause-refused : goal.returns-in-Err-overwrite_bytes-clause-refused
 returns-in-Err-overwrite_bytes-clause-refused g c = λ wrong path tree content w.
-    c.in-Err-overwrite_bytes.ensures.refused wrong path _ _ (c.in_default.ensures.resized path tree content w).0
+    c.in-Err-overwrite_bytes.ensures.refused wrong path _ _ (c.in_default-resize_bytes.ensures.resized path tree content w).0
 
 pub returns-in-Err-overwrite_bytes-clause-goes_on : goal.returns-in-Err-overwrite_bytes-clause-goes_on
 returns-in-Err-overwrite_bytes-clause-goes_on g c =
@@ -35,7 +56,7 @@ returns-in-Err-overwrite_bytes-clause-answers g c =
     let m = allocator_of (mini_of c.resize_bytes.new.self) in
     let b = allocator_of (mini_of c.overwrite_bytes.new.self) in
     let told = c.in-Err-overwrite_bytes.ensures.answers in
-    let live = c.in_default.ensures.answers.live in
+    let live = c.in_default-resize_bytes.ensures.answers.live in
     record {
       live = tt;
       failed = λ failed. absurd (let before = live.0 in cc);
@@ -49,7 +70,7 @@ returns-clause-written g c = λ path tree content w.
     let letters = letters_in c.args.self.now in
     let longer = resized c.args.end content in
     let later = overwritten longer c.args.at c.args.bytes.now in
-    let first = c.in_default.ensures.resized path tree content w in
+    let first = c.in_default-resize_bytes.ensures.resized path tree content w in
     let second = c.in_default-overwrite_bytes.ensures.written path _ longer first.0 in
     let old = mini_of c.args.self.now in
     let new = mini_of c.overwrite_bytes.new.self in

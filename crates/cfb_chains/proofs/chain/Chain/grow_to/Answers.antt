@@ -1,12 +1,12 @@
-use Rattle.std.proofs.Common.{◌≡◌, ◌++◌, ◌-◌, ◌∙◌, [], append_assoc, ap, arith, inl, inr, length, length-append, refl, subst, sym, ⊎_elim, IsTrue}
+use Rattle.std.proofs.Common.{◌≡◌, ℕ, ◌++◌, ◌*◌, ◌-◌, ◌∙◌, [], append_assoc, ap, arith, inl, inr, length, length-append, refl, subst, sym, ⊎_elim, IsTrue}
 use Rattle.std.specs.Prelude.{Err}
 use Rattle.cfb_medium.specs.declared.error.Error.TheVariants.{Full}
 use Rattle.std.proofs.lemmas.List.{append-nil}
 use Rattle.cfb_medium.specs.Versions.{sector_len}
-use Rattle.cfb_sectors.specs.Copies.{copies}
-use Rattle.cfb_sectors.specs.Initial.{initial}
+use Rattle.cfb_sectors.specs.Initial.{filling}
+use Rattle.cfb_sectors.proofs.Filling.{filling_none}
 use Rattle.cfb_sectors.specs.Sectors.{joined}
-use Rattle.cfb_chains.specs.ChainViews.{holder_of, init_of, sectors_of, version_of}
+use Rattle.cfb_chains.specs.ChainViews.{holder_of, sectors_of, version_of}
 use Rattle.cfb_chains.specs.Changes.{AreAmong}
 use Rattle.cfb_chains.specs.Grown.{AreWritable, IsLinked}
 use Rattle.cfb_chains.proofs.ChainGrowing.{among_both, among_more, filled_step, rests_yet, writable_still}
@@ -26,7 +26,7 @@ grow-init g c =
       ends = c.requires.ready.2;
       linked = λ linked. linked;
       writable = λ version all. all;
-      filled = λ honest version linked all. sym (ap (λ k. joined (version_of it) (g.H.HasSectors.bytes h) (sectors_of it) ++ copies k (initial (init_of it) (sector_len (version_of it)))) none ∙ append-nil (joined (version_of it) (g.H.HasSectors.bytes h) (sectors_of it)));
+      filled = λ honest version linked all. sym (ap (λ k. joined (version_of it) (g.H.HasSectors.bytes h) (sectors_of it) ++ filling c.args.init k (sector_len (version_of it))) none ∙ ap (λ l. joined (version_of it) (g.H.HasSectors.bytes h) (sectors_of it) ++ l) (filling_none c.args.init (sector_len (version_of it))) ∙ append-nil (joined (version_of it) (g.H.HasSectors.bytes h) (sectors_of it)));
       same = record { holder = refl; links = refl; version = refl; init = refl };
       position = refl;
     }
@@ -63,8 +63,11 @@ returns-in-Err-clause-filled g c = λ live honest version linked all.
     let kept = g.met.H.GrowsChains.grows_keep _ _ _ _ c.grow.invariant.grows.3 in
     let bytes = (g.met.H.HasSectors.rests_keep _ _ rests).2 (subst IsTrue (sym kept.0) honest) in
     ap (λ b. joined v b (sectors_of c.append_sector.new.self)) bytes
-    ∙ subst (λ s. joined v (g.H.HasSectors.bytes (holder_of c.grow.self)) s ≡ joined v (g.H.HasSectors.bytes (holder_of it)) (sectors_of it) ++ copies (length s - length (sectors_of it)) (initial (init_of it) (sector_len v)))
+    ∙ subst (λ s. joined v (g.H.HasSectors.bytes (holder_of c.grow.self)) s ≡ joined v (g.H.HasSectors.bytes (holder_of it)) (sectors_of it) ++ filling c.args.init (length s - length (sectors_of it)) (sector_len v))
     (sym c.in-Err.ensures.none) (c.grow.invariant.filled honest version linked all)
+
+times : (a b k l : ℕ) → a ≡ b → k ≡ l → a * k ≡ b * l
+times a b k l same each = ap (λ n. n * k) same ∙ ap (λ n. b * n) each
 
 pub grow-preserved : goal.grow-preserved
 grow-preserved g c =
@@ -75,6 +78,7 @@ grow-preserved g c =
     let new = c.append_sector.new.self in
     let same = c.grow.invariant.same in
     let then = c.append_sector.ensures.same.same in
+    let few : c.num_sectors-in-grow.result - c.num_sectors-had.result ≡ length (sectors_of mid) - length (sectors_of it) = omega (arith, c.num_sectors-in-grow.ensures, c.num_sectors-had.ensures) in
     let kept = g.met.H.GrowsChains.grows_keep _ _ _ _ was.3 in
     let step = g.met.H.GrowsChains.grows_keep _ _ _ _ grown.3 in
     let here = λ (version : g.H.GrowsChains.version (holder_of it) ≡ version_of it). kept.1 ∙ version ∙ sym same.version in
@@ -96,8 +100,8 @@ grow-preserved g c =
       linked = λ linked. c.in_default.ensures.keeps.linked (c.grow.invariant.linked linked);
       writable = λ version all. subst (λ u. AreWritable (g.H.ChangesSectors.may_write (holder_of new)) u (sectors_of new)) same.version (c.in_default.ensures.keeps.writable (here version) (able version all));
       filled = λ honest version linked all.
-          filled_step (version_of it) (version_of mid) (init_of it) (init_of mid) _ (g.H.HasSectors.bytes (holder_of mid)) (g.H.HasSectors.bytes (holder_of new)) (sectors_of it) (sectors_of mid) (sectors_of new)
-          same.version same.init c.in_default.ensures.longer c.grow.invariant.least (c.grow.invariant.filled honest version linked all)
+          filled_step (version_of it) (version_of mid) c.args.init _ _ (g.H.HasSectors.bytes (holder_of mid)) (g.H.HasSectors.bytes (holder_of new)) (sectors_of it) (sectors_of mid) (sectors_of new) _
+          same.version c.in_default.ensures.longer c.grow.invariant.least (times _ _ _ _ few (c.sector_len.ensures ∙ ap sector_len c.version.ensures ∙ ap sector_len same.version)) c.behind.ensures (c.grow.invariant.filled honest version linked all)
           (c.in_default.ensures.filled (subst IsTrue (sym kept.0) honest) (here version) (c.grow.invariant.linked linked) (able version all));
       same = record { holder = then.holder ∙ same.holder; links = then.links ∙ same.links; version = then.version ∙ same.version; init = then.init ∙ same.init };
       position = c.append_sector.ensures.same.position ∙ c.grow.invariant.position;
@@ -119,3 +123,10 @@ returns-in-Err-clause-stopped g c = λ is.
       short = omega (arith, size, less, c.num_sectors.ensures);
       full = ⊎_elim (λ none. inl none) (λ many. inr (inr (omega (arith, many, less, c.num_sectors.ensures)))) full;
     }
+
+pub returns-in-Err-clause-error : goal.returns-in-Err-clause-error
+returns-in-Err-clause-error g c =
+    let was = c.grow.invariant in (
+      g.met.H.GrowsChains.grows_cause was.grows.0 was.grows.1 _ _ _ c.in-Err.error was.grows.3 was.live c.in-Err.ensures.answers.cause,
+      ⊎_elim (λ fault. inl fault) (⊎_elim (λ wrong. absurd ((c.in-Err.ensures.refused (ap Err wrong)).0 was.orderly was.ends)) (λ full. inr full)) c.in-Err.ensures.answers.fault,
+    )

@@ -1,10 +1,9 @@
 use Rattle.std.proofs.Common.{◌≡◌, ◌++◌, ◌-◌, ◌≤◌, false, length, IsTrue, List, ℕ}
 use Rattle.cfb_medium.specs.Versions.{sector_len}
-use Rattle.cfb_sectors.specs.Copies.{copies}
-use Rattle.cfb_sectors.specs.Initial.{initial}
+use Rattle.cfb_sectors.specs.Initial.{filling}
 use Rattle.cfb_sectors.specs.Sectors.{joined}
 use Rattle.cfb_chains.specs.ChainCalls.{HasEnd}
-use Rattle.cfb_chains.specs.ChainViews.{holder_of, init_of, position_of, sectors_of, version_of, IsSameBut}
+use Rattle.cfb_chains.specs.ChainViews.{holder_of, position_of, sectors_of, version_of, IsSameBut}
 use Rattle.cfb_chains.specs.Changes.{AreAmong}
 use Rattle.cfb_chains.specs.Grown.{AreWritable, IsLinked}
 use Rattle.cfb_chains.proofs.chain.Chain.grow_to.Given as goal
@@ -24,7 +23,7 @@ invariant-grow g l = record {
   filled : IsTrue (g.H.HasSectors.honest (holder_of l.fn.self)) → g.H.GrowsChains.version (holder_of l.fn.self) ≡ version_of l.fn.self → IsLinked (g.H.FreesChains.fat (holder_of l.fn.self)) (sectors_of l.fn.self)
       → AreWritable (g.H.ChangesSectors.may_write (holder_of l.fn.self)) (version_of l.fn.self) (sectors_of l.fn.self)
       → joined (version_of l.fn.self) (g.H.HasSectors.bytes (holder_of l.self)) (sectors_of l.self)
-      ≡ joined (version_of l.fn.self) (g.H.HasSectors.bytes (holder_of l.fn.self)) (sectors_of l.fn.self) ++ copies (length (sectors_of l.self) - length (sectors_of l.fn.self)) (initial (init_of l.fn.self) (sector_len (version_of l.fn.self)));
+      ≡ joined (version_of l.fn.self) (g.H.HasSectors.bytes (holder_of l.fn.self)) (sectors_of l.fn.self) ++ filling l.fn.init (length (sectors_of l.self) - length (sectors_of l.fn.self)) (sector_len (version_of l.fn.self));
   same : IsSameBut l.fn.self l.self;
   position : position_of l.self ≡ position_of l.fn.self;
 }

@@ -4,12 +4,12 @@ use Rattle.cfb_medium.specs.Versions.{sector_len}
 use Rattle.cfb_medium.specs.declared.error.Error.{Error}
 use Rattle.cfb_medium.specs.declared.error.Error.TheVariants.{Full, InvalidData, Memory}
 use Rattle.cfb_medium.specs.declared.version.Version.{Version}
-use Rattle.cfb_sectors.specs.Copies.{copies}
-use Rattle.cfb_sectors.specs.Initial.{initial}
+use Rattle.cfb_sectors.proofs.Filling.{filling_none}
+use Rattle.cfb_sectors.specs.Initial.{filling}
 use Rattle.cfb_sectors.specs.Sectors.{greatest_regular, joined}
-use Rattle.cfb_sectors.specs.declared.initial.SectorInit.{SectorInit}
+use Rattle.cfb_sectors.specs.declared.initial.NewSector.{NewSector}
 use Rattle.std.proofs.lemmas.List.{append-nil}
-use Rattle.cfb_chains.specs.ChainViews.{holder_of, init_of, sectors_of, version_of}
+use Rattle.cfb_chains.specs.ChainViews.{holder_of, sectors_of, version_of}
 use Rattle.cfb_chains.specs.Grown.{AreWritable, IsLinked}
 use Rattle.cfb_chains.specs.LinkViews.{ids_of, links_version}
 use Rattle.cfb_chains.proofs.ChainGrowing.{writable_still}
@@ -26,13 +26,17 @@ moved_table old new s t table ids linked = subst (λ l. IsLinked l t) (sym table
 moved_writable : (may then : ℕ → ℕ → Type 0) (v w : Version) (s t : List ℕ) → ((at n : ℕ) → may at n → then at n) → w ≡ v → t ≡ s → AreWritable may v s → AreWritable then w t
 moved_writable may then v w s t still version ids all = subst (λ u. AreWritable then u t) (sym version) (subst (AreWritable then v) (sym ids) (writable_still may then v s still all))
 
-moved_bytes : (v w : Version) (old mid now s t ids : List ℕ) (i j : SectorInit) → w ≡ v → t ≡ s → mid ≡ old → j ≡ i → joined w now ids ≡ joined w mid t ++ copies (length ids - length t) (initial j (sector_len w))
-    → joined v now ids ≡ joined v old s ++ copies (length ids - length s) (initial i (sector_len v))
-moved_bytes v w old mid now s t ids i j version same bytes init h =
-    subst (λ k. joined v now ids ≡ joined v old s ++ copies (length ids - length s) (initial k (sector_len v))) init
-    (subst (λ b. joined v now ids ≡ joined v b s ++ copies (length ids - length s) (initial j (sector_len v))) bytes
-    (subst (λ l. joined v now ids ≡ joined v mid l ++ copies (length ids - length l) (initial j (sector_len v))) same
-    (subst (λ u. joined u now ids ≡ joined u mid t ++ copies (length ids - length t) (initial j (sector_len u))) version h)))
+moved_bytes : (v w : Version) (old mid now s t ids : List ℕ) (i : NewSector) → w ≡ v → t ≡ s → mid ≡ old → joined w now ids ≡ joined w mid t ++ filling i (length ids - length t) (sector_len w)
+    → joined v now ids ≡ joined v old s ++ filling i (length ids - length s) (sector_len v)
+moved_bytes v w old mid now s t ids i version same bytes h =
+    subst (λ b. joined v now ids ≡ joined v b s ++ filling i (length ids - length s) (sector_len v)) bytes
+    (subst (λ l. joined v now ids ≡ joined v mid l ++ filling i (length ids - length l) (sector_len v)) same
+    (subst (λ u. joined u now ids ≡ joined u mid t ++ filling i (length ids - length t) (sector_len u)) version h))
+
+pub returns-then-is_failed-clause-grows : goal.returns-then-is_failed-clause-grows
+returns-then-is_failed-clause-grows g c =
+    let it = holder_of c.args.self.now in
+    ([], [], sym (append-nil (sectors_of c.args.self.now)), g.met.H.GrowsChains.grows_rest [] it it (g.met.H.HasSectors.rests_refl it), λ linked n none k below same. absurd (omega (arith, below)))
 
 pub returns-then-wanted-eq0-clause-grows : goal.returns-then-wanted-eq0-clause-grows
 returns-then-wanted-eq0-clause-grows g c =
@@ -103,7 +107,7 @@ returns-in-Ok-clause-filled g c = λ honest version linked all.
     let version_m = (g.met.H.GrowsChains.grows_keep [] [] a m (g.met.H.GrowsChains.grows_rest [] a m rests)).1 in
     let filled = c.in-Ok.ensures.filled c.in-Ok.ensures.live (subst IsTrue (sym held.0) honest) (version_m ∙ version ∙ sym same_version) (moved_table _ _ _ _ kept.0 same linked) (moved_writable _ _ _ _ _ _ kept.2 same_version same all) in
     moved_bytes (version_of c.args.self.now) (links_version c.reserve.new.self) (g.H.HasSectors.bytes a) (g.H.HasSectors.bytes m) (g.H.HasSectors.bytes (holder_of c.grow_to.new.self)) (sectors_of c.args.self.now) (ids_of c.reserve.new.self) (sectors_of c.grow_to.new.self)
-    (init_of c.args.self.now) (init_of c.prepare.new.self) same_version same (held.2 honest) c.prepare.ensures.same.same.init filled
+    c.args.init same_version same (held.2 honest) filled
 
 pub returns-in-Err-grow_to-clause-grows : goal.returns-in-Err-grow_to-clause-grows
 returns-in-Err-grow_to-clause-grows g c =
@@ -130,7 +134,7 @@ returns-in-Err-clause-stopped g c = λ is.
       changed = [];
       mid = it;
       grows = g.met.H.GrowsChains.grows_rest [] it it (g.met.H.HasSectors.rests_refl it);
-      live = c.requires.live;
+      live = sym c.is_failed.ensures ∙ c.if-is_failed.false;
       short = omega (arith, some, c.num_sectors.ensures);
       full = inr (inl (subst (g.H.GrowsChains.lacks it) same (c.in-Err.ensures.full (ap Err error)).1));
     }
@@ -145,7 +149,7 @@ returns-in-Err-reserve-clause-stopped g c = λ is.
       changed = [];
       mid = it;
       grows = g.met.H.GrowsChains.grows_rest [] it it (g.met.H.HasSectors.rests_refl it);
-      live = c.requires.live;
+      live = sym c.is_failed.ensures ∙ c.if-is_failed.false;
       short = omega (arith, some, c.num_sectors.ensures);
       full = ⊎_elim (λ memory. absurd (let both = same_error c.in-Err-reserve.error is in let wrong : Memory ≡ Full = sym memory ∙ both in cc))
           (λ full. inr (inr (omega (arith, full.1, size, c.num_sectors.ensures, c.requires.more)))) c.in-Err-reserve.ensures.error;
@@ -167,3 +171,10 @@ returns-in-Err-grow_to-clause-stopped g c = λ is.
       short = omega (arith, same, out.short);
       full = subst (λ n. g.H.GrowsChains.is_full out.mid ⊎ g.H.GrowsChains.lacks out.mid (c.args.count - (n + length out.more)) ⊎ (greatest_regular + 1 < c.args.count)) same out.full;
     }
+
+pub returns-then-wanted-eq0-clause-filled : goal.returns-then-wanted-eq0-clause-filled
+returns-then-wanted-eq0-clause-filled g c = λ honest version linked all.
+    let it = c.args.self.now in
+    let held = joined (version_of it) (g.H.HasSectors.bytes (holder_of it)) (sectors_of it) in
+    let none : length (sectors_of it) - length (sectors_of it) ≡ 0 = omega arith in
+    sym (ap (λ k. held ++ filling c.args.init k (sector_len (version_of it))) none ∙ ap (λ l. held ++ l) (filling_none c.args.init (sector_len (version_of it))) ∙ append-nil held)

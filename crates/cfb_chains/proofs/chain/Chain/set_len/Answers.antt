@@ -1,5 +1,4 @@
-use Rattle.std.proofs.Common.{[], ◌⊎◌, ◌+◌, ◌-◌, ◌<◌, ap, arith, drop, length, subst, sym, ◌∙◌, OnOk}
-use Rattle.std.proofs.lemmas.List.{append-nil}
+use Rattle.std.proofs.Common.{◌⊎◌, ◌+◌, ◌-◌, ◌<◌, ap, drop, length, subst, sym, ◌∙◌, OnOk}
 use Rattle.cfb_sectors.specs.Sectors.{free, greatest_regular}
 use Rattle.cfb_chains.specs.ChainCalls.{IsCutTo, LacksNumber}
 use Rattle.cfb_chains.specs.ChainViews.{holder_of, sectors_of}
@@ -7,12 +6,6 @@ use Rattle.cfb_chains.specs.Changes.{AreAmong, HaveEntry}
 use Rattle.cfb_chains.specs.Grown.{IsLinked}
 use Rattle.cfb_chains.specs.Positions.{sectors_for}
 use Rattle.cfb_chains.proofs.chain.Chain.set_len.Goals as goal
-
-pub returns-then-is_failed-clause-longer : goal.returns-then-is_failed-clause-longer
-returns-then-is_failed-clause-longer g c = λ more.
-    let it = c.args.self.now in
-    let h = holder_of it in
-    ([], [], sym (append-nil (sectors_of it)), g.met.H.GrowsChains.grows_rest [] h h (g.met.H.HasSectors.rests_refl h), λ linked n none k below same. absurd (omega (arith, below)))
 
 pub returns-then-count-num_sectors-clause-shorter : goal.returns-then-count-num_sectors-clause-shorter
 returns-then-count-num_sectors-clause-shorter g c = λ shorter.

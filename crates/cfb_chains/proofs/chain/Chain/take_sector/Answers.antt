@@ -1,10 +1,10 @@
 use Rattle.std.proofs.Common.{◌≡◌, ◌-◌, ◌∷◌, [], ◌∙◌, sym, ap, arith, refl, subst, length, suc, get_or, ℕ, List, ◌++◌, Err}
 use Rattle.cfb_medium.specs.Versions.{sector_len}
-use Rattle.cfb_sectors.specs.Initial.{initial}
+use Rattle.cfb_sectors.specs.Initial.{first_bytes}
 use Rattle.cfb_sectors.specs.Sectors.{filled_part, sector, sector_start, Chain as IsChain}
 use Rattle.cfb_sectors.proofs.Causes.{err_same}
 use Rattle.cfb_chains.specs.Changes.{IsBeside, IsNoneOf}
-use Rattle.cfb_chains.specs.ChainViews.{holder_of, init_of, sectors_of, version_of}
+use Rattle.cfb_chains.specs.ChainViews.{holder_of, sectors_of, version_of}
 use Rattle.cfb_chains.proofs.ChainGrowing.{bytes_more, extended, in_use, writable_more}
 use Rattle.cfb_chains.proofs.Ending.{ends_alone}
 use Rattle.cfb_chains.proofs.chain.Chain.take_sector.Goals as goal
@@ -81,9 +81,9 @@ returns-clause-filled g c = λ honest version linked all.
     let ext = c.in_ok-sector_id-2.ensures.extends in
     let keep = g.met.H.GrowsChains.grows_keep _ _ _ _ ext.4 in
     let then = keep.2 c.in_ok-sector_id-2.ensures.live.2 in
-    let fill : sector v (g.H.HasSectors.bytes c.extend_chain.new.self) n ≡ initial (init_of c.args.self.now) (sector_len v) =
-    subst (λ u. sector u (g.H.HasSectors.bytes c.extend_chain.new.self) n ≡ initial (init_of c.args.self.now) (sector_len u)) version (c.in_ok-sector_id-2.ensures.filled honest) in
+    let fill : sector v (g.H.HasSectors.bytes c.extend_chain.new.self) n ≡ first_bytes c.args.init (sector_len v) =
+    subst (λ u. sector u (g.H.HasSectors.bytes c.extend_chain.new.self) n ≡ first_bytes c.args.init (sector_len u)) version (c.in_ok-sector_id-2.ensures.filled honest) in
     let same = subst (λ u. (place count : ℕ) → g.H.ChangesSectors.may_write old place count → IsBeside u (n ∷ []) place count
     → filled_part (g.H.HasSectors.bytes c.extend_chain.new.self) place count ≡ filled_part (g.H.HasSectors.bytes old) place count) version (then.4 honest) in
-    bytes_more (g.H.ChangesSectors.may_write old) v (g.H.HasSectors.bytes old) (g.H.HasSectors.bytes c.extend_chain.new.self) ids (initial (init_of c.args.self.now) (sector_len v)) n
+    bytes_more (g.H.ChangesSectors.may_write old) v (g.H.HasSectors.bytes old) (g.H.HasSectors.bytes c.extend_chain.new.self) ids (first_bytes c.args.init (sector_len v)) n
     same all (in_use (g.H.FreesChains.fat old) _ ids n linked then.1.0) fill

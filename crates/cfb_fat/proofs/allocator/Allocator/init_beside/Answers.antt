@@ -3,11 +3,11 @@ use Rattle.std.specs.Prelude.{slice_index}
 use mathlib.Core.Logic.{∥∥₁_map}
 use Rattle.cfb_sectors.specs.Held.{bytes_of}
 use Rattle.cfb_medium.specs.Versions.{sector_len}
-use Rattle.cfb_sectors.specs.Initial.{initial}
+use Rattle.cfb_sectors.specs.Initial.{first_bytes}
 use Rattle.cfb_sectors.specs.Sectors.{sector_start}
 use Rattle.cfb_chains.specs.Changes.{IsBeside}
 use Rattle.cfb_fat.specs.Orderly.{IsBesideWords}
-use Rattle.cfb_fat.proofs.Fresh.{length-initial}
+use Rattle.cfb_fat.proofs.Fresh.{length-first}
 use Rattle.cfb_fat.proofs.ListedStays.{behind_header}
 use Rattle.cfb_chains.proofs.Staying.{apart}
 use Rattle.cfb_fat.specs.Listed.{Lists}
@@ -23,9 +23,9 @@ invariant_of-self g c =
     let fs = it.fat_sectors.items in
     let changes = c.init_sector.ensures.changes c.requires.there in
     let count = c.init_sector.ensures.count in
-    let xs = initial c.args.init (sector_len it.sectors.version) in
+    let xs = first_bytes c.args.init (sector_len it.sectors.version) in
     let place = sector_start it.sectors.version c.args.sector_id in
-    let long = length-initial c.args.init it.sectors.version in
+    let long = length-first c.args.init it.sectors.version in
     let far = behind_header it.sectors.version c.args.sector_id in
     let words : IsBesideWords place (length xs) = inr (inr far) in
     let no_fat : IsBeside it.sectors.version fs place (length xs) = subst (IsBeside it.sectors.version fs place) (sym long) (apart it.sectors.version fs c.args.sector_id c.requires.no_fat) in

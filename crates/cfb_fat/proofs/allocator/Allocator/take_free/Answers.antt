@@ -1,11 +1,11 @@
 use Rattle.std.proofs.Common.{inr, ◌+◌, ◌<◌, ◌≤◌, [], ◌∷◌, length, ap, sym, subst, ◌∙◌, arith, IsTrue}
 use Rattle.cfb_medium.specs.Versions.{sector_len}
 use Rattle.cfb_sectors.specs.Held.{bytes_of, version_of}
-use Rattle.cfb_sectors.specs.Initial.{initial}
+use Rattle.cfb_sectors.specs.Initial.{first_bytes}
 use Rattle.cfb_sectors.specs.Sectors.{filled_part, sector_start}
 use Rattle.cfb_fat.proofs.Places.{passed_attempts}
 use Rattle.cfb_fat.proofs.Taken.{whole_writable}
-use Rattle.cfb_fat.proofs.Fresh.{length-initial, some_bytes}
+use Rattle.cfb_fat.proofs.Fresh.{length-first, some_bytes}
 use Rattle.cfb_fat.proofs.GrowthSteps.{change_grows, grows_failed, on_err, write_grows}
 use Rattle.cfb_fat.specs.Growing.{GrowsFat}
 use Rattle.cfb_fat.specs.Keeping.{grows_then}
@@ -34,7 +34,7 @@ returns-clause-occupies g c = record {
       let it = c.args.self.now in
       let n = c.args.sector_id in
       grows_then (n ∷ []) [] [] (n ∷ []) it c.init_beside.new.self c.set_entry.new.self
-      (write_grows n _ it c.init_beside.new.self (it.orderly c.requires.orderly).some (omega (arith, c.requires.there, (it.orderly c.requires.orderly).covered)) c.requires.no_difat (length-initial c.args.init (version_of it.sectors)) c.in_ok-init_beside.ensures.writes)
+      (write_grows n _ it c.init_beside.new.self (it.orderly c.requires.orderly).some (omega (arith, c.requires.there, (it.orderly c.requires.orderly).covered)) c.requires.no_difat (length-first c.args.init (version_of it.sectors)) c.in_ok-init_beside.ensures.writes)
       (change_grows (n ∷ []) c.init_beside.new.self c.set_entry.new.self c.in_ok-set_entry.ensures.changes);
   fresh = record {
     filled = λ honest.
@@ -44,12 +44,12 @@ returns-clause-occupies g c = record {
         let first = c.in_ok-init_beside.ensures in
         let then = c.in_ok-set_entry.ensures in
         let changes = first.writes.sectors.0 in
-        let fresh = initial c.args.init (sector_len v) in
+        let fresh = first_bytes c.args.init (sector_len v) in
         then.changes.beside then.live (subst IsTrue (sym changes.honest) honest) (sector_start v n) (sector_len v)
         (subst (λ u. IsBeside u c.init_beside.new.self.fat_sectors.items (sector_start v n) (sector_len v)) (sym changes.version)
         (subst (λ l. IsBeside v l (sector_start v n) (sector_len v)) (sym first.writes.fat_sectors) (apart v it.fat_sectors.items n c.requires.no_fat)))
         ∙ ap (λ l. filled_part l (sector_start v n) (sector_len v)) (changes.bytes first.live honest)
-        ∙ ap (filled_part _ (sector_start v n)) (sym (length-initial c.args.init v)) ∙ written (bytes_of it.sectors) fresh (sector_start v n);
+        ∙ ap (filled_part _ (sector_start v n)) (sym (length-first c.args.init v)) ∙ written (bytes_of it.sectors) fresh (sector_start v n);
     writable =
         let it = c.args.self.now in
         let n = c.args.sector_id in
@@ -67,8 +67,8 @@ returns-clause-occupies g c = record {
       let first = c.in_ok-init_beside.ensures in
       let then = c.in_ok-set_entry.ensures in
       let changes = first.writes.sectors.0 in
-      let fresh = initial c.args.init (sector_len v) in
-      let long = length-initial c.args.init v in
+      let fresh = first_bytes c.args.init (sector_len v) in
+      let long = length-first c.args.init v in
       let reach = over_reaches (bytes_of it.sectors) fresh (sector_start v n) (subst (λ k. 0 < k) (sym long) (some_bytes v)) in
       let at = ap length (changes.bytes first.live honest) in
       let more = then.changes.longer then.live (subst IsTrue (sym changes.honest) honest) in
