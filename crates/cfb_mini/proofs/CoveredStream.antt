@@ -1,10 +1,9 @@
 -- The root's entry tells of the whole mini stream.
-use Rattle.std.proofs.Common.{◌≡◌, ℕ, ◌<◌, ◌≤◌, inl, inr, false, List, [], ◌∷◌, ◌++◌, length, refl, ap, sym, subst, ◌∙◌, arith, ⊎_elim, append-nil, set, IsTrue}
+use Rattle.std.proofs.Common.{◌≡◌, ℕ, ◌≤◌, inl, false, List, [], ◌∷◌, refl, ap, sym, subst, ◌∙◌, arith, ⊎_elim, append-nil, set}
 use Rattle.std.specs.Prelude.{slice_get, slice_index_or, Some}
 use Rattle.cfb_medium.specs.Versions.{stream_len_mask}
 use Rattle.cfb_medium.specs.declared.medium.ReadMedium.{Ghosts}
 use Rattle.cfb_sectors.specs.Sectors.{end_of_chain, sector}
-use Rattle.cfb_chains.specs.LinkViews.{ids_of}
 use Rattle.cfb_chains.specs.Owned.{Becomes, Stays}
 use Rattle.cfb_fat.specs.Resting.{all_rest_refl}
 use Rattle.cfb_fat.specs.Seeing.{seen_of}
@@ -24,7 +23,7 @@ use Rattle.cfb_mini.proofs.Counts.{counts_beside, part_spared}
 use Rattle.cfb_mini.proofs.DirectoryChanges.{directory_beside, directory_changes, first_start}
 use Rattle.cfb_mini.proofs.Keeping.{bytes_still, others_stay}
 use Rattle.cfb_mini.proofs.KeptFile.{file_spared, front_kept, longer_by, sizes_set}
-use Rattle.cfb_mini.proofs.Longer.{len_same, lengthened_owners, own_now}
+use Rattle.cfb_mini.proofs.Longer.{len_same, lengthened_owners}
 use Rattle.cfb_mini.proofs.StreamGrowth.{first_there, placed}
 use Rattle.cfb_mini.proofs.Strays.{leaves_same}
 

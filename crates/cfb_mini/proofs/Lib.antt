@@ -3,9 +3,11 @@ pub mod CoveredStream
 pub mod Cutting
 pub mod DirectoryChanges
 pub mod Entries
+pub mod FreeMinis
 pub mod Headers
 pub mod Keeping
 pub mod KeptFile
+pub mod Lacking
 pub mod Linking
 pub mod Longer
 pub mod LongerTables

@@ -23,7 +23,7 @@ use Rattle.cfb_fat.specs.Tables.{bytes_of, difat_sectors_of, fat_of, fat_sectors
 use Rattle.cfb_fat.specs.declared.allocator.Allocator.{Allocator}
 use Rattle.cfb_tree.specs.Directory.{Entry}
 use Rattle.cfb_directory.specs.Views as directory
-use Rattle.cfb_mini.specs.Changing.{mini_seen, CoversStream, Extends, GrowsMiniFat, GrowsMiniStream, HasOwners, LacksMini, Lengthens, TellsStream}
+use Rattle.cfb_mini.specs.Changing.{mini_seen, CoversStream, Extends, GrowsMiniFat, GrowsMiniStream, HasOwners, LacksOne, Lengthens, TellsStream}
 use Rattle.cfb_mini.specs.FatGrowth.{LacksMore}
 use Rattle.cfb_mini.specs.Strays.{LeavesNoStrays}
 use Rattle.cfb_mini.specs.Views.{allocator_of, directory_of, mini_fat_ids, mini_fat_of, mini_stream_ids, mini_stream_len, mini_stream_of, IsMini, MiniRests}
@@ -439,7 +439,7 @@ module _ {F : Type 0} {g : Ghosts F} where
   lacks_more_rest b c n m rests same = ⊎_elim (λ numbers. inl (subst (λ l. greatest_regular + 1 + count_by (λ entry. nat_eq entry free) l < length l + 1) rests.fat numbers)) (λ long. inr (omega (arith, long, same)))
 
   -- what is lacking after reads was lacking before
-  pub lacks_rest : (b c : MiniAllocator F g) → IsMini b → MiniRests b c → LacksMini c → LacksMini b
+  pub lacks_rest : (b c : MiniAllocator F g) → IsMini b → MiniRests b c → LacksOne c → LacksOne b
   lacks_rest b c is rests lacks =
       let layer = rests.directory.allocator in
       let ids = ap length rests.mini_stream_ids in

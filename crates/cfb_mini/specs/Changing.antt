@@ -1,6 +1,6 @@
 -- Who owns which sectors beside the mini FAT and the mini stream, and what a change of mini chains leaves.
-use Rattle.std.specs.List.{AllByRecursion}
-use Rattle.std.specs.Prelude.{◌≡◌, ℕ, ◌+◌, ◌*◌, ◌<◌, ◌≤◌, ◌⊎◌, List, [], ◌∷◌, ◌++◌, ◌/◌, drop, false, length, replicate, slice_get, slice_index, slice_index_or, slice_set, take, IsTrue, Some}
+use Rattle.std.specs.List.{count_by, AllByRecursion}
+use Rattle.std.specs.Prelude.{◌≡◌, ℕ, ◌+◌, ◌-◌, ◌*◌, ◌<◌, ◌≤◌, ◌⊎◌, List, [], ◌∷◌, ◌++◌, ◌/◌, drop, false, length, nat_eq, replicate, slice_get, slice_index, slice_index_or, slice_set, take, IsTrue, Some}
 use Rattle.cfb_medium.specs.Bytes.{overwritten}
 use Rattle.cfb_medium.specs.Versions.{sector_len, stream_len_mask}
 use Rattle.cfb_medium.specs.declared.medium.ReadMedium.{Ghosts}
@@ -9,6 +9,8 @@ use Rattle.cfb_chains.specs.Changes as changes
 use Rattle.cfb_chains.specs.Changes.{HaveEntry, IsNoneOf, StayBut}
 use Rattle.cfb_chains.specs.Grown.{IsLinked}
 use Rattle.cfb_chains.specs.Owned.{Becomes, Owned, Seen, Stays}
+use Rattle.cfb_chains.specs.Positions.{sectors_for}
+use Rattle.cfb_fat.specs.Growing.{LacksNumbers}
 use Rattle.cfb_fat.specs.Seeing.{seen_of}
 use Rattle.cfb_fat.specs.Tables.{bytes_of, fat_of, has_failed_here, is_honest, tables_of, version_of, AllRests}
 use Rattle.cfb_fat.specs.declared.allocator.Allocator.{Allocator}
@@ -200,7 +202,28 @@ module _ {F : Type 0} {g : Ghosts F} where
     pub file : LeavesFile old new
     pub strays : (then : ℕ → List ℕ) → then 1 ≡ mini_fat_ids new → then 2 ≡ mini_stream_ids new → ((k : ℕ) → (k ≡ 1 → ⊥) → (k ≡ 2 → ⊥) → then k ≡ own k) → LeavesNoStrays (allocator_of old) (allocator_of new) own then
 
+  -- so many mini sectors of the mini stream are free
+  abbrev pub free_minis : MiniAllocator F g → ℕ
+  free_minis it = count_by (λ entry. nat_eq entry free) (take (mini_stream_len it / 64) (mini_fat_of it))
+
+  -- so many sectors hold the mini stream with so many mini sectors more
+  abbrev pub stream_sectors : ℕ → MiniAllocator F g → ℕ
+  stream_sectors more it = sectors_for (version_of (allocator_of it)) (mini_stream_len it + 64 * more)
+
+  -- so many hold a mini FAT with a number for each of its mini sectors then
+  abbrev pub table_sectors : ℕ → MiniAllocator F g → ℕ
+  table_sectors more it = sectors_for (version_of (allocator_of it)) (4 * (mini_stream_len it / 64 + more))
+
+  -- numbers are missing for the sectors that they take in for so many mini sectors more, or there is no room for the mini stream's size
+  unfoldable pub LacksTables : ℕ → MiniAllocator F g → Type 0
+  LacksTables more it = LacksNumbers (allocator_of it) ((stream_sectors more it - length (mini_stream_ids it)) + (table_sectors more it - length (mini_fat_ids it)))
+      ⊎ (stream_len_mask (version_of (allocator_of it)) < stream_sectors more it * sector_len (version_of (allocator_of it)))
+
   -- nothing is left for a mini sector more: no number of a sector for the mini FAT or for the mini stream, or no room for its size
-  abbrev pub LacksMini : MiniAllocator F g → Type 0
-  LacksMini it = LacksMore (allocator_of it) (length (mini_fat_ids it)) ⊎ LacksMore (allocator_of it) (length (mini_stream_ids it))
+  abbrev pub LacksOne : MiniAllocator F g → Type 0
+  LacksOne it = LacksMore (allocator_of it) (length (mini_fat_ids it)) ⊎ LacksMore (allocator_of it) (length (mini_stream_ids it))
       ⊎ (stream_len_mask (version_of (allocator_of it)) < mini_stream_len it + sector_len (version_of (allocator_of it)))
+
+  -- so many mini sectors more can't be had: there is nothing for one, or not so many are free, and for the others something is missing
+  abbrev pub LacksMini : ℕ → MiniAllocator F g → Type 0
+  LacksMini count it = LacksOne it ⊎ ((free_minis it < count) × LacksTables (count - free_minis it) it)

@@ -12,6 +12,10 @@ mini_sector stream n = filled_part stream (64 * n) 64
 abbrev pub mini_joined : List ℕ → List ℕ → List ℕ
 mini_joined stream minis = flat_map (mini_sector stream) minis
 
+-- how many mini sectors so many bytes need
+abbrev pub minis_for : ℕ → ℕ
+minis_for len = (len + 63) / 64
+
 -- where byte k of the mini chain of these mini sectors stands in the mini stream ([MS-CFB] 2.4)
 abbrev pub mini_place : List ℕ → ℕ → ℕ
 mini_place minis k = 64 * slice_index minis (k / 64) + k % 64

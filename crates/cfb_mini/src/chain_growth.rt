@@ -2,20 +2,21 @@
 ghost use Rattle.cfb_chains.specs.ChainCalls.{IsInvalidOrFull};
 ghost use Rattle.cfb_chains.specs.Grown.{IsLinked};
 ghost use Rattle.cfb_fat.specs.Calls.{FatAnswers};
-ghost use Rattle.cfb_fat.specs.Tables.{has_failed_here, orderly_of, AllFails, HasCauseBelow};
+ghost use Rattle.cfb_fat.specs.Tables.{has_failed_here, orderly_of, version_of, AllFails, HasCauseBelow};
 ghost use Rattle.cfb_medium.specs.Calls.{IsFaultUnless};
+ghost use Rattle.cfb_medium.specs.Versions.{sector_len, stream_len_mask};
 ghost use Rattle.cfb_medium.specs.declared.error.Error.TheVariants.{Full, InvalidData};
-ghost use Rattle.cfb_mini.specs.Changing.{GrowsMiniFat, GrowsMiniStream, HasOwners, IsCovered, LacksMini, Lengthens};
+ghost use Rattle.cfb_mini.specs.Changing.{free_minis, stream_sectors, table_sectors, GrowsMiniFat, GrowsMiniStream, HasOwners, IsCovered, LacksMini, LacksOne, LacksTables, Lengthens};
 ghost use Rattle.cfb_mini.specs.LinkViews.{minis_of};
-ghost use Rattle.cfb_mini.specs.Views.{allocator_of, mini_fat_of, IsMini, MiniRests};
+ghost use Rattle.cfb_mini.specs.Views.{allocator_of, mini_fat_ids, mini_fat_of, mini_stream_ids, IsMini, MiniRests};
 ghost use Rattle.cfb_owned.specs.Chains.{GoesOn};
 ghost use Rattle.cfb_sectors.specs.Sectors.{greatest_regular};
-ghost use Rattle.std.specs.Prelude.{false, length, max, true, IfErr, IsErrOf, IsTrue, List, OnErr, OnOk, ℕ, ◌<◌, ◌+◌, ◌≡◌, ◌≤◌, ◌⊎◌};
+ghost use Rattle.std.specs.Prelude.{false, length, max, true, IfErr, IsErrOf, IsTrue, List, MatchOption, OnErr, OnOk, ℕ, ◌<◌, ◌*◌, ◌+◌, ◌-◌, ◌≡◌, ◌≤◌, ◌⊎◌};
 
 use crate::places::stream_len;
 use crate::{MiniAllocator, MiniLinks};
 use cfb_medium::{Error, Medium};
-use cfb_sectors::{HasSectors, MINI_SECTOR_LEN};
+use cfb_sectors::{END_OF_CHAIN, HasSectors, MINI_SECTOR_LEN};
 
 impl<F: Medium> MiniAllocator<F> {
     // Gives the mini FAT a sector more where it has no number for a mini sector behind the mini stream, and else the mini
@@ -26,7 +27,7 @@ impl<F: Medium> MiniAllocator<F> {
         ensures refused { IsErrOf result InvalidData → (own : ℕ → List ℕ) → HasOwners self.old own
             → IsTrue (orderly_of (allocator_of self.old)) → ⊥ }
         ensures full { IsErrOf result Full → has_failed_here (allocator_of self.new) ≡ false
-            → IsMini self.old → LacksMini self.old }
+            → IsMini self.old → LacksOne self.old }
         ensures rests { OnErr result ((has_failed_here (allocator_of self.new) ≡ true)
             ⊎ MiniRests self.old self.new) }
         ensures goes_on { GoesOn (allocator_of self.old) (allocator_of self.new) }
@@ -52,7 +53,7 @@ impl<F: Medium> MiniAllocator<F> {
             → IsLinked (mini_fat_of self.old) (minis_of links.old)
             → IsTrue (orderly_of (allocator_of self.old)) → ⊥ }
         ensures full { IsErrOf result Full → has_failed_here (allocator_of self.new) ≡ false
-            → IsMini self.old → LacksMini self.old
+            → IsMini self.old → LacksOne self.old
             ⊎ (greatest_regular < length (minis_of links.old)) }
         ensures rests { OnErr result ((has_failed_here (allocator_of self.new) ≡ true)
             ⊎ MiniRests self.old self.new) }
@@ -106,13 +107,58 @@ impl<F: Medium> MiniAllocator<F> {
         Err(Error::Full)
     }
 
-    /// Makes a mini chain so many mini sectors long: each that it takes in is the first of the mini stream that is free, and
-    /// has the bytes that it had; mini FAT and mini stream become longer where they must, and the root's size covers the mini
-    /// stream then, whatever size it had. A chain that is so long stays.
-    /// `InvalidData` where the FAT's tables can't be changed, or FAT or mini FAT haven't the chains that memory tells of;
-    /// `Full` where no number is left, or no room for the mini stream's size (in version 3 past 2^32 - 1 bytes). After an
-    /// error nothing is changed, or it has failed ([MS-CFB] 2.4, 2.6.2).
-    pub fn lengthen_mini_chain(&mut self, links: &mut MiniLinks, count: usize) -> Result<(), Error>
+    // How many sectors mini FAT and mini stream take in for so many mini sectors more, of which none is free. `None` where the version has
+    // no room for the mini stream's size then.
+    fn sectors_wanted(&self, more: u64) -> Option<usize>
+        ensures { MatchOption result
+            (stream_len_mask (version_of (allocator_of self.now))
+            < stream_sectors more self.now * sector_len (version_of (allocator_of self.now)))
+            (λ n. n ≡ (stream_sectors more self.now - length (mini_stream_ids self.now))
+            + (table_sectors more self.now - length (mini_fat_ids self.now))) }
+    {
+        let each = self.sector_len() as u64;
+        let len = stream_len(&self.mini_fat.stream);
+        let size = more.checked_mul(MINI_SECTOR_LEN as u64)?.checked_add(len)?;
+        let held = size.div_ceil(each);
+        if held.checked_mul(each)? > self.version().stream_len_mask() {
+            return None;
+        }
+        let told = (4 * (len / MINI_SECTOR_LEN as u64 + more)).div_ceil(each);
+        let stream = (held as usize).saturating_sub(self.mini_fat.stream.sector_ids().len());
+        let table = (told as usize).saturating_sub(self.mini_fat.links.sector_ids().len());
+        Some(stream + table)
+    }
+
+    // Sees whether so many mini sectors more can be had, and asks for the memory that the FAT's tables may need for them. `Full` where
+    // not so many are free, and for the others numbers of sectors are missing, or room for the mini stream's size; `InvalidData` where the
+    // FAT's tables can't be changed. Nothing is changed.
+    fn prepare_minis(&mut self, count: usize) -> Result<(), Error>
+        ensures rests { MiniRests self.old self.new }
+        ensures refused { IsErrOf result InvalidData → IsTrue (orderly_of (allocator_of self.old))
+            → ⊥ }
+        ensures full { IsErrOf result Full → (free_minis self.old < count)
+            × LacksTables (count - free_minis self.old) self.old }
+        ensures answers { FatAnswers IsInvalidOrFull result (allocator_of self.old)
+            (allocator_of self.new) }
+    {
+        if self.directory.allocator().is_failed() {
+            return Err(Error::Failed);
+        }
+        let inside = stream_len(&self.mini_fat.stream) / MINI_SECTOR_LEN as u64;
+        let free = self.mini_fat.numbers.count_free(inside as usize, count);
+        if free == count {
+            return Ok(());
+        }
+        let Some(wanted) = self.sectors_wanted((count - free) as u64) else {
+            return Err(Error::Full);
+        };
+        self.directory
+            .allocator_mut()
+            .prepare_growth(END_OF_CHAIN, wanted)
+    }
+
+    // Makes a mini chain so many mini sectors long, for which there is room. After an error nothing is changed, or it has failed.
+    fn lengthen_ready(&mut self, links: &mut MiniLinks, count: usize) -> Result<(), Error>
         ensures lengthened { OnOk result ((own : ℕ → List ℕ) → HasOwners self.old own
             → IsLinked (mini_fat_of self.old) (minis_of links.old)
             → Lengthens self.old self.new (minis_of links.old) (minis_of links.new) own
@@ -125,7 +171,7 @@ impl<F: Medium> MiniAllocator<F> {
             → IsLinked (mini_fat_of self.old) (minis_of links.old)
             → IsTrue (orderly_of (allocator_of self.old)) → ⊥ }
         ensures full { IsErrOf result Full → has_failed_here (allocator_of self.new) ≡ false
-            → IsMini self.old → LacksMini self.old
+            → IsMini self.old → LacksOne self.old
             ⊎ (greatest_regular < length (minis_of links.old)) }
         ensures rests { OnErr result ((has_failed_here (allocator_of self.new) ≡ true)
             ⊎ MiniRests self.old self.new) }
@@ -147,5 +193,40 @@ impl<F: Medium> MiniAllocator<F> {
             return Err(error);
         }
         self.lengthen_on(links, count)
+    }
+
+    /// Makes a mini chain so many mini sectors long: each that it takes in is the first of the mini stream that is free, and
+    /// has the bytes that it had; mini FAT and mini stream become longer where they must, and the root's size covers the mini
+    /// stream then, whatever size it had. A chain that is so long stays.
+    /// `InvalidData` where the FAT's tables can't be changed, or FAT or mini FAT haven't the chains that memory tells of;
+    /// `Full` where not so many are free, and for the others numbers of sectors are missing, or room for the mini stream's
+    /// size (in version 3 past 2^32 - 1 bytes): this is seen to first. After an error nothing is changed, or it has failed
+    /// ([MS-CFB] 2.4, 2.6.2).
+    pub fn lengthen_mini_chain(&mut self, links: &mut MiniLinks, count: usize) -> Result<(), Error>
+        ensures lengthened { OnOk result ((own : ℕ → List ℕ) → HasOwners self.old own
+            → IsLinked (mini_fat_of self.old) (minis_of links.old)
+            → Lengthens self.old self.new (minis_of links.old) (minis_of links.new) own
+            × (length (minis_of links.new) ≤ max count (length (minis_of links.old)))
+            × (length (minis_of links.old) < count → IsCovered self.new)) }
+        ensures enough { OnOk result (count ≤ length (minis_of links.new)) }
+        ensures kept { OnErr result (has_failed_here (allocator_of self.new) ≡ false
+            → minis_of links.new ≡ minis_of links.old) }
+        ensures refused { IsErrOf result InvalidData → (own : ℕ → List ℕ) → HasOwners self.old own
+            → IsLinked (mini_fat_of self.old) (minis_of links.old)
+            → IsTrue (orderly_of (allocator_of self.old)) → ⊥ }
+        ensures full { IsErrOf result Full → has_failed_here (allocator_of self.new) ≡ false
+            → IsMini self.old → LacksMini (count - length (minis_of links.old)) self.old
+            ⊎ (greatest_regular < length (minis_of links.old)) }
+        ensures rests { OnErr result ((has_failed_here (allocator_of self.new) ≡ true)
+            ⊎ MiniRests self.old self.new) }
+        ensures goes_on { GoesOn (allocator_of self.old) (allocator_of self.new) }
+        ensures answers { FatAnswers IsInvalidOrFull result (allocator_of self.old)
+            (allocator_of self.new) }
+    {
+        let more = count.saturating_sub(links.mini_sector_ids().len());
+        if let Err(error) = self.prepare_minis(more) {
+            return Err(error);
+        }
+        self.lengthen_ready(links, count)
     }
 }

@@ -3,7 +3,8 @@ ghost use Rattle.cfb_medium.specs.declared.error.Error.TheVariants.{InvalidData,
 ghost use Rattle.cfb_mini.specs.LinkViews.{minis_of};
 ghost use Rattle.cfb_mini.specs.Minis.{AreInside};
 ghost use Rattle.cfb_sectors.specs.Sectors.{free, Chain as IsChain};
-ghost use Rattle.std.specs.Prelude.{length, replicate, slice_index, slice_set, take, IfErr, IfOk, IsErrOf, IsTrue, List, OnErr, OnOk, ℕ, ◌++◌, ◌<◌, ◌≡◌, ◌≤◌, ◌↔◌, ◌⊎◌};
+ghost use Rattle.std.specs.List.{count_by};
+ghost use Rattle.std.specs.Prelude.{length, nat_eq, replicate, slice_index, slice_set, take, IfErr, IfOk, IsErrOf, IsTrue, List, OnErr, OnOk, ℕ, ◌++◌, ◌<◌, ◌≡◌, ◌≤◌, ◌↔◌, ◌⊎◌};
 
 use crate::MiniLinks;
 use cfb_chains::chain_in;
@@ -78,6 +79,24 @@ impl MiniNumbers {
         }
         self.first_free = found;
         found
+    }
+
+    // How many mini sectors below this number are free; so many at most are counted.
+    pub(crate) fn count_free(&self, end: usize, most: usize) -> usize
+        ensures most { result ≤ most }
+        ensures all { result < most → result
+            ≡ count_by (λ entry. nat_eq entry free) (take end (numbers_of self.now)) }
+    {
+        let stop = end.min(self.items.len());
+        let mut at = self.first_free.min(stop);
+        let mut count = 0;
+        while at < stop && count < most {
+            if self.items[at] == FREE_SECTOR {
+                count += 1;
+            }
+            at += 1;
+        }
+        count
     }
 
     // Takes in so many free mini sectors behind the last.

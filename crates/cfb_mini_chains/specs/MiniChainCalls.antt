@@ -1,5 +1,5 @@
 -- What calls that change a mini chain say of it ([MS-CFB] 2.4).
-use Rattle.std.specs.Prelude.{◌≡◌, ℕ, ◌+◌, ◌-◌, ◌/◌, ◌%◌, ◌⊎◌, false, true, min, List, length, IsTrue, OnErr, Result}
+use Rattle.std.specs.Prelude.{◌≡◌, ℕ, ◌-◌, ◌%◌, ◌⊎◌, false, true, min, List, length, IsTrue, OnErr, Result}
 use Rattle.cfb_fat.specs.Tables.{has_failed_here, orderly_of}
 use Rattle.cfb_medium.specs.declared.error.Error.{Error}
 use Rattle.cfb_medium.specs.declared.medium.ReadMedium.{Ghosts}
@@ -10,10 +10,6 @@ use Rattle.cfb_mini_chains.specs.declared.chain.MiniChain.{MiniChain}
 -- how many bytes lie behind a length in the mini sector in which it ends
 abbrev pub mini_tail_in : ℕ → ℕ
 mini_tail_in len = (64 - len % 64) % 64
-
--- how many mini sectors so many bytes need
-abbrev pub minis_for : ℕ → ℕ
-minis_for len = (len + 63) / 64
 
 module _ {F : Type 0} {g : Ghosts F} where
   -- of these bytes a write takes so many: what the position's mini sector takes

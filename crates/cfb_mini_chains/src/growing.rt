@@ -10,7 +10,7 @@ ghost use Rattle.cfb_mini.specs.Views.{allocator_of, mini_fat_of, mini_stream_le
 ghost use Rattle.cfb_mini_chains.specs.MiniGrowing.{MiniAppends};
 ghost use Rattle.cfb_owned.specs.Chains.{GoesOn};
 ghost use Rattle.cfb_sectors.specs.Sectors.{greatest_regular};
-ghost use Rattle.std.specs.Prelude.{false, length, true, IsErrOf, IsTrue, List, OnErr, OnOk, ℕ, ◌*◌, ◌+◌, ◌<◌, ◌≡◌, ◌≤◌, ◌⊎◌};
+ghost use Rattle.std.specs.Prelude.{false, length, true, IsErrOf, IsTrue, List, OnErr, OnOk, ℕ, ◌*◌, ◌+◌, ◌-◌, ◌<◌, ◌≡◌, ◌⊎◌};
 
 use cfb_medium::{Error, Medium};
 use cfb_mini::{MiniAllocator, MiniLinks};
@@ -33,7 +33,8 @@ pub(crate) fn append<F: Medium>(
         → IsMiniChain (mini_fat_of mini.old) (mini_stream_len mini.old) (minis_of links.old)
         → IsTrue (orderly_of (allocator_of mini.old)) → ⊥ }
     ensures full { IsErrOf result Full → has_failed_here (allocator_of mini.new) ≡ false
-        → IsMini mini.old → LacksMini mini.old ⊎ (greatest_regular < length (minis_of links.old)) }
+        → IsMini mini.old → LacksMini (count - length (minis_of links.old)) mini.old
+        ⊎ (greatest_regular < length (minis_of links.old)) }
     ensures rests { OnErr result ((has_failed_here (allocator_of mini.new) ≡ true)
         ⊎ MiniRests mini.old mini.new) }
     ensures goes_on { GoesOn (allocator_of mini.old) (allocator_of mini.new) }

@@ -4,12 +4,13 @@ ghost use Rattle.cfb_fat.specs.Calls.{FatAnswers};
 ghost use Rattle.cfb_fat.specs.Tables.{has_failed_here};
 ghost use Rattle.cfb_medium.specs.declared.error.Error.TheVariants.{Full, InvalidData};
 ghost use Rattle.cfb_mini.specs.Changing.{Frees, LacksMini, Shortens};
+ghost use Rattle.cfb_mini.specs.Minis.{minis_for};
 ghost use Rattle.cfb_mini.specs.Views.{IsMini};
-ghost use Rattle.cfb_mini_chains.specs.MiniChainCalls.{minis_for, IsLost, IsUnlinked, Refuses};
+ghost use Rattle.cfb_mini_chains.specs.MiniChainCalls.{IsLost, IsUnlinked, Refuses};
 ghost use Rattle.cfb_mini_chains.specs.MiniGrowing.{MiniAppends};
 ghost use Rattle.cfb_owned.specs.Chains.{GoesOn};
 ghost use Rattle.cfb_sectors.specs.Sectors.{greatest_regular};
-ghost use Rattle.std.specs.Prelude.{false, length, min, replicate, IsErrOf, List, OnErr, OnOk, [], ℕ, ◌*◌, ◌+◌, ◌-◌, ◌<◌, ◌≡◌, ◌≤◌, ◌⊎◌};
+ghost use Rattle.std.specs.Prelude.{false, length, min, replicate, IsErrOf, List, OnOk, [], ℕ, ◌*◌, ◌+◌, ◌-◌, ◌<◌, ◌≡◌, ◌≤◌, ◌⊎◌};
 
 use crate::MiniChain;
 use crate::growing::append;
@@ -79,7 +80,8 @@ impl<'a, F: Medium> MiniChain<'a, F> {
         ensures same { IsSameMiniChain self.old self.new }
         ensures refused { IsErrOf result InvalidData → IsUnlinked self.old }
         ensures full { IsErrOf result Full → has_failed_here (allocator_under self.new) ≡ false
-            → IsMini (mini_of self.old) → LacksMini (mini_of self.old)
+            → IsMini (mini_of self.old)
+            → LacksMini (count - length (mini_sectors_of self.old)) (mini_of self.old)
             ⊎ (greatest_regular < length (mini_sectors_of self.old)) }
         ensures refuses { Refuses result self.old self.new }
         ensures goes_on { GoesOn (allocator_under self.old) (allocator_under self.new) }
@@ -114,7 +116,8 @@ impl<'a, F: Medium> MiniChain<'a, F> {
         ensures same { IsSameMiniChain self.old self.new }
         ensures refused { IsErrOf result InvalidData → IsUnlinked self.old }
         ensures full { IsErrOf result Full → has_failed_here (allocator_under self.new) ≡ false
-            → IsMini (mini_of self.old) → LacksMini (mini_of self.old)
+            → IsMini (mini_of self.old)
+            → LacksMini (minis_for len - length (mini_sectors_of self.old)) (mini_of self.old)
             ⊎ (greatest_regular + 1 < minis_for len) }
         ensures refuses { Refuses result self.old self.new }
         ensures goes_on { GoesOn (allocator_under self.old) (allocator_under self.new) }

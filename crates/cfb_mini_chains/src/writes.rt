@@ -9,7 +9,7 @@ ghost use Rattle.cfb_mini_chains.specs.MiniChainCalls.{mini_tail_in, taken_count
 ghost use Rattle.cfb_mini_chains.specs.MiniGrowing.{MiniAppends};
 ghost use Rattle.cfb_owned.specs.Chains.{GoesOn, IsInvalidPlaceOrFull};
 ghost use Rattle.cfb_sectors.specs.Sectors.{greatest_regular};
-ghost use Rattle.std.specs.Prelude.{false, length, replicate, take, IfOk, IsErrOf, List, OnErr, OnOk, ℕ, ◌*◌, ◌+◌, ◌++◌, ◌-◌, ◌<◌, ◌≡◌, ◌≤◌, ◌↔◌, ◌⊎◌};
+ghost use Rattle.std.specs.Prelude.{false, length, replicate, take, IfOk, IsErrOf, List, OnOk, ℕ, ◌+◌, ◌++◌, ◌-◌, ◌<◌, ◌≡◌, ◌≤◌, ◌↔◌, ◌⊎◌};
 
 use crate::MiniChain;
 use crate::growing::append;
@@ -59,7 +59,7 @@ impl<'a, F: Medium> MiniChain<'a, F> {
         ensures same { IsSameMiniChain self.old self.new }
         ensures refused { IsErrOf result InvalidData → IsUnlinked self.old }
         ensures full { IsErrOf result Full → has_failed_here (allocator_under self.new) ≡ false
-            → IsMini (mini_of self.old) → LacksMini (mini_of self.old)
+            → IsMini (mini_of self.old) → LacksMini 1 (mini_of self.old)
             ⊎ (greatest_regular < length (mini_sectors_of self.old)) }
         ensures refuses { Refuses result self.old self.new }
         ensures goes_on { GoesOn (allocator_under self.old) (allocator_under self.new) }
@@ -99,7 +99,7 @@ impl<'a, F: Medium> MiniChain<'a, F> {
         ensures past { IsErrOf result InvalidInput → len_of self.old < position_of self.old }
         ensures refused { IsErrOf result InvalidData → IsUnlinked self.old }
         ensures full { IsErrOf result Full → has_failed_here (allocator_under self.new) ≡ false
-            → IsMini (mini_of self.old) → LacksMini (mini_of self.old)
+            → IsMini (mini_of self.old) → LacksMini 1 (mini_of self.old)
             ⊎ (greatest_regular < length (mini_sectors_of self.old)) }
         ensures refuses { Refuses result self.old self.new }
         ensures goes_on { GoesOn (allocator_under self.old) (allocator_under self.new) }

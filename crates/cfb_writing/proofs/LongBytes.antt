@@ -10,14 +10,13 @@ use Rattle.cfb_medium.proofs.Grown.{inside_written}
 use Rattle.cfb_medium.specs.Versions.{sector_len}
 use Rattle.cfb_medium.specs.declared.version.Version.{Version}
 use Rattle.cfb_medium.specs.declared.version.Version.TheVariants.{V3, V4}
-use Rattle.cfb_chains.specs.Behind.{AreWhole}
-use Rattle.cfb_chains.proofs.ChainWriting.{length_within, split}
+use Rattle.cfb_chains.proofs.ChainWriting.{length_within}
 use Rattle.cfb_chains.proofs.Overwriting.{get_before, get_behind, get_written}
 use Rattle.cfb_owned.specs.Chains.{place_of}
 use Rattle.cfb_owned.proofs.FrontWritten.{all_at}
 use Rattle.cfb_sectors.specs.Sectors.{joined, places, sector, sector_start}
 use Rattle.cfb_writing.specs.Streams.{resized}
-use Rattle.cfb_mini.proofs.Padded.{get_padded, zero_at, zeros}
+use Rattle.cfb_mini.proofs.Padded.{get_padded, zeros}
 
 -- what holds of each element, by its index
 pub all_by_index : (P : ℕ → Type 0) (xs : List ℕ) → ((k : ℕ) → k < length xs → P (get_or xs k 0)) → AllByRecursion P xs

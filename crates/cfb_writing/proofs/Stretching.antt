@@ -27,11 +27,12 @@ use Rattle.cfb_sectors.specs.Header.{mini_cutoff}
 use Rattle.cfb_sectors.specs.Initial.{initial}
 use Rattle.cfb_sectors.specs.Sectors.{free, greatest_regular}
 use Rattle.cfb_sectors.specs.declared.initial.SectorInit.TheVariants.{Zero}
-use Rattle.cfb_writing.specs.Sizes.{sectors_of_stream}
+use Rattle.cfb_writing.specs.Sizes.{minis_of_stream, sectors_of_stream}
 use Rattle.cfb_writing.specs.Streams.{IsPastNumbers, LacksRoom, LacksSectorsFor}
 use Rattle.cfb_writing.proofs.LongBytes.{get_grown, get_taken, get_zeros, joined_front, place_kept}
 use Rattle.cfb_owned.proofs.FrontWritten.{place_new, zeros_joined}
-use Rattle.cfb_mini.proofs.Longer.{lacks_rest}
+use Rattle.cfb_mini.specs.Minis.{minis_for}
+use Rattle.cfb_mini.proofs.Lacking.{lacks_before, lacks_fewer}
 use Rattle.cfb_mini.proofs.Padded.{zero_at, zeros}
 
 -- so many sectors hold so many bytes
@@ -239,6 +240,21 @@ stream_has v size =
     (λ no. let same : sectors_of_stream v size ≡ sectors_for v size = ap (λ (t : Bool). if t then 0 else sectors_for v size) no.0 in omega (arith, same))
     (leb_tells (suc size) mini_cutoff)
 
+-- so it is with mini sectors: what has room for a short stream has those that it needs, and a long one has none
+pub minis_has : (size count : ℕ) → size ≤ 64 * count → minis_of_stream size ≤ count
+minis_has size count room =
+    ⊎_elim
+    (λ yes. let same : minis_of_stream size ≡ minis_for size = ap (λ (t : Bool). if t then minis_for size else 0) yes.0 in omega (arith, same, room))
+    (λ no. let same : minis_of_stream size ≡ 0 = ap (λ (t : Bool). if t then minis_for size else 0) no.0 in omega (arith, same))
+    (leb_tells (suc size) mini_cutoff)
+
+pub long_has : (size : ℕ) → mini_cutoff ≤ size → minis_of_stream size ≡ 0
+long_has size up =
+    ⊎_elim
+    (λ yes. let few = yes.1 in absurd (omega (arith, few, up)))
+    (λ no. ap (λ (t : Bool). if t then minis_for size else 0) no.0)
+    (leb_tells (suc size) mini_cutoff)
+
 abbrev lacks_by : Version → List ℕ → ℕ → ℕ → Type 0
 lacks_by v fat size len = (greatest_regular + 1 + count_by (λ entry. nat_eq entry free) fat < length fat + (sectors_for v len - sectors_of_stream v size)) ⊎ (greatest_regular + 1 < sectors_for v len)
 
@@ -287,15 +303,15 @@ module _ {F : Type 0} {g : Ghosts F} where
   lacks_long it size len up lacks = inl (up, lacks)
 
   -- or that stays below, or comes there
-  pub lacks_short : (it : MiniAllocator F g) (size len : ℕ) → len < mini_cutoff → (size < mini_cutoff → size < len) → LacksMini it → LacksRoom it size len
+  pub lacks_short : (it : MiniAllocator F g) (size len count : ℕ) → len < mini_cutoff → (size < mini_cutoff → size < len) → count ≤ minis_for len - minis_of_stream size → LacksMini count it → LacksRoom it size len
   unfolding LacksRoom
-  lacks_short it size len below more lacks = inr (below, more, lacks)
+  lacks_short it size len count below more few lacks = inr (below, more, lacks_fewer it count (minis_for len - minis_of_stream size) few lacks)
 
   -- it lacked it before reads too
   pub lacks_resting : (old new : MiniAllocator F g) (size len : ℕ) → IsMini old → MiniRests old new → LacksRoom new size len → LacksRoom old size len
   unfolding LacksRoom
   lacks_resting old new size len is rests lacks =
-      ⊎_elim (λ long. inl (long.0, lacks_sectors_resting old new size len rests.directory.allocator long.1)) (λ short. inr (short.0, short.1, lacks_rest old new is rests short.2)) lacks
+      ⊎_elim (λ long. inl (long.0, lacks_sectors_resting old new size len rests.directory.allocator long.1)) (λ short. inr (short.0, short.1, lacks_before old new (minis_for len - minis_of_stream size) is rests short.2)) lacks
 
   -- a size for which no file has numbers
   pub past_lacks : (it : MiniAllocator F g) (size len : ℕ) → IsPastNumbers (version_of (allocator_of it)) len → LacksRoom it size len

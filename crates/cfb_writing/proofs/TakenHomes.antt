@@ -12,7 +12,7 @@ use Rattle.cfb_medium.specs.declared.medium.ReadMedium.{Ghosts}
 use Rattle.cfb_medium.specs.declared.version.Version.{Version}
 use Rattle.cfb_mini.specs.Views.{allocator_of}
 use Rattle.cfb_mini.specs.declared.mini_allocator.MiniAllocator.{MiniAllocator}
-use Rattle.cfb_owned.specs.Chains.{content_of, place_of, TakesBytes}
+use Rattle.cfb_owned.specs.Chains.{content_of, TakesBytes}
 use Rattle.cfb_owned.proofs.FrontWritten.{place_new}
 use Rattle.cfb_owners.specs.Owners.{Owners}
 use Rattle.cfb_sectors.specs.Sectors.{joined, places}

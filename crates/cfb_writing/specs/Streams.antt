@@ -11,6 +11,7 @@ use Rattle.cfb_medium.specs.declared.medium.ReadMedium.{Ghosts}
 use Rattle.cfb_medium.specs.declared.version.Version.{Version}
 use Rattle.cfb_mini.specs.Changing.{LacksMini}
 use Rattle.cfb_mini.specs.LinkViews.{minis_of}
+use Rattle.cfb_mini.specs.Minis.{minis_for}
 use Rattle.cfb_mini.specs.Views.{allocator_of, directory_of}
 use Rattle.cfb_mini.specs.declared.mini_allocator.MiniAllocator.{MiniAllocator}
 use Rattle.cfb_owners.specs.Owners.{Owners}
@@ -26,7 +27,7 @@ use Rattle.cfb_tree.specs.Names.{Letters}
 use Rattle.cfb_tree.specs.Objects.{a_stream, object_at}
 use Rattle.cfb_tree.specs.Paths.{Path}
 use Rattle.cfb_tree.specs.Tree.{Tree}
-use Rattle.cfb_writing.specs.Sizes.{sectors_of_stream}
+use Rattle.cfb_writing.specs.Sizes.{minis_of_stream, sectors_of_stream}
 
 -- so many bytes: the first of these, and then zeros
 abbrev pub resized : ℕ → List ℕ → List ℕ
@@ -104,9 +105,9 @@ module _ {F : Type 0} {g : Ghosts F} where
   LacksSectorsFor it size len = LacksNumbers (allocator_of it) (sectors_for (version_of (allocator_of it)) len - sectors_of_stream (version_of (allocator_of it)) size)
       ⊎ (greatest_regular + 1 < sectors_for (version_of (allocator_of it)) len)
 
-  -- so they are, or below 4096 bytes nothing is left for a mini sector more, where the stream isn't a short one that gets no longer
+  -- so they are, or below 4096 bytes the further mini sectors that it needs can't be had, where it isn't a short one that gets no longer
   unfoldable pub LacksRoom : MiniAllocator F g → ℕ → ℕ → Type 0
-  LacksRoom it size len = ((mini_cutoff ≤ len) × LacksSectorsFor it size len) ⊎ ((len < mini_cutoff) × (size < mini_cutoff → size < len) × LacksMini it)
+  LacksRoom it size len = ((mini_cutoff ≤ len) × LacksSectorsFor it size len) ⊎ ((len < mini_cutoff) × (size < mini_cutoff → size < len) × LacksMini (minis_for len - minis_of_stream size) it)
 
   -- so they are for the stream of entry `id` and these sectors to have `len` bytes
   abbrev pub LacksRoomFor : ℕ → StreamLinks → ℕ → MiniAllocator F g → Type 0

@@ -8,6 +8,7 @@ ghost use Rattle.cfb_medium.specs.Calls.{IsFaultUnless};
 ghost use Rattle.cfb_medium.specs.Versions.{stream_len_mask};
 ghost use Rattle.cfb_medium.specs.declared.error.Error.TheVariants.{Full, InvalidData, InvalidInput};
 ghost use Rattle.cfb_mini.specs.Changing.{KeepsOwners, LacksMini};
+ghost use Rattle.cfb_mini.specs.Minis.{minis_for};
 ghost use Rattle.cfb_mini.specs.Views.{allocator_of, directory_of, MiniRests};
 ghost use Rattle.cfb_owned.specs.Chains.{GoesOn, IsInvalidPlaceOrFull};
 ghost use Rattle.cfb_owners.specs.Owners.{Owners};
@@ -101,7 +102,7 @@ fn move_to_minis<F: Medium>(
     ensures rests { OnErr result ((has_failed_here (allocator_of mini.new) ≡ true)
         ⊎ KeepsOwners mini.old mini.new) }
     ensures full { IsErrOf result Full → has_failed_here (allocator_of mini.new) ≡ false
-        → (who : Owners) → Stands mini.old who → LacksMini mini.old }
+        → (who : Owners) → Stands mini.old who → LacksMini (minis_for (length bytes.now)) mini.old }
     ensures goes_on { GoesOn (allocator_of mini.old) (allocator_of mini.new) }
     ensures answers { FatAnswers IsInvalidPlaceOrFull result (allocator_of mini.old)
         (allocator_of mini.new) }

@@ -8,6 +8,7 @@ ghost use Rattle.cfb_medium.specs.Versions.{stream_len_mask};
 ghost use Rattle.cfb_medium.specs.declared.error.Error.TheVariants.{Full, InvalidData, InvalidInput};
 ghost use Rattle.cfb_mini.specs.Changing.{HasOwners, KeepsOwners, LacksMini, Lengthens};
 ghost use Rattle.cfb_mini.specs.LinkViews.{minis_of};
+ghost use Rattle.cfb_mini.specs.Minis.{minis_for};
 ghost use Rattle.cfb_mini.specs.Views.{allocator_of, mini_fat_of, IsMini, MiniRests};
 ghost use Rattle.cfb_owned.specs.Chains.{GoesOn, IsInvalidPlaceOrFull};
 ghost use Rattle.cfb_owners.specs.Owners.{Owners};
@@ -15,7 +16,7 @@ ghost use Rattle.cfb_sectors.specs.Header.{mini_cutoff};
 ghost use Rattle.cfb_streams.specs.declared.opening.StreamLinks.TheVariants.{Short};
 ghost use Rattle.cfb_writing.specs.Moving.{IsNoMiniChain, StretchesShort};
 ghost use Rattle.cfb_writing.specs.Streams.{resized, AreAlike, HasNoLinks, LacksRoomFor, RewritesIn};
-ghost use Rattle.std.specs.Prelude.{false, length, true, IsErrOf, IsTrue, List, OnErr, OnOk, ℕ, ◌*◌, ◌<◌, ◌≡◌, ◌≤◌, ◌⊎◌};
+ghost use Rattle.std.specs.Prelude.{false, length, true, IsErrOf, IsTrue, List, OnErr, OnOk, ℕ, ◌*◌, ◌-◌, ◌<◌, ◌≡◌, ◌≤◌, ◌⊎◌};
 
 use crate::placing::set_place;
 use cfb_medium::{Error, Medium};
@@ -41,7 +42,7 @@ fn take_room<F: Medium>(
         → IsLinked (mini_fat_of mini.old) (minis_of links.old)
         → IsTrue (orderly_of (allocator_of mini.old)) → ⊥ }
     ensures full { IsErrOf result Full → has_failed_here (allocator_of mini.new) ≡ false
-        → IsMini mini.old → LacksMini mini.old }
+        → IsMini mini.old → LacksMini (minis_for len - length (minis_of links.old)) mini.old }
     ensures rests { OnErr result ((has_failed_here (allocator_of mini.new) ≡ true)
         ⊎ MiniRests mini.old mini.new) }
     ensures goes_on { GoesOn (allocator_of mini.old) (allocator_of mini.new) }
@@ -73,7 +74,8 @@ fn lengthen_minis<F: Medium>(
     ensures rests { OnErr result ((has_failed_here (allocator_of mini.new) ≡ true)
         ⊎ KeepsOwners mini.old mini.new) }
     ensures full { IsErrOf result Full → has_failed_here (allocator_of mini.new) ≡ false
-        → (who : Owners) → Stands mini.old who → LacksMini mini.old }
+        → (who : Owners) → Stands mini.old who
+        → LacksMini (minis_for len - length (minis_of links.old)) mini.old }
     ensures goes_on { GoesOn (allocator_of mini.old) (allocator_of mini.new) }
     ensures answers { FatAnswers IsInvalidOrFull result (allocator_of mini.old)
         (allocator_of mini.new) }
@@ -107,7 +109,8 @@ fn stretch_short<F: Medium>(
     ensures rests { OnErr result ((has_failed_here (allocator_of mini.new) ≡ true)
         ⊎ KeepsOwners mini.old mini.new) }
     ensures full { IsErrOf result Full → has_failed_here (allocator_of mini.new) ≡ false
-        → (size < len) × ((who : Owners) → Stands mini.old who → LacksMini mini.old) }
+        → (size < len) × ((who : Owners) → Stands mini.old who
+        → LacksMini (minis_for len - length (minis_of links.old)) mini.old) }
     ensures goes_on { GoesOn (allocator_of mini.old) (allocator_of mini.new) }
     ensures answers { FatAnswers IsInvalidOrFull result (allocator_of mini.old)
         (allocator_of mini.new) }
@@ -119,7 +122,7 @@ fn stretch_short<F: Medium>(
 }
 
 // Makes the short stream that has this entry and these mini sectors so many bytes long, fewer than 4096: it keeps its first bytes,
-// and has zeros behind them. `Full` where it becomes longer and nothing is left for a mini sector more. After an error nothing is
+// and has zeros behind them. `Full` where it becomes longer and further mini sectors can't be had. After an error nothing is
 // changed, or the file has failed.
 pub(crate) fn resize_short_stream<F: Medium>(
     mini: &mut MiniAllocator<F>,

@@ -7,13 +7,14 @@ ghost use Rattle.cfb_live.specs.Freeing.{Stands};
 ghost use Rattle.cfb_medium.specs.declared.error.Error.TheVariants.{Full, InvalidData};
 ghost use Rattle.cfb_mini.specs.Changing.{KeepsOwners, LacksMini};
 ghost use Rattle.cfb_mini.specs.LinkViews.{minis_of};
+ghost use Rattle.cfb_mini.specs.Minis.{minis_for};
 ghost use Rattle.cfb_mini.specs.Views.{allocator_of};
 ghost use Rattle.cfb_owned.specs.Chains.{GoesOn};
 ghost use Rattle.cfb_owners.specs.Owners.{stream_owner, Owners};
 ghost use Rattle.cfb_sectors.specs.Header.{mini_cutoff};
 ghost use Rattle.cfb_writing.specs.Moving.{TakesLong, TakesShort};
 ghost use Rattle.cfb_writing.specs.Streams.{resized, LacksSectorsFor};
-ghost use Rattle.std.specs.Prelude.{[], false, length, true, IfOk, IsErrOf, OnErr, OnOk, ℕ, ◌<◌, ◌≡◌, ◌≤◌, ◌⊎◌};
+ghost use Rattle.std.specs.Prelude.{[], false, length, true, IfOk, IsErrOf, OnErr, ℕ, ◌<◌, ◌≡◌, ◌≤◌, ◌⊎◌};
 
 use crate::lengths::take_in;
 use cfb_chains::Links;
@@ -61,7 +62,7 @@ pub(crate) fn take_long<F: Medium>(
 }
 
 // Takes mini sectors for a short stream of these bytes that owns none. What it owns besides stays, and its entry is to tell of them
-// then. `Full` where nothing is left for a mini sector more, `InvalidData` where the FAT's tables can't be changed. After an error
+// then. `Full` where so many can't be had, `InvalidData` where the FAT's tables can't be changed. After an error
 // nothing is changed, or it has failed ([MS-CFB] 2.4).
 pub(crate) fn take_short<F: Medium>(
     alloc: Global,
@@ -77,7 +78,7 @@ pub(crate) fn take_short<F: Medium>(
     ensures rests { OnErr result ((has_failed_here (allocator_of mini.new) ≡ true)
         ⊎ KeepsOwners mini.old mini.new) }
     ensures full { IsErrOf result Full → has_failed_here (allocator_of mini.new) ≡ false
-        → (who : Owners) → Stands mini.old who → LacksMini mini.old }
+        → (who : Owners) → Stands mini.old who → LacksMini (minis_for (length bytes.now)) mini.old }
     ensures goes_on { GoesOn (allocator_of mini.old) (allocator_of mini.new) }
     ensures answers { FatAnswers IsInvalidOrFull result (allocator_of mini.old)
         (allocator_of mini.new) }

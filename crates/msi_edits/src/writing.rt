@@ -1,7 +1,7 @@
 //! The rows that a query leaves a table, as bytes of its stream.
 ghost use Rattle.cfb_medium.specs.declared.error.Error.TheVariants.{Memory};
 ghost use Rattle.std.specs.List.{list_all};
-ghost use Rattle.std.specs.Prelude.{◌≡◌, ◌⊎◌, length, true, IfErr, IfOk, MatchResult};
+ghost use Rattle.std.specs.Prelude.{◌≡◌, length, true, IfOk, MatchResult};
 ghost use Rattle.std.specs.Rc.{rc_value};
 ghost use Rattle.msi_changes.specs.Prepared.{AreChangesFor};
 ghost use Rattle.msi_changes.specs.Said.{delete_condition, insert_rows, update_condition, update_sets};

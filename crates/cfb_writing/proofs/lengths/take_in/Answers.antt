@@ -1,4 +1,4 @@
-use Rattle.std.proofs.Common.{◌≡◌, subst, sym, IsTrue}
+use Rattle.std.proofs.Common.{subst, sym, IsTrue}
 use Rattle.cfb_chains.specs.LinkViews.{ids_of, links_version}
 use Rattle.cfb_chains.specs.Positions.{sectors_for}
 use Rattle.cfb_directory.proofs.Results.{two_ok}

@@ -8,7 +8,9 @@ use Rattle.cfb_live.proofs.Resting.{keeps_rests}
 use Rattle.cfb_live.proofs.Standing.{stands_of}
 use Rattle.cfb_medium.specs.declared.error.Error.TheVariants.{Full, InvalidData}
 use Rattle.cfb_mini.specs.Views.{allocator_of, directory_of}
-use Rattle.cfb_mini.proofs.Longer.{answers_after, lacks_rest}
+use Rattle.cfb_mini.specs.Minis.{minis_for}
+use Rattle.cfb_mini.proofs.Lacking.{lacks_before}
+use Rattle.cfb_mini.proofs.Longer.{answers_after}
 use Rattle.cfb_owned.specs.Chains.{IsInvalidPlaceOrFull}
 use Rattle.cfb_owned.proofs.GoingOn.{goes_then, rests_go_on}
 use Rattle.cfb_streams.specs.Content.{HasContent}
@@ -24,7 +26,7 @@ use Rattle.cfb_writing.proofs.Moved.{kept_rests, links_kept, moved_as}
 use Rattle.cfb_writing.proofs.Placed.{entry_of, found_at}
 use Rattle.cfb_writing.proofs.Refused.{not_full}
 use Rattle.cfb_writing.proofs.ShortAt.{content_there, kept_strays, size_there, stream_kept}
-use Rattle.cfb_writing.proofs.Stretching.{lacks_short}
+use Rattle.cfb_writing.proofs.Stretching.{lacks_short, long_has}
 use Rattle.cfb_writing.proofs.moving.shorten_long.Goals as goal
 
 pub returns-then-id-dir_entries-clause-refused : goal.returns-then-id-dir_entries-clause-refused
@@ -105,8 +107,11 @@ returns-clause-full g c = λ wrong live letters tree path content at are.
     let long = subst (λ (l : StreamLinks). AreLinksOf id l it) c.in-Long.is are in
     let up = long_up letters it tree path id content at c.in-Long.long long in
     let size = size_there letters it tree path id content at in
-    lacks_short it (length content) c.args.len c.requires.short (λ few. absurd (let below = few in omega (arith, below, size, up)))
-    (lacks_rest it mid at.means.owners.memory c.read_front.ensures.rests (c.in-Err-move_to_minis.ensures.full (ap Err is) live mid_at.means.who (stands_of letters mid tree mid_at.means)))
+    let none = long_has (length content) (omega (arith, size, up)) in
+    let all : length c.deref.result.now ≡ c.args.len = ap length c.deref.ensures.value ∙ c.in-Ok.ensures.len in
+    let count = minis_for (length c.deref.result.now) in
+    lacks_short it (length content) c.args.len count c.requires.short (λ few. absurd (let below = few in omega (arith, below, size, up))) (omega (arith, none, all))
+    (lacks_before it mid count at.means.owners.memory c.read_front.ensures.rests (c.in-Err-move_to_minis.ensures.full (ap Err is) live mid_at.means.who (stands_of letters mid tree mid_at.means)))
 
 pub returns-clause-goes_on : goal.returns-clause-goes_on
 returns-clause-goes_on g c =

@@ -1,6 +1,6 @@
-use Rattle.std.proofs.Common.{◌≡◌, ℕ, ◌≤◌, ◌+◌, ap, arith, length, subst, sym, ◌∙◌}
+use Rattle.std.proofs.Common.{◌≡◌, ℕ, ◌≤◌, ◌+◌, ap, arith, length, subst, ◌∙◌}
 use Rattle.std.specs.Prelude.{max}
-use Rattle.cfb_chains.specs.LinkViews.{ids_of, links_version}
+use Rattle.cfb_chains.specs.LinkViews.{ids_of}
 use Rattle.cfb_chains.specs.Positions.{sectors_for}
 use Rattle.cfb_directory.proofs.Results.{two_ok}
 use Rattle.cfb_medium.specs.declared.version.Version.{Version}

@@ -1,9 +1,11 @@
-use Rattle.std.proofs.Common.{◌≡◌, ◌<◌, length, inl, inr, ap, sym, subst, ◌∙◌, ⊎_elim, arith}
+use Rattle.std.proofs.Common.{◌≡◌, ◌*◌, ◌-◌, ◌<◌, ◌≤◌, length, inl, inr, ap, sym, subst, ◌∙◌, ⊎_elim, arith}
 use Rattle.std.specs.Prelude.{slice_get, Some}
 use Rattle.std.proofs.lemmas.Option.{slice_get_within}
 use Rattle.cfb_directory.specs.Entries.{entries_in}
 use Rattle.cfb_directory.specs.Views.{entries_held}
 use Rattle.cfb_live.proofs.Standing.{stands_of}
+use Rattle.cfb_mini.specs.LinkViews.{minis_of}
+use Rattle.cfb_mini.specs.Minis.{minis_for}
 use Rattle.cfb_mini.specs.Views.{allocator_of, directory_of}
 use Rattle.cfb_owned.proofs.GoingOn.{goes_cause, goes_then}
 use Rattle.cfb_sectors.specs.Header.{mini_cutoff}
@@ -14,8 +16,8 @@ use Rattle.cfb_writing.specs.Streams.{resized}
 use Rattle.cfb_writing.proofs.Links.{entries_count}
 use Rattle.cfb_writing.proofs.LongBytes.{length-resized}
 use Rattle.cfb_writing.proofs.Placed.{entry_moved, entry_of, found_at, placed_minis, placed_strays, stream_placed}
-use Rattle.cfb_writing.proofs.ShortAt.{short_below, short_owned, size_there}
-use Rattle.cfb_writing.proofs.Stretching.{lacks_short}
+use Rattle.cfb_writing.proofs.ShortAt.{short_below, short_owned, short_room, size_there}
+use Rattle.cfb_writing.proofs.Stretching.{lacks_short, minis_has}
 use Rattle.cfb_writing.proofs.short_lengths.resize_short_stream.Goals as goal
 
 pub returns-then-id-dir_entries-clause-refused : goal.returns-then-id-dir_entries-clause-refused
@@ -98,7 +100,10 @@ returns-in-Err-clause-full g c = λ wrong live letters tree path content at are.
     let same : was.entry ≡ entry_in c.dir_entry.result.now = Some_same (sym (found_at letters it tree path id content at) ∙ told) in
     let size = size_there letters it tree path id content at ∙ ap (λ (x : Entry). x.size) same in
     let lacks = c.in-Err.ensures.full wrong live in
-    lacks_short it (length content) c.args.len c.requires (λ few. subst (λ n. n < c.args.len) (sym size) lacks.0) (lacks.1 at.means.who (stands_of letters it tree at.means))
+    let had = length (minis_of c.args.links.now) in
+    let room : length content ≤ 64 * had = subst (λ n. n ≤ 64 * had) (sym (size_there letters it tree path id content at)) (short_room letters it tree path id content at c.args.links.now are) in
+    let some = minis_has (length content) had room in
+    lacks_short it (length content) c.args.len (minis_for c.args.len - had) c.requires (λ few. subst (λ n. n < c.args.len) (sym size) lacks.0) (omega (arith, some)) (lacks.1 at.means.who (stands_of letters it tree at.means))
 
 pub returns-in-Err-set_place-clause-goes_on : goal.returns-in-Err-set_place-clause-goes_on
 returns-in-Err-set_place-clause-goes_on g c = goes_then _ _ _ c.stretch_short.ensures.goes_on c.set_place.ensures.goes_on

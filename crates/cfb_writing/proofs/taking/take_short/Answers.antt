@@ -5,7 +5,9 @@ use Rattle.cfb_fat.specs.Keeping.{fails_cause}
 use Rattle.cfb_medium.specs.declared.error.Error.TheVariants.{Full, InvalidData}
 use Rattle.cfb_mini.specs.Changing.{Lengthens}
 use Rattle.cfb_mini.specs.LinkViews.{minis_of}
+use Rattle.cfb_mini.specs.Minis.{minis_for}
 use Rattle.cfb_mini.specs.Views.{allocator_of, mini_fat_of}
+use Rattle.cfb_mini.proofs.Lacking.{lacks_fewer}
 use Rattle.cfb_fat.specs.Resting.{all_rest_refl}
 use Rattle.cfb_owned.proofs.GoingOn.{fails_go_on, goes_cause, goes_then}
 use Rattle.cfb_writing.proofs.ShortStreams.{begun, chain_then, taken_short}
@@ -52,7 +54,8 @@ pub returns-in-Err-clause-full : goal.returns-in-Err-clause-full
 returns-in-Err-clause-full g c = λ wrong live who m.
     let none = ap length c.new-links.ensures in
     let is : c.in-Err.error ≡ Full = cc in
-    ⊎_elim (λ lacks. lacks) (λ many. absurd (omega (arith, many, none))) (c.in-Err.ensures.full (ap Err is) live m.owners.memory)
+    let wanted = c.div_ceil-count.ensures in
+    ⊎_elim (λ lacks. lacks_fewer c.args.mini.now _ (minis_for (length c.args.bytes.now)) (omega (arith, wanted)) lacks) (λ many. absurd (omega (arith, many, none))) (c.in-Err.ensures.full (ap Err is) live m.owners.memory)
 
 pub returns-in-Err-overwrite_mini_chain-clause-answers : goal.returns-in-Err-overwrite_mini_chain-clause-answers
 returns-in-Err-overwrite_mini_chain-clause-answers g c =

@@ -1,5 +1,4 @@
-use Rattle.std.proofs.Common.{inl, inr, ◌≤◌, ap, sym, ◌∙◌, arith, ⊎_elim}
-use Rattle.std.specs.Prelude.{Err}
+use Rattle.std.proofs.Common.{inr, ◌≤◌, ap, ◌∙◌, arith}
 use Rattle.cfb_medium.specs.Versions.{stream_len_mask}
 use Rattle.cfb_fat.specs.Tables.{version_of}
 use Rattle.cfb_directory.proofs.Setting.{has_directory}

@@ -1,7 +1,7 @@
 use Rattle.std.proofs.Common.{◌≡◌, ℕ, ◌-◌, ◌*◌, List, length, replicate, arith, subst}
 use Rattle.std.specs.Prelude.{OnOk}
 use Rattle.cfb_mini.specs.Changing.{Shortens}
-use Rattle.cfb_mini_chains.specs.MiniChainCalls.{minis_for}
+use Rattle.cfb_mini.specs.Minis.{minis_for}
 use Rattle.cfb_mini_chains.specs.MiniChainViews.{links_of, mini_of, mini_sectors_of, HasChain}
 use Rattle.cfb_mini_chains.specs.MiniGrowing.{MiniAppends}
 use Rattle.cfb_mini_chains.proofs.chain.MiniChain.set_len.Goals as goal
