@@ -3,7 +3,7 @@ use Rattle.std.proofs.Common.{take, refl, ap, sym, subst, ◌∙◌}
 use Rattle.cfb_medium.specs.declared.medium.ReadMedium.{Ghosts}
 use Rattle.cfb_sectors.specs.Sectors.{fat_in}
 use Rattle.cfb_fat.specs.Tables.{bytes_of, fat_sectors_of, version_of}
-use Rattle.cfb_mini.specs.Views.{allocator_of, directory_of}
+use Rattle.cfb_mini.specs.Views.{allocator_of}
 use Rattle.cfb_mini.specs.declared.mini_allocator.MiniAllocator.{MiniAllocator}
 use Rattle.cfb_opening.specs.Opened as opening
 use Rattle.cfb_owners.specs.Kept.{layout_of}

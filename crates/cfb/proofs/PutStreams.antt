@@ -17,7 +17,6 @@ use Rattle.cfb_mini.specs.Views.{allocator_of}
 use Rattle.cfb_owned.specs.Chains.{GoesOn}
 use Rattle.cfb_owners.specs.Owners.{Owners}
 use Rattle.cfb_owned.proofs.GoingOn.{goes_cause}
-use Rattle.cfb_tree.specs.Changes.{changed, with_bytes}
 use Rattle.cfb_tree.specs.Names.{Letters}
 use Rattle.cfb_tree.specs.Objects.{object_at}
 use Rattle.cfb_tree.specs.Paths.{Path}

@@ -1,5 +1,5 @@
 -- A stream that gets other bytes in one call.
-use Rattle.std.proofs.Common.{◌≡◌, ℕ, ◌+◌, ◌-◌, ◌<◌, ◌≤◌, ◌⊎◌, inl, inr, List, [], ◌∷◌, ◌++◌, append-nil, length, take, drop, replicate, false, true, refl, ap, sym, subst, ◌∙◌, ⊎_elim, arith}
+use Rattle.std.proofs.Common.{◌≡◌, ℕ, ◌+◌, ◌-◌, ◌<◌, ◌≤◌, ◌⊎◌, inl, inr, List, [], ◌∷◌, ◌++◌, append-nil, length, drop, replicate, false, true, refl, ap, sym, subst, ◌∙◌, ⊎_elim, arith}
 use Rattle.std.proofs.lemmas.List.{drop_all}
 use Rattle.std.specs.Prelude.{Err, Ok, IsErrOf, None, Option, Result, Some}
 use Rattle.cfb_chains.specs.ChainCalls.{IsInvalidPlace}
@@ -14,12 +14,12 @@ use Rattle.cfb_live.specs.Live as live
 use Rattle.cfb_live.specs.Strays.{StaysTidy}
 use Rattle.cfb_live.proofs.Resting.{keeps_rests, means_stays}
 use Rattle.cfb_live.proofs.Strays.{strays_kept, strays_then}
-use Rattle.cfb_meaning.specs.TreeRules.{close_stream, done, has_bytes, on_stream, open_stream, refused, tree_step}
+use Rattle.cfb_meaning.specs.TreeRules.{done, has_bytes, on_stream, open_stream, refused}
 use Rattle.cfb_medium.specs.Bytes.{overwritten}
 use Rattle.cfb_medium.specs.Calls.{IsFaultUnless}
 use Rattle.cfb_medium.specs.Versions.{stream_len_mask}
 use Rattle.cfb_medium.specs.declared.error.Error.{Error}
-use Rattle.cfb_medium.specs.declared.error.Error.TheVariants.{Device, Failed, InvalidData, InvalidInput, Memory}
+use Rattle.cfb_medium.specs.declared.error.Error.TheVariants.{Failed, InvalidData, InvalidInput}
 use Rattle.cfb_medium.specs.declared.medium.ReadMedium.{Ghosts}
 use Rattle.cfb_mini.specs.Views.{allocator_of}
 use Rattle.cfb_owned.specs.Chains.{IsInvalidPlaceOrFull}

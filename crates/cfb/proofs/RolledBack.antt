@@ -2,7 +2,7 @@
 use Rattle.std.proofs.Common.{◌≡◌, ap, refl, sym, subst, ◌∙◌, IsTrue}
 use Rattle.cfb_medium.specs.declared.medium.ReadMedium.{Ghosts}
 use Rattle.std.specs.Prelude.{ℕ, List, true}
-use Rattle.cfb_fat.specs.Tables.{bytes_of, has_failed_here, medium_of}
+use Rattle.cfb_fat.specs.Tables.{has_failed_here, medium_of}
 use Rattle.cfb_mini.specs.Views.{allocator_of}
 use Rattle.cfb_opening.specs.Opened.{CanOpen, OpensAt}
 use Rattle.cfb_opening.specs.Tables.{OnlyReads}

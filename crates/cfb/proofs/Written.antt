@@ -1,25 +1,21 @@
 -- A stream that is written, in a file that was only read since, or was rewritten.
-use Rattle.std.proofs.Common.{◌≡◌, ℕ, ◌*◌, ◌≤◌, ◌⊎◌, inl, inr, List, [], length, false, true, ap, refl, sym, subst, ◌∙◌}
-use Rattle.std.specs.Prelude.{slice_get, None, Some}
-use Rattle.cfb_medium.specs.Versions.{sector_len}
+use Rattle.std.proofs.Common.{◌≡◌, ℕ, ◌*◌, ◌≤◌, ◌⊎◌, inl, inr, List, [], length, false, true, refl, sym, subst, ◌∙◌}
+use Rattle.std.specs.Prelude.{slice_get, Some}
 use Rattle.cfb_medium.specs.declared.error.Error.{Error}
-use Rattle.cfb_medium.specs.declared.error.Error.TheVariants.{Failed, InvalidData, InvalidInput, Memory, NotFound}
+use Rattle.cfb_medium.specs.declared.error.Error.TheVariants.{Failed, InvalidData, Memory}
 use Rattle.cfb_medium.specs.declared.medium.ReadMedium.{Ghosts}
 use Rattle.cfb_fat.specs.Tables.{bytes_of, has_failed_here}
-use Rattle.cfb_chains.specs.LinkViews.{links_version}
 use Rattle.cfb_directory.specs.Views.{entries_held}
 use Rattle.cfb_entries.proofs.StreamsHeld.{stream_held}
 use Rattle.cfb_live.proofs.Resting.{means_stays, stays_owned}
 use Rattle.cfb_live.specs.Live as live
 use Rattle.cfb_live.specs.Strays.{StaysTidy}
 use Rattle.cfb_meaning.specs.Means.{HasBytes}
-use Rattle.cfb_meaning.specs.TreeRules.{has_bytes, open_read_stream, open_stream, refused, tree_step}
-use Rattle.cfb_mini.specs.Changing.{HasOwners, KeepsOwners}
-use Rattle.cfb_mini.specs.Minis.{AreInside}
-use Rattle.cfb_mini.specs.Views.{allocator_of, directory_of, mini_stream_ids, mini_stream_len}
+use Rattle.cfb_meaning.specs.TreeRules.{has_bytes, open_read_stream, open_stream, tree_step}
+use Rattle.cfb_mini.specs.Changing.{KeepsOwners}
+use Rattle.cfb_mini.specs.Views.{allocator_of, directory_of}
 use Rattle.cfb_mini.specs.declared.mini_allocator.MiniAllocator.{MiniAllocator}
 use Rattle.cfb_owners.specs.Held.{MeansHeld}
-use Rattle.cfb_sectors.specs.Sectors.{Chain}
 use Rattle.cfb_siblings.specs.Places.{LeadsTo}
 use Rattle.cfb_streams.specs.Content as lower
 use Rattle.cfb_streams.specs.Streams.{sectors_in, IsOfLevel, StreamLiesIn}
@@ -28,9 +24,9 @@ use Rattle.cfb_streams.specs.declared.opening.StreamLinks.TheVariants.{Long, Sho
 use Rattle.cfb_tree.specs.Changes.{changed, with_bytes}
 use Rattle.cfb_tree.specs.Directory.{kind_stream, Entry}
 use Rattle.cfb_tree.specs.Names.{Letters}
-use Rattle.cfb_tree.specs.Objects.{a_storage, a_stream, object_at}
+use Rattle.cfb_tree.specs.Objects.{a_stream, object_at}
 use Rattle.cfb_tree.specs.Paths.{Path}
-use Rattle.cfb_tree.specs.Tree.{Content, Facts, Tree}
+use Rattle.cfb_tree.specs.Tree.{Tree}
 use Rattle.cfb_tree.proofs.OneContent.{Some_same}
 use Rattle.cfb_writing.specs.Streams.{AreAlike, AreLinksOf, IsStreamAt, RewritesIn}
 use Rattle.cfb_writing.proofs.Placed.{entry_of, found_at}

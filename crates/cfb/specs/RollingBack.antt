@@ -6,7 +6,7 @@ use Rattle.cfb_mini.specs.Views.{allocator_of}
 use Rattle.cfb_opening.specs.Opened.{CanOpen, OpensAt}
 use Rattle.cfb_sectors.specs.declared.validation.Validation.{Validation}
 use Rattle.cfb.specs.Opened.{IsOpenedAs}
-use Rattle.cfb.specs.Views.{letters_in, mini_of, FileRests}
+use Rattle.cfb.specs.Views.{letters_in, mini_of}
 use Rattle.cfb.specs.declared.compound_file.CompoundFile.{CompoundFile}
 
 module _ {F : Type 0} {g : Ghosts F} where

@@ -1,7 +1,7 @@
 //! Chains that become shorter, and chains of a given length.
 ghost use Rattle.cfb_chains.specs.ChainCalls.{chain_bytes, len_of, new_sector, ChainAnswers, ChainRests, Cuts, FreesBehind, ChainHolds, IsCutTo, IsInvalid, IsInvalidOrFull, IsShort, IsUnlinked, ChainKeeps, KeepsBytes, Lengthens, StaysLinked, StaysWritable};
 ghost use Rattle.cfb_chains.specs.Positions.{sectors_for};
-ghost use Rattle.cfb_medium.specs.declared.error.Error.TheVariants.{Failed, Full, InvalidData};
+ghost use Rattle.cfb_medium.specs.declared.error.Error.TheVariants.{Full, InvalidData};
 ghost use Rattle.cfb_medium.specs.Versions.{sector_len};
 ghost use Rattle.cfb_sectors.specs.Copies.{copies};
 ghost use Rattle.cfb_sectors.specs.Initial.{padded};

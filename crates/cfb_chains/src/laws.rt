@@ -2,7 +2,6 @@
 ghost use Rattle.cfb_chains.specs.Behind.{IsMarkedBehind};
 ghost use Rattle.cfb_chains.specs.Changes.{AreAmong, AreNoneOf, DifferAt, HaveEntry, IsBeside, IsFreeIn, StayBut};
 ghost use Rattle.cfb_chains.specs.Owned.{Leaves, Moves, Owned, Seen, Stays};
-ghost use Rattle.cfb_medium.specs.Versions.{sector_len};
 ghost use Rattle.cfb_medium.specs.declared.version.Version.{Version};
 ghost use Rattle.cfb_sectors.specs.Sectors.{filled_part, free, joined, Chain as IsChain};
 ghost use Rattle.std.specs.List.{AllByRecursion};

@@ -1,23 +1,21 @@
 -- The bytes of a directory, an entry after the other, and the chain that they are written to.
-use Rattle.std.proofs.Common.{◌≡◌, ℕ, suc, ◌+◌, ◌*◌, ◌/◌, ◌<◌, ◌≤◌, false, true, IsTrue, List, [], ◌∷◌, ◌++◌, length, map, take, refl, ap, sym, subst, ◌∙◌, arith, append-nil, length-append}
+use Rattle.std.proofs.Common.{◌≡◌, ℕ, ◌+◌, ◌*◌, ◌/◌, ◌<◌, ◌≤◌, false, true, List, [], ◌∷◌, ◌++◌, length, map, refl, ap, sym, subst, ◌∙◌, arith, append-nil, length-append}
 use Rattle.std.specs.Prelude.{if◌then◌else◌, nat_eq}
 use Rattle.std.proofs.lemmas.List.{map-append, take_all}
 use Rattle.cfb_medium.specs.Bytes.{overwritten}
 use Rattle.cfb_medium.specs.Numbers.{all_pieces, pieces}
-use Rattle.cfb_medium.specs.Versions.{sector_len}
 use Rattle.cfb_medium.specs.declared.version.Version.{Version}
 use Rattle.cfb_medium.specs.declared.medium.ReadMedium.{Ghosts}
-use Rattle.cfb_sectors.specs.Sectors.{joined, sector}
+use Rattle.cfb_sectors.specs.Sectors.{sector}
 use Rattle.cfb_sectors.specs.declared.initial.SectorInit.{SectorInit}
 use Rattle.cfb_chains.specs.LinkViews.{ids_of}
 use Rattle.cfb_chains.specs.Owned.{Becomes}
 use Rattle.cfb_chains.specs.declared.links.Links.{Links}
-use Rattle.cfb_chains.proofs.ChainWriting.{length-joined}
 use Rattle.cfb_directory.specs.Entries.{entries_in}
 use Rattle.cfb_directory.proofs.EntryBytes.{entries_behind}
 use Rattle.cfb_directory.proofs.EntryPlaces.{each, each_copy}
 use Rattle.cfb_fat.specs.Seeing.{seen_of}
-use Rattle.cfb_fat.specs.Tables.{bytes_of, has_failed_here, version_of}
+use Rattle.cfb_fat.specs.Tables.{has_failed_here, version_of}
 use Rattle.cfb_fat.specs.declared.allocator.Allocator.{Allocator}
 use Rattle.cfb_owned.specs.Chains.{content_of, GoesOn, Overwrites, Resizes}
 use Rattle.cfb_owners.specs.Owners.{directory_owner, first_of}

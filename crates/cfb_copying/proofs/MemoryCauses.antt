@@ -1,5 +1,5 @@
 -- Errors of a file in memory have no cause in a device.
-use Rattle.std.proofs.Common.{◌≡◌, false, arith, subst, sym, ⊎_elim, IsTrue}
+use Rattle.std.proofs.Common.{◌≡◌, false, arith, ⊎_elim}
 use Rattle.cfb_medium.specs.declared.error.Error.{Error}
 use Rattle.cfb_medium.specs.declared.error.Error.TheVariants.{Device, Failed}
 use Rattle.cfb_medium.specs.declared.medium.ReadMedium.{Ghosts}

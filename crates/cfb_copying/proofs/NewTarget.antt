@@ -1,9 +1,8 @@
 -- A new file is one in the making, of which the directory owns a sector.
 use Rattle.std.proofs.Common.{◌≡◌, ◌⊎◌, ℕ, zero, suc, ◌+◌, ◌*◌, ◌/◌, ◌<◌, ◌≤◌, false, true, IsTrue, inl, inr, List, [], ◌∷◌, ◌++◌, length, take, refl, ap, sym, subst, ◌∙◌, arith, append-nil, ⊎_elim}
-use Rattle.std.specs.Prelude.{nat_eq, slice_get, slice_index, Bool, Some, ◌||◌}
+use Rattle.std.specs.Prelude.{slice_get, Bool, Some, ◌||◌}
 use Rattle.std.proofs.lemmas.Bool.Decides.{eqb_tells}
 use Rattle.std.proofs.lemmas.Grind.{merely}
-use Rattle.std.proofs.lemmas.Option.{slice_get_within}
 use Rattle.std.specs.List.{AllByRecursion}
 use Rattle.cfb_medium.specs.Calls.{IsFaultUnless}
 use Rattle.cfb_medium.specs.Numbers.{numbers}
@@ -26,10 +25,10 @@ use Rattle.cfb_fat.specs.Listed.{stop_behind, Lists}
 use Rattle.cfb_fat.specs.Keeping.{lean_same}
 use Rattle.cfb_fat.specs.Orderly.{AreLean, IsOrderly}
 use Rattle.cfb_fat.specs.Seeing.{seen_of}
-use Rattle.cfb_fat.specs.Tables.{bytes_of, difat_sectors_of, fat_of, fat_sectors_of, has_failed_here, is_honest, orderly_of, sectors_of, tables_of, version_of}
+use Rattle.cfb_fat.specs.Tables.{bytes_of, difat_sectors_of, fat_of, fat_sectors_of, has_failed_here, is_honest, sectors_of, tables_of, version_of}
 use Rattle.cfb_fat.specs.declared.allocator.Allocator.{Allocator}
 use Rattle.cfb_owners.specs.Owners.{directory_owner}
-use Rattle.cfb_copying.specs.Making.{with_list, IsMade, IsOneOf}
+use Rattle.cfb_copying.specs.Making.{with_list, IsOneOf}
 use Rattle.cfb_copying.specs.Steps.{IsBegun}
 use Rattle.cfb_copying.proofs.Made.{at_key, at_other}
 

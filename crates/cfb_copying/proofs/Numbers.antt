@@ -14,7 +14,7 @@ use Rattle.cfb_chains.proofs.ChainGrowing.{chain_once}
 use Rattle.cfb_chains.specs.Changes.{AreNoneOf, AreOnce, IsNoneOf}
 use Rattle.cfb_fat.proofs.FatEntries.{length-fat_in}
 use Rattle.cfb_fat.specs.Growing.{IsLean}
-use Rattle.cfb_fat.specs.Orderly.{named_at_most, AreBelow, AreLean}
+use Rattle.cfb_fat.specs.Orderly.{AreBelow, AreLean}
 use Rattle.cfb_fat.specs.Tables.{difat_sectors_of, fat_of, fat_sectors_of, version_of}
 use Rattle.cfb_fat.specs.declared.allocator.Allocator.{Allocator}
 use Rattle.cfb_owned.specs.Chains.{RunsOut}

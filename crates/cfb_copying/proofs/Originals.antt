@@ -1,6 +1,6 @@
 -- What a file has that is copied.
 use Rattle.std.proofs.Common.{◌≡◌, ℕ, zero, suc, ◌+◌, ◌*◌, ◌/◌, ◌<◌, ◌≤◌, IsTrue, List, [], ◌∷◌, length, ap, sym, subst, ◌∙◌, arith, ⊎_elim}
-use Rattle.std.specs.Prelude.{false, nat_eq, slice_get, slice_index, Some}
+use Rattle.std.specs.Prelude.{false, nat_eq, slice_get, Some}
 use Rattle.std.specs.List.{AllByRecursion, IsDistinct}
 use Rattle.std.proofs.lemmas.Option.{slice_get_within}
 use Rattle.cfb_medium.specs.Versions.{sector_len}
@@ -15,9 +15,9 @@ use Rattle.cfb_fat.specs.Tables.{fat_of, version_of, AllRests}
 use Rattle.cfb_fat.specs.declared.allocator.Allocator.{Allocator}
 use Rattle.cfb_owners.specs.Held.{HasStream}
 use Rattle.cfb_owners.specs.LiveFile.{LiveFile}
-use Rattle.cfb_owners.specs.Owners.{directory_owner, first_of, mini_stream_owner, stream_owner, Owners}
+use Rattle.cfb_owners.specs.Owners.{directory_owner, first_of, stream_owner, Owners}
 use Rattle.cfb_owners.proofs.HoldsById.{each_part, IsPart}
-use Rattle.cfb_tree.specs.Directory.{entries_of, kind_stream, Entry}
+use Rattle.cfb_tree.specs.Directory.{kind_stream, Entry}
 use Rattle.cfb_copying.specs.Making.{IsMade, IsOneOf}
 use Rattle.cfb_copying.specs.Steps.{CanPut, FillSectors, IsOriginal}
 

@@ -1,10 +1,11 @@
 -- A chain that is put into a file in the making.
-use Rattle.std.proofs.Common.{◌≡◌, ◌⊎◌, ℕ, inl, inr, false, List, [], ◌∷◌, refl, ap, sym, subst, ◌∙◌, ⊎_elim}
+use Rattle.std.proofs.Common.{◌≡◌, ◌⊎◌, ℕ, inl, inr, false, List, [], ◌∷◌, refl, sym, subst, ◌∙◌, ⊎_elim}
 use Rattle.cfb_medium.specs.Calls.{IsFaultUnless}
 use Rattle.cfb_medium.specs.declared.error.Error.{Error}
 use Rattle.cfb_medium.specs.declared.error.Error.TheVariants.{Full, InvalidData, InvalidInput}
 use Rattle.cfb_medium.specs.declared.medium.ReadMedium.{Ghosts}
 use Rattle.cfb_sectors.specs.Sectors.{joined, Chain}
+use Rattle.cfb_sectors.proofs.OneChain.{chain_unique}
 use Rattle.cfb_chains.specs.ChainCalls.{IsInvalidPlace}
 use Rattle.cfb_chains.specs.Changes.{AreNoneOf}
 use Rattle.cfb_chains.specs.Grown.{IsLinked}
@@ -18,7 +19,6 @@ use Rattle.cfb_copying.specs.Chains.{CopiesChain, IsCopyFault}
 use Rattle.cfb_copying.specs.Making.{with_list, IsMade}
 use Rattle.cfb_copying.specs.Steps.{CanPut}
 use Rattle.cfb_copying.proofs.Made.{made_more}
-use Rattle.cfb_sectors.proofs.OneChain.{chain_unique}
 
 -- an error of a copy that is none of a place is a fault
 pub fault_of : (e : Error) → (IsInvalidPlace e → ⊥) → IsCopyFault e → IsFault e

@@ -1,15 +1,14 @@
 -- Steps of a copy, one after the other.
 use Rattle.std.proofs.Common.{◌≡◌, false, inl, inr, Err, Ok, ⊎_elim}
-use Rattle.std.specs.Prelude.{IfErr, Result}
 use Rattle.cfb_medium.specs.declared.error.Error.{Error}
 use Rattle.cfb_medium.specs.declared.medium.ReadMedium.{Ghosts}
 use Rattle.cfb_fat.specs.Keeping.{rests_cause}
-use Rattle.cfb_fat.specs.Resting.{all_rest_refl, all_rest_then}
-use Rattle.cfb_fat.specs.Tables.{has_failed_here, AllRests, HasCauseBelow}
+use Rattle.cfb_fat.specs.Resting.{all_rest_then}
+use Rattle.cfb_fat.specs.Tables.{has_failed_here, AllRests}
 use Rattle.cfb_fat.specs.declared.allocator.Allocator.{Allocator}
 use Rattle.cfb_owned.specs.Chains.{GoesOn}
 use Rattle.cfb_owned.proofs.GoingOn.{goes_cause, goes_then}
-use Rattle.cfb_copying.specs.Chains.{HasCauseInEither, IsCopyFault}
+use Rattle.cfb_copying.specs.Chains.{HasCauseInEither}
 use Rattle.cfb_copying.specs.Steps.{Steps}
 
 module _ {F : Type 0} {g : Ghosts F} {T : Type 0} {h : Ghosts T} where

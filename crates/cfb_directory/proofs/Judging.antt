@@ -1,11 +1,11 @@
 -- Entries in memory, one by one.
-use Rattle.std.proofs.Common.{◌≡◌, ℕ, ◌<◌, ◌≤◌, List, map, length, get_or, refl, sym, ◌∙◌, ap, subst, arith, ◌+◌, ◌*◌, ◌++◌, [], ◌∷◌, take, drop, Bool, true, false, IsTrue}
+use Rattle.std.proofs.Common.{◌≡◌, ℕ, ◌<◌, ◌≤◌, List, map, length, refl, sym, ◌∙◌, ap, subst, arith, ◌+◌, ◌*◌, ◌++◌, [], ◌∷◌, take, drop, Bool, true, false, IsTrue}
 use Rattle.std.specs.Prelude.{slice_get, Some, None, ◌==◌}
 use Rattle.std.specs.Option.{option_map}
 use Rattle.std.specs.Ordering.{ordering_index}
 use Rattle.std.specs.declared.cmp.Ordering.{Ordering}
 use Rattle.std.specs.declared.cmp.Ordering.TheVariants.{Less, Equal, Greater}
-use Rattle.std.proofs.lemmas.Option.{slice_get-map, slice_get_read, slice_get_past}
+use Rattle.std.proofs.lemmas.Option.{slice_get-map, slice_get_past}
 use Rattle.std.specs.Prelude.{slice_range}
 use Rattle.std.proofs.lemmas.List.{map-append}
 use Rattle.cfb_medium.specs.declared.version.Version.{Version}
@@ -19,11 +19,6 @@ use Rattle.cfb_tree.specs.Directory.{Entry, HasName}
 use Rattle.cfb_tree.proofs.OneContent.{name_unique, Some_same}
 use Rattle.cfb_directory.specs.Entries.{entries_in}
 use Rattle.cfb_directory.specs.Taken.{Precedes}
-
-pub found_in : (entries : List DirEntry) (id : ℕ) (e : DirEntry) → id < length entries → e ≡ get_or entries id e
-    → slice_get (entries_in entries) id ≡ Some (entry_in e)
-found_in entries id e below is =
-    slice_get-map entry_in entries id ∙ ap (option_map entry_in) (slice_get_read entries (length entries) id e refl below is)
 
 pub lost_in : (entries : List DirEntry) (id : ℕ) → length entries ≤ id → slice_get (entries_in entries) id ≡ None
 lost_in entries id past = slice_get-map entry_in entries id ∙ ap (option_map entry_in) (slice_get_past entries id past)

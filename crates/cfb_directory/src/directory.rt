@@ -1,5 +1,4 @@
 //! The directory in memory, over the sectors that hold it.
-ghost use Rattle.cfb_chains.specs.LinkViews.{ids_of};
 ghost use Rattle.cfb_directory.specs.Entries.{entries_in, AreNoted, IsNoted, SizesFit};
 ghost use Rattle.cfb_directory.specs.Taken.{HasAny, IsTakenAs};
 ghost use Rattle.cfb_fat.specs.Tables.{bytes_of, fat_of, has_failed as allocator_failed, has_failed_here, is_honest, medium_of, sectors_of, version_of, AllRests, HasCauseBelow};
@@ -9,7 +8,7 @@ ghost use Rattle.cfb_medium.specs.declared.error.Error.TheVariants.{Failed, Inva
 ghost use Rattle.cfb_sectors.specs.Sectors.{joined, Chain as IsChain};
 ghost use Rattle.cfb_siblings.specs.Places.{path_of, IsEntryAt};
 ghost use Rattle.cfb_siblings.specs.Reading.{ReadBy};
-ghost use Rattle.cfb_tree.specs.Directory.{entries_of, no_entry};
+ghost use Rattle.cfb_tree.specs.Directory.{entries_of};
 ghost use Rattle.cfb_tree.specs.EntryViews.{entry_in};
 ghost use Rattle.cfb_tree.specs.LetterViews.{letters_of};
 ghost use Rattle.cfb_tree.specs.Objects.{object_at, HoldsTree};

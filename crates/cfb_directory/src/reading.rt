@@ -2,10 +2,10 @@
 ghost use Rattle.cfb_directory.specs.Entries.{entries_in, SizesFit};
 ghost use Rattle.cfb_directory.specs.Taken.{HasAny, IsTakenAs};
 ghost use Rattle.cfb_chains.specs.LinkViews.{ids_of, links_version};
-ghost use Rattle.cfb_fat.specs.Tables.{bytes_of, fat_of, has_failed_here, is_honest, sectors_of, version_of, AllRests, HasCauseBelow};
+ghost use Rattle.cfb_fat.specs.Tables.{bytes_of, fat_of, is_honest, version_of, AllRests, HasCauseBelow};
 ghost use Rattle.cfb_medium.specs.Calls.{IsFaultUnless};
 ghost use Rattle.cfb_medium.specs.Versions.{sector_len};
-ghost use Rattle.cfb_medium.specs.declared.error.Error.TheVariants.{Failed, InvalidData, Memory};
+ghost use Rattle.cfb_medium.specs.declared.error.Error.TheVariants.{InvalidData, Memory};
 ghost use Rattle.cfb_sectors.specs.Sectors.{joined, Chain as IsChain};
 ghost use Rattle.cfb_owned.specs.Chains.{content_of, HasLinks};
 ghost use Rattle.cfb_tree.specs.Directory.{entries_of, entry_of};
@@ -13,7 +13,7 @@ ghost use Rattle.cfb_tree.specs.EntryViews.{entry_in};
 ghost use Rattle.cfb_tree.specs.LetterViews.{letters_of};
 ghost use Rattle.cfb_tree.specs.Tree.{Tree};
 ghost use Rattle.cfb_tree.specs.Entries.{HasSize};
-ghost use Rattle.std.specs.Prelude.{false, length, true, IfErr, IfOk, IsErrOf, IsTrue, List, OnOk, ℕ, ◌*◌, ◌≡◌, ◌⊎◌};
+ghost use Rattle.std.specs.Prelude.{false, length, true, IfErr, IfOk, IsErrOf, IsTrue, List, ℕ, ◌*◌, ◌≡◌, ◌⊎◌};
 
 use crate::directory::Entries;
 use crate::free::unused_among;

@@ -3,7 +3,7 @@ ghost use Rattle.cfb_directory.specs.Entries.{entries_in};
 ghost use Rattle.cfb_directory.specs.Walk.{child_at, links_at};
 ghost use Rattle.cfb_directory.specs.Taken.{HasAny, IsAhead, IsBehind, IsFit, IsTakenAs, IsTakenAsRoot, IsTakenIn, Precedes};
 ghost use Rattle.cfb_medium.specs.declared.error.Error.TheVariants.{Memory};
-ghost use Rattle.cfb_tree.specs.Directory.{Entry, HasName};
+ghost use Rattle.cfb_tree.specs.Directory.{HasName};
 ghost use Rattle.cfb_tree.specs.Entries.{IsBlackAt, HasSize};
 ghost use Rattle.cfb_tree.specs.EntryViews.{color_of, entry_in, kind_of};
 ghost use Rattle.cfb_tree.specs.LetterViews.{letters_of};

@@ -11,7 +11,6 @@ use Rattle.cfb_medium.specs.declared.version.Version.{Version}
 use Rattle.cfb_medium.specs.declared.version.Version.TheVariants.{V3, V4}
 use Rattle.cfb_sectors.specs.Sectors.{sector_start}
 use Rattle.cfb_chains.specs.Changes.{IsBeside, IsNoneOf}
-use Rattle.cfb_chains.proofs.Beside.{none_both, none_first, none_second}
 use Rattle.cfb_fat.specs.Orderly.{AreBelow}
 use Rattle.cfb_fat.specs.Rising.{AreRead, IsBesideFrom, RiseFrom}
 

@@ -2,12 +2,11 @@
 ghost use Rattle.cfb_fat.specs.Calls.{places_of, Attempts, EndsBehind, HasNoneBelow, HasPlace, IsTheLast, Occupies, Tries};
 ghost use Rattle.cfb_fat.specs.Growing.{GrowsFat, HasMemory, KeepsMemory, MarksBehind, Spends, SpendsOne};
 ghost use Rattle.cfb_fat.specs.Orderly.{named_at_most};
-ghost use Rattle.cfb_medium.specs.Calls.{IsFaultUnless};
 ghost use Rattle.cfb_medium.specs.Versions.{sector_len};
 ghost use Rattle.cfb_medium.specs.declared.error.Error.TheVariants.{Full};
 ghost use Rattle.cfb_sectors.specs.Held.{count_of};
 ghost use Rattle.cfb_sectors.specs.Sectors.{free, greatest_regular};
-ghost use Rattle.std.specs.Prelude.{false, length, true, IfErr, IfOk, IsErrOf, IsTrue, OnErr, OnOk, ℕ, [], ◌*◌, ◌++◌, ◌+◌, ◌-◌, ◌/◌, ◌^◌, min, ◌<◌, ◌∷◌, ◌≡◌, ◌≤◌, ◌⊎◌};
+ghost use Rattle.std.specs.Prelude.{false, length, true, IfOk, IsErrOf, IsTrue, OnErr, OnOk, ℕ, [], ◌*◌, ◌++◌, ◌+◌, ◌-◌, ◌/◌, ◌^◌, min, ◌<◌, ◌∷◌, ◌≡◌, ◌≤◌, ◌⊎◌};
 
 use crate::Allocator;
 use crate::difat::{add_difat_sector, add_fat_sector, append_sector, can_name};
@@ -32,7 +31,7 @@ fn runs_for(count: usize, each: usize, num_fat_sectors: usize, len: usize) -> us
 }
 
 impl<F: Medium> Allocator<F> {
-    ghost use Rattle.cfb_fat.specs.Tables.{capacity_of, difat_sectors_of, fat_of, fat_sectors_of, has_failed_here, is_honest, orderly_of, runs_of, sectors_of, version_of, AllRests, HasCauseBelow};
+    ghost use Rattle.cfb_fat.specs.Tables.{capacity_of, difat_sectors_of, fat_of, fat_sectors_of, has_failed_here, orderly_of, runs_of, sectors_of, version_of, AllRests};
 
     // Asks for the memory of so many runs of the FAT more. Nothing is changed.
     pub(crate) fn reserve_runs(&mut self, count: usize) -> Result<(), AllocError>

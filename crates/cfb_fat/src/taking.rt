@@ -1,13 +1,13 @@
 //! Sectors that are taken into use, for chains that begin or become longer ([MS-CFB] 2.3).
 ghost use Rattle.cfb_fat.specs.Calls.{FatAnswers, Attempts, ChangesTables, FillsBehind, HasNoneBelow, IsFresh, IsFull, IsLastResort, IsTheLast, Occupies, TakesOne, Tries};
 ghost use Rattle.cfb_chains.specs.ChainCalls.{IsInvalidOrFull};
-ghost use Rattle.cfb_chains.specs.Changes.{AreAmong, IsFreeIn, IsNoneOf};
+ghost use Rattle.cfb_chains.specs.Changes.{AreAmong, IsNoneOf};
 ghost use Rattle.cfb_chains.specs.Grown.{AreWritable, IsLinked};
 ghost use Rattle.cfb_chains.specs.LinkViews.{ids_of, links_version};
 ghost use Rattle.cfb_chains.specs.Owned.{Leaves};
 ghost use Rattle.cfb_chains.specs.Positions.{sectors_for};
 ghost use Rattle.cfb_fat.specs.Changing.{MayWrite, WritesBeside};
-ghost use Rattle.cfb_fat.specs.Growing.{GrowsFat, HasMemory, HasWhole, KeepsMemory, LacksNumbers, MarksBehind, Spends, TakesIn};
+ghost use Rattle.cfb_fat.specs.Growing.{GrowsFat, HasMemory, KeepsMemory, LacksNumbers, Spends, TakesIn};
 ghost use Rattle.cfb_fat.specs.Keeping.{takes_cause, takes_fails, takes_keep, takes_rest, takes_then};
 ghost use Rattle.cfb_fat.specs.Seeing.{seen_of};
 ghost use Rattle.cfb_medium.specs.Calls.{IsFaultUnless};

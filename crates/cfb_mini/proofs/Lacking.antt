@@ -22,7 +22,7 @@ use Rattle.cfb_mini.specs.Views.{allocator_of, mini_fat_ids, mini_fat_of, mini_s
 use Rattle.cfb_mini.specs.declared.mini_allocator.MiniAllocator.{MiniAllocator}
 use Rattle.cfb_mini.proofs.Longer.{lacks_rest, len_same}
 
-more_for : (v : Version) (few many : ℕ) → few ≤ many → sectors_for v few ≤ sectors_for v many
+pub more_for : (v : Version) (few many : ℕ) → few ≤ many → sectors_for v few ≤ sectors_for v many
 more_for V3 few many most = omega (arith, most)
 more_for V4 few many most = omega (arith, most)
 

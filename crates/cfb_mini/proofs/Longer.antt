@@ -21,6 +21,7 @@ use Rattle.cfb_fat.specs.Resting.{all_rest_then}
 use Rattle.cfb_fat.specs.Seeing.{seen_of}
 use Rattle.cfb_fat.specs.Tables.{bytes_of, difat_sectors_of, fat_of, fat_sectors_of, is_honest, tables_of, version_of, AllRests}
 use Rattle.cfb_fat.specs.declared.allocator.Allocator.{Allocator}
+use Rattle.cfb_fat.proofs.Joining.{all_append}
 use Rattle.cfb_tree.specs.Directory.{Entry}
 use Rattle.cfb_directory.specs.Views as directory
 use Rattle.cfb_mini.specs.Changing.{mini_seen, CoversStream, Extends, GrowsMiniFat, GrowsMiniStream, HasOwners, LacksOne, Lengthens, TellsStream}
@@ -32,7 +33,6 @@ use Rattle.cfb_mini.proofs.Entries.{content_len}
 use Rattle.cfb_mini.proofs.Keeping.{pick, pick_mine, pick_other}
 use Rattle.cfb_mini.proofs.KeptFile.{file_rests, file_same, file_then}
 use Rattle.cfb_mini.proofs.Strays.{leaves_resting, stray_same}
-use Rattle.cfb_fat.proofs.Joining.{all_append}
 
 -- a table that became longer has the chains that it had
 entry_stays : (old new : List ℕ) (n x : ℕ) → length old ≤ length new → ((k : ℕ) → k < length old → get_or new k 0 ≡ get_or old k 0) → slice_get old n ≡ Some x → slice_get new n ≡ Some x
@@ -88,7 +88,7 @@ was_loose a b mid x stays linked loose = ⊎_elim (λ found. was_free a b mid x 
 were_free_both : (a b mid taken more : List ℕ) → StayBut mid a b → IsLinked b mid → AllByRecursion (IsFreeIn a) taken → AllByRecursion (IsFreeIn b) more → AllByRecursion (IsFreeIn a) (taken ++ more)
 were_free_both a b mid taken more stays linked = free_then a b taken more (λ n. was_loose a b mid n stays linked)
 
-all_both : (P : ℕ → Type 0) (xs ys : List ℕ) → AllByRecursion P xs → AllByRecursion P ys → AllByRecursion P (xs ++ ys)
+pub all_both : (P : ℕ → Type 0) (xs ys : List ℕ) → AllByRecursion P xs → AllByRecursion P ys → AllByRecursion P (xs ++ ys)
 all_both P [] ys h k = k
 all_both P (x ∷ xs) ys h k = (h.0, all_both P xs ys h.1 k)
 

@@ -1,13 +1,13 @@
 //! The root's size, which covers the mini stream ([MS-CFB] 2.6.3).
 ghost use Rattle.cfb_chains.specs.ChainCalls.{IsInvalidOrFull};
 ghost use Rattle.cfb_fat.specs.Calls.{FatAnswers};
-ghost use Rattle.cfb_fat.specs.Tables.{has_failed_here, version_of};
+ghost use Rattle.cfb_fat.specs.Tables.{version_of};
 ghost use Rattle.cfb_medium.specs.Versions.{stream_len_mask};
 ghost use Rattle.cfb_medium.specs.declared.error.Error.TheVariants.{Full, InvalidData};
 ghost use Rattle.cfb_mini.specs.Changing.{CoversStream, HasOwners, IsCovered};
 ghost use Rattle.cfb_mini.specs.Views.{allocator_of, mini_stream_len, MiniRests};
 ghost use Rattle.cfb_owned.specs.Chains.{GoesOn};
-ghost use Rattle.std.specs.Prelude.{false, true, IsErrOf, List, OnErr, OnOk, ℕ, ◌<◌, ◌≡◌, ◌⊎◌};
+ghost use Rattle.std.specs.Prelude.{false, true, IsErrOf, List, OnOk, ℕ, ◌<◌, ◌≡◌, ◌⊎◌};
 
 use crate::MiniAllocator;
 use crate::fat_growth::start_of;

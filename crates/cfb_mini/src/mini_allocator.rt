@@ -1,6 +1,6 @@
 //! Mini sectors over the directory.
 ghost use Rattle.cfb_directory.specs.Views.{entries_held, IsDirectory};
-ghost use Rattle.cfb_fat.specs.Tables.{bytes_of, fat_of, has_failed as allocator_failed, has_failed_here, is_honest, medium_of, version_of, HasCauseBelow};
+ghost use Rattle.cfb_fat.specs.Tables.{bytes_of, fat_of, has_failed_here, is_honest, medium_of, version_of, HasCauseBelow};
 ghost use Rattle.cfb_medium.specs.Calls.{Extends, HasCauseSince, IsFaultUnless};
 ghost use Rattle.cfb_medium.specs.Versions.{sector_len};
 ghost use Rattle.cfb_medium.specs.declared.error.Error.TheVariants.{Failed, InvalidData, InvalidInput, Memory};

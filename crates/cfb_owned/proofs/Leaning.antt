@@ -8,7 +8,7 @@ use Rattle.cfb_fat.specs.Changing.{WritesBeside}
 use Rattle.cfb_fat.specs.Growing.{IsLean, LacksNumbers, TakesIn}
 use Rattle.cfb_fat.specs.Keeping.{lean_same}
 use Rattle.cfb_fat.specs.Tables.{fat_of, has_failed_here, version_of, KeepsTables}
-use Rattle.cfb_owned.specs.Chains.{RunsOut, StaysLean}
+use Rattle.cfb_owned.specs.Chains.{StaysLean}
 
 module _ {F : Type 0} {g : Ghosts F} where
   pub keeps_refl : (a : Allocator F g) → KeepsTables a a

@@ -14,6 +14,7 @@ use Rattle.cfb_tree.proofs.OneContent.{Some_same}
 use Rattle.cfb_meaning.specs.Means.{directory, fat, mini_fat, HasBytes, Layout}
 use Rattle.cfb_meaning.specs.Sound.{in_file, AreApart, IsSoundBy, IsUsable, Part}
 use Rattle.cfb_chains.specs.Owned.{Owned}
+use Rattle.cfb_fat.proofs.CutChains.{get_of_cut}
 use Rattle.cfb_owners.specs.Owners.{Owners}
 use Rattle.cfb_owners.specs.LiveFile.{live_file}
 use Rattle.cfb_owners.proofs.PartsApart.{all_split, nothing_differs, Differ}
@@ -21,7 +22,6 @@ use Rattle.cfb_owners.proofs.KeysOfParts.{keys_differ, minis_among, none_of_mini
 use Rattle.cfb_owners.proofs.UsesOfEntries.{all_of_key, entry_fits, sectors_fit, in_or_nothing, nothing_fits, use_at, uses_joined, uses_of, Fits}
 use Rattle.cfb_owners.proofs.UsedParts.{all_keys, key_of}
 use Rattle.cfb_owners.proofs.HoldsById.{kinds}
-use Rattle.cfb_fat.proofs.CutChains.{get_of_cut}
 
 -- what the tables use, the directory, the mini FAT, the mini stream, and each entry
 abbrev pub by_key : Layout → (ℕ → List Part) → ℕ → List Part
@@ -39,7 +39,7 @@ none_of_nothing : (xs : List ℕ) → AreNoneOf [] xs
 none_of_nothing [] = tt
 none_of_nothing (x ∷ xs) = ((λ k below same. absurd (omega (arith, below))), none_of_nothing xs)
 
-key_one : (ids : List ℕ) (id : ℕ) → IsOneOf ids id → IsOneOf (map key_of ids) (key_of id)
+pub key_one : (ids : List ℕ) (id : ℕ) → IsOneOf ids id → IsOneOf (map key_of ids) (key_of id)
 key_one [] id one = one
 key_one (x ∷ ids) id (inl same) = inl (ap key_of same)
 key_one (x ∷ ids) id (inr later) = inr (key_one ids id later)

@@ -33,9 +33,10 @@ use Rattle.cfb_mini.specs.declared.links.MiniLinks.{MiniLinks}
 use Rattle.cfb_mini.specs.declared.mini_allocator.MiniAllocator.{MiniAllocator}
 use Rattle.cfb_mini.proofs.Headers.{header_stays, u32_same, KeepsFront}
 use Rattle.cfb_mini.proofs.Keeping.{pick, pick_mine, pick_other}
-use Rattle.cfb_mini.proofs.Longer.{all_less, lengthened_owners, lengthened_strays, now_other, own_now, stream_size}
+use Rattle.cfb_mini.proofs.Longer.{all_both, all_less, lengthened_owners, lengthened_strays, now_other, own_now, stream_size}
 use Rattle.cfb_mini.proofs.Parts.{parts_are}
 use Rattle.cfb_mini.proofs.Strays.{leaves_same, none_left_out, strays_before}
+use Rattle.cfb_mini.proofs.Padded.{joined_padded}
 use Rattle.cfb_owned.specs.Chains.{GoesOn}
 use Rattle.cfb_owners.specs.Held.{mini_joined as held_joined, mini_places_of}
 use Rattle.cfb_owners.specs.Owners.{first_of, mini_stream_owner, stream_owner, Owners}
@@ -49,7 +50,6 @@ use Rattle.cfb_writing.proofs.LongBytes.{all_by_index, length-places}
 use Rattle.cfb_owned.proofs.FrontWritten.{all_at}
 use Rattle.cfb_writing.proofs.LongChains.{lost_free}
 use Rattle.cfb_writing.proofs.MiniBytes.{parts_front, parts_of, places_both}
-use Rattle.cfb_mini.proofs.Padded.{joined_padded}
 
 more_bytes : (v : Version) (a b c : ℕ) → c ≡ a + b → a * sector_len v ≤ c * sector_len v
 more_bytes V3 a b c is = omega (arith, is)
@@ -68,11 +68,6 @@ module _ (table : List ℕ) (start : ℕ) (ids taken : List ℕ) (chain : IsChai
 
   none_taken : AreNoneOf ids taken
   none_taken = all_by_index (IsNoneOf ids) taken (λ j there. in_use table start ids (get_or taken j 0) chain (all_at (IsFreeIn table) taken j were there))
-
--- what holds of each in two lists
-all_both : (P : ℕ → Type 0) (xs ys : List ℕ) → AllByRecursion P xs → AllByRecursion P ys → AllByRecursion P (xs ++ ys)
-all_both P [] ys first second = second
-all_both P (x ∷ xs) ys first second = (first.0, all_both P xs ys first.1 second)
 
 -- or in the front of one
 all_front : (P : ℕ → Type 0) (xs : List ℕ) (n : ℕ) → AllByRecursion P xs → AllByRecursion P (take n xs)

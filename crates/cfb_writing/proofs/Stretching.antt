@@ -32,7 +32,7 @@ use Rattle.cfb_writing.specs.Streams.{IsPastNumbers, LacksRoom, LacksSectorsFor}
 use Rattle.cfb_writing.proofs.LongBytes.{get_grown, get_taken, get_zeros, joined_front, place_kept}
 use Rattle.cfb_owned.proofs.FrontWritten.{place_new, zeros_joined}
 use Rattle.cfb_mini.specs.Minis.{minis_for}
-use Rattle.cfb_mini.proofs.Lacking.{lacks_before, lacks_fewer}
+use Rattle.cfb_mini.proofs.Lacking.{lacks_before, lacks_fewer, more_for}
 use Rattle.cfb_mini.proofs.Padded.{zero_at, zeros}
 
 -- so many sectors hold so many bytes
@@ -65,10 +65,6 @@ tight_for V4 n len few = omega (arith, few)
 fewer_for : (v : Version) (n len : ℕ) → len ≤ n * sector_len v → sectors_for v len ≤ n
 fewer_for V3 n len room = omega (arith, room)
 fewer_for V4 n len room = omega (arith, room)
-
-more_for : (v : Version) (few many : ℕ) → few ≤ many → sectors_for v few ≤ sectors_for v many
-more_for V3 few many most = omega (arith, most)
-more_for V4 few many most = omega (arith, most)
 
 module _ {F : Type 0} {g : Ghosts F} where
   -- a chain that became longer by sectors of zeros

@@ -6,7 +6,6 @@ use Rattle.staged.specs.Device.{DeviceRests}
 use Rattle.staged.specs.Stops.{Remembers}
 use Rattle.staged.specs.Counts.{counted_failures, counted_writes, counted_syncs}
 use Rattle.staged.specs.declared.device.Which.{Which}
-use Rattle.staged.specs.declared.device.Which.TheVariants.{Home, Log}
 use Rattle.file_device.specs.declared.raw.RawFile.{Ghosts}
 use Rattle.file_device.specs.declared.pair.RawDevice.{RawDevice}
 

@@ -7,13 +7,13 @@ use Rattle.cfb_mini.specs.Views.{allocator_of}
 use Rattle.cfb_medium.specs.Stops.{LeavesOnly}
 use Rattle.cfb_medium.specs.Calls.{IsFaultUnless}
 use Rattle.cfb_medium.specs.declared.error.Error.{Error}
-use Rattle.cfb_medium.specs.declared.error.Error.TheVariants.{AlreadyExists, Device, Failed, InvalidData}
+use Rattle.cfb_medium.specs.declared.error.Error.TheVariants.{AlreadyExists, Failed, InvalidData}
 use Rattle.cfb_medium.specs.declared.medium.ReadMedium as medium
 use Rattle.cfb_tree.specs.Names.{Letters}
 use Rattle.installer.proofs.Stopping.{survives_commit, survives_rest, survives_then}
 use Rattle.installer.proofs.Begun.{counted_later}
 use Rattle.installer.specs.Course.{Mark}
-use Rattle.installer.specs.Refusals.{IsCounted, IsFreshFault}
+use Rattle.installer.specs.Refusals.{IsFreshFault}
 use Rattle.installer.specs.Survival.{gives, given_since, IsFound, IsGiven, Survives}
 use Rattle.installer_runs.specs.Copying.{CopiesOn, IsCopied, IsCopyRefusal, IsUncopied, SurvivesCopy}
 use Rattle.msi.specs.Changing.{failed_in, PackageIsFit}

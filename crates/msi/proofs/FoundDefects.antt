@@ -1,6 +1,6 @@
 -- The defects of a file that was opened are those of its bytes.
-use Rattle.std.proofs.Common.{◌≡◌, ◌∙◌, ℕ, Bool, true, false, List, [], refl, sym, ap, subst, arith}
-use Rattle.std.specs.Prelude.{◌↔◌, Contains, Err, IfErr, IfOk, IsTrue, Ok, Result, Vec}
+use Rattle.std.proofs.Common.{◌≡◌, ◌∙◌, Bool, true, false, List, [], refl, sym, ap, subst, arith}
+use Rattle.std.specs.Prelude.{◌↔◌, Contains, Err, IfOk, IsTrue, Ok, Result, Vec}
 use Rattle.std.specs.declared.alloc.Global.{Global}
 use Rattle.cfb.proofs.Holding.{holds_opened, holds_yet}
 use Rattle.cfb.proofs.OpenedFiles.{left_since}
@@ -24,7 +24,7 @@ use Rattle.msi_parts.specs.Held.{AreHeld}
 use Rattle.msi_parts.specs.Parts.{IsSoundIn}
 use Rattle.msi_parts.specs.declared.parts.PackageParts.{PackageParts}
 use Rattle.msi_store.proofs.ShownTrees.{shown_of_held, shown_opened}
-use Rattle.msi_stored.specs.Shown.{HoldsShown, ShowsTree}
+use Rattle.msi_stored.specs.Shown.{HoldsShown}
 use Rattle.msi.proofs.OpenedPackages.{opens_yet}
 use Rattle.msi.specs.Checked.{HasDefects, IsChecked, IsMediumOf}
 use Rattle.msi.specs.Opened.{IsSoundFile}

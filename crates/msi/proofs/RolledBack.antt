@@ -14,7 +14,6 @@ use Rattle.cfb_medium.specs.declared.error.Error.TheVariants.{AlreadyExists, Dev
 use Rattle.cfb_medium.specs.declared.medium.ReadMedium.{Ghosts}
 use Rattle.cfb_mini.specs.Views.{allocator_of}
 use Rattle.cfb_sectors.specs.declared.validation.Validation.TheVariants.{Permissive}
-use Rattle.cfb_tree.specs.Names.{Letters}
 use Rattle.msi_meaning.specs.Opening.{may_use}
 use Rattle.msi.proofs.OpenedPackages.{cause_since, found_opened, given_refused}
 use Rattle.msi.specs.Opened.{IsOpenedPackage, IsRefused, file_in, sound_in}

@@ -1,5 +1,5 @@
 -- The texts of a pool that was written give back their bytes.
-use Rattle.std.proofs.Common.{◌≡◌, ℕ, ◌<◌, ◌^◌, ◌⊎◌, inl, inr, Bool, true, false, cond, List, [], ◌∷◌, ◌++◌, map, length, refl, ap, ap₂, sym, arith}
+use Rattle.std.proofs.Common.{◌≡◌, ℕ, ◌<◌, ◌^◌, ◌⊎◌, inl, inr, Bool, true, false, cond, List, [], ◌∷◌, ◌++◌, map, refl, ap, sym, arith}
 use Rattle.std.specs.Prelude.{nat_le, ◌==◌, ◌&&◌, ◌||◌, All}
 use Rattle.std.specs.List.{flat_map}
 use Rattle.std.specs.Str.{chars}
@@ -12,8 +12,8 @@ use Rattle.msi_texts.specs.declared.codepage.CodePage.TheVariants as page
 use Rattle.msi_texts.specs.Numbers.{le_bytes}
 use Rattle.msi_texts.specs.Page.{encoded, decoded, id_of}
 use Rattle.msi_texts.proofs.PageRoundTrip.{fitting_text_comes_back}
-use Rattle.msi_pool.proofs.PoolRoundTrip.{page_comes_back}
-use Rattle.msi_pool.specs.Pool.{Pool, Place, IsHead, AreHeads, Pooled, Stored, head_bytes, head_of, stored_place, stored_of, pool_stream, data_stream}
+use Rattle.msi_pool.proofs.PoolRoundTrip.{heads_read, page_comes_back, texts_read}
+use Rattle.msi_pool.specs.Pool.{Pool, Place, IsHead, Pooled, Stored, head_bytes, head_of, stored_place, stored_of, pool_stream, data_stream}
 use Rattle.msi_pool.specs.PoolKept.{IsKeptPlace, AreKept, IsWritable}
 
 head_numbers : (len count : ℕ) → len < 2 ^ 32 → count < 2 ^ 16 → (count ≡ 0 → len ≡ 0) → IsHead len count (head_bytes len count)
@@ -36,26 +36,9 @@ unfolding chars
 empty_encoded page.Utf8 = refl
 empty_encoded _ = refl
 
-no_bytes : (page : CodePage) (p : Place) → IsKeptPlace page p → p.count ≡ 0 → length (encoded page p.text) ≡ 0
-no_bytes page p kept e = rw (kept.free e, empty_encoded page) refl
-
-heads_read : (page : CodePage) (ps : List Place) → AreKept page ps → AreHeads (map (stored_place page) ps) (flat_map head_of (map (stored_place page) ps))
-heads_read page [] kept = omega arith
-heads_read page (p ∷ ps) kept = (
-  head_of (stored_place page p),
-  flat_map head_of (map (stored_place page) ps),
-  head_numbers (length (encoded page p.text)) p.count kept.0.size kept.0.count (no_bytes page p kept.0),
-  heads_read page ps kept.1,
-  refl,
-)
-
 -- a text that fits comes back from its bytes
 back : (page : CodePage) (p : Place) → IsKeptPlace page p → decoded page (encoded page p.text) ≡ p.text
 back page p kept = fitting_text_comes_back page p.text (IsUtf8-from_is_utf8 p.text kept.utf8) kept.fit
-
-texts_read : (page : CodePage) (ps : List Place) → AreKept page ps → ps ≡ map (λ s. record { text = decoded page s.0; count = s.1 }) (map (stored_place page) ps)
-texts_read page [] kept = refl
-texts_read page (p ∷ ps) kept = ap₂ (λ (t : List ℕ) (qs : List Place). record { text = t; count = p.count } ∷ qs) (sym (back page p kept.0)) (texts_read page ps kept.1)
 
 abbrev Gives : CodePage → Stored → Type 0
 Gives page s = encoded page (decoded page s.0) ≡ s.0

@@ -1,6 +1,6 @@
 -- The texts of a summary that was written give back their bytes.
-use Rattle.std.proofs.Common.{◌≡◌, ℕ, ◌+◌, ◌*◌, ◌<◌, ◌^◌, Bool, false, true, List, [], ◌∷◌, ◌++◌, length, drop, map, Option, Some, None, Ok, refl, ap, sym, subst, ◌∙◌, arith, append_assoc, append-nil, length-append}
-use Rattle.std.specs.Prelude.{nat_lt, not, ◌||◌, ◌&&◌, if◌then◌else◌, bytes_eq}
+use Rattle.std.proofs.Common.{◌≡◌, ℕ, ◌+◌, ◌*◌, ◌<◌, ◌^◌, Bool, false, true, List, [], ◌∷◌, ◌++◌, length, drop, map, Ok, refl, ap, sym, subst, ◌∙◌, arith, append-nil, length-append}
+use Rattle.std.specs.Prelude.{◌||◌, ◌&&◌, if◌then◌else◌, bytes_eq}
 use Rattle.std.specs.List.{AllByRecursion, list_all, list_any}
 use Rattle.std.proofs.Math.Seq.{drop-append_seam}
 use Rattle.std.proofs.lemmas.Bool.Decides.{nat_tests}
@@ -10,37 +10,17 @@ use Rattle.msi_texts.specs.Numbers.{le_bytes}
 use Rattle.msi_texts.specs.Page.{encoded}
 use Rattle.msi_texts.specs.declared.codepage.CodePage.{CodePage}
 use Rattle.msi_meaning.proofs.SystemRows.{bytes_same}
-use Rattle.msi_props.specs.Kept.{IsKeptValue, SetIsWritable, TellsPage}
-use Rattle.msi_props.specs.Props.{Head, Property, Props, all_give_back, gives_back, head_at, head_bytes, is_i1, offsets_from, page_at, properties_at, props_bytes, section_at, stored_props, system_number, texts_give_back}
+use Rattle.msi_props.specs.Kept.{IsKeptValue, SetIsWritable}
+use Rattle.msi_props.specs.Props.{Head, Property, Props, all_give_back, gives_back, head_at, head_bytes, is_i1, offsets_from, page_at, properties_at, props_bytes, section_at, system_number, texts_give_back}
 use Rattle.msi_props.specs.Props as property
-use Rattle.msi_props.proofs.Comeback.{head_read}
+use Rattle.msi_props.proofs.Comeback.{allowed, eight_lens, ends, flat, grouped, head_read, nothing, page_back, three_lens}
 use Rattle.msi_props.proofs.Fronts.{held, number_front}
 use Rattle.msi_props.proofs.SetReading.{set_read}
-use Rattle.msi_props.proofs.SetRoundTrip.{bodies, page_found, page_of_value, pairs_from, pairs_read, values_read}
+use Rattle.msi_props.proofs.SetRoundTrip.{bodies, page_found, pairs_from, pairs_read, values_read}
 use Rattle.msi_props.proofs.SetWriting.{length-offsets}
-
-flat : (a b c d e f g h i : List ℕ) → a ++ b ++ c ++ d ++ e ++ f ++ g ++ h ++ i ≡ a ++ (b ++ (c ++ (d ++ (e ++ (f ++ (g ++ (h ++ i)))))))
-flat a b c d e f g h i = simp append_assoc
 
 true_false : true ≡ false → ⊥
 true_false h = cc
-
--- the version of a set allows each of its values
-all_allowed : (vs : List (ℕ × Property)) → AllByRecursion (λ v. (nat_lt 0 1 || not (is_i1 v.1)) ≡ true) vs
-all_allowed [] = tt
-all_allowed (v ∷ vs) = (refl, all_allowed vs)
-
-none_first : (b rest : Bool) → (b || rest) ≡ false → (not b ≡ true) × (rest ≡ false)
-none_first true rest none = absurd (true_false none)
-none_first false rest none = (refl, none)
-
-none_asks : (vs : List (ℕ × Property)) → list_any (λ v. is_i1 v.1) vs ≡ false → AllByRecursion (λ v. (nat_lt 0 0 || not (is_i1 v.1)) ≡ true) vs
-none_asks [] none = tt
-none_asks (v ∷ vs) none = let parts = none_first (is_i1 v.1) (list_any (λ v. is_i1 v.1) vs) none in (parts.0, none_asks vs parts.1)
-
-allowed : (vs : List (ℕ × Property)) (b : Bool) → list_any (λ v. is_i1 v.1) vs ≡ b → AllByRecursion (λ v. (nat_lt 0 (if b then 1 else 0) || not (is_i1 v.1)) ≡ true) vs
-allowed vs true any = all_allowed vs
-allowed vs false none = none_asks vs none
 
 few_versions : (b : Bool) → (if b then 1 else 0) < 2
 few_versions true = omega arith
@@ -55,26 +35,6 @@ held_gives p _ kept = refl
 all_give : (p : CodePage) (vs : List (ℕ × Property)) → AllByRecursion (λ v. IsKeptValue p v.1) vs → list_all (λ (v : ℕ × Property). gives_back p v.1) (map (λ (v : ℕ × Property). (v.0, held p v.1)) vs) ≡ true
 all_give p [] kept = refl
 all_give p (v ∷ vs) kept = ap (λ b. b && list_all (λ (v : ℕ × Property). gives_back p v.1) (map (λ (v : ℕ × Property). (v.0, held p v.1)) vs)) (held_gives p v.1 kept.0) ∙ all_give p vs kept.1
-
-page_back : (p : CodePage) (o : Option Property) → TellsPage p o → page_of_value o ≡ Ok p
-page_back p None told = ap Ok (sym told)
-page_back p (Some v) told = rw told
-
-nothing : (vs : List (ℕ × Property)) → AllByRecursion (λ (v : ℕ × Property). AllByRecursion (λ (e : ℕ × ℕ). e.0 < v.0) []) vs
-nothing [] = tt
-nothing (v ∷ vs) = (tt, nothing vs)
-
-grouped : (a b c d e : List ℕ) → a ++ b ++ c ++ d ++ e ≡ a ++ (b ++ (c ++ (d ++ e)))
-grouped a b c d e = simp append_assoc
-
-ends : (a b c d : List ℕ) → a ++ (b ++ (c ++ d)) ≡ (a ++ (b ++ c)) ++ (d ++ [])
-ends a b c d = simp (append_assoc, append-nil)
-
-eight_lens : (a b c d e f g h : List ℕ) → length (a ++ b ++ c ++ d ++ e ++ f ++ g ++ h) ≡ length a + length b + length c + length d + length e + length f + length g + length h
-eight_lens a b c d e f g h = simp length-append
-
-three_lens : (a b c : List ℕ) → length (a ++ (b ++ c)) ≡ length a + length b + length c
-three_lens a b c = simp length-append (omega arith)
 
 module _ (s : Props) (kept : SetIsWritable s) where
   abbrev vs : List (ℕ × Property)

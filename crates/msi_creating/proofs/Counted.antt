@@ -1,5 +1,5 @@
 -- The pool of a new package counts its texts.
-use Rattle.std.proofs.Common.{◌≡◌, ◌∙◌, ℕ, ◌+◌, ◌<◌, ◌≤◌, List, [], ◌∷◌, length, map, refl, sym, ap, arith}
+use Rattle.std.proofs.Common.{◌≡◌, ◌∙◌, ℕ, ◌+◌, ◌<◌, ◌≤◌, List, [], ◌∷◌, length, refl, sym, arith}
 use Rattle.std.specs.Prelude.{◌==◌, count_by}
 use Rattle.std.specs.List.{sum_by, All}
 use Rattle.std.specs.List.Sorted.{IsPermutation}
@@ -10,7 +10,7 @@ use Rattle.std.proofs.lemmas.List.Sums.{sum_by-cons}
 use Rattle.msi_changes.specs.Laws.{names_place, uses_in}
 use Rattle.msi_columns.specs.Column.{Column}
 use Rattle.msi_pool.specs.Pool.{at_place}
-use Rattle.msi_tables.specs.Rows.{numbers_from, Row}
+use Rattle.msi_tables.specs.Rows.{Row}
 use Rattle.msi_tables.specs.Schema.{columns_columns, columns_name, tables_columns, tables_name, validation_columns, validation_name}
 use Rattle.msi_tables.specs.Table.{Table}
 use Rattle.msi_meaning.specs.Sound.{uses_of, IsUsed}

@@ -8,7 +8,7 @@ use Rattle.msi_tables.specs.Schema.{columns_rows, validation_columns, validation
 use Rattle.msi_texts.specs.Results.{◌>>=◌}
 use Rattle.msi_texts.specs.declared.codepage.CodePage.TheVariants as page
 use Rattle.msi_values.specs.Datum.{text, Datum}
-use Rattle.msi_meaning.specs.Calls.{bare_package, described, Rows3}
+use Rattle.msi_meaning.specs.Calls.{Rows3}
 use Rattle.msi_creating.specs.New.{IsCounted}
 
 abbrev pub start : Pool

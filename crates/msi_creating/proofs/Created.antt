@@ -12,7 +12,6 @@ use Rattle.msi_parts.specs.Parts.{heading}
 use Rattle.msi_pool.specs.Pool.{Pool}
 use Rattle.msi_pool.specs.PoolState.{PoolState}
 use Rattle.msi_props.specs.Props.{Props}
-use Rattle.msi_schema.specs.Headings.{headings_in}
 use Rattle.msi_stored.specs.Changing.{StoresSound}
 use Rattle.msi_store.specs.Stores.{file_in, tables_in}
 use Rattle.msi_store.specs.declared.store.Store.{Store}

@@ -1,5 +1,5 @@
 -- A tree that got the rows of a new package stores it.
-use Rattle.std.proofs.Common.{◌≡◌, ◌∙◌, ℕ, zero, suc, Bool, true, false, cond, List, [], ◌∷◌, length, map, Some, None, refl, sym, ap, ap₂, subst, arith, Ok}
+use Rattle.std.proofs.Common.{◌≡◌, ◌∙◌, ℕ, zero, suc, Bool, true, false, cond, List, [], ◌∷◌, length, map, Some, None, refl, sym, ap, subst, arith, Ok}
 use Rattle.std.specs.Prelude.{◌&&◌, ◌||◌, ◌↔◌, not, bytes_eq, filter, option_and_then, slice_get, unwrap_or, All, Contains, IsTrue}
 use Rattle.std.specs.List.{list_any}
 use Rattle.std.specs.Str.{chars}
@@ -16,7 +16,7 @@ use Rattle.msi_columns.specs.Column.{Column}
 use Rattle.msi_pool.specs.Pool.{Pool}
 use Rattle.msi_tables.specs.Rows.{kinds_of, rows_bytes, rows_of, Row}
 use Rattle.msi_tables.specs.Schema.{begins_with, columns_columns, columns_in, columns_name, columns_rows, is_schema, tables_columns, tables_name, validation_columns, validation_name, validation_row}
-use Rattle.msi_tables.specs.Table.{are_distinct, row_data, IsStoredByKeys, Table}
+use Rattle.msi_tables.specs.Table.{row_data, IsStoredByKeys}
 use Rattle.msi_texts.specs.Category.{is_identifier}
 use Rattle.msi_texts.specs.StreamName.{is_marked}
 use Rattle.msi_values.specs.Datum.{text, Datum}
@@ -25,7 +25,7 @@ use Rattle.msi_schema.proofs.Schemas.{schemas_moved}
 use Rattle.msi_meaning.specs.Back.{ComeBack}
 use Rattle.msi_meaning.specs.Calls.{bare_package, described, Rows3}
 use Rattle.msi_meaning.specs.Opening.{may_use}
-use Rattle.msi_meaning.specs.Package.{at_name, class_of, data_name, is_own, is_stream, is_table_name, object_bytes, objects, pool_name, rows_named, stream_at, stream_name, summary_name, table_name_cmp, table_stream, Packed}
+use Rattle.msi_meaning.specs.Package.{at_name, data_name, is_own, is_stream, is_table_name, object_bytes, objects, pool_name, stream_at, stream_name, summary_name, table_name_cmp, table_stream, Packed}
 use Rattle.msi_meaning.specs.Sound.{is_free_table_name}
 use Rattle.msi_meaning.specs.SoundParts.{IsNamed}
 use Rattle.msi_meaning.specs.Split.{Stores}

@@ -12,7 +12,7 @@ use Rattle.msi_pool.specs.Pool.{at_place, Place, Pool}
 use Rattle.msi_pool.specs.PoolKept.{AreFreeEmpty}
 use Rattle.msi_pool.specs.declared.stringref.ValueRef.{ValueRef}
 use Rattle.msi_pool.specs.declared.stringref.ValueRef.TheVariants as cell
-use Rattle.msi_tables.specs.Rows.{can_write, has_place, kinds_of, numbers_from, AreWritable, Row}
+use Rattle.msi_tables.specs.Rows.{can_write, has_place, kinds_of, numbers_from, Row}
 use Rattle.msi_tables.specs.Schema.{columns_columns, columns_rows, tables_columns, validation_columns, validation_name, validation_row}
 use Rattle.msi_tables.specs.Table.{row_data, IsStoredByKeys}
 use Rattle.msi_tables.proofs.Writable.{rows_move_by_keys}

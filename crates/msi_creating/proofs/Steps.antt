@@ -1,27 +1,23 @@
 -- The steps by which a new package is laid down in a file.
-use Rattle.std.proofs.Common.{◌≡◌, ◌∙◌, ◌∷◌, ⊎_elim, ℕ, List, [], None, Some, ap, refl, subst, sym, true}
-use Rattle.std.specs.Prelude.{Err, filter, not, Ok, Result}
+use Rattle.std.proofs.Common.{◌≡◌, ◌∙◌, ◌∷◌, ⊎_elim, ℕ, List, [], Some, ap, refl, subst, sym, true}
+use Rattle.std.specs.Prelude.{Err, filter, not, Ok}
 use Rattle.cfb.specs.Doing.{Does, FileMeans}
 use Rattle.cfb.specs.Views.{letters_in}
 use Rattle.cfb.specs.declared.compound_file.CompoundFile.{CompoundFile}
-use Rattle.cfb_entries.specs.Rules.{answer_at, names_in}
+use Rattle.cfb_entries.specs.Rules.{names_in}
 use Rattle.cfb_live.specs.Doing.{IsFault}
-use Rattle.cfb_meaning.specs.TreeRules.{done, refused, set_storage_clsid, tree_step, Answer}
+use Rattle.cfb_meaning.specs.TreeRules.{done, refused, set_storage_clsid, tree_step}
 use Rattle.cfb_medium.specs.declared.error.Error.{Error}
 use Rattle.cfb_medium.specs.declared.medium.ReadMedium.{Ghosts}
 use Rattle.cfb_tree.specs.Names.{Letters}
 use Rattle.cfb_tree.specs.Objects.{Object}
-use Rattle.cfb_tree.specs.Paths.{Path}
 use Rattle.cfb_tree.specs.Tree.{Tree}
 use Rattle.cfb_tree.proofs.OneContent.{Some_same}
 use Rattle.msi_edits.specs.Edited.{CanPut, PutsTable}
-use Rattle.msi_meaning.specs.Package.{class_of, is_stream, objects}
+use Rattle.msi_meaning.specs.Package.{is_stream, objects}
 use Rattle.msi_meaning.specs.Sound.{is_free_table_name}
-use Rattle.msi_meaning.specs.declared.kind.PackageType.{PackageType}
 use Rattle.msi_rewritten.specs.Rewriting.{HasPut}
-use Rattle.msi_tables.specs.Schema.{columns_name, tables_name, validation_name}
-use Rattle.msi_creating.specs.New.{LaysDown}
-use Rattle.msi_creating.proofs.Laid.{names_free, none_after, none_there}
+use Rattle.msi_creating.proofs.Laid.{none_after, none_there}
 
 abbrev pub storages_in : List Object → List Object
 storages_in os = filter (λ o. not (is_stream o)) os

@@ -18,7 +18,7 @@ use Rattle.msi_tables.specs.Held.{rows_held}
 use Rattle.msi_tables.specs.Rows.{can_write, kinds_of, AreWritable, IsArranged, Row}
 use Rattle.msi_tables.specs.Table.{key_cmp, key_values, row_data, row_key_cmp}
 use Rattle.msi_tables.proofs.Arranged.{moved}
-use Rattle.msi_tables.proofs.Keys.{datum_cmp_total}
+use Rattle.msi_tables.proofs.Keys.{datum_cmp_total, skipped}
 use Rattle.msi_tables.proofs.StoredHeld.{sorted_map, stable_map}
 use Rattle.msi_values.specs.Borrowed.{borrowed_data}
 use Rattle.msi_values.specs.Datum.{Datum}
@@ -129,14 +129,6 @@ module _ (columns : List Column) where
   }
 
 -- ---- the comparison
-
-no_values : (columns : List Column) → key_values columns [] ≡ []
-no_values [] = refl
-no_values (c ∷ cs) = refl
-
-skipped : (c : Column) (cs : List Column) (ds : List Datum) → c.key ≡ false → key_values (c ∷ cs) ds ≡ key_values cs (drop 1 ds)
-skipped c cs [] out = sym (no_values cs)
-skipped c cs (d ∷ ds) out = rw out refl
 
 rest_said : (values rest : List BorrowedValue) → rest ≡ drop 1 values → borrowed_data rest ≡ drop 1 (borrowed_data values)
 rest_said [] rest is = rw is refl

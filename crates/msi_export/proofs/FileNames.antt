@@ -1,5 +1,5 @@
 -- Names of files, byte by byte.
-use Rattle.std.proofs.Common.{rules, zero, ◌≡◌, ◌∙◌, ℕ, suc, ◌<◌, ◌/◌, ◌%◌, ◌==◌, Bool, true, false, not, ◌&&◌, ◌||◌, List, [], ◌∷◌, ◌++◌, length, refl, sym, ap, ap₂, arith, Option, Some}
+use Rattle.std.proofs.Common.{rules, zero, ◌≡◌, ◌∙◌, ℕ, suc, ◌<◌, ◌/◌, ◌%◌, ◌==◌, Bool, true, false, not, ◌&&◌, ◌||◌, List, [], ◌∷◌, ◌++◌, length, refl, sym, ap, ap₂, arith}
 use Rattle.std.specs.Prelude.{if◌then◌else◌, slice_index, slice_index_or, Ok}
 use Rattle.std.specs.List.{AllPass}
 use Rattle.std.proofs.lemmas.List.Elements.{All-append, All-cons, All-nil}

@@ -7,7 +7,7 @@ use Rattle.cfb_medium.specs.declared.error.Error.{Error}
 use Rattle.cfb_medium.specs.declared.error.Error.TheVariants.{InvalidData, Memory, UnexpectedEof}
 use Rattle.msi_pool.proofs.PoolHeads.{bind_cases, rest_of}
 use Rattle.msi_pool.specs.PoolReading.{gives_back}
-use Rattle.msi_props.specs.Props.{head_at, is_i1, page_at, properties_at, property_at, props_read, read_under, section_at, stored_props, system_of, gives_back as value_gives_back, Head, Property, Props}
+use Rattle.msi_props.specs.Props.{head_at, is_i1, page_at, properties_at, property_at, props_read, section_at, stored_props, system_of, gives_back as value_gives_back, Head, Property, Props}
 use Rattle.msi_props.specs.Props as property
 use Rattle.msi_texts.specs.Numbers.{le_number}
 use Rattle.msi_texts.specs.Reading.{bytes_at, number_at}

@@ -1,6 +1,5 @@
 -- Columns that are compared one after the other.
 use Rattle.std.proofs.Common.{◌≡◌, ◌∙◌, Bool, true, false, ℕ, zero, suc, ◌+◌, ◌<◌, ◌≤◌, List, [], ◌∷◌, ◌++◌, drop, length, map, refl, sym, ap, ap₂, arith, append_assoc, eq-eqb}
-use Rattle.std.proofs.Math.ListN.{drop_of_length-le}
 use Rattle.std.proofs.lemmas.Bool.{eqb-true}
 use Rattle.std.proofs.lemmas.Bool.Decides.{nat_tests}
 use Rattle.std.specs.Prelude.{◌↔◌, ◌&&◌, not, if◌then◌else◌, Option, None, slice_get, nat_lt, Err, IfOk, Ok, Result, Vec}
@@ -13,6 +12,7 @@ use Rattle.msi_parts.specs.Judged.{IsUsual}
 use Rattle.msi_tables.specs.Rows.{kinds_of}
 use Rattle.msi_tables.specs.Schema.{validation_columns}
 use Rattle.msi_tables.specs.Table.{Heading}
+use Rattle.msi_texts.proofs.SpelledNames.{both}
 use Rattle.msi_findings.specs.Misshapen.{is_alike, is_same_type, unlike_at, unlike_from}
 
 -- what isn't at or over is below
@@ -94,10 +94,6 @@ same_key false false is = refl
 its_key : (a : Bool) → (if a then a else not a) ≡ true
 its_key true = refl
 its_key false = refl
-
-both : (a b : Bool) → a && b ≡ true → (a ≡ true) × (b ≡ true)
-both true b is = (refl, is)
-both false b is = cc
 
 heads : {A : Type 0} (x y : A) (xs ys : List A) → x ∷ xs ≡ y ∷ ys → x ≡ y
 heads x y xs ys same = cc

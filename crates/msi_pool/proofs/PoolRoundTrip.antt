@@ -10,9 +10,9 @@ use Rattle.msi_texts.specs.declared.codepage.CodePage.{CodePage}
 use Rattle.msi_texts.specs.declared.codepage.CodePage.TheVariants as page
 use Rattle.msi_texts.specs.Numbers.{le_bytes}
 use Rattle.msi_texts.specs.Page.{encoded, decoded, page_id, id_of}
+use Rattle.msi_texts.proofs.PageRoundTrip.{fitting_text_comes_back}
 use Rattle.msi_pool.specs.Pool.{Pool, Place, IsHead, AreHeads, Pooled, head_bytes, head_of, stored_place, stored_of, pool_stream, data_stream}
 use Rattle.msi_pool.specs.PoolKept.{IsKeptPlace, AreKept, IsWritable}
-use Rattle.msi_texts.proofs.PageRoundTrip.{fitting_text_comes_back}
 
 -- each page comes back from its number
 pub page_comes_back : (p : CodePage) → page_id (id_of p) ≡ Some p
@@ -42,11 +42,11 @@ unfolding chars
 empty_encoded page.Utf8 = refl
 empty_encoded _ = refl
 
-no_bytes : (page : CodePage) (p : Place) → IsKeptPlace page p → p.count ≡ 0 → length (encoded page p.text) ≡ 0
+pub no_bytes : (page : CodePage) (p : Place) → IsKeptPlace page p → p.count ≡ 0 → length (encoded page p.text) ≡ 0
 no_bytes page p kept e = rw (kept.free e, empty_encoded page) refl
 
 -- all heads
-heads_read : (page : CodePage) (ps : List Place) → AreKept page ps → AreHeads (map (stored_place page) ps) (flat_map head_of (map (stored_place page) ps))
+pub heads_read : (page : CodePage) (ps : List Place) → AreKept page ps → AreHeads (map (stored_place page) ps) (flat_map head_of (map (stored_place page) ps))
 heads_read page [] kept = omega arith
 heads_read page (p ∷ ps) kept = (
   head_of (stored_place page p),
@@ -56,7 +56,7 @@ heads_read page (p ∷ ps) kept = (
   refl,
 )
 
-texts_read : (page : CodePage) (ps : List Place) → AreKept page ps → ps ≡ map (λ s. record { text = decoded page s.0; count = s.1 }) (map (stored_place page) ps)
+pub texts_read : (page : CodePage) (ps : List Place) → AreKept page ps → ps ≡ map (λ s. record { text = decoded page s.0; count = s.1 }) (map (stored_place page) ps)
 texts_read page [] kept = refl
 texts_read page (p ∷ ps) kept =
     let text = fitting_text_comes_back page p.text (IsUtf8-from_is_utf8 p.text kept.0.utf8) kept.0.fit in

@@ -12,7 +12,7 @@ use Rattle.msi_texts.specs.declared.codepage.CodePage.{CodePage}
 use Rattle.msi_props.specs.declared.system.OperatingSystem.{OperatingSystem}
 use Rattle.msi_props.specs.declared.system.OperatingSystem.TheVariants.{Win16, Macintosh, Win32}
 use Rattle.msi_props.specs.Kept.{IsKeptValue, SetIsWritable, TellsPage, WrittenSetsAreRead}
-use Rattle.msi_props.specs.Props.{Head, Property, Props, head_at, head_bytes, is_i1, offsets_from, page_at, properties_at, props_bytes, props_read, read_under, section_at, stored_props, system_number, system_of, under}
+use Rattle.msi_props.specs.Props.{Head, Property, Props, head_at, head_bytes, is_i1, offsets_from, page_at, properties_at, props_bytes, props_read, read_under, section_at, system_number, system_of, under}
 use Rattle.msi_props.specs.Props as property
 use Rattle.msi_props.proofs.Fronts.{held, bytes_front, number_front}
 use Rattle.msi_props.proofs.SetReading.{set_read}
@@ -29,7 +29,7 @@ system_small Win16 = omega arith
 system_small Macintosh = omega arith
 system_small Win32 = omega arith
 
-flat : (a b c d e f g h i : List ℕ) → a ++ b ++ c ++ d ++ e ++ f ++ g ++ h ++ i ≡ a ++ (b ++ (c ++ (d ++ (e ++ (f ++ (g ++ (h ++ i)))))))
+pub flat : (a b c d e f g h i : List ℕ) → a ++ b ++ c ++ d ++ e ++ f ++ g ++ h ++ i ≡ a ++ (b ++ (c ++ (d ++ (e ++ (f ++ (g ++ (h ++ i)))))))
 flat a b c d e f g h i = simp append_assoc
 
 -- a head is read
@@ -65,19 +65,19 @@ module _ (version system_version : ℕ) (system : OperatingSystem) (class format
       )
 
 -- the version of a set allows each of its values
-all_allowed : (vs : List (ℕ × Property)) → AllByRecursion (λ v. (nat_lt 0 1 || not (is_i1 v.1)) ≡ true) vs
+pub all_allowed : (vs : List (ℕ × Property)) → AllByRecursion (λ v. (nat_lt 0 1 || not (is_i1 v.1)) ≡ true) vs
 all_allowed [] = tt
 all_allowed (v ∷ vs) = (refl, all_allowed vs)
 
-none_first : (b rest : Bool) → (b || rest) ≡ false → (not b ≡ true) × (rest ≡ false)
+pub none_first : (b rest : Bool) → (b || rest) ≡ false → (not b ≡ true) × (rest ≡ false)
 none_first true rest none = absurd (true_false none)
 none_first false rest none = (refl, none)
 
-none_asks : (vs : List (ℕ × Property)) → list_any (λ v. is_i1 v.1) vs ≡ false → AllByRecursion (λ v. (nat_lt 0 0 || not (is_i1 v.1)) ≡ true) vs
+pub none_asks : (vs : List (ℕ × Property)) → list_any (λ v. is_i1 v.1) vs ≡ false → AllByRecursion (λ v. (nat_lt 0 0 || not (is_i1 v.1)) ≡ true) vs
 none_asks [] none = tt
 none_asks (v ∷ vs) none = let parts = none_first (is_i1 v.1) (list_any (λ v. is_i1 v.1) vs) none in (parts.0, none_asks vs parts.1)
 
-allowed : (vs : List (ℕ × Property)) (b : Bool) → list_any (λ v. is_i1 v.1) vs ≡ b → AllByRecursion (λ v. (nat_lt 0 (if b then 1 else 0) || not (is_i1 v.1)) ≡ true) vs
+pub allowed : (vs : List (ℕ × Property)) (b : Bool) → list_any (λ v. is_i1 v.1) vs ≡ b → AllByRecursion (λ v. (nat_lt 0 (if b then 1 else 0) || not (is_i1 v.1)) ≡ true) vs
 allowed vs true any = all_allowed vs
 allowed vs false none = none_asks vs none
 
@@ -94,24 +94,24 @@ all_under : (p : CodePage) (vs : List (ℕ × Property)) → AllByRecursion (λ 
 all_under p [] kept = refl
 all_under p (v ∷ vs) kept = ap₂ (λ (w : Property) (ws : List (ℕ × Property)). (v.0, w) ∷ ws) (under_held p v.1 kept.0) (all_under p vs kept.1)
 
-page_back : (p : CodePage) (o : Option Property) → TellsPage p o → page_of_value o ≡ Ok p
+pub page_back : (p : CodePage) (o : Option Property) → TellsPage p o → page_of_value o ≡ Ok p
 page_back p None told = ap Ok (sym told)
 page_back p (Some v) told = rw told
 
-nothing : (vs : List (ℕ × Property)) → AllByRecursion (λ (v : ℕ × Property). AllByRecursion (λ (e : ℕ × ℕ). e.0 < v.0) []) vs
+pub nothing : (vs : List (ℕ × Property)) → AllByRecursion (λ (v : ℕ × Property). AllByRecursion (λ (e : ℕ × ℕ). e.0 < v.0) []) vs
 nothing [] = tt
 nothing (v ∷ vs) = (tt, nothing vs)
 
-grouped : (a b c d e : List ℕ) → a ++ b ++ c ++ d ++ e ≡ a ++ (b ++ (c ++ (d ++ e)))
+pub grouped : (a b c d e : List ℕ) → a ++ b ++ c ++ d ++ e ≡ a ++ (b ++ (c ++ (d ++ e)))
 grouped a b c d e = simp append_assoc
 
-ends : (a b c d : List ℕ) → a ++ (b ++ (c ++ d)) ≡ (a ++ (b ++ c)) ++ (d ++ [])
+pub ends : (a b c d : List ℕ) → a ++ (b ++ (c ++ d)) ≡ (a ++ (b ++ c)) ++ (d ++ [])
 ends a b c d = simp (append_assoc, append-nil)
 
-eight_lens : (a b c d e f g h : List ℕ) → length (a ++ b ++ c ++ d ++ e ++ f ++ g ++ h) ≡ length a + length b + length c + length d + length e + length f + length g + length h
+pub eight_lens : (a b c d e f g h : List ℕ) → length (a ++ b ++ c ++ d ++ e ++ f ++ g ++ h) ≡ length a + length b + length c + length d + length e + length f + length g + length h
 eight_lens a b c d e f g h = simp length-append
 
-three_lens : (a b c : List ℕ) → length (a ++ (b ++ c)) ≡ length a + length b + length c
+pub three_lens : (a b c : List ℕ) → length (a ++ (b ++ c)) ≡ length a + length b + length c
 three_lens a b c = simp length-append (omega arith)
 
 module _ (s : Props) (kept : SetIsWritable s) where

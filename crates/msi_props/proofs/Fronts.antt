@@ -10,10 +10,10 @@ use Rattle.msi_texts.specs.Numbers.{le_bytes}
 use Rattle.msi_texts.specs.Page.{encoded}
 use Rattle.msi_texts.specs.Reading.{bytes_at, number_at}
 use Rattle.msi_texts.specs.declared.codepage.CodePage.{CodePage}
-use Rattle.msi_props.specs.Kept.{IsKeptValue}
-use Rattle.msi_props.specs.Props.{Property, property_at, property_bytes, padded4}
-use Rattle.msi_props.specs.Props as property
 use Rattle.msi_texts.proofs.NumberBytes.{le_back, length-le_bytes}
+use Rattle.msi_props.specs.Kept.{IsKeptValue}
+use Rattle.msi_props.specs.Props.{Property, property_at, property_bytes}
+use Rattle.msi_props.specs.Props as property
 
 front : (xs rest : List ℕ) → bytes_at (length xs) (xs ++ rest) ≡ Ok (xs, rest)
 front xs rest =

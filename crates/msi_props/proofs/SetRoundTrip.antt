@@ -17,7 +17,7 @@ use Rattle.msi_texts.specs.Results.{or_refused}
 use Rattle.cfb_medium.specs.declared.error.Error.{Error}
 use Rattle.cfb_medium.specs.declared.error.Error.TheVariants.{InvalidData}
 use Rattle.msi_props.specs.Kept.{IsKeptValue, Rise}
-use Rattle.msi_props.specs.Props.{Property, is_i1, offsets_from, page_in, page_stored, page_told, value_of, pairs_at, properties_at, property_at, property_bytes}
+use Rattle.msi_props.specs.Props.{Property, is_i1, offsets_from, page_in, page_stored, page_told, value_of, pairs_at, properties_at, property_bytes}
 use Rattle.msi_props.specs.Props as property
 use Rattle.msi_props.proofs.Fronts.{held, number_front, value_front}
 use Rattle.msi_props.proofs.Pairs.{next_pair}

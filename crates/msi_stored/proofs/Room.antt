@@ -2,9 +2,8 @@
 use Rattle.std.proofs.Common.{◌≡◌, ℕ, ◌+◌, ◌<◌, List, length, Option, ap₂, inl, inr, subst}
 use Rattle.std.specs.Prelude.{nat_eq}
 use Rattle.std.specs.List.{count_by}
-use Rattle.cfb.specs.Doing.{FileMeans}
-use Rattle.cfb.specs.Putting.{HasNoRoomAt, IsFullAt}
-use Rattle.cfb.specs.Views.{letters_in, mini_of, FileRests}
+use Rattle.cfb.specs.Putting.{IsFullAt}
+use Rattle.cfb.specs.Views.{mini_of, FileRests}
 use Rattle.cfb.specs.declared.compound_file.CompoundFile.{CompoundFile}
 use Rattle.cfb.proofs.LiveMeaning.{means_read}
 use Rattle.cfb_directory.specs.Entries.{HasNoneUnused}

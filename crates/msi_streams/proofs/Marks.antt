@@ -1,16 +1,14 @@
 -- Marked names, under a letter table that leaves encoded names alone.
-use Rattle.std.proofs.Common.{◌≡◌, ◌∙◌, ℕ, ◌+◌, ◌-◌, ◌/◌, ◌%◌, Bool, true, false, cond, List, [], ◌∷◌, ◌++◌, Option, Some, None, refl, sym, ap, arith, ltb, eqb, eqb-true}
+use Rattle.std.proofs.Common.{◌≡◌, ◌∙◌, ℕ, ◌+◌, ◌-◌, ◌/◌, ◌%◌, Bool, true, false, cond, List, [], ◌∷◌, ◌++◌, refl, sym, ap, arith, ltb, eqb, eqb-true}
 use Rattle.std.specs.Prelude.{◌==◌, ◌&&◌, not}
 use Rattle.std.specs.Char.Escape.{encode_utf16}
 use Rattle.std.specs.List.{flat_map}
 use Rattle.std.proofs.lemmas.Bool.{and_parts}
-use Rattle.std.proofs.lemmas.Bool.Decides.{nat_tests}
 use Rattle.cfb_tree.proofs.NameOrder.{name_cmp_equal}
 use Rattle.cfb_tree.specs.Names.{Letters, letter, name_key}
 use Rattle.cfb_tree.specs.Objects.{is_same_name}
 use Rattle.msi_meaning.specs.Opening.{is_encoded, may_use}
-use Rattle.msi_texts.specs.StreamName.{is_marked, joined_or, letter_value, lone, lone_of, pair, pair_of, spelled, table_prefix}
-use Rattle.msi_texts.proofs.NamesReadBack.{letter_value-back}
+use Rattle.msi_texts.specs.StreamName.{is_marked, pair, table_prefix}
 use Rattle.std.specs.Ordering.{is_eq}
 use Rattle.std.specs.declared.cmp.Ordering.{Ordering}
 use Rattle.std.specs.declared.cmp.Ordering.TheVariants.{Equal, Greater, Less}
@@ -93,21 +91,3 @@ marked_alike letters may (c ∷ cs) b marked same = by b (sym unit ∙ ap first_
         ap (λ x. x == table_prefix) is
 
 -- ---- names of streams
-
-lone_unmarked : (c : ℕ) → (c == table_prefix) ≡ false → (lone c == table_prefix) ≡ false
-lone_unmarked c e = by (letter_value c) refl
-  where
-    by : (o : Option ℕ) → letter_value c ≡ o → (lone_of o c == table_prefix) ≡ false
-    by None is = e
-    by (Some v) is = let back = letter_value-back c v is in grind (arith, nat_tests, back.0)
-
--- a name that isn't marked is spelled by one that isn't
-pub spelled_unmarked : (cs : List ℕ) → is_marked cs ≡ false → is_marked (spelled cs) ≡ false
-spelled_unmarked [] e = refl
-spelled_unmarked (c ∷ []) e = lone_unmarked c e
-spelled_unmarked (c ∷ d ∷ rest) e = by (letter_value c) (letter_value d) refl refl
-  where
-    by : (o q : Option ℕ) → letter_value c ≡ o → letter_value d ≡ q → is_marked (joined_or (pair_of o q) c (spelled rest) (spelled (d ∷ rest))) ≡ false
-    by None q is at = lone_unmarked c e
-    by (Some v) None is at = lone_unmarked c e
-    by (Some v) (Some w) is at = let first = letter_value-back c v is in let second = letter_value-back d w at in grind (arith, nat_tests, first.0, second.0)

@@ -18,7 +18,8 @@ use Rattle.msi_meaning.specs.Package.{summary_name}
 use Rattle.msi_meaning.specs.Streams.{document_summary_name, is_separator, is_special, may_name, plain_stream_name, signature_ex_name, signature_name}
 use Rattle.msi_texts.specs.Results.{unless_not}
 use Rattle.msi_texts.specs.StreamName.{is_marked, is_valid_name, joined_or, letter_value, lone, lone_of, pair, pair_of, spelled, spelled_name}
-use Rattle.msi_streams.proofs.Marks.{key_of_same, same_of_key, spelled_unmarked}
+use Rattle.msi_texts.proofs.NamesReadBack.{first_unmarked}
+use Rattle.msi_streams.proofs.Marks.{key_of_same, same_of_key}
 
 is_false : (b : Bool) → not b ≡ true → b ≡ false
 is_false true e = absurd (cc)
@@ -161,7 +162,7 @@ module _ (letters : Letters) (name : List ℕ) (may : may_name letters name ≡ 
 
   -- nor is it marked
   pub taken_unmarked : is_marked (plain_stream_name name) ≡ false
-  taken_unmarked = spelled_unmarked (chars name) (is_false (is_marked (chars name)) first.1)
+  taken_unmarked = first_unmarked (chars name) (is_false (is_marked (chars name)) first.1)
 
   -- encoded it is a path of one name
   pub taken_path : IsUtf8 name → option_map (map chars) (path_names (encode_utf8_all (plain_stream_name name))) ≡ Some (plain_stream_name name ∷ [])

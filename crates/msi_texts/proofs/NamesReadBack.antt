@@ -74,7 +74,7 @@ spelled_name_reads_back (c ∷ d ∷ rest) h =
 pub spelled_names_differ : (cs ds : List ℕ) → is_plain_name cs ≡ true → is_plain_name ds ≡ true → spelled cs ≡ spelled ds → cs ≡ ds
 spelled_names_differ cs ds h k e = sym (spelled_name_reads_back cs h) ∙ ap read_back e ∙ spelled_name_reads_back ds k
 
-lone_unmarked : (c : ℕ) → (c == table_prefix) ≡ false → (lone c == table_prefix) ≡ false
+pub lone_unmarked : (c : ℕ) → (c == table_prefix) ≡ false → (lone c == table_prefix) ≡ false
 lone_unmarked c h = go (letter_value c) refl
   where
     go : (o : Option ℕ) → letter_value c ≡ o → (lone_of o c == table_prefix) ≡ false
@@ -94,7 +94,7 @@ pair_unmarked c d p h = go (letter_value c) (letter_value d) refl refl h
         grind (arith, nat_tests, is, first.0, second.0)
 
 -- the table's mark is none of the characters that a name is spelled with, where the name does not begin with it
-first_unmarked : (cs : List ℕ) → is_marked cs ≡ false → is_marked (spelled cs) ≡ false
+pub first_unmarked : (cs : List ℕ) → is_marked cs ≡ false → is_marked (spelled cs) ≡ false
 first_unmarked [] h = refl
 first_unmarked (c ∷ []) h = lone_unmarked c h
 first_unmarked (c ∷ d ∷ rest) h = go (pair c d) refl

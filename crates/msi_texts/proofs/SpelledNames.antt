@@ -29,7 +29,7 @@ pair_scalar c d p h = go (letter_value c) (letter_value d) refl refl h
         let is : 0x3800 + 64 * w + v ≡ p = cc in
         low_scalar p (omega (arith, is, first.0, second.0))
 
-both : (a b : Bool) → a && b ≡ true → (a ≡ true) × (b ≡ true)
+pub both : (a b : Bool) → a && b ≡ true → (a ≡ true) × (b ≡ true)
 both true b h = (refl, h)
 both false b h = cc
 

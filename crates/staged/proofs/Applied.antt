@@ -1,7 +1,6 @@
 -- Pages that are written one after another give the file with all of them laid over it.
 use Rattle.std.proofs.Common.{◌≡◌, ℕ, zero, suc, ◌+◌, ◌-◌, ◌*◌, ◌<◌, ◌≤◌, min, List, [], ◌∷◌, ◌++◌, length, get_or, take, drop, refl, sym, ◌∙◌, ap, add-one, arith, subst, append_assoc, length-append}
 use Rattle.std.proofs.lemmas.List.{take_at, take_more, take_all, drop-drop}
-use Rattle.cfb_medium.specs.Bytes.{overwritten}
 use Rattle.staged.specs.Log.{numbered}
 use Rattle.staged.specs.Pages.{Rises, Covers, Homed, laid_over, written_page, written_pages}
 use Rattle.staged.specs.declared.pages.Page.{Page}

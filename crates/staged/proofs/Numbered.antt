@@ -4,7 +4,7 @@ use Rattle.std.specs.Prelude.{IsTrue}
 use Rattle.std.proofs.lemmas.Bool.{cases_eq}
 use Rattle.std.proofs.lemmas.List.{take-take, drop-take, drop-drop}
 use Rattle.staged.specs.Log.{numbered}
-use Rattle.staged.specs.Pages.{page_at, HoldsPage}
+use Rattle.staged.specs.Pages.{HoldsPage}
 use Rattle.staged.specs.declared.pages.Page.{Page}
 use Rattle.staged.proofs.Found.{at_head, at_tail}
 

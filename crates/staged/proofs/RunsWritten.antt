@@ -1,16 +1,15 @@
 -- Runs as they are gathered in a buffer and written behind a head, and what is read of them.
-use Rattle.std.proofs.Common.{inl, inr, ◌⊎◌, ◌≡◌, ◌≢◌, ℕ, zero, suc, ◌+◌, ◌-◌, ◌*◌, ◌^◌, ◌<◌, ◌≤◌, ◌&&◌, ◌==◌, nat_lt, nat_le, Bool, true, false, cond, List, [], ◌∷◌, ◌++◌, length, get_or, take, drop, replicate, Option, Some, None, is_some, refl, sym, ◌∙◌, ap, add-one, arith, subst, append_assoc, append-nil, length-append, length-take, length-drop, take-append-drop}
-use Rattle.std.specs.Prelude.{IsTrue}
+use Rattle.std.proofs.Common.{inl, inr, ◌⊎◌, ◌≡◌, ◌≢◌, ℕ, zero, suc, ◌+◌, ◌-◌, ◌*◌, ◌^◌, ◌<◌, ◌≤◌, ◌&&◌, ◌==◌, nat_lt, nat_le, Bool, true, false, cond, List, [], ◌∷◌, ◌++◌, length, get_or, take, drop, replicate, is_some, refl, sym, ◌∙◌, ap, add-one, arith, append_assoc, append-nil, length-append, length-take, length-drop, take-append-drop}
 use Rattle.std.specs.Int.{w32, w64, to_le_bytes}
 use Rattle.std.proofs.lemmas.Bool.{cases_lt, cases_eq, and_parts, and_from, lt-ltb, le-leb, ltb-true}
-use Rattle.std.proofs.lemmas.List.{take_at, drop_at, take_all, take_more, take-take, take-append-le, drop-append-le, drop-drop, drop-take, drop_all, at_drop_more, length_push}
+use Rattle.std.proofs.lemmas.List.{take_at, drop_at, take_all, take_more, drop-drop, drop-take, drop_all, at_drop_more, length_push}
 use Rattle.cfb_medium.specs.Bytes.{overwritten}
 use Rattle.staged.specs.Log.{number_of, numbered, has_runs, pages_of_runs, runs_of, run_count}
 use Rattle.staged.specs.LogWritten.{run_bytes}
 use Rattle.staged.specs.Pages.{page_at, HoldsPage, Rises}
 use Rattle.staged.specs.declared.pages.Page.{Page}
 use Rattle.staged.proofs.Found.{place_of}
-use Rattle.staged.proofs.Homed.{held_at, overwritten_some}
+use Rattle.staged.proofs.Homed.{overwritten_some}
 use Rattle.staged.proofs.LogWritten.{number_back, number_back_4}
 use Rattle.staged.proofs.Numbered.{page, numbered_taken, numbered_same, numbered_more}
 

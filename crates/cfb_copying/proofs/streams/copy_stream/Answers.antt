@@ -1,5 +1,4 @@
-use Rattle.std.proofs.Common.{◌≡◌, ◌+◌, ap, arith, length, subst, sym, true, Err, IsTrue}
-use Rattle.std.specs.Prelude.{slice_get, Some}
+use Rattle.std.proofs.Common.{◌≡◌, ◌+◌, ap, arith, length, true, Err}
 use Rattle.cfb_sectors.specs.Sectors.{end_of_chain}
 use Rattle.cfb_owners.specs.Owners.{stream_owner}
 use Rattle.cfb_copying.specs.Steps.{sectors_among}

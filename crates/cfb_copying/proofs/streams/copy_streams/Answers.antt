@@ -1,5 +1,4 @@
 use Rattle.std.proofs.Common.{◌+◌, ◌++◌, ◌∷◌, [], refl, subst, sym, take}
-use Rattle.std.specs.Prelude.{slice_index}
 use Rattle.std.proofs.lemmas.List.{take_all, take_more}
 use Rattle.cfb_directory.specs.Entries.{entries_in}
 use Rattle.cfb_fat.specs.Resting.{all_rest_refl, all_rest_then}

@@ -3,8 +3,9 @@ use Rattle.std.specs.Prelude.{slice_get, None, Some}
 use Rattle.cfb_tree.specs.Directory.{Entry}
 use Rattle.cfb_tree.specs.EntryViews.{entry_in, kind_of}
 use Rattle.cfb_tree.proofs.OneContent.{Some_same}
+use Rattle.cfb_siblings.proofs.Entries.{found_in}
 use Rattle.cfb_directory.specs.Entries.{entries_in}
-use Rattle.cfb_directory.proofs.Judging.{found_in, lost_in}
+use Rattle.cfb_directory.proofs.Judging.{lost_in}
 use Rattle.cfb_directory.proofs.Noted.{no_kind}
 use Rattle.cfb_directory.proofs.free.is_unused.Goals as goal
 

@@ -1,7 +1,8 @@
 use Rattle.std.proofs.Common.{◌≡◌, refl, sym, subst}
 use Rattle.std.specs.Prelude.{IfSome}
 use Rattle.cfb_tree.specs.Directory.{Entry, black}
-use Rattle.cfb_directory.proofs.Judging.{found_in, lost_in}
+use Rattle.cfb_siblings.proofs.Entries.{found_in}
+use Rattle.cfb_directory.proofs.Judging.{lost_in}
 use Rattle.cfb_directory.proofs.walk.is_black_at.Goals as goal
 
 pub returns-in-Some : goal.returns-in-Some

@@ -2,13 +2,13 @@ use Rattle.std.proofs.Common.{◌≡◌, ◌∙◌, ◌++◌, ◌∷◌, [], sym
 use Rattle.std.proofs.lemmas.List.{length-replicate, length-map, get_or_default, nil_from_length}
 use Rattle.std.proofs.lemmas.Option.{slice_get_within}
 use Rattle.cfb_tree.proofs.OneContent.{Some_same}
+use Rattle.cfb_siblings.proofs.Entries.{found_in}
 use Rattle.cfb_directory.specs.declared.walk.Link.{Link}
 use Rattle.cfb_directory.specs.Walk.{links_at}
 use Rattle.cfb_directory.proofs.Counting.{unset, unset_less}
 use Rattle.cfb_tree.specs.EntryViews.{entry_in}
 use Rattle.cfb_tree.specs.LetterViews.{letters_of}
 use Rattle.cfb_directory.specs.Entries.{entries_in}
-use Rattle.cfb_directory.proofs.Judging.{found_in}
 use Rattle.cfb_directory.proofs.Walking.{Walked, begun, dropped, unfit, repeated, at_within, went, arrived, first_marked, kind_of_root}
 use Rattle.cfb_directory.proofs.walk.is_tree.Goals as goal
 

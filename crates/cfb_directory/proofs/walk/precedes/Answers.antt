@@ -2,8 +2,9 @@ use Rattle.std.proofs.Common.{◌∙◌, ap, chars, string_bytes}
 use Rattle.cfb_tree.specs.EntryViews.{entry_in}
 use Rattle.cfb_tree.specs.LetterViews.{letters_of}
 use Rattle.cfb_tree.specs.Names.{name_cmp}
+use Rattle.cfb_siblings.proofs.Entries.{found_in}
 use Rattle.cfb_directory.specs.Entries.{entries_in}
-use Rattle.cfb_directory.proofs.Judging.{found_in, precedes_is}
+use Rattle.cfb_directory.proofs.Judging.{precedes_is}
 use Rattle.cfb_directory.proofs.walk.precedes.Goals as goal
 
 pub returns-clause-order : goal.returns-clause-order

@@ -4,7 +4,6 @@ use Rattle.std.proofs.lemmas.Result.{IfErr-weaker}
 use Rattle.cfb_medium.specs.Versions.{sector_len}
 use Rattle.cfb_sectors.proofs.Appending.{on_ok}
 use Rattle.cfb_chains.specs.LinkViews.{ids_of, links_version}
-use Rattle.cfb_chains.specs.Positions.{sectors_for}
 use Rattle.cfb_owned.specs.Chains.{TakesBytes}
 use Rattle.cfb_owned.proofs.FrontWritten.{writes_once}
 use Rattle.cfb_owned.proofs.GoingOn.{goes_cause, goes_then}

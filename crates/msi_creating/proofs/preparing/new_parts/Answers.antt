@@ -1,6 +1,6 @@
-use Rattle.std.proofs.Common.{◌≡◌, ◌∙◌, ap, false, subst, sym}
+use Rattle.std.proofs.Common.{◌≡◌, ◌∙◌, ap, subst, sym}
 use Rattle.msi_tables.specs.Held.{heading_of}
-use Rattle.msi_tables.specs.Schema.{columns_columns, tables_columns, validation_columns}
+use Rattle.msi_tables.specs.Schema.{columns_columns, tables_columns}
 use Rattle.msi_tables.specs.Table.{Heading}
 use Rattle.msi_pool.specs.PoolState.{PoolState}
 use Rattle.msi_creating.specs.New.{AreNewBytes}

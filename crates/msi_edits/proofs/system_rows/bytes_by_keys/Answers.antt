@@ -1,5 +1,5 @@
-use Rattle.std.proofs.Common.{◌≡◌, ◌∙◌, ap, subst, sym, map}
-use Rattle.msi_edits.specs.Asked.{IsUnwritten, IsWrittenAs}
+use Rattle.std.proofs.Common.{◌≡◌, ◌∙◌, ap, subst, map}
+use Rattle.msi_edits.specs.Asked.{IsWrittenAs}
 use Rattle.msi_tables.specs.Held.{heading_of, rows_held}
 use Rattle.msi_tables.specs.Rows.{AreWritable, IsArranged}
 use Rattle.msi_tables.specs.Table.{row_data, row_key_cmp}

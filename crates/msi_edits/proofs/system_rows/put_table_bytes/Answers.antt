@@ -1,5 +1,5 @@
 use Rattle.std.proofs.Common.{◌≡◌, ◌∙◌, ◌<◌, ap, arith, inl, inr, length, refl, subst, sym}
-use Rattle.std.specs.Prelude.{encode_utf8_all, IsUtf8}
+use Rattle.std.specs.Prelude.{encode_utf8_all}
 use Rattle.cfb.specs.Putting.{IsFullAt}
 use Rattle.cfb.specs.Views.{mini_of}
 use Rattle.cfb_entries.specs.Rules.{names_in}

@@ -1,7 +1,6 @@
 use Rattle.std.proofs.Common.{◌≡◌, ◌++◌, ◌∷◌, drop, filter, map, string_bytes}
 use Rattle.std.specs.List.{join_with_byte}
 use Rattle.msi_columns.specs.Held.{columns_of}
-use Rattle.msi_export.specs.Exported.{exported_type}
 use Rattle.msi_export.proofs.Joined.{behind_tabs}
 use Rattle.msi_export.proofs.headings.keys_line.Given as goal
 

@@ -1,7 +1,6 @@
 use Rattle.std.proofs.Common.{rules, drop, map, string_bytes, ◌+◌}
 use Rattle.std.specs.List.{join_with_byte}
 use Rattle.msi_columns.specs.Held.{column_of, columns_of}
-use Rattle.msi_export.specs.Exported.{exported_type}
 use Rattle.msi_export.proofs.Joined.{next_column, next_part}
 use Rattle.msi_export.proofs.headings.names_line.Goals as goal
 

@@ -1,9 +1,9 @@
-use Rattle.std.proofs.Common.{Bool, IsTrue, ℕ, List, ◌≡◌, ◌+◌, ◌<◌, ◌≤◌, ◌^◌, length, refl, sym, subst, ap, add-one, ◌∙◌, arith}
+use Rattle.std.proofs.Common.{Bool, IsTrue, ℕ, List, ◌≡◌, ◌+◌, ◌<◌, ◌≤◌, ◌^◌, refl, sym, subst, ap, ◌∙◌, arith}
 use Rattle.std.proofs.lemmas.Result.{on_ok_weaker}
 use Rattle.cfb_medium.specs.Bytes.{overwritten}
 use Rattle.cfb_medium.proofs.Answered.{on_ok}
 use Rattle.staged.specs.Files.{Files}
-use Rattle.staged.specs.Device.{times_up, counted_up}
+use Rattle.staged.specs.Device.{times_up}
 use Rattle.staged.specs.Held.{listed}
 use Rattle.staged.specs.Log.{run_count}
 use Rattle.staged.specs.LogWritten.{IsWrittenLog, head_bytes}

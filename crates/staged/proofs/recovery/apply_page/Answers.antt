@@ -1,7 +1,6 @@
-use Rattle.std.proofs.Common.{◌∷◌, [], List, ℕ, take, drop, refl}
+use Rattle.std.proofs.Common.{◌∷◌, [], ℕ, take, drop, refl}
 use Rattle.staged.specs.Steps.{AtPage}
 use Rattle.staged.specs.declared.device.Which.TheVariants.{Home}
-use Rattle.staged.specs.declared.pages.Page.{Page}
 use Rattle.staged.proofs.Numbered.{page}
 use Rattle.staged.proofs.Reaching.{write_steps, steps_then, rest_steps, page_alone}
 use Rattle.staged.proofs.recovery.apply_page.Goals as goal

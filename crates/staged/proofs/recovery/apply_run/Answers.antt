@@ -1,8 +1,7 @@
-use Rattle.std.proofs.Common.{◌≡◌, ◌≤◌, ◌<◌, ◌+◌, ◌*◌, ◌-◌, ◌∷◌, ◌++◌, [], ℕ, suc, min, List, Bool, IsTrue, length, take, drop, add-one, refl, sym, subst, ap, ◌∙◌, arith}
-use Rattle.std.proofs.lemmas.List.{drop-drop}
+use Rattle.std.proofs.Common.{◌≡◌, ◌≤◌, ◌<◌, ◌+◌, ◌*◌, ◌-◌, ◌∷◌, ◌++◌, [], ℕ, List, Bool, IsTrue, length, take, drop, refl, sym, subst, ap, ◌∙◌, arith}
 use Rattle.staged.specs.Files.{Files}
 use Rattle.staged.specs.Log.{numbered}
-use Rattle.staged.specs.Pages.{HoldsPage, written_page, written_pages}
+use Rattle.staged.specs.Pages.{written_page, written_pages}
 use Rattle.staged.specs.Steps.{Steps, AtPage}
 use Rattle.staged.specs.declared.device.Device.{Ghosts}
 use Rattle.staged.specs.declared.device.Which.TheVariants.{Home}

@@ -4,7 +4,7 @@ use Rattle.staged.specs.Files.{Files}
 use Rattle.staged.specs.Log.{pages_for, numbered, pages_of_runs, has_runs}
 use Rattle.staged.specs.declared.pages.Page.{Page}
 use Rattle.staged.specs.declared.walk.Run.{Run}
-use Rattle.staged.specs.Walk.{IsRunAt, IsWithin, FindsRun}
+use Rattle.staged.specs.Walk.{IsWithin, FindsRun}
 use Rattle.staged.proofs.Numbered.{length-numbered}
 use Rattle.staged.proofs.Checked.{Checked, covers_all, checked_none}
 use Rattle.staged.proofs.Walked.{OnWay, way_begins, way_next, way_ends, none_found, low_found, missing_found, passes, checked_run}

@@ -1,4 +1,4 @@
-use Rattle.std.proofs.Common.{rules, Err, ◌≡◌, ◌&&◌, ℕ, Bool, true, false, IsTrue, List, length, drop, sym, subst, ap, ◌∙◌}
+use Rattle.std.proofs.Common.{rules, Err, ◌≡◌, ◌&&◌, Bool, true, false, IsTrue, length, drop, sym, subst, ap, ◌∙◌}
 use Rattle.staged.specs.Files.{Files}
 use Rattle.staged.specs.Log.{leads, pages_of_runs, has_runs, has_head, has_open_gate}
 use Rattle.staged.specs.Walk.{IsWholeHead}

@@ -1,12 +1,12 @@
-use Rattle.std.proofs.Common.{rules, ◌≡◌, ◌≤◌, ◌<◌, ◌+◌, ◌-◌, ◌*◌, ◌^◌, ◌&&◌, ◌++◌, ℕ, Bool, true, false, suc, [], ◌∷◌, List, IsTrue, length, take, drop, get_or, is_some, nat_lt, refl, sym, subst, ap, add-one, ◌∙◌, arith, length-append}
+use Rattle.std.proofs.Common.{rules, ◌≡◌, ◌≤◌, ◌<◌, ◌+◌, ◌-◌, ◌*◌, ◌^◌, ◌&&◌, ◌++◌, ℕ, Bool, true, false, [], ◌∷◌, List, IsTrue, length, take, drop, get_or, is_some, nat_lt, refl, sym, subst, ap, add-one, ◌∙◌, arith}
 use Rattle.std.proofs.lemmas.List.{length_push}
 use Rattle.cfb_medium.specs.Bytes.{overwritten}
 use Rattle.staged.specs.Files.{Files}
 use Rattle.staged.specs.Device.{times_up, counted_up}
 use Rattle.staged.specs.Held.{listed}
-use Rattle.staged.specs.Log.{runs_of, run_count, has_runs, pages_of_runs}
+use Rattle.staged.specs.Log.{has_runs, pages_of_runs}
 use Rattle.staged.specs.LogWritten.{run_bytes}
-use Rattle.staged.specs.Pages.{HoldsPage, page_at, Rises}
+use Rattle.staged.specs.Pages.{HoldsPage, page_at}
 use Rattle.staged.specs.Steps.{BehindGate}
 use Rattle.staged.specs.declared.pages.Page.{Page}
 use Rattle.staged.specs.declared.device.Which.TheVariants.{Log}
@@ -14,7 +14,7 @@ use Rattle.staged.proofs.Homed.{held_at}
 use Rattle.staged.proofs.Mapped.{rises_listed, page_here, no_entry}
 use Rattle.staged.proofs.Numbered.{page}
 use Rattle.staged.proofs.Reaching.{steps_then, stay_steps}
-use Rattle.staged.proofs.RunsWritten.{Written, IsWritten, Gathered, Stands, gathered_none, gathered_on, gathered_out, gathered_all, gathered_few, gathered_zero, is_written, pasted_before, pasted_block, stands_none, stands_more, stands_read, count_most}
+use Rattle.staged.proofs.RunsWritten.{Written, IsWritten, Stands, gathered_none, gathered_on, gathered_out, gathered_all, gathered_few, gathered_zero, is_written, pasted_before, pasted_block, stands_none, stands_more, stands_read, count_most}
 use Rattle.staged.proofs.runs.write_runs.Goals as goal
 
 abbrev none : Page

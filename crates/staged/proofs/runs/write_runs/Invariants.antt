@@ -3,7 +3,7 @@ use Rattle.staged.specs.Held.{listed}
 use Rattle.staged.specs.Device.{times_up}
 use Rattle.staged.specs.Steps.{Steps, BehindGate}
 use Rattle.staged.specs.declared.device.Which.TheVariants.{Home, Log}
-use Rattle.staged.proofs.RunsWritten.{Written, bytes_of, Gathered, Stands}
+use Rattle.staged.proofs.RunsWritten.{Written, Gathered, Stands}
 use Rattle.staged.proofs.runs.write_runs.Given as goal
 
 abbrev pub invariant-loop-number : goal.invariant-loop-number

@@ -1,9 +1,8 @@
 use Rattle.std.proofs.Common.{◌∙◌, ap, inl, inr, sym, ⊎_elim}
-use Rattle.cfb_entries.specs.Rules.{answer_at, names_in}
-use Rattle.cfb_meaning.specs.TreeRules.{has_bytes, open_read_stream}
+use Rattle.cfb_meaning.specs.TreeRules.{has_bytes}
 use Rattle.cfb_mini.specs.Views.{allocator_of}
 use Rattle.cfb.specs.Streams.{bytes_found}
-use Rattle.cfb.specs.Views.{letters_in, mini_of}
+use Rattle.cfb.specs.Views.{mini_of}
 use Rattle.cfb.proofs.StreamsFound.{cause_since}
 use Rattle.cfb.proofs.Wants.{want_cause, want_fault}
 use Rattle.cfb.proofs.WholeStreams.{all_read, bytes_yet, found_yet, keeps_by, place_is, read_by, rests_twice, unfound, unfound_held, unread}

@@ -1,4 +1,4 @@
-use Rattle.std.proofs.Common.{◌≡◌, ◌∙◌, ap, inl, inr, length, refl, sym, ⊎_elim, arith}
+use Rattle.std.proofs.Common.{◌≡◌, ◌∙◌, ap, inl, inr, length, refl, ⊎_elim, arith}
 use Rattle.std.specs.Prelude.{Err}
 use Rattle.cfb_chains.specs.ChainCalls.{IsInvalidPlace}
 use Rattle.cfb_mini.specs.Views.{allocator_of}
@@ -9,12 +9,12 @@ use Rattle.cfb_owned.specs.Chains.{IsInvalidPlaceOrFull}
 use Rattle.cfb_owned.proofs.GoingOn.{goes_then, rests_go_on}
 use Rattle.cfb_live.proofs.Resting.{keeps_rests}
 use Rattle.cfb_writing.specs.Streams.{resized}
+use Rattle.cfb_copying.proofs.PutChains.{not_full}
 use Rattle.cfb.specs.Putting.{IsRefusedRewriting}
 use Rattle.cfb.specs.Views.{mini_of}
 use Rattle.cfb.proofs.Rewriting.{fits_yet, found_answers, not_found, not_found_answers, not_written, overwritten_all, overwritten_whole, place_or_full, place_refused, was_written}
 use Rattle.cfb.proofs.Fullness.{full_at, never_full}
 use Rattle.cfb.proofs.compound_file.CompoundFile.rewrite_stream.Goals as goal
-use Rattle.cfb_copying.proofs.PutChains.{not_full}
 
 pub returns-in-Err-clause-puts : goal.returns-in-Err-clause-puts
 returns-in-Err-clause-puts g c =

@@ -1,7 +1,7 @@
-use Rattle.std.proofs.Common.{◌⊎◌, ◌+◌, ◌-◌, ◌<◌, ap, length, subst, sym, ◌∙◌}
+use Rattle.std.proofs.Common.{◌⊎◌, ◌+◌, ◌-◌, ◌<◌, ap, length, subst, ◌∙◌}
 use Rattle.cfb_sectors.specs.Sectors.{greatest_regular}
 use Rattle.cfb_chains.specs.ChainCalls.{LacksNumber}
-use Rattle.cfb_chains.specs.ChainViews.{holder_of, sectors_of}
+use Rattle.cfb_chains.specs.ChainViews.{sectors_of}
 use Rattle.cfb_chains.specs.Positions.{sectors_for}
 use Rattle.cfb_chains.proofs.chain.Chain.lengthen.Goals as goal
 

@@ -1,4 +1,4 @@
-use Rattle.std.proofs.Common.{◌⊎◌, ◌+◌, ◌-◌, ◌<◌, ap, drop, length, subst, sym, ◌∙◌, OnOk}
+use Rattle.std.proofs.Common.{◌⊎◌, ◌+◌, ◌-◌, ◌<◌, ap, drop, length, subst, ◌∙◌, OnOk}
 use Rattle.cfb_sectors.specs.Sectors.{free, greatest_regular}
 use Rattle.cfb_chains.specs.ChainCalls.{IsCutTo, LacksNumber}
 use Rattle.cfb_chains.specs.ChainViews.{holder_of, sectors_of}

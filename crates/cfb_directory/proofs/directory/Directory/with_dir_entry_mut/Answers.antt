@@ -5,9 +5,9 @@ use Rattle.cfb_sectors.proofs.Appending.{on_ok}
 use Rattle.cfb_tree.specs.Directory.{Entry}
 use Rattle.cfb_tree.specs.EntryViews.{entry_in}
 use Rattle.cfb_tree.proofs.OneContent.{Some_same}
+use Rattle.cfb_siblings.proofs.Entries.{found_in}
 use Rattle.cfb_directory.specs.Changes.{changed_entry, SetsEntry}
 use Rattle.cfb_directory.specs.Views.{entries_held, numbers_noted}
-use Rattle.cfb_directory.proofs.Judging.{found_in}
 use Rattle.cfb_directory.proofs.Noted.{changed_kind, noted_same}
 use Rattle.cfb_directory.proofs.directory.Directory.with_dir_entry_mut.Goals as goal
 

@@ -2,12 +2,12 @@ use Rattle.std.proofs.Common.{◌≡◌, ap, sym, subst, ◌∙◌}
 use Rattle.std.specs.Prelude.{slice_get, Some}
 use Rattle.cfb_sectors.proofs.Appending.{on_ok}
 use Rattle.cfb_siblings.specs.Links.{holder}
+use Rattle.cfb_siblings.proofs.Entries.{found_in}
 use Rattle.cfb_tree.specs.EntryViews.{entry_in}
 use Rattle.cfb_directory.specs.Changes.{SetsEntry}
 use Rattle.cfb_directory.specs.Entries.{entries_in}
 use Rattle.cfb_directory.specs.Views.{entries_held, numbers_noted}
 use Rattle.cfb_tree.specs.Directory.{Entry}
-use Rattle.cfb_directory.proofs.Judging.{found_in}
 use Rattle.cfb_directory.proofs.Noted.{linked_kind, noted_same}
 use Rattle.cfb_directory.proofs.directory.Directory.write_link.Goals as goal
 

@@ -1,4 +1,4 @@
-use Rattle.std.proofs.Common.{ap, sym, subst, ◌++◌, ◌∙◌}
+use Rattle.std.proofs.Common.{sym, subst, ◌++◌, ◌∙◌}
 use Rattle.cfb_chains.specs.Changes.{IsNoneOf}
 use Rattle.cfb_chains.proofs.Beside.{none_both, none_first, none_second}
 use Rattle.std.proofs.lemmas.List.Sorted.{IsPermutation-sym}
