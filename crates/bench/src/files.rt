@@ -41,8 +41,10 @@ pub enum Part {
     Remove(Order),
     /// The file is copied once.
     Copy,
-    /// A storage is made in the last one.
+    /// A storage is made in the last one, by a call for each.
     Nest,
+    /// All these storages are made by one call.
+    NestAtOnce,
     /// All these storages are removed by one call.
     RemoveNested,
     /// Room for a piece is written to one stream.
@@ -64,6 +66,7 @@ impl Part {
             Part::Remove(_) => "streams removed",
             Part::Copy => "streams copied",
             Part::Nest => "storages made",
+            Part::NestAtOnce => "storages made by one call",
             Part::RemoveNested => "storages removed",
             Part::MakeRoom => "room made",
             Part::ReadPiece => "pieces read",
@@ -138,6 +141,7 @@ fn carry_out(
         Part::Remove(order) => remove_streams(alloc, file, size, order),
         Part::Copy => copy(alloc, file),
         Part::Nest => nest(alloc, file, size),
+        Part::NestAtOnce => nest_at_once(alloc, file, size),
         Part::RemoveNested => file.remove_storage_all("/a"),
         Part::ReadPiece => visit(file, size, false),
         Part::WritePiece => visit(file, size, true),
@@ -267,6 +271,18 @@ fn nest(alloc: Global, file: &mut CompoundFile<MemoryMedium>, count: u32) -> Res
         file.create_storage(&path, Timestamp::zero())?;
     }
     Ok(())
+}
+
+fn nest_at_once(
+    alloc: Global,
+    file: &mut CompoundFile<MemoryMedium>,
+    count: u32,
+) -> Result<(), Error> {
+    let mut path = String::new(alloc);
+    for _ in 0..count {
+        path.push_str("/a")?;
+    }
+    file.create_storage_all(&path, Timestamp::zero())
 }
 
 // Reads or writes so many pieces of one stream, at places far apart.

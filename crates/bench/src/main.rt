@@ -19,7 +19,7 @@ commit PAGES      writes so many pages of 512 bytes side by side to a store, and
 streams COUNT     makes so many streams of 100 bytes, in shuffled order, reads them from the file opened again, and removes them
 streams-up COUNT  the same in rising order
 streams-down COUNT  the same in falling order
-deep COUNT        makes so many storages, each in the last one, and removes them by one call
+deep COUNT        makes so many storages, each in the last one, removes them by one call, and makes them again by one
 write COUNT       makes so many streams of 100 bytes and as many of 10,000, and reads them from the file that is opened again
 large MEGABYTES   so with one stream of so many megabytes, in pieces of 4,096 bytes
 places COUNT      reads and writes so many pieces of 4,096 bytes at places far apart of a stream that has 10,000 bytes for each
@@ -56,7 +56,10 @@ fn run(rt: &HostRuntime, name: &str, size: u32) -> Result<()> {
         "streams" => run_streams(rt, size, Order::Shuffled),
         "streams-up" => run_streams(rt, size, Order::Rising),
         "streams-down" => run_streams(rt, size, Order::Falling),
-        "deep" => files::run(rt, size, &[Part::Nest, Part::RemoveNested], &[]),
+        "deep" => {
+            let parts = [Part::Nest, Part::RemoveNested, Part::NestAtOnce];
+            files::run(rt, size, &parts, &[])
+        }
         "write" => {
             let made = [Part::Make(Order::Rising), Part::MakeLong(Order::Behind)];
             files::run(rt, size, &made, &[Part::Read])
