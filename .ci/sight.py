@@ -38,6 +38,11 @@ def names(text):
     return {*whole, *(part for it in whole if "." in it for part in it.split("."))}
 
 
+def joined(lines):
+    """The head of a function, which says the same wherever its lines are broken."""
+    return " ".join(it.strip() for it in uncommented("\n".join(lines), "//").split("\n"))
+
+
 def uncommented(text, mark):
     return "\n".join(it for it in text.split("\n") if it.strip() and not it.lstrip().startswith(mark))
 
@@ -87,7 +92,7 @@ class Code:
             line = lines[at]
             if at in spans:
                 opens, closes, name = spans[at]
-                head = lines[at : closes if "const fn" in line else opens]
+                head = lines[at:closes] if "const fn" in line else [joined(lines[at:opens])]
                 is_inside = line.startswith(" ")
                 if is_inside and item and item[0].startswith(("impl", "trait")):
                     item[2] += head
@@ -214,11 +219,11 @@ class Sight:
         with others, which call each other."""
         text = (self.root / "crates" / crate / file).read_text()
         lines = text.split("\n")
-        head, _, closes, name = functions(text)[number]
+        head, opens, closes, name = functions(text)[number]
         first = head - 1
         while first and lines[first - 1].lstrip().startswith(("#[", "//")):
             first -= 1
-        own = "\n".join(lines[first:closes])
+        own = "\n".join([*lines[first : head - 1], joined(lines[head - 1 : opens]), *lines[opens:closes]])
         if "cycle(" in own:
             return None
         # (a method, with the head of what it stands in)

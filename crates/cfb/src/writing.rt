@@ -111,7 +111,8 @@ impl<F: Medium> CompoundFile<F> {
         ensures written { OnOk result (RewritesAt id (λ content. overwritten content at bytes.now)
             self.old self.new) }
         ensures past { IsErrOf result InvalidInput → (path : Path) (tree : Tree) (content : List ℕ)
-            → StreamIsWritten self.old path tree id content → length content < at + length bytes.now }
+            → StreamIsWritten self.old path tree id content
+            → length content < at + length bytes.now }
         ensures refused { IsErrOf result InvalidData → IsLostAt id self.old }
         ensures kept { OnErr result ((has_failed_here (allocator_of (mini_of self.new)) ≡ true)
             ⊎ KeepsAt id self.old self.new) }

@@ -68,7 +68,8 @@ impl ExactSizeIterator for Entries {
 
 // The text of names, each behind a slash.
 fn prefix_of(alloc: Global, names: &[&str]) -> Result<String, Error>
-    ensures text { IfOk result (λ text. chars (string_bytes text) ≡ prefix_text (path_of names.now)) }
+    ensures text { IfOk result
+        (λ text. chars (string_bytes text) ≡ prefix_text (path_of names.now)) }
     ensures error { IfErr result (λ e. e ≡ Memory) }
 {
     let mut text = String::new(alloc);

@@ -33,7 +33,8 @@ pub fn remove_stream<F: Medium>(
 ) -> Result<(), Error>
     ensures does { Does (letters_of letters.now) (names_in path.now) (λ names. remove_stream names)
         result mini.old mini.new }
-    ensures freed { OnOk result ((tree : Tree) → (m : MeansLive (letters_of letters.now) mini.old tree)
+    ensures freed { OnOk result
+        ((tree : Tree) → (m : MeansLive (letters_of letters.now) mini.old tree)
         → FreesAt (letters_of letters.now) (names_in path.now) mini.old mini.new m.who) }
     ensures goes_on { GoesOn (allocator_of mini.old) (allocator_of mini.new) }
     ensures answers { FatAnswers IsRefusedRemoval result (allocator_of mini.old)

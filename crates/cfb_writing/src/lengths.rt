@@ -68,7 +68,8 @@ pub(crate) fn take_in<F: Medium>(
         → who.sectors (stream_owner id) ≡ ids_of links.old
         → links_version links.old ≡ version_of (allocator_of mini.old)
         → MovesLong id (ids_of links.new) mini.old mini.new who
-        × TakesBytes bytes.now (allocator_of mini.old) (allocator_of mini.new) links.old links.new) }
+        × TakesBytes bytes.now (allocator_of mini.old) (allocator_of mini.new)
+        links.old links.new) }
     ensures refused { IsErrOf result InvalidData → IsNoChain links.old mini.old }
     ensures size { OnOk result (length (ids_of links.new)
         ≡ sectors_for (links_version links.old) len) }

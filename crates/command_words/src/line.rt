@@ -154,7 +154,8 @@ fn line_of_adoption<'a>(paths: &ArgMatches<'a>) -> Option<Line<'a>>
 
 // The log that is named among the paths, or behind `--log`.
 fn log_in<'a>(among: Option<&'a str>, paths: &ArgMatches<'a>) -> Log<'a>
-    ensures { IsNamedIn result (option_map (λ s. s.now) among.entry) (rows_of (found_of paths.now)) }
+    ensures { IsNamedIn result (option_map (λ s. s.now) among.entry)
+        (rows_of (found_of paths.now)) }
 {
     log_of(among, path(paths, "log"))
 }

@@ -111,7 +111,8 @@ fn put_creating_application(summary: &mut SummaryInfo, text: &Option<String>) ->
 }
 
 fn put_keywords(summary: &mut SummaryInfo, keywords: &Option<Vec<String>>) -> Result<(), Error>
-    ensures { Edits (set_keywords (option_map (λ texts. map string_bytes texts.items) keywords.now)) summary.old summary.new result }
+    ensures { Edits (set_keywords (option_map (λ texts. map string_bytes texts.items) keywords.now))
+        summary.old summary.new result }
 {
     match keywords {
         Some(keywords) => summary.set_keywords(keywords),
@@ -132,7 +133,8 @@ fn put_languages(
     summary: &mut SummaryInfo,
     languages: &Option<Vec<LanguageId>>,
 ) -> Result<(), Error>
-    ensures { Edits (set_languages (option_map (λ ids. ids.items) languages.now)) summary.old summary.new result }
+    ensures { Edits (set_languages (option_map (λ ids. ids.items) languages.now))
+        summary.old summary.new result }
 {
     match languages {
         Some(languages) => summary.set_languages(languages),
@@ -141,7 +143,8 @@ fn put_languages(
 }
 
 fn put_uuid(summary: &mut SummaryInfo, uuid: Option<Uuid>) -> Result<(), Error>
-    ensures { Edits (set_text 9 (option_map (braced_text upper) uuid)) summary.old summary.new result }
+    ensures { Edits (set_text 9 (option_map (braced_text upper) uuid))
+        summary.old summary.new result }
 {
     match uuid {
         Some(uuid) => summary.set_uuid(uuid),

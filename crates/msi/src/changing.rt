@@ -90,7 +90,8 @@ impl<F: Medium> Package<F> {
     /// where no stream can have the name, `NotFound` where none has. The other errors are faults. After an error nothing is changed, or
     /// the package has failed.
     pub fn remove_stream(&mut self, name: &str) -> Result<(), Error>
-        ensures changes { PackageChanges (Makes (λ P. stream_removed (letters_in (file_in self.old)) P
+        ensures changes { PackageChanges
+            (Makes (λ P. stream_removed (letters_in (file_in self.old)) P
             name.now)) result self.old self.new }
         ensures goes_on { GoesOn (allocator_of (mini_of (file_in self.old)))
             (allocator_of (mini_of (file_in self.new))) }
@@ -107,7 +108,8 @@ impl<F: Medium> Package<F> {
     /// Removes the two streams of the digital signature, those of them that are there. `Failed` after an earlier fault, `InvalidData`
     /// where the package isn't sound. The other errors are faults. After an error nothing is changed, or the package has failed.
     pub fn remove_digital_signature(&mut self) -> Result<(), Error>
-        ensures changes { PackageChanges (Makes (λ P. Ok (unsigned (letters_in (file_in self.old)) P)))
+        ensures changes { PackageChanges
+            (Makes (λ P. Ok (unsigned (letters_in (file_in self.old)) P)))
             result self.old self.new }
         ensures goes_on { GoesOn (allocator_of (mini_of (file_in self.old)))
             (allocator_of (mini_of (file_in self.new))) }

@@ -20,9 +20,11 @@ impl<F: Medium> Package<F> {
     /// texts are counted in memory, and written by a flush. After an error nothing is changed, or the package has failed.
     pub fn update_rows(&mut self, query: &Update) -> Result<(), Error>
         ensures changes { PackageChanges (λ P Q answer. Updates P (update_name query.now)
-            (update_sets query.now) (update_condition query.now) Q answer) result self.old self.new }
+            (update_sets query.now) (update_condition query.now) Q answer)
+            result self.old self.new }
         ensures full { PackageFills (λ P Q answer. Updates P (update_name query.now)
-            (update_sets query.now) (update_condition query.now) Q answer) result self.old self.new }
+            (update_sets query.now) (update_condition query.now) Q answer)
+            result self.old self.new }
         ensures goes_on { GoesOn (allocator_of (mini_of (file_in self.old)))
             (allocator_of (mini_of (file_in self.new))) }
         ensures cause { IfErr result (HasCauseBelow (allocator_of (mini_of (file_in self.old)))

@@ -76,7 +76,8 @@ impl<'a, F: Medium> StreamWriterOver<'a, F, MemoryMedium> {
     /// Moves the position to a place of the stream or to its end, and gives it. `InvalidInput` where it is before the stream or behind
     /// its end; then the position stays. The package and the bytes stay as they are.
     pub fn seek(&mut self, from: SeekFrom) -> Result<u64, Error>
-        ensures ok { IfOk result (λ n. Finds from (length (content_in self.old)) (place_in self.old) n
+        ensures ok { IfOk result
+            (λ n. Finds from (length (content_in self.old)) (place_in self.old) n
             × (place_in self.new ≡ n)) }
         ensures refused { IfErr result (λ e. (e ≡ InvalidInput) × ((n : ℕ)
             → Finds from (length (content_in self.old)) (place_in self.old) n → ⊥)) }

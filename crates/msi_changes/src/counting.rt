@@ -67,7 +67,8 @@ pub fn count_rows(
 // Takes the use of a cell's text back. `InvalidData` where its place has no use.
 #[tactic(auto, using(crate::proofs::Uses::taken_so, crate::proofs::Uses::unused_so, crate::proofs::Uses::taken_marked))]
 pub(crate) fn take_back_cell(pool: &mut Draft<'_>, cell: ValueRef) -> Result<(), Error>
-    ensures takes { Answers (λ _. pool.new.state.pool) result (taken_back pool.old.state.pool cell) }
+    ensures takes { Answers (λ _. pool.new.state.pool) result
+        (taken_back pool.old.state.pool cell) }
     ensures marked { pool.new.state.modified ≡ false → pool.new.state ≡ pool.old.state }
     ensures under { pool.new.under ≡ pool.old.under }
 {
@@ -76,7 +77,8 @@ pub(crate) fn take_back_cell(pool: &mut Draft<'_>, cell: ValueRef) -> Result<(),
 
 /// Takes the uses of all cells of a row back. `InvalidData` where a place has no use.
 pub fn take_back(pool: &mut Draft<'_>, row: &[ValueRef]) -> Result<(), Error>
-    ensures takes { Answers (λ _. pool.new.state.pool) result (all_taken_back pool.old.state.pool row.now) }
+    ensures takes { Answers (λ _. pool.new.state.pool) result
+        (all_taken_back pool.old.state.pool row.now) }
     ensures marked { pool.new.state.modified ≡ false → pool.new.state ≡ pool.old.state }
     ensures under { pool.new.under ≡ pool.old.under }
 {

@@ -95,7 +95,8 @@ fn set_cell(
     set: &(String, Value),
 ) -> Result<(), Error>
     ensures sets { Answers (λ _. (row.new.items, pool.new.state.pool)) result
-        (cell_set (heading_of table.now).columns pool.old.state.pool row.old.items (set_of set.now)) }
+        (cell_set (heading_of table.now).columns pool.old.state.pool
+        row.old.items (set_of set.now)) }
     ensures marked { pool.new.state.modified ≡ false → pool.new.state ≡ pool.old.state }
     ensures under { pool.new.under ≡ pool.old.under }
 {
@@ -122,7 +123,8 @@ pub(crate) fn set_cells(
     sets: &[(String, Value)],
 ) -> Result<(), Error>
     ensures sets { Answers (λ _. (row.new.items, pool.new.state.pool)) result
-        (cells_set (heading_of table.now).columns pool.old.state.pool row.old.items (sets_of sets.now)) }
+        (cells_set (heading_of table.now).columns pool.old.state.pool
+        row.old.items (sets_of sets.now)) }
     ensures marked { pool.new.state.modified ≡ false → pool.new.state ≡ pool.old.state }
     ensures under { pool.new.under ≡ pool.old.under }
 {

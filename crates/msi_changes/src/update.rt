@@ -265,7 +265,8 @@ fn set_rows(
     requires { IsTrue (knows_condition (heading_of (rc_value table.now)).columns
         (condition_of condition.now)) }
     ensures sets { Answers (λ after. (rows_held after.items, counted.new.state.pool)) result
-        (rows_set (heading_of (rc_value table.now)).columns counted.old.state.pool (sets_of sets.now)
+        (rows_set (heading_of (rc_value table.now)).columns
+        counted.old.state.pool (sets_of sets.now)
         (judged (matches pool.now.pool (heading_of (rc_value table.now)).columns
         (condition_of condition.now)) (rows_held rows.items))) }
     ensures marked { counted.new.state.modified ≡ false → counted.new.state ≡ counted.old.state }

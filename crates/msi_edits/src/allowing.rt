@@ -87,7 +87,8 @@ fn sets_descriptions(
 
 // Columns of the same names, of which the tenth alone takes values.
 fn closed_columns(alloc: Global, columns: &[Column]) -> Result<Vec<Column>, Error>
-    ensures ok { IfOk result (λ all. columns_of all.items ≡ closed_from 0 (columns_of columns.now)) }
+    ensures ok { IfOk result
+        (λ all. columns_of all.items ≡ closed_from 0 (columns_of columns.now)) }
     ensures err { IfErr result (λ e. e ≡ Memory) }
 {
     let mut all = Vec::new(alloc);

@@ -230,9 +230,11 @@ pub fn delete_rows<F: Medium>(
     pool: &mut StringPool,
     delete: &Delete,
 ) -> Result<(), Error>
-    ensures edits { Edits (λ P Q answer. Deletes P (delete_name delete.now) (delete_condition delete.now)
+    ensures edits { Edits
+        (λ P Q answer. Deletes P (delete_name delete.now) (delete_condition delete.now)
         Q answer) result store.old store.new pool.old pool.new }
-    ensures full { Fills (λ P Q answer. Deletes P (delete_name delete.now) (delete_condition delete.now)
+    ensures full { Fills
+        (λ P Q answer. Deletes P (delete_name delete.now) (delete_condition delete.now)
         Q answer) result store.old store.new pool.old }
     ensures goes_on { GoesOn (allocator_of (mini_of (file_in store.old)))
         (allocator_of (mini_of (file_in store.new))) }

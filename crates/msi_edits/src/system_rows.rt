@@ -60,8 +60,10 @@ pub fn bytes_with_new_rows(
 ) -> Result<Vec<u8>, Error>
     requires { AreWritable (heading_of table.now).long (heading_of table.now).columns
         (rows_held rows.items ++ rows_held cells.items) }
-    ensures ok { IfOk result (λ bytes. (next : Pool) → map (row_data next) (rows_held rows.items ++ rows_held cells.items)
-        ≡ map (row_data pool.now.pool) (rows_held rows.items) ++ map (λ row. data_of row.items) new_rows.now
+    ensures ok { IfOk result (λ bytes. (next : Pool)
+        → map (row_data next) (rows_held rows.items ++ rows_held cells.items)
+        ≡ map (row_data pool.now.pool) (rows_held rows.items)
+        ++ map (λ row. data_of row.items) new_rows.now
         → IsWrittenByKeys next (heading_of table.now).long (heading_of table.now).columns
         (rows_held rows.items ++ rows_held cells.items) bytes.items) }
     ensures places { IfOk result (λ bytes. All (λ row. IsTrue (list_all has_place row))

@@ -52,7 +52,8 @@ fn among(
     entries: Entries,
 ) -> Result<Vec<String>, Error>
     ensures ok { (headings : List Heading) → HasKeys (letters_of letters.now) headings names.now
-        → IfOk result (λ found. names_of found.items ≡ misplaced_in (letters_of letters.now) headings
+        → IfOk result
+        (λ found. names_of found.items ≡ misplaced_in (letters_of letters.now) headings
         (map listed_in (entries_left entries))) }
     ensures err { IfErr result (λ e. e ≡ Memory) }
 {

@@ -17,7 +17,8 @@ const TEXT: u32 = 30;
 
 // The section of a set whose head can be read.
 pub(crate) fn section_of(bytes: &[u8]) -> &[u8]
-    ensures { (head : Head) → head_at bytes.now ≡ Ok head → result.now ≡ drop head.offset bytes.now }
+    ensures { (head : Head) → head_at bytes.now ≡ Ok head
+        → result.now ≡ drop head.offset bytes.now }
 {
     let mut rest = behind(bytes, OFFSET_AT);
     match read_u32(&mut rest) {
@@ -79,7 +80,8 @@ pub(crate) fn text_at_offset(section: &[u8], offset: u32) -> Option<&[u8]>
 
 // The bytes of a text behind its length, which counts the null too.
 fn counted_text(bytes: &[u8]) -> Option<&[u8]>
-    ensures { (v : Property) → text_at bytes.now ≡ Ok v → option_map (λ t. t.now) result ≡ text_in v }
+    ensures { (v : Property) → text_at bytes.now ≡ Ok v
+        → option_map (λ t. t.now) result ≡ text_in v }
 {
     let mut rest = bytes;
     match read_u32(&mut rest) {

@@ -65,7 +65,8 @@ fn note<F: ReadMedium>(
     table: &Rc<Table>,
     found: &mut Vec<Rc<Table>>,
 ) -> Result<(), Error>
-    ensures told { (tree : Tree) → FileHolds file.old tree → OnOk result (headings_in found.new.items
+    ensures told { (tree : Tree) → FileHolds file.old tree
+        → OnOk result (headings_in found.new.items
         ≡ headings_in found.old.items ++ unread (letters_in file.old) tree
         (headings_in (table.now ∷ []))) }
     ensures rests { FileRests file.old file.new }

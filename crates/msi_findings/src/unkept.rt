@@ -48,7 +48,8 @@ fn heads_of_pool<F: ReadMedium>(
     file: &mut CompoundFile<F>,
 ) -> Result<(CodePage, Vec<(u32, u16)>), Error>
     ensures told { (tree : Tree) → FileHolds file.old tree
-        → TellsOrFault (λ pool. (pool.0, pool.1.items)) (pool_heads (letters_in file.old) tree) result }
+        → TellsOrFault (λ pool. (pool.0, pool.1.items))
+        (pool_heads (letters_in file.old) tree) result }
     ensures few { IfOk result (λ pool. length pool.1.items < 2 ^ 32) }
     ensures rests { FileRests file.old file.new }
     ensures cause { IfErr result (HasCauseBelow (allocator_of (mini_of file.old))

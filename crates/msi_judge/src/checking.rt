@@ -60,8 +60,10 @@ fn with_rows<F: ReadMedium>(
     found: Vec<Defect>,
 ) -> Result<Vec<Defect>, Error>
     ensures told { (tree : Tree) → FileHolds file.old tree → (asked : List Defect)
-        → AreNoted (IsKept (letters_in file.old) tree (sound_of file.old) parts.now) asked found.items
-        → IfOk result (λ all. AreNoted (IsKept (letters_in file.old) tree (sound_of file.old) parts.now)
+        → AreNoted
+        (IsKept (letters_in file.old) tree (sound_of file.old) parts.now) asked found.items
+        → IfOk result
+        (λ all. AreNoted (IsKept (letters_in file.old) tree (sound_of file.old) parts.now)
         (Counts ∷ ListedSystemTables ∷ asked) all.items) }
     ensures longer { IfOk result (λ all. (defect : Defect) → Contains found.items defect
         → Contains all.items defect) }
@@ -89,8 +91,10 @@ fn with_counts<F: ReadMedium>(
     found: Vec<Defect>,
 ) -> Result<Vec<Defect>, Error>
     ensures told { (tree : Tree) → FileHolds file.old tree → (asked : List Defect)
-        → AreNoted (IsKept (letters_in file.old) tree (sound_of file.old) parts.now) asked found.items
-        → IfOk result (λ all. AreNoted (IsKept (letters_in file.old) tree (sound_of file.old) parts.now)
+        → AreNoted
+        (IsKept (letters_in file.old) tree (sound_of file.old) parts.now) asked found.items
+        → IfOk result
+        (λ all. AreNoted (IsKept (letters_in file.old) tree (sound_of file.old) parts.now)
         (Counts ∷ asked) all.items) }
     ensures longer { IfOk result (λ all. (defect : Defect) → Contains found.items defect
         → Contains all.items defect) }

@@ -56,7 +56,8 @@ fn drop_with<F: Medium>(
     name: &str,
 ) -> (StringPool, Result<(), Error>)
     ensures drops { DropsTable name.now result.1 store.old store.new pool result.0 }
-    ensures full { Fills (λ P Q answer. Drops P name.now Q answer) result.1 store.old store.new pool }
+    ensures full { Fills (λ P Q answer. Drops P name.now Q answer) result.1
+        store.old store.new pool }
     ensures goes_on { GoesOn (allocator_of (mini_of (file_in store.old)))
         (allocator_of (mini_of (file_in store.new))) }
     ensures cause { IfErr result.1 (HasCauseBelow (allocator_of (mini_of (file_in store.old)))

@@ -255,7 +255,8 @@ fn counted_listing(
     pool: &StringPool,
     new_rows: &ListingRows,
 ) -> Result<(Rows, Rows, PoolChanges), Error>
-    ensures counts { Answers (λ r. ((rows_held r.0.items, rows_held r.1.items), pool_after pool.now r.2))
+    ensures counts { Answers
+        (λ r. ((rows_held r.0.items, rows_held r.1.items), pool_after pool.now r.2))
         result (two_counted pool.now.pool (rows_of_values new_rows.now.columns.items)
         (rows_of_values new_rows.now.tables.items)) }
     ensures changes { IfOk result (λ r. AreChangesFor pool.now r.2) }

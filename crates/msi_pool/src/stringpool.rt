@@ -316,7 +316,8 @@ fn counts_of(alloc: Global, strings: &[(String, u16)]) -> Result<Vec<u16>, Error
 
 // Whether no text stands at a free place.
 fn are_free_empty(strings: &[(String, u16)]) -> bool
-    ensures { result ≡ list_all (λ s. not (s.1 == 0) || (length (string_bytes s.0) == 0)) strings.now }
+    ensures { result
+        ≡ list_all (λ s. not (s.1 == 0) || (length (string_bytes s.0) == 0)) strings.now }
 {
     strings
         .iter()

@@ -109,7 +109,8 @@ fn with_range(
     low: BorrowedValue<'_>,
     high: BorrowedValue<'_>,
 ) -> ColumnBuilder
-    ensures { Builds result (with_range (borrowed_datum low.entry) (borrowed_datum high.entry)) builder }
+    ensures { Builds result
+        (with_range (borrowed_datum low.entry) (borrowed_datum high.entry)) builder }
 {
     match (low, high) {
         (BorrowedValue::Int(low), BorrowedValue::Int(high)) => builder.range(low, high),

@@ -30,7 +30,8 @@ pub(crate) fn described_tables<'m, 'a>(
     requires { (name : List ℕ) → IfSome (at_text counts.now name) (λ n. n ≤ 65536) }
     ensures ok { (rows others : List (List Datum)) → IsIndex 2 rows columns.now
         → IsIndex 2 others validation.now → ColumnsAreCounted (rows_said tables.now) rows counts.now
-        → IfOk result (λ found. (list_all (names_described rows others) (rows_said tables.now) ≡ true)
+        → IfOk result
+        (λ found. (list_all (names_described rows others) (rows_said tables.now) ≡ true)
         × AreFound (λ name. list_any (begins_with name) (rows_said tables.now))
         (schema_of rows others) found) }
     ensures err { (rows others : List (List Datum)) → IsIndex 2 rows columns.now

@@ -130,7 +130,8 @@ fn built_of<F: ReadMedium>(
     builder: StringPoolBuilder,
 ) -> Result<(StringPool, bool), Error>
     ensures shown { (tree : Tree) → HoldsShown file.old tree → FindsPart (letters_in file.old)
-        (bytes_in file.old) (λ found. IsBuilt (letters_in file.old) tree builder found.0.pool found.1
+        (bytes_in file.old)
+        (λ found. IsBuilt (letters_in file.old) tree builder found.0.pool found.1
         × (found.0.modified ≡ false)) (built_in (letters_in file.old) tree builder) result }
     ensures rests { FileRests file.old file.new }
     ensures cause { IfErr result (HasCauseBelow (allocator_of (mini_of file.old))

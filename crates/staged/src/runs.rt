@@ -49,7 +49,8 @@ pub fn count_runs(pages: &Pages) -> u64
 // Whether a run that has come to a page of this number, and has so many, goes on behind it.
 fn goes_on(pages: &Pages, number: u64, count: u32) -> bool
     requires { number < 2 ^ 55 }
-    ensures { result ≡ (is_some (page_at (listed pages.now) (number + 1)) && nat_lt count 4294967295) }
+    ensures { result
+        ≡ (is_some (page_at (listed pages.now) (number + 1)) && nat_lt count 4294967295) }
 {
     pages.contains(number + 1) && count < MOST
 }

@@ -59,7 +59,8 @@ pub fn read_head<D: Device>(device: &mut D, log_len: u64) -> Result<Head, Error>
 // Whether it is the second form, if the magic of one stands there.
 fn form_in(start: &[u8]) -> Option<bool>
     ensures { result
-        ≡ (if starts_with nat_eq start.now magic then Some true else if starts_with nat_eq start.now first_magic then Some false else None) }
+        ≡ (if starts_with nat_eq start.now magic then Some true
+        else if starts_with nat_eq start.now first_magic then Some false else None) }
 {
     if start.starts_with(MAGIC.as_slice()) {
         return Some(true);
