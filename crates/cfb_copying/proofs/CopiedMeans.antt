@@ -16,11 +16,11 @@ use Rattle.cfb_owners.specs.Held.{HasStream, IsStreamAmong, MeansHeld}
 use Rattle.cfb_owners.specs.Kept.{Kept}
 use Rattle.cfb_owners.specs.LiveFile.{LiveFile}
 use Rattle.cfb_owners.specs.Owners.{first_of, mini_stream_owner, stream_owner, Owners}
-use Rattle.cfb_owners.proofs.UsesOfEntries.{one_not_none}
 use Rattle.cfb_tree.proofs.NamesRead.{all_append}
 use Rattle.cfb_copying.specs.Copied.{IsCopied, IsLongAmong}
 use Rattle.cfb_copying.specs.Making.{IsOneOf}
 use Rattle.cfb_copying.proofs.Restarted.{holds_again, siblings_again, some_again}
+use Rattle.cfb_copying.proofs.Tight.{one_is_not_none}
 
 -- ---- bytes that lie in the file
 
@@ -142,7 +142,7 @@ module _ (s t : LiveFile) (who : Owners) (own : ℕ → List ℕ) (letters : Let
     once = h.once;
     ordered = h.ordered;
     unused = λ id apart. (
-      c.none id (λ it. apart (among_then id (one_not_none h.ids id it.among, subst (λ o. IfSome o (λ e. e.kind ≡ kind_stream)) (sym it.found) it.of_kind))),
+      c.none id (λ it. apart (among_then id (one_is_not_none h.ids id it.among, subst (λ o. IfSome o (λ e. e.kind ≡ kind_stream)) (sym it.found) it.of_kind))),
       (h.unused id (λ among. apart (among_then id among))).1,
     );
   }

@@ -15,7 +15,6 @@ use Rattle.cfb_owners.specs.LiveFile.{LiveFile}
 use Rattle.cfb_owners.specs.Owners.{Owners}
 use Rattle.cfb_owners.proofs.SoundIs.{sound_is}
 use Rattle.cfb_owners.proofs.UsedParts.{all_keys, key_of, used_by}
-use Rattle.cfb_owners.proofs.UsesOwned.{key_one}
 use Rattle.cfb_copying.specs.Copied.{IsCopied, IsLongAmong, IsTight, IsUsed}
 use Rattle.cfb_copying.specs.Making.{IsOneOf}
 use Rattle.cfb_copying.proofs.CopiedMeans.{copy_held, copy_ids, now}
@@ -55,6 +54,13 @@ one_of_two (x ∷ xs) ys n one = ⊎_elim
     further : (xs : List ℕ) (x n : ℕ) → IsOneOf xs n → IsOneOf (x ∷ xs) n
     further xs x n one = (suc one.0, (let below = one.1 in omega (arith, below)), one.2)
 
+key_among : (ids : List ℕ) (id : ℕ) → IsOneOf ids id → IsOneOf (map key_of ids) (key_of id)
+key_among [] id (k, below, is) = absurd (omega (arith, below))
+key_among (x ∷ ids) id one = ⊎_elim
+    (λ same. (zero, omega arith, ap key_of same))
+    (λ behind. let rest = key_among ids id behind in (suc rest.0, (let below = rest.1 in omega (arith, below)), rest.2))
+    (one_behind ids x id one)
+
 module _ (s t : LiveFile) (who : Owners) (own : ℕ → List ℕ) (letters : Letters) (tree : Tree) (h : MeansHeld s who letters tree) (c : IsCopied s who h.ids t own) where
   abbrev keys : List ℕ
   keys = all_keys h.ids
@@ -72,7 +78,7 @@ module _ (s t : LiveFile) (who : Owners) (own : ℕ → List ℕ) (letters : Let
       at_stream : (o : Option Entry) → slice_get s.entries id ≡ o → IsOneOf keys (key_of id)
       at_stream None is = nothing_owned (λ it. let both : Some it.entry ≡ None = sym it.found ∙ is in cc)
       at_stream (Some e) is = ⊎_elim
-          (λ long. let at = key_one h.ids id long.among in (suc (suc (suc (suc at.0))), (let below = at.1 in omega (arith, below)), at.2))
+          (λ long. let at = key_among h.ids id long.among in (suc (suc (suc (suc at.0))), (let below = at.1 in omega (arith, below)), at.2))
           nothing_owned
           (is_long s.entries t.entries h.ids own c.restarts id e is)
 

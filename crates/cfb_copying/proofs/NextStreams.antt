@@ -14,7 +14,6 @@ use Rattle.cfb_fat.specs.Tables.{bytes_of, version_of}
 use Rattle.cfb_fat.specs.declared.allocator.Allocator.{Allocator}
 use Rattle.cfb_owners.specs.LiveFile.{LiveFile}
 use Rattle.cfb_owners.specs.Owners.{directory_owner, first_of, stream_owner, Owners}
-use Rattle.cfb_owners.proofs.UsesOfEntries.{one_not_none}
 use Rattle.cfb_tree.specs.Directory.{kind_stream, Entry}
 use Rattle.cfb_tree.specs.EntryViews.{entry_in}
 use Rattle.cfb_tree.specs.declared.entry.DirEntry.{DirEntry}
@@ -24,6 +23,7 @@ use Rattle.cfb_copying.proofs.Counted.{sectors_split}
 use Rattle.cfb_copying.proofs.Numbers.{can_hold, never_out, some_directory}
 use Rattle.cfb_copying.proofs.Originals.{can_put, entry_there, long_start, part_of, past_root}
 use Rattle.cfb_copying.proofs.StreamSteps.{entry_yet, long_then, short_then}
+use Rattle.cfb_copying.proofs.Tight.{one_is_not_none}
 
 -- an entry in memory, as the list of them says it
 pub entry_found : (es : List DirEntry) (id : ℕ) (e : DirEntry) → id < length es → e ≡ get_or es id e → slice_get (entries_in es) id ≡ Some (entry_in e)
@@ -56,7 +56,7 @@ module _ {F : Type 0} {g : Ghosts F} {T : Type 0} {h : Ghosts T} (a : Allocator 
     module _ (kind : e.kind ≡ kind_stream) (long : mini_cutoff ≤ e.stream_len) where
       pub next_can : CanPut a e.start_sector b 1 end_of_chain (stream_owner id) has.own has.bytes (who.sectors (stream_owner id))
       next_can = can_put a b s who ids e.start_sector 1 end_of_chain (stream_owner id) has.own has.bytes original (long_start a s who ids original id (entry_in e) next.among (was_found (entry_in e) now) kind long)
-          has.version has.made (has.none id (λ it. one_not_none done id it.among next.fresh))
+          has.version has.made (has.none id (λ it. one_is_not_none done id it.among next.fresh))
 
       pub next_long : (c : Allocator T h) (sectors : List ℕ) (start : ℕ) → start ≡ first_of sectors → version_of c ≡ version_of b
           → IsMade 1 end_of_chain c (with_list (stream_owner id) sectors has.own) (with_list (stream_owner id) (joined (version_of a) (bytes_of a) (who.sectors (stream_owner id))) has.bytes)

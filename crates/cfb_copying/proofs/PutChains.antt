@@ -5,7 +5,6 @@ use Rattle.cfb_medium.specs.declared.error.Error.{Error}
 use Rattle.cfb_medium.specs.declared.error.Error.TheVariants.{Full, InvalidData, InvalidInput}
 use Rattle.cfb_medium.specs.declared.medium.ReadMedium.{Ghosts}
 use Rattle.cfb_sectors.specs.Sectors.{joined, Chain}
-use Rattle.cfb_sectors.proofs.OneChain.{chain_unique}
 use Rattle.cfb_chains.specs.ChainCalls.{IsInvalidPlace}
 use Rattle.cfb_chains.specs.Changes.{AreNoneOf}
 use Rattle.cfb_chains.specs.Grown.{IsLinked}
@@ -19,6 +18,7 @@ use Rattle.cfb_copying.specs.Chains.{CopiesChain, IsCopyFault}
 use Rattle.cfb_copying.specs.Making.{with_list, IsMade}
 use Rattle.cfb_copying.specs.Steps.{CanPut}
 use Rattle.cfb_copying.proofs.Made.{made_more}
+use Rattle.cfb_sectors.proofs.OneChain.{chain_unique}
 
 -- an error of a copy that is none of a place is a fault
 pub fault_of : (e : Error) → (IsInvalidPlace e → ⊥) → IsCopyFault e → IsFault e

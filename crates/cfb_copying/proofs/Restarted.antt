@@ -8,9 +8,8 @@ use Rattle.cfb_sectors.specs.Header.{mini_cutoff}
 use Rattle.cfb_tree.specs.Tree.{nothing, storage, stream, Content}
 use Rattle.cfb_tree.specs.Directory.{kind_stream, none, some, Entry, HasName, Siblings}
 use Rattle.cfb_owners.specs.Held.{HoldsAt}
-use Rattle.cfb_owners.proofs.UsesOfEntries.{one_not_none}
 use Rattle.cfb_copying.specs.Copied.{IsLongAmong, Restarts}
-use Rattle.cfb_copying.proofs.Tight.{one_or_none}
+use Rattle.cfb_copying.proofs.Tight.{one_is_not_none, one_or_none}
 use Rattle.cfb_siblings.proofs.Lists.{all_parts}
 
 -- an entry that is found has one value
@@ -27,7 +26,7 @@ module _ (es later : List Entry) (ids : List ℕ) (own : ℕ → List ℕ) (h : 
       (λ kind. ⊎_elim
       (λ long. ⊎_elim
       (λ among. inl (record { entry = e; found = found; of_kind = kind.1; long = long.1; among = among }))
-      (λ apart. inr (λ it. one_not_none ids id it.among apart))
+      (λ apart. inr (λ it. one_is_not_none ids id it.among apart))
       (one_or_none ids id))
       (λ short. inr (λ it. let same : it.entry.size ≡ e.size = ap (λ x. x.size) (found_one es id it.entry e it.found found) in let big = it.long in omega (arith, same, big, short.1)))
       (leb_tells mini_cutoff e.size))

@@ -16,7 +16,6 @@ use Rattle.cfb_fat.specs.Tables.{version_of}
 use Rattle.cfb_fat.specs.declared.allocator.Allocator.{Allocator}
 use Rattle.cfb_owners.specs.LiveFile.{LiveFile}
 use Rattle.cfb_owners.specs.Owners.{directory_owner, first_of, mini_fat_owner, mini_stream_owner, stream_owner, Owners}
-use Rattle.cfb_owners.proofs.UsesOfEntries.{one_not_none}
 use Rattle.cfb_siblings.proofs.Colors.{set_other}
 use Rattle.cfb_siblings.proofs.Frames.{set_found}
 use Rattle.cfb_tree.specs.Directory.{kind_stream, Entry}
@@ -26,6 +25,7 @@ use Rattle.cfb_copying.specs.Steps.{sectors_among, HasCopied, IsNext}
 use Rattle.cfb_copying.proofs.Counted.{sectors_more}
 use Rattle.cfb_copying.proofs.CopiedTight.{one_behind, one_of_two}
 use Rattle.cfb_copying.proofs.Made.{at_key, at_other, other_test}
+use Rattle.cfb_copying.proofs.Tight.{one_is_not_none}
 
 -- a number is among some and one more
 one_in_front : (xs ys : List ℕ) (n : ℕ) → IsOneOf xs n → IsOneOf (xs ++ ys) n
@@ -102,7 +102,7 @@ module _ (es : List Entry) (done : List ℕ) (id : ℕ) (e : Entry) (found : sli
     restarts_long : (own : ℕ → List ℕ) (later : List Entry) → Restarts es done own later → Restarts es more (with_list key sectors own) (slice_set later id (record e { start = first_of sectors }))
     restarts_long own later h =
         let new = record e { start = first_of sectors } in
-        let was : slice_get later id ≡ Some e = h.other id past (λ it. one_not_none done id it.among fresh) ∙ found in record {
+        let was : slice_get later id ≡ Some e = h.other id past (λ it. one_is_not_none done id it.among fresh) ∙ found in record {
           size = length-set later id new ∙ h.size;
           root = λ x at. set_other later id 0 new (other_test id 0 past) ∙ h.root x at ∙ ap {A = List ℕ} (λ l. Some (record x { start = first_of l })) (sym (at_other key sectors own mini_stream_owner (λ same. omega (arith, same))));
           long = λ k x not_root it at. ⊎_elim
@@ -125,7 +125,7 @@ module _ (es : List Entry) (done : List ℕ) (id : ℕ) (e : Entry) (found : sli
 module _ {F : Type 0} {g : Ghosts F} (s : LiveFile) (who : Owners) (done minis : List ℕ) (later : List Entry) (id : ℕ) (e : Entry) (found : slice_get s.entries id ≡ Some e) where
   -- it has its entry yet
   pub entry_yet : (a : Allocator F g) → HasCopied s who done minis later a → IsNoneOf done id → (id ≡ 0 → ⊥) → slice_get later id ≡ Some e
-  entry_yet a h fresh past = h.restarts.other id past (λ it. one_not_none done id it.among fresh) ∙ found
+  entry_yet a h fresh past = h.restarts.other id past (λ it. one_is_not_none done id it.among fresh) ∙ found
 
   -- what is no long stream needs nothing
   pub short_then : (a : Allocator F g) → HasCopied s who done minis later a → (e.kind ≡ kind_stream → mini_cutoff ≤ e.size → ⊥) → HasCopied s who (done ++ id ∷ []) minis later a

@@ -3,7 +3,6 @@ use Rattle.std.proofs.Common.{◌≡◌, ℕ, zero, suc, ◌⊎◌, inl, inr, Li
 use Rattle.std.proofs.lemmas.Bool.Decides.{eqb_tells, leb_tells}
 use Rattle.cfb_chains.specs.Changes.{IsNoneOf}
 use Rattle.cfb_chains.specs.Owned.{Leaves, Seen}
-use Rattle.cfb_owners.proofs.UsesOfEntries.{one_not_none}
 use Rattle.cfb_copying.specs.Making.{HasNoSpare, IsOneOf}
 
 pub one_or_none : (xs : List ℕ) (n : ℕ) → IsOneOf xs n ⊎ IsNoneOf xs n
@@ -23,15 +22,18 @@ one_or_none (x ∷ xs) n = ⊎_elim
 pub not_none : (xs : List ℕ) (n : ℕ) → (IsNoneOf xs n → ⊥) → IsOneOf xs n
 not_none xs n wrong = ⊎_elim (λ one. one) (λ none. absurd (wrong none)) (one_or_none xs n)
 
+pub one_is_not_none : (xs : List ℕ) (n : ℕ) → IsOneOf xs n → IsNoneOf xs n → ⊥
+one_is_not_none xs n one none = none one.0 one.1 one.2
+
 -- what is touched comes to the owner, who keeps what he had
 pub tight_then : (S : List ℕ → ℕ → List ℕ) (words touched : List ℕ) (key : ℕ) (a b : Seen) (own later : ℕ → List ℕ) → HasNoSpare a own → Leaves S words touched a b
     → ((n : ℕ) → IsNoneOf (later key) n → IsNoneOf touched n) → ((n : ℕ) → IsNoneOf (later key) n → IsNoneOf (own key) n) → ((k : ℕ) → (k ≡ key → ⊥) → later k ≡ own k) → HasNoSpare b later
 tight_then S words touched key a b own later tight leaves takes keeps others n below = ⊎_elim
     (λ past. ⊎_elim (λ one. inr (key, one)) (λ none. inl (not_none b.tables n (leaves.behind n past.1 below (takes n none)).0)) (one_or_none (later key) n))
     (λ before. ⊎_elim
-    (λ table. inl (not_none b.tables n (λ none. one_not_none a.tables n table (leaves.still n none))))
+    (λ table. inl (not_none b.tables n (λ none. one_is_not_none a.tables n table (leaves.still n none))))
     (λ owner. ⊎_elim
-    (λ same. inr (key, not_none (later key) n (λ none. one_not_none (own key) n (subst (λ k. IsOneOf (own k) n) same.1 owner.1) (keeps n none))))
+    (λ same. inr (key, not_none (later key) n (λ none. one_is_not_none (own key) n (subst (λ k. IsOneOf (own k) n) same.1 owner.1) (keeps n none))))
     (λ other. inr (owner.0, subst (λ l. IsOneOf l n) (sym (others owner.0 (λ same. omega (arith, other.1, same)))) owner.1))
     (eqb_tells owner.0 key))
     (tight n before.1))
