@@ -2,7 +2,7 @@
 ghost use Rattle.cfb_directory.specs.Entries.{entries_in, AreNoted, IsNoted, SizesFit};
 ghost use Rattle.cfb_directory.specs.Taken.{HasAny, IsTakenAs};
 ghost use Rattle.cfb_fat.specs.Tables.{bytes_of, fat_of, has_failed as allocator_failed, has_failed_here, is_honest, medium_of, sectors_of, version_of, AllRests, HasCauseBelow};
-ghost use Rattle.cfb_medium.specs.Calls.{Extends, HasCauseSince, IsFaultUnless};
+ghost use Rattle.cfb_medium.specs.Calls.{Extends, HasCauseSince, IsCutOff, IsFaultUnless};
 ghost use Rattle.cfb_medium.specs.Versions.{sector_len};
 ghost use Rattle.cfb_medium.specs.declared.error.Error.TheVariants.{Failed, InvalidData};
 ghost use Rattle.cfb_sectors.specs.Sectors.{joined, Chain as IsChain};
@@ -237,6 +237,8 @@ impl<F: Medium> Directory<F> {
             ≤ F.failures (medium_of (allocator_of self.new)))
             × OnOk result (F.failed (medium_of (allocator_of self.new))
             ≡ F.failed (medium_of (allocator_of self.old))) }
+        ensures cut { IfErr result (IsCutOff F.failed F.continues
+            (medium_of (allocator_of self.old)) (medium_of (allocator_of self.new))) }
         ensures fault { IfErr result (IsFaultUnless ⊥) }
     {
         self.allocator.commit()

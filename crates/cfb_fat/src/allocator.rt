@@ -1,5 +1,5 @@
 //! The FAT in memory, over the sectors that hold it.
-ghost use Rattle.cfb_medium.specs.Calls.{Extends, HasCauseSince, IsFaultUnless};
+ghost use Rattle.cfb_medium.specs.Calls.{Extends, HasCauseSince, IsCutOff, IsFaultUnless};
 ghost use Rattle.cfb_medium.specs.Versions.{sector_len};
 ghost use Rattle.cfb_medium.specs.declared.error.Error.TheVariants.{Failed, InvalidData, Memory};
 ghost use Rattle.cfb_chains.specs.Changes.{IsNoneOf};
@@ -303,6 +303,8 @@ impl<F: Medium> Allocator<F> {
         ensures cause { IfErr result (HasCauseBelow self.old self.new) }
         ensures medium { (F.failures (medium_of self.old) ≤ F.failures (medium_of self.new))
             × OnOk result (F.failed (medium_of self.new) ≡ F.failed (medium_of self.old)) }
+        ensures cut { IfErr result (IsCutOff F.failed F.continues (medium_of self.old)
+            (medium_of self.new)) }
         ensures fault { IfErr result (IsFaultUnless ⊥) }
     {
         self.sectors.commit()

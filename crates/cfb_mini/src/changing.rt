@@ -4,7 +4,7 @@ ghost use Rattle.cfb_chains.specs.Grown.{IsLinked};
 ghost use Rattle.cfb_fat.specs.Calls.{FatAnswers};
 ghost use Rattle.cfb_fat.specs.Orderly.{AreBelow};
 ghost use Rattle.cfb_fat.specs.Tables.{bytes_of, has_failed as allocator_failed, has_failed_here, is_honest, medium_of, orderly_of, sectors_of, HasCauseBelow};
-ghost use Rattle.cfb_medium.specs.Calls.{IsFaultUnless};
+ghost use Rattle.cfb_medium.specs.Calls.{IsCutOff, IsFaultUnless};
 ghost use Rattle.cfb_medium.specs.declared.error.Error.TheVariants.{Failed, Full, InvalidData, InvalidInput};
 ghost use Rattle.cfb_mini.specs.Changing.{Extends, Frees, GrowsMiniFat, HasOwners, MiniOverwrites, Shortens};
 ghost use Rattle.cfb_mini.specs.FatGrowth.{LacksMore};
@@ -65,6 +65,8 @@ impl<F: Medium> MiniAllocator<F> {
             ≤ F.failures (medium_of (allocator_of self.new)))
             × OnOk result (F.failed (medium_of (allocator_of self.new))
             ≡ F.failed (medium_of (allocator_of self.old))) }
+        ensures cut { IfErr result (IsCutOff F.failed F.continues
+            (medium_of (allocator_of self.old)) (medium_of (allocator_of self.new))) }
         ensures fault { IfErr result (IsFaultUnless ⊥) }
     {
         self.directory.commit()

@@ -1,6 +1,6 @@
 //! A medium seen as a header's sector and those behind it.
 ghost use Rattle.cfb_medium.specs.Bytes.{overwritten};
-ghost use Rattle.cfb_medium.specs.Calls.{Extends, HasCauseSince, IsFaultUnless};
+ghost use Rattle.cfb_medium.specs.Calls.{Extends, HasCauseSince, IsCutOff, IsFaultUnless};
 ghost use Rattle.cfb_medium.specs.Versions.{sector_len};
 ghost use Rattle.cfb_medium.specs.declared.error.Error.TheVariants.{Failed, Full, InvalidData};
 ghost use Rattle.cfb_sectors.specs.Initial.{first_bytes};
@@ -432,6 +432,8 @@ impl<F: Medium> Sectors<F> {
         ensures cause { IfErr result (HasItsCause self.old self.new) }
         ensures medium { (F.failures (medium_of self.old) ≤ F.failures (medium_of self.new))
             × OnOk result (F.failed (medium_of self.new) ≡ F.failed (medium_of self.old)) }
+        ensures cut { IfErr result (IsCutOff F.failed F.continues (medium_of self.old)
+            (medium_of self.new)) }
         ensures fault { IfErr result (IsFaultUnless ⊥) }
     {
         if self.failed {
