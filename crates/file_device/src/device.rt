@@ -79,6 +79,26 @@ impl RawDevice<SystemFile> {
         open_both(rt, home, log, true)
     }
 
+    /// The files of these paths, to be read: nothing is written, made or synced, and other programs may read them too. A log without a path,
+    /// or one that is missing, has no bytes. The home file is locked first, as by a writer, so that no log appears meanwhile. `NotFound`
+    /// where the home file is missing, else `Device`: also where a file is no regular one, and where another program writes it.
+    pub fn open_to_read<R: Files<File = File>>(
+        rt: &R,
+        home: &str,
+        log: Option<&str>,
+    ) -> Result<FileDevice, Error>
+        ensures failures { IfOk result (λ device. raw_failures device ≡ 0) }
+        ensures writes { IfOk result (λ device. (which : Which) → raw_writes device which ≡ 0) }
+        ensures refusal { IfErr result IsOpenRefusal }
+    {
+        let home = read_file(rt, home)?;
+        let log = match log {
+            Some(path) => read_log(rt, path)?,
+            None => missing_file(),
+        };
+        Ok(RawDevice::new(home, log))
+    }
+
     /// Which of two files another program has, if it has one: a reason why `open` and `create` answer `Device`.
     pub fn in_use<R: Files<File = File>>(rt: &R, home: &str, log: &str) -> Option<Which> {
         if is_in_use(rt, home) {
@@ -116,7 +136,44 @@ fn opened_file<R: Files<File = File>>(
     ensures fresh { IfOk result (λ opened. opened.tick ≡ 0) }
     ensures refusal { IfErr result IsOpenRefusal }
 {
-    match DiskFile::open(rt, path, is_made) {
+    file_of(DiskFile::open(rt, path, is_made))
+}
+
+// Opens a file to be read.
+fn read_file<R: Files<File = File>>(rt: &R, path: &str) -> Result<SystemFile, Error>
+    ensures fresh { IfOk result (λ opened. opened.tick ≡ 0) }
+    ensures refusal { IfErr result IsOpenRefusal }
+{
+    file_of(DiskFile::open_to_read(rt, path))
+}
+
+// Opens a log to be read, which may be missing.
+fn read_log<R: Files<File = File>>(rt: &R, path: &str) -> Result<SystemFile, Error>
+    ensures fresh { IfOk result (λ opened. opened.tick ≡ 0) }
+    ensures refusal { IfErr result IsOpenRefusal }
+{
+    match read_file(rt, path) {
+        Err(Error::NotFound) => Ok(missing_file()),
+        opened => opened,
+    }
+}
+
+// A file that isn't there.
+fn missing_file() -> SystemFile
+    ensures { result.tick ≡ 0 }
+{
+    SystemFile {
+        file: DiskFile::missing(),
+        tick: 0,
+    }
+}
+
+// A file that was opened, or the error that a device has.
+fn file_of(opened: io::Result<DiskFile>) -> Result<SystemFile, Error>
+    ensures fresh { IfOk result (λ opened. opened.tick ≡ 0) }
+    ensures refusal { IfErr result IsOpenRefusal }
+{
+    match opened {
         Ok(file) => Ok(SystemFile { file, tick: 0 }),
         Err(error) if error.kind() == io::ErrorKind::NotFound => Err(Error::NotFound),
         Err(_) => Err(Error::Device),

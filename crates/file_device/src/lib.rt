@@ -8,6 +8,7 @@ mod pair;
 mod raw;
 
 pub use device::{FileDevice, SystemFile};
+pub use file::{DiskFile, check_regular, sync_folder};
 pub use medium::FileMedium;
 pub use pair::RawDevice;
 pub use raw::RawFile;
