@@ -1,12 +1,12 @@
 -- Which tree a `CompoundFile` means, and what a call does that may change it.
 use Rattle.std.specs.Prelude.{◌≡◌, ◌⊎◌, ℕ, List, true, false, Option, Some, Result, IfErr, IsErrOf, OnErr, OnOk}
-use Rattle.cfb_copying.specs.Copied.{HoldsCopy}
+use Rattle.cfb_copying.specs.Copied.{HasRootName, HoldsCopy}
 use Rattle.cfb_entries.specs.Rules.{answer_at}
 use Rattle.cfb_directory.specs.Views.{entries_held}
 use Rattle.cfb_fat.specs.Tables.{has_failed_here, version_of, HasEnds, IsTold}
 use Rattle.cfb_live.specs.Doing.{IsFault}
 use Rattle.cfb_live.specs.Live as live
-use Rattle.cfb_live.specs.Strays.{HaveStrictFacts, IsStrictLive, StaysTidy}
+use Rattle.cfb_live.specs.Strays.{IsStrictLive, StaysTidy}
 use Rattle.cfb_meaning.specs.Means.{IsStrictlyOpenable}
 use Rattle.cfb_meaning.specs.TreeRules.{done, refused, tree_step, Call}
 use Rattle.cfb_medium.specs.declared.error.Error.{Error}
@@ -39,14 +39,14 @@ module _ {F : Type 0} {g : Ghosts F} where
     pub ends : HasEnds (allocator_of (mini_of it))
     pub live : IsStrictLive (mini_of it)
 
-  -- of this its entries have their part: the root its name, and each entry a right colour ([MS-CFB] 2.6.2, 2.6.4)
-  abbrev pub HasStrictEntries : CompoundFile F g → Type 0
-  HasStrictEntries it = HaveStrictFacts (entries_held (directory_of (mini_of it)))
+  -- of this a copy needs one thing of the file: its root has the name that every root has ([MS-CFB] 2.6.2)
+  abbrev pub HasNamedRoot : CompoundFile F g → Type 0
+  HasNamedRoot it = HasRootName (entries_held (directory_of (mini_of it)))
 
-  -- THE BYTES ARE A COPY of the file, which means this tree; a strict reader takes them where it takes the file's entries
+  -- THE BYTES ARE A COPY of the file, which means this tree; a strict reader takes them where the root has its name
   pub record CopiesFile (it : CompoundFile F g) (tree : Tree) (bytes : List ℕ) : Type 0 where
     pub holds : HoldsCopy (version_of (allocator_of (mini_of it))) (letters_in it) bytes tree
-    pub strict : HasStrictEntries it → IsStrictlyOpenable (letters_in it) bytes
+    pub strict : HasNamedRoot it → IsStrictlyOpenable (letters_in it) bytes
 
   -- the rules answer that the call at the path is done, and the file means the tree that they give; no sector and no mini sector is
   -- in use without an owner that wasn't so before, and a strict reader takes directory and mini FAT if it did

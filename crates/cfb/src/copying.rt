@@ -18,8 +18,9 @@ impl<F: ReadMedium> CompoundFile<F> {
     ghost use Rattle.cfb.specs.Views.{mini_of, sound_of, FileRests};
 
     /// Copies the file to an empty medium: there is then a file of the same version that means the same tree, is sound, and has no
-    /// sector that serves no use; what the file holds in sectors and mini sectors of streams is copied whole. A strict reader takes
-    /// the copy where the root has its name and the entries are coloured right, as of a file that it takes. The file is only read.
+    /// sector that serves no use; what the file holds in sectors and mini sectors of streams is copied whole. Root and entries of the
+    /// tree are black in the copy, whatever colours the file has, and the root's size is that of the mini stream's whole sectors, or
+    /// the most that a size of the version can be. A strict reader takes the copy where the root has its name. The file is only read.
     /// The copy is made in memory, and takes as much as it has bytes, besides a list of the file's entries; then it is written to
     /// the medium, and nothing is published. `Failed` after an earlier fault of the file, before all else;
     /// `InvalidData` where the file isn't sound. The other errors are `Memory`, `Device`, and `Failed` of a medium that has failed;

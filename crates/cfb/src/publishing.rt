@@ -1,6 +1,6 @@
 //! Files that are flushed and committed.
 ghost use Rattle.cfb_fat.specs.Tables.{has_failed_here, is_honest, sectors_of, HasCauseBelow};
-ghost use Rattle.cfb_medium.specs.Calls.{IsFaultUnless};
+ghost use Rattle.cfb_medium.specs.Calls.{IsCutOff, IsFaultUnless};
 ghost use Rattle.cfb_medium.specs.declared.error.Error.TheVariants.{Failed};
 ghost use Rattle.cfb_mini.specs.Views.{allocator_of, MiniKeepsMemory};
 ghost use Rattle.cfb_sectors.specs.Held.{LeavesOldOrBytes};
@@ -59,6 +59,8 @@ impl<F: Medium> CompoundFile<F> {
             (allocator_of (mini_of self.new))) }
         ensures medium { (F.failures (medium_in self.old) ≤ F.failures (medium_in self.new))
             × OnOk result (F.failed (medium_in self.new) ≡ F.failed (medium_in self.old)) }
+        ensures cut { IfErr result (IsCutOff F.failed F.continues (medium_in self.old)
+            (medium_in self.new)) }
         ensures fault { IfErr result (IsFaultUnless ⊥) }
     {
         if self.is_failed() {

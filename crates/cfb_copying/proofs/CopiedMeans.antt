@@ -17,7 +17,7 @@ use Rattle.cfb_owners.specs.Kept.{Kept}
 use Rattle.cfb_owners.specs.LiveFile.{LiveFile}
 use Rattle.cfb_owners.specs.Owners.{first_of, mini_stream_owner, stream_owner, Owners}
 use Rattle.cfb_tree.proofs.NamesRead.{all_append}
-use Rattle.cfb_copying.specs.Copied.{IsCopied, IsLongAmong}
+use Rattle.cfb_copying.specs.Copied.{color_then, IsCopied, IsLongAmong}
 use Rattle.cfb_copying.specs.Making.{IsOneOf}
 use Rattle.cfb_copying.proofs.Restarted.{holds_again, siblings_again, some_again}
 use Rattle.cfb_copying.proofs.Tight.{one_is_not_none}
@@ -64,14 +64,13 @@ module _ (s t : LiveFile) (who : Owners) (own : ℕ → List ℕ) (letters : Let
   same_mini_fat = c.mini_fat ∙ ap numbers c.same_mini_fat ∙ sym h.kept.mini_fat
 
   -- the mini stream has as many bytes
-  same_room : length (own mini_stream_owner) * sector_len t.version ≡ length (who.sectors mini_stream_owner) * sector_len s.version
+  pub same_room : length (own mini_stream_owner) * sector_len t.version ≡ length (who.sectors mini_stream_owner) * sector_len s.version
   same_room = sym (length-joined t.version t.bytes (own mini_stream_owner)) ∙ ap length c.same_mini_stream ∙ length-joined s.version s.bytes (who.sectors mini_stream_owner)
 
-  root : Entry
-  root = record h.root { start = first_of (own mini_stream_owner) }
+  abbrev root : Entry
+  root = record h.root { start = first_of (own mini_stream_owner); color = color_then h.root; size = c.root_size }
 
   kept : Kept t now root
-  unfolding root
   kept = record {
     header = c.header;
     tables = c.tables;
@@ -80,7 +79,7 @@ module _ (s t : LiveFile) (who : Owners) (own : ℕ → List ℕ) (letters : Let
     entries = c.entries;
     mini_fat_at = c.mini_fat_at;
     mini_fat = c.mini_fat;
-    root_found = c.restarts.root h.root h.kept.root_found;
+    root_found = c.repairs.root (record h.root { start = first_of (own mini_stream_owner) }) (c.restarts.root h.root h.kept.root_found);
     root_kind = h.kept.root_kind;
     mini_stream_at = refl;
     minis_owned = subst (λ table. Owned table [] who.minis) (sym same_mini_fat) h.kept.minis_owned;
@@ -89,13 +88,14 @@ module _ (s t : LiveFile) (who : Owners) (own : ℕ → List ℕ) (letters : Let
   }
 
   -- a stream has its bytes in sectors of the copy's own
-  stream_again : (id : ℕ) (e : Entry) (start : ℕ) (content : List ℕ) → (id ≡ 0 → ⊥) × IsOneOf h.ids id → slice_get s.entries id ≡ Some e → e.kind ≡ kind_stream → slice_get t.entries id ≡ Some (record e { start = start })
-      → HasStream s who id e content → HasStream t now id (record e { start = start }) content
-  stream_again id e start content among found kind found_now has = record {
+  stream_kept : (id : ℕ) (e : Entry) (start : ℕ) (content : List ℕ) → (id ≡ 0 → ⊥) × IsOneOf h.ids id → slice_get s.entries id ≡ Some e → e.kind ≡ kind_stream
+      → slice_get t.entries id ≡ Some (record e { start = start; color = color_then e; size = e.size })
+      → HasStream s who id e content → HasStream t now id (record e { start = start; color = color_then e; size = e.size }) content
+  stream_kept id e start content among found kind found_now has = record {
     short = λ below.
         let was = has.short below in
         let short : IsLongAmong s.entries h.ids id → ⊥ = λ it. let same : it.entry.size ≡ e.size = found_size it.entry it.found in let long = it.long in omega (arith, same, long, below) in
-        let own_start : start ≡ e.start = start_of (sym found_now ∙ c.restarts.other id among.0 short ∙ found) in (
+        let own_start : start ≡ e.start = start_of (sym found_now ∙ c.repairs.other id e among.0 (c.restarts.other id among.0 short ∙ found)) in (
           c.none id short,
           record {
             start = own_start ∙ was.1.start;
@@ -107,7 +107,7 @@ module _ (s t : LiveFile) (who : Owners) (own : ℕ → List ℕ) (letters : Let
     long = λ up.
         let was = has.long up in
         let is_long : IsLongAmong s.entries h.ids id = record { entry = e; found = found; of_kind = kind; long = up; among = among.1 } in
-        let new_start : start ≡ first_of (own (stream_owner id)) = start_of (sym found_now ∙ c.restarts.long id e among.0 is_long found) in (
+        let new_start : start ≡ first_of (own (stream_owner id)) = start_of (sym found_now ∙ c.repairs.other id (record e { start = first_of (own (stream_owner id)) }) among.0 (c.restarts.long id e among.0 is_long found)) in (
           was.0,
           record {
             start = new_start;
@@ -124,20 +124,29 @@ module _ (s t : LiveFile) (who : Owners) (own : ℕ → List ℕ) (letters : Let
       start_of : {a b : Entry} → Some a ≡ Some b → a.start ≡ b.start
       start_of {a} {b} both = let same : a ≡ b = cc in ap (λ x. x.start) same
 
+  -- and its size is the one that it had
+  stream_again : (id : ℕ) (e : Entry) (start n : ℕ) (content : List ℕ) → (id ≡ 0 → ⊥) × IsOneOf h.ids id → slice_get s.entries id ≡ Some e → e.kind ≡ kind_stream
+      → slice_get t.entries id ≡ Some (record e { start = start; color = color_then e; size = n }) → ((id ≡ 0 → ⊥) → n ≡ e.size)
+      → HasStream s who id e content → HasStream t now id (record e { start = start; color = color_then e; size = n }) content
+  stream_again id e start n content among found kind found_now same has =
+      let is = same among.0 in
+      subst (λ m. HasStream t now id (record e { start = start; color = color_then e; size = m }) content) (sym is)
+      (stream_kept id e start content among found kind (subst (λ m. slice_get t.entries id ≡ Some (record e { start = start; color = color_then e; size = m })) is found_now) has)
+
   -- what is no stream of the copy is none of the file
   among_then : (id : ℕ) → IsStreamAmong s.entries h.ids id → IsStreamAmong t.entries h.ids id
-  among_then id among = (among.0, some_again s.entries t.entries h.ids own c.restarts (λ e. e.kind ≡ kind_stream) (λ e. e.kind ≡ kind_stream) (λ e start kind. kind) id among.1)
+  among_then id among = (among.0, some_again s.entries c.between t.entries h.ids own c.root_size c.restarts c.repairs (λ e. e.kind ≡ kind_stream) (λ e. e.kind ≡ kind_stream) (λ e start n kind. kind) id among.1)
 
   pub copy_held : MeansHeld t now letters tree
-  unfolding root IsDistinct
+  unfolding IsDistinct
   copy_held = record {
     root = root;
     kept = kept;
     facts = h.facts;
     children = h.children;
     ids = h.ids;
-    siblings = siblings_again s.entries t.entries h.ids own c.restarts h.root.child h.children h.siblings;
-    holds = holds_again s.entries t.entries h.ids own c.restarts (λ n. (n ≡ 0 → ⊥) × IsOneOf h.ids n) (HasStream s who) (HasStream t now) stream_again tree.content h.children h.ids
+    siblings = siblings_again s.entries c.between t.entries h.ids own c.root_size c.restarts c.repairs h.root.child h.children h.siblings;
+    holds = holds_again s.entries c.between t.entries h.ids own c.root_size c.restarts c.repairs (λ n. (n ≡ 0 → ⊥) × IsOneOf h.ids n) (HasStream s who) (HasStream t now) stream_again tree.content h.children h.ids
         (among_all h.ids h.ids (λ n one. one) h.once.0) h.holds;
     once = h.once;
     ordered = h.ordered;
@@ -151,3 +160,8 @@ module _ (s t : LiveFile) (who : Owners) (own : ℕ → List ℕ) (letters : Let
   pub copy_ids : copy_held.ids ≡ h.ids
   unfolding copy_held
   copy_ids = refl
+
+  -- and its root is the file's, but for where it begins, its colour and its size
+  pub copy_root : copy_held.root ≡ record h.root { start = first_of (own mini_stream_owner); color = color_then h.root; size = c.root_size }
+  unfolding copy_held
+  copy_root = refl

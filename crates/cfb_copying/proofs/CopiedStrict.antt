@@ -1,56 +1,76 @@
--- A strict reader takes a copy whose entries have what it asks for.
-use Rattle.std.proofs.Common.{◌≡◌, ℕ, List, sym, subst}
-use Rattle.std.specs.Prelude.{codes, slice_get, IfSome}
-use Rattle.cfb_live.specs.Strays.{HaveStrictFacts}
-use Rattle.cfb_live.proofs.Changed.{tree_held, tree_ids}
-use Rattle.cfb_live.proofs.Streams.{reads}
+-- A copy is repaired, and a strict reader takes it where its root has its name.
+use Rattle.std.proofs.Common.{◌≡◌, ℕ, ◌*◌, ◌≤◌, List, inr, length, ap, sym, subst, ◌∙◌, arith, ⊎_elim}
+use Rattle.std.specs.Prelude.{◌⊎◌, codes, slice_get, IfSome, Some}
+use Rattle.std.specs.List.{AllByRecursion}
+use Rattle.cfb_medium.specs.Versions.{sector_len, stream_len_mask}
 use Rattle.cfb_meaning.specs.Means.{IsStrictlyOpenable}
-use Rattle.cfb_owners.specs.Held.{MeansHeld}
+use Rattle.cfb_owners.specs.Held.{HasStream, MeansHeld}
 use Rattle.cfb_owners.specs.LiveFile.{LiveFile}
-use Rattle.cfb_owners.specs.Owners.{Owners}
+use Rattle.cfb_owners.specs.Owners.{mini_stream_owner, Owners}
+use Rattle.cfb_owners.proofs.HoldsById.{each_part, IsPart}
 use Rattle.cfb_owners.proofs.StrictIs.{strict_is, IsStrictIn}
-use Rattle.cfb_siblings.specs.Changes.{AreColored}
 use Rattle.cfb_siblings.proofs.Lists.{all_map}
-use Rattle.cfb_tree.specs.Directory.{black, Entry, HasName}
+use Rattle.cfb_tree.specs.Directory.{black, kind_unallocated, red, Entry, HasName}
 use Rattle.cfb_tree.specs.Entries.{IsBlackAt, IsColored}
 use Rattle.cfb_tree.specs.Names.{Letters}
 use Rattle.cfb_tree.specs.Tree.{Tree}
-use Rattle.cfb_copying.specs.Copied.{CountsTables, IsCopied, Restarts}
-use Rattle.cfb_copying.proofs.CopiedMeans.{copy_held, copy_ids, now}
-use Rattle.cfb_copying.proofs.Restarted.{same_name, some_again}
+use Rattle.cfb_copying.specs.Copied.{color_then, CountsTables, HasRootName, IsCopied, IsRepaired}
+use Rattle.cfb_copying.proofs.CopiedMeans.{copy_held, copy_ids, copy_root, now, same_room}
+use Rattle.cfb_copying.proofs.CopiedTight.{copy_tight, tight_layout}
+use Rattle.cfb_copying.proofs.Repaired.{color_used}
+use Rattle.cfb_copying.proofs.Restarted.{repaired, same_name, some_again}
 
--- colours don't depend on where chains begin
-module _ (es later : List Entry) (ids : List ℕ) (own : ℕ → List ℕ) (h : Restarts es ids own later) where
-  black_again : (id : ℕ) → IsBlackAt es id → IsBlackAt later id
-  black_again = some_again es later ids own h (λ e. e.color ≡ black) (λ e. e.color ≡ black) (λ e start is. is)
+module _ (s t : LiveFile) (who : Owners) (own : ℕ → List ℕ) (letters : Letters) (tree : Tree) (h : MeansHeld s who letters tree) (c : IsCopied s who h.ids t own) where
+  -- an entry in use is black
+  black_now : (id : ℕ) (e : Entry) → slice_get s.entries id ≡ Some e → (e.kind ≡ kind_unallocated → ⊥) → IsBlackAt t.entries id × IsColored t.entries id
+  black_now id e found used =
+      let next = repaired s.entries c.between t.entries h.ids own c.root_size c.restarts c.repairs id e found in
+      let is : color_then e ≡ black = color_used e used in (
+        subst (λ o. IfSome o (λ x. x.color ≡ black)) (sym next.2) is,
+        subst (λ o. IfSome o (λ x. ((x.color ≡ red) ⊎ (x.color ≡ black)) × (x.color ≡ red → IsBlackAt t.entries x.left × IsBlackAt t.entries x.right))) (sym next.2)
+            (inr is, λ wrong. let both : black ≡ red = sym is ∙ wrong in absurd (omega (arith, both))),
+      )
 
-  colored_again : (id : ℕ) → IsColored es id → IsColored later id
-  colored_again = some_again es later ids own h _ _ (λ e start is. (is.0, λ red. let under = is.1 red in (black_again e.left under.0, black_again e.right under.1)))
+  root_used : h.root.kind ≡ kind_unallocated → ⊥
+  root_used none = let kind = h.kept.root_kind in omega (arith, kind, none)
 
-  root_again : IfSome (slice_get es 0) (λ root. HasName root (codes "Root Entry")) → IfSome (slice_get later 0) (λ root. HasName root (codes "Root Entry"))
-  root_again = some_again es later ids own h _ _ (λ e start named. same_name e start (codes "Root Entry") named) 0
+  each_black : AllByRecursion (λ id. IsBlackAt t.entries id × IsColored t.entries id) h.ids
+  each_black =
+      all_map (IsPart s.entries (HasStream s who)) (λ id. IsBlackAt t.entries id × IsColored t.entries id) h.ids
+      (λ id part. black_now id part.0 part.1 (λ none. ⊎_elim (λ storage. omega (arith, storage, none)) (λ stream. let kind = stream.0 in omega (arith, kind, none)) part.2))
+      (each_part s.entries (HasStream s who) tree.content h.children h.ids h.holds)
 
-module _ (s t : LiveFile) (who : Owners) (own : ℕ → List ℕ) (letters : Letters) (tree : Tree) (h : MeansHeld s who letters tree) (c : IsCopied s who h.ids t own) (counted : CountsTables t own) (facts : HaveStrictFacts s.entries) where
-  colors : AreColored s.entries h.ids
-  colors = subst (AreColored s.entries) (tree_ids s who letters tree h) (facts.colors letters (reads s who) tree (tree_held s who letters tree h))
+  -- colours are right, and the root has this size
+  pub copy_repaired : (length (who.sectors mini_stream_owner) * sector_len s.version ≤ stream_len_mask s.version → c.root_size ≡ length (who.sectors mini_stream_owner) * sector_len s.version)
+      → IsRepaired t.bytes (copy_tight s t who own letters tree h c).layout
+  copy_repaired sized =
+      let room = same_room s t who own letters tree h c in
+      let root = copy_root s t who own letters tree h c in
+      subst (IsRepaired t.bytes) (sym (tight_layout s t who own letters tree h c)) (record {
+        sized = λ small.
+            ap (λ r. r.size) root ∙ sized (subst (λ n. n ≤ stream_len_mask s.version) room (subst (λ v. length (own mini_stream_owner) * sector_len t.version ≤ stream_len_mask v) c.version small)) ∙ sym room;
+        root_black = ap (λ r. r.color) root ∙ color_used h.root root_used;
+        blacks = subst (λ d. AllByRecursion (IsBlackAt d) (copy_held s t who own letters tree h c).ids) c.entries
+            (subst (AllByRecursion (IsBlackAt t.entries)) (sym (copy_ids s t who own letters tree h c))
+            (all_map (λ id. IsBlackAt t.entries id × IsColored t.entries id) (IsBlackAt t.entries) h.ids (λ id both. both.0) each_black));
+      })
 
-  strict_now : IsStrictIn t (now s t who own letters tree h c) h.ids
-  strict_now =
-      let restarts = c.restarts in
-      let right = colors in
-      record {
-        directory_count = counted.directory;
-        fat_count = counted.told.fat_count;
-        mini_fat_count = counted.mini_fat;
-        difat_count = counted.told.difat_count;
-        stop = counted.ends.stop;
-        whole = counted.ends.whole;
-        named = root_again s.entries t.entries h.ids own restarts facts.named;
-        root_color = black_again s.entries t.entries h.ids own restarts 0 right.0;
-        colors = all_map (IsColored s.entries) (IsColored t.entries) h.ids (colored_again s.entries t.entries h.ids own restarts) right.1;
-      }
+  module _ (counted : CountsTables t own) (named : HasRootName s.entries) where
+    strict_now : IsStrictIn t (now s t who own letters tree h c) h.ids
+    strict_now = record {
+      directory_count = counted.directory;
+      fat_count = counted.told.fat_count;
+      mini_fat_count = counted.mini_fat;
+      difat_count = counted.told.difat_count;
+      stop = counted.ends.stop;
+      whole = counted.ends.whole;
+      named = some_again s.entries c.between t.entries h.ids own c.root_size c.restarts c.repairs (λ root. HasName root (codes "Root Entry")) (λ root. HasName root (codes "Root Entry"))
+          (λ e start n was. same_name e start (color_then e) n (codes "Root Entry") was) 0 named;
+      root_color = (black_now 0 h.root h.kept.root_found root_used).0;
+      colors = all_map (λ id. IsBlackAt t.entries id × IsColored t.entries id) (IsColored t.entries) h.ids (λ id both. both.1) each_black;
+    }
 
-  pub copy_strict : IsStrictlyOpenable letters t.bytes
-  copy_strict =
-      let held = copy_held s t who own letters tree h c in
-      (strict_is t (now s t who own letters tree h c) letters tree held).0 (subst (IsStrictIn t (now s t who own letters tree h c)) (sym (copy_ids s t who own letters tree h c)) strict_now)
+    pub copy_strict : IsStrictlyOpenable letters t.bytes
+    copy_strict =
+        let held = copy_held s t who own letters tree h c in
+        (strict_is t (now s t who own letters tree h c) letters tree held).0 (subst (IsStrictIn t (now s t who own letters tree h c)) (sym (copy_ids s t who own letters tree h c)) strict_now)

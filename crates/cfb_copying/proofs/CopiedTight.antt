@@ -80,7 +80,7 @@ module _ (s t : LiveFile) (who : Owners) (own : ℕ → List ℕ) (letters : Let
       at_stream (Some e) is = ⊎_elim
           (λ long. let at = key_among h.ids id long.among in (suc (suc (suc (suc at.0))), (let below = at.1 in omega (arith, below)), at.2))
           nothing_owned
-          (is_long s.entries t.entries h.ids own c.restarts id e is)
+          (is_long s.entries c.between h.ids own c.restarts id e is)
 
   pub copy_tight : IsTight letters t.bytes tree
   unfolding sound_is
@@ -101,3 +101,8 @@ module _ (s t : LiveFile) (who : Owners) (own : ℕ → List ℕ) (letters : Let
 
       tables_used : (n : ℕ) → IsOneOf (t.difat_sectors ++ t.fat_sectors) n → IsUsed (in_file n) (map in_file (t.fat_sectors ++ t.difat_sectors))
       tables_used n one = used_in_file (t.fat_sectors ++ t.difat_sectors) n (one_swapped n one)
+
+  -- its layout is the copy's
+  pub tight_layout : copy_tight.layout ≡ layout_of t (now s t who own letters tree h c) (copy_held s t who own letters tree h c).root (copy_held s t who own letters tree h c).ids
+  unfolding copy_tight
+  tight_layout = refl

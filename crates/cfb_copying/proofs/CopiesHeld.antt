@@ -1,27 +1,27 @@
 -- The copy of a file that means a tree.
-use Rattle.std.proofs.Common.{◌≡◌, ℕ, List, refl, ap, sym, subst, ◌∙◌, ⊎_elim}
+use Rattle.std.proofs.Common.{◌≡◌, ℕ, ◌*◌, ◌≤◌, List, length, refl, ap, sym, subst, ◌∙◌, ⊎_elim}
 use Rattle.std.specs.List.{IsDistinct}
 use Rattle.std.proofs.lemmas.Bool.Decides.{leb_tells}
+use Rattle.cfb_medium.specs.Versions.{sector_len, stream_len_mask}
 use Rattle.cfb_medium.specs.declared.medium.ReadMedium.{Ghosts}
 use Rattle.cfb_sectors.specs.Header.{mini_cutoff, IsHeader}
 use Rattle.cfb_directory.specs.Views.{entries_held}
 use Rattle.cfb_fat.specs.Tables.{version_of}
 use Rattle.cfb_live.specs.Live.{live_of, MeansLive}
-use Rattle.cfb_live.specs.Strays.{HaveStrictFacts}
 use Rattle.cfb_meaning.specs.Means.{IsStrictlyOpenable}
-use Rattle.cfb_mini.specs.Views.{allocator_of, directory_of, mini_fat_ids}
+use Rattle.cfb_mini.specs.Views.{allocator_of, directory_of, mini_fat_ids, mini_stream_ids}
 use Rattle.cfb_mini.specs.declared.mini_allocator.MiniAllocator.{MiniAllocator}
 use Rattle.cfb_owners.specs.Held.{HasStream}
-use Rattle.cfb_owners.specs.Owners.{first_of, mini_fat_owner}
+use Rattle.cfb_owners.specs.Owners.{first_of, mini_fat_owner, mini_stream_owner}
 use Rattle.cfb_owners.proofs.HoldsById.{holds_so}
 use Rattle.cfb_soundness.specs.Entries.{AreTreeEntries}
 use Rattle.cfb_tree.specs.Directory.{Entry}
 use Rattle.cfb_tree.specs.Names.{Letters}
 use Rattle.cfb_tree.specs.Tree.{Tree}
 use Rattle.cfb_tree.specs.Entries.{HasSize}
-use Rattle.cfb_copying.specs.Copied.{HoldsCopy, IsCopied, IsTight}
+use Rattle.cfb_copying.specs.Copied.{HasRootName, HoldsCopy}
 use Rattle.cfb_copying.specs.Steps.{HasCopy, IsOriginal}
-use Rattle.cfb_copying.proofs.CopiedStrict.{copy_strict}
+use Rattle.cfb_copying.proofs.CopiedStrict.{copy_repaired, copy_strict}
 use Rattle.cfb_copying.proofs.CopiedTight.{copy_tight}
 
 module _ {F : Type 0} {g : Ghosts F} (mini : MiniAllocator F g) (letters : Letters) (tree : Tree) (m : MeansLive letters mini tree) where
@@ -55,19 +55,37 @@ module _ {F : Type 0} {g : Ghosts F} (mini : MiniAllocator F g) (letters : Lette
   pub mini_fat_first : first_of (mini_fat_ids mini) ≡ first_of (m.who.sectors mini_fat_owner)
   mini_fat_first = ap first_of (sym m.owners.mini_fat)
 
-  pub copy_holds : (ids bytes : List ℕ) → AreTreeEntries (entries_held (directory_of mini)) ids → HasCopy (live_of mini) m.who ids bytes → HoldsCopy (version_of (allocator_of mini)) letters bytes tree
+  pub size_fits : (size : ℕ) → size ≤ stream_len_mask (version_of (allocator_of mini)) → size ≤ stream_len_mask (live_of mini).version
   unfolding live_of
-  copy_holds ids bytes all has =
-      let s = live_of mini in
-      let copied : IsCopied s m.who m.held.ids has.file has.own = subst (λ l. IsCopied s m.who l has.file has.own) (listed ids all) has.copied in
-      record {
-        header = subst (IsHeader (version_of (allocator_of mini))) has.bytes_are (subst (λ v. IsHeader v has.file.bytes) copied.version copied.header);
-        tight = subst (λ l. IsTight letters l tree) has.bytes_are (copy_tight s has.file m.who has.own letters tree m.held copied);
-      }
+  size_fits size small = small
 
-  pub copy_taken : (ids bytes : List ℕ) → AreTreeEntries (entries_held (directory_of mini)) ids → HasCopy (live_of mini) m.who ids bytes → HaveStrictFacts (entries_held (directory_of mini)) → IsStrictlyOpenable letters bytes
+  -- the bytes of the mini stream's sectors
+  abbrev pub room : ℕ
+  room = length (mini_stream_ids mini) * sector_len (version_of (allocator_of mini))
+
+  same_room : length (m.who.sectors mini_stream_owner) * sector_len (live_of mini).version ≡ room
   unfolding live_of
-  copy_taken ids bytes all has facts =
-      let s = live_of mini in
-      let copied : IsCopied s m.who m.held.ids has.file has.own = subst (λ l. IsCopied s m.who l has.file has.own) (listed ids all) has.copied in
-      subst (IsStrictlyOpenable letters) has.bytes_are (copy_strict s has.file m.who has.own letters tree m.held copied has.counted facts)
+  same_room = ap (λ l. length l * sector_len (version_of (allocator_of mini))) m.owners.mini_stream
+
+  module _ (ids bytes : List ℕ) (size : ℕ) (all : AreTreeEntries (entries_held (directory_of mini)) ids) (has : HasCopy (live_of mini) m.who ids size bytes) where
+    of_tree : HasCopy (live_of mini) m.who m.held.ids size bytes
+    of_tree = subst (λ l. HasCopy (live_of mini) m.who l size bytes) (listed ids all) has
+
+    pub copy_holds : (room ≤ stream_len_mask (version_of (allocator_of mini)) → size ≡ room) → HoldsCopy (version_of (allocator_of mini)) letters bytes tree
+    unfolding live_of
+    copy_holds sized =
+        let s = live_of mini in
+        let it = of_tree in
+        let v = version_of (allocator_of mini) in
+        subst (λ l. HoldsCopy v letters l tree) it.bytes_are (record {
+          header = subst (λ v. IsHeader v it.file.bytes) it.copied.version it.copied.header;
+          tight = copy_tight s it.file m.who it.own letters tree m.held it.copied;
+          repaired = copy_repaired s it.file m.who it.own letters tree m.held it.copied
+              (λ small. it.sized ∙ sized (subst (λ n. n ≤ stream_len_mask v) same_room small) ∙ sym same_room);
+        })
+
+    pub copy_taken : HasRootName (entries_held (directory_of mini)) → IsStrictlyOpenable letters bytes
+    unfolding live_of
+    copy_taken named =
+        let it = of_tree in
+        subst (IsStrictlyOpenable letters) it.bytes_are (copy_strict (live_of mini) it.file m.who it.own letters tree m.held it.copied it.counted named)

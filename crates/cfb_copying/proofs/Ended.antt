@@ -1,6 +1,7 @@
 -- A file in the making that has all is a copy.
-use Rattle.std.proofs.Common.{◌≡◌, ℕ, ◌*◌, ◌≤◌, List, get_or, length, refl, ap, sym, subst, ◌∙◌, arith}
+use Rattle.std.proofs.Common.{◌≡◌, ℕ, ◌*◌, ◌≤◌, List, get_or, length, refl, ap, sym, subst, ◌∙◌, arith, ⊎_elim}
 use Rattle.std.specs.Prelude.{slice_get, Some}
+use Rattle.std.proofs.lemmas.Bool.Decides.{eqb_tells}
 use Rattle.std.proofs.lemmas.Option.{slice_get_within, slice_get-get_or}
 use Rattle.cfb_medium.specs.Versions.{sector_len, stream_len_mask}
 use Rattle.cfb_directory.specs.Entries.{SizesFit}
@@ -16,7 +17,7 @@ use Rattle.cfb_meaning.specs.Means.{directory_count}
 use Rattle.cfb_owners.specs.LiveFile.{LiveFile}
 use Rattle.cfb_owners.specs.Owners.{directory_owner, first_of, mini_fat_owner, mini_stream_owner, stream_owner, Owners}
 use Rattle.cfb_tree.specs.Directory.{entries_of, Entry}
-use Rattle.cfb_copying.specs.Copied.{Restarts}
+use Rattle.cfb_copying.specs.Copied.{in_black, Repairs, Restarts}
 use Rattle.cfb_copying.specs.Making.{with_list, IsMade}
 use Rattle.cfb_copying.specs.Steps.{FillSectors, HasCopied, HasCopy}
 use Rattle.cfb_copying.proofs.Made.{at_key, at_other}
@@ -38,6 +39,29 @@ fill_again v es later ids own h fills = record {
       subst (λ n. n ≤ stream_len_mask v) (ap (λ x. x.size) (sym same)) (fills.sizes k (get_or es k e) was);
 }
 
+-- entries that are repaired do
+unfoldable pub fill_repaired : (v : Version) (size : ℕ) (old new : List Entry) → Repairs size old new → size ≤ stream_len_mask v → FillSectors v old → FillSectors v new
+fill_repaired v size old new r small fills = record {
+  count = fills.count;
+  some = fills.some;
+  whole = ap (λ n. n * 128) r.count ∙ fills.whole;
+  sizes = λ k e found.
+      let there = slice_get_within new k e found in
+      let many = r.count in
+      let x = get_or old k e in
+      let was : slice_get old k ≡ Some x = slice_get-get_or old k e (omega (arith, there, many)) in
+      ⊎_elim
+      (λ zero_is.
+      let both : Some e ≡ Some (record (in_black x) { size = size }) = sym found ∙ ap (slice_get new) zero_is.1 ∙ r.root x (ap (slice_get old) (sym zero_is.1) ∙ was) in
+      let same : e ≡ record (in_black x) { size = size } = cc in
+      subst (λ n. n ≤ stream_len_mask v) (ap (λ y. y.size) (sym same)) small)
+      (λ past.
+      let both : Some e ≡ Some (in_black x) = sym found ∙ r.other k x (λ same. omega (arith, past.1, same)) was in
+      let same : e ≡ in_black x = cc in
+      subst (λ n. n ≤ stream_len_mask v) (ap (λ y. y.size) (sym same)) (fills.sizes k x was))
+      (eqb_tells k 0);
+}
+
 -- in a file of the same version
 unfoldable pub fills_moved : (v w : Version) (es : List Entry) → w ≡ v → FillSectors v es → FillSectors w es
 fills_moved v w es same h = record { count = h.count; some = h.some; whole = h.whole ∙ ap (λ u. h.count * sector_len u) (sym same); sizes = subst (λ u. SizesFit u es) (sym same) h.sizes }
@@ -52,17 +76,17 @@ restarts_under es later ids ours own h = record {
 }
 
 module _ {F : Type 0} {g : Ghosts F} where
-  pub copy_ended : (s : LiveFile) (who : Owners) (ids minis dir content : List ℕ) (later : List Entry) (a b : Allocator F g) → (h : HasCopied s who ids minis later a) → version_of b ≡ version_of a
-      → IsMade 1 (first_of minis) b (with_list directory_owner dir h.own) (with_list directory_owner content h.bytes) → first_of dir ≡ 1 → entries_of (version_of a) content ≡ later
-      → IsTold b → HasEnds b → directory_sector_count (bytes_of b) ≡ directory_count (version_of b) (length dir) → mini_fat_sector_count (bytes_of b) ≡ length minis → HasCopy s who ids (bytes_of b)
+  pub copy_ended : (s : LiveFile) (who : Owners) (ids minis dir content : List ℕ) (later repaired : List Entry) (size : ℕ) (a b : Allocator F g) → (h : HasCopied s who ids minis later a) → version_of b ≡ version_of a
+      → IsMade 1 (first_of minis) b (with_list directory_owner dir h.own) (with_list directory_owner content h.bytes) → first_of dir ≡ 1 → entries_of (version_of a) content ≡ repaired → Repairs size later repaired
+      → IsTold b → HasEnds b → directory_sector_count (bytes_of b) ≡ directory_count (version_of b) (length dir) → mini_fat_sector_count (bytes_of b) ≡ length minis → HasCopy s who ids size (bytes_of b)
   unfolding seen_of
-  copy_ended s who ids minis dir content later a b h same made begins held told ends directory_told mini_fat_told =
+  copy_ended s who ids minis dir content later repaired size a b h same made begins held repairs told ends directory_told mini_fat_told =
       let own = with_list directory_owner dir h.own in
       let other : (k : ℕ) → (k ≡ 0 → ⊥) → own k ≡ h.own k = at_other directory_owner dir h.own in
       let kept : (k : ℕ) → (k ≡ 0 → ⊥) → joined (version_of b) (bytes_of b) (own k) ≡ h.bytes k = λ k past. made.holds k ∙ at_other directory_owner content h.bytes k past in
       let mine : own directory_owner ≡ dir = at_key directory_owner dir h.own in
       let minis_are : own mini_fat_owner ≡ minis = other mini_fat_owner (λ is. omega (arith, is)) ∙ h.minis_are in
-      let entries : entries_of (version_of b) (joined (version_of b) (bytes_of b) (own directory_owner)) ≡ later =
+      let entries : entries_of (version_of b) (joined (version_of b) (bytes_of b) (own directory_owner)) ≡ repaired =
       ap (entries_of (version_of b)) (made.holds directory_owner ∙ at_key directory_owner content h.bytes) ∙ ap (λ v. entries_of v content) same ∙ held in
       record {
         file = record {
@@ -97,7 +121,10 @@ module _ {F : Type 0} {g : Ghosts F} where
           same_mini_stream = kept mini_stream_owner (λ is. omega (arith, is)) ∙ h.mini_stream;
           same_stream = λ id it. kept (stream_owner id) (λ is. omega (arith, is)) ∙ h.streams id it;
           none = λ id apart. other (stream_owner id) (λ is. omega (arith, is)) ∙ h.none id apart;
-          restarts = subst (Restarts s.entries ids own) (sym entries) (restarts_under s.entries later ids dir h.own h.restarts);
+          between = later;
+          restarts = restarts_under s.entries later ids dir h.own h.restarts;
+          root_size = size;
+          repairs = subst (Repairs size later) (sym entries) repairs;
         };
         counted = record {
           told = told;
@@ -105,5 +132,6 @@ module _ {F : Type 0} {g : Ghosts F} where
           directory = directory_told ∙ ap (λ l. directory_count (version_of b) (length l)) (sym mine);
           mini_fat = mini_fat_told ∙ ap length (sym minis_are);
         };
+        sized = refl;
         bytes_are = refl;
       }

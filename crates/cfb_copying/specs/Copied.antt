@@ -1,15 +1,19 @@
--- A file that is a copy of a live one: the same entries, but for where chains begin, and the same bytes in sectors of its own.
-use Rattle.std.specs.Prelude.{◌≡◌, ◌⊎◌, ℕ, ◌<◌, ◌≤◌, List, [], ◌∷◌, length, slice_get, Some}
+-- A file that is a copy of a live one: the same entries, but for where chains begin, colours and the root's size, and the same bytes
+-- in sectors of its own.
+use Rattle.std.specs.Prelude.{◌≡◌, ◌⊎◌, ℕ, ◌*◌, ◌<◌, ◌≤◌, List, [], ◌∷◌, length, codes, if◌then◌else◌, nat_eq, slice_get, IfSome, Some}
+use Rattle.std.specs.List.{AllByRecursion}
+use Rattle.cfb_medium.specs.Versions.{sector_len, stream_len_mask}
 use Rattle.cfb_medium.specs.declared.version.Version.{Version}
 use Rattle.cfb_sectors.specs.Header.{directory_sector_count, first_directory_sector, first_mini_fat_sector, mini_cutoff, mini_fat_sector_count, IsHeader}
 use Rattle.cfb_sectors.specs.Sectors.{fat_in, joined, sectors_in}
 use Rattle.cfb_chains.specs.Behind.{AreWhole}
 use Rattle.cfb_chains.specs.Owned.{Owned}
 use Rattle.cfb_fat.specs.Listed.{Counts, Ends}
-use Rattle.cfb_tree.specs.Directory.{entries_of, kind_stream, Entry}
+use Rattle.cfb_tree.specs.Directory.{black, entries_of, kind_stream, kind_unallocated, Entry, HasName}
+use Rattle.cfb_tree.specs.Entries.{IsBlackAt}
 use Rattle.cfb_tree.specs.Names.{Letters}
 use Rattle.cfb_tree.specs.Tree.{Tree}
-use Rattle.cfb_meaning.specs.Means.{directory_count, Layout}
+use Rattle.cfb_meaning.specs.Means.{directory, directory_count, Layout}
 use Rattle.cfb_meaning.specs.Sound.{in_file, IsSoundBy, Part}
 use Rattle.cfb_owners.specs.LiveFile.{tables_of, HoldsTables, LiveFile}
 use Rattle.cfb_owners.specs.Owners.{directory_owner, first_of, mini_fat_owner, mini_stream_owner, stream_owner, Owners}
@@ -32,6 +36,25 @@ pub record Restarts (directory : List Entry) (ids : List ℕ) (own : ℕ → Lis
       → slice_get later id ≡ Some (record e { start = first_of (own (stream_owner id)) })
   pub other : (id : ℕ) → (id ≡ 0 → ⊥) → (IsLongAmong directory ids id → ⊥) → slice_get later id ≡ slice_get directory id
 
+-- an entry's colour in a copy: black where the entry is in use ([MS-CFB] 2.6.4)
+abbrev pub color_then : Entry → ℕ
+color_then e = if nat_eq e.kind kind_unallocated then e.color else black
+
+-- the entry in that colour
+abbrev pub in_black : Entry → Entry
+in_black e = record e { color = color_then e }
+
+-- each entry is the one that it was, in black
+pub record Paints (old new : List Entry) : Type 0 where
+  pub count : length new ≡ length old
+  pub each : (id : ℕ) (e : Entry) → slice_get old id ≡ Some e → slice_get new id ≡ Some (in_black e)
+
+-- so it is, and the root has this size ([MS-CFB] 2.6.3)
+pub record Repairs (size : ℕ) (old new : List Entry) : Type 0 where
+  pub count : length new ≡ length old
+  pub root : (e : Entry) → slice_get old 0 ≡ Some e → slice_get new 0 ≡ Some (record (in_black e) { size = size })
+  pub other : (id : ℕ) (e : Entry) → (id ≡ 0 → ⊥) → slice_get old id ≡ Some e → slice_get new id ≡ Some (in_black e)
+
 -- THE SECOND FILE IS A COPY of the first, whose tree has these entries: each chain has its bytes again, whole sectors that nothing
 -- else owns, and no sector is spare
 pub record IsCopied (s : LiveFile) (who : Owners) (ids : List ℕ) (t : LiveFile) (own : ℕ → List ℕ) : Type 0 where
@@ -49,7 +72,10 @@ pub record IsCopied (s : LiveFile) (who : Owners) (ids : List ℕ) (t : LiveFile
   pub same_mini_stream : joined t.version t.bytes (own mini_stream_owner) ≡ joined s.version s.bytes (who.sectors mini_stream_owner)
   pub same_stream : (id : ℕ) → IsLongAmong s.entries ids id → joined t.version t.bytes (own (stream_owner id)) ≡ joined s.version s.bytes (who.sectors (stream_owner id))
   pub none : (id : ℕ) → (IsLongAmong s.entries ids id → ⊥) → own (stream_owner id) ≡ []
-  pub restarts : Restarts s.entries ids own t.entries
+  pub between : List Entry
+  pub restarts : Restarts s.entries ids own between
+  pub root_size : ℕ
+  pub repairs : Repairs root_size between t.entries
 
 -- its header counts the sectors of all tables, and file and DIFAT end as a strict reader asks for ([MS-CFB] 2.1, 2.2, 2.5)
 pub record CountsTables (t : LiveFile) (own : ℕ → List ℕ) : Type 0 where
@@ -69,7 +95,19 @@ pub record IsTight (letters : Letters) (bytes : List ℕ) (tree : Tree) : Type 0
   pub sound : IsSoundBy layout letters bytes tree
   pub each : (n : ℕ) → n < sectors_in layout.version (length bytes) → IsUsed (in_file n) sound.parts
 
--- THE BYTES HOLD A COPY: a file of this version that means the tree, is sound, and has no sector that serves no use
+-- what lenient readings let pass is right ([MS-CFB] 2.6.3, 2.6.4): the root's size is that of the mini stream's whole sectors, where a
+-- size of this version can be so great, and root and entries of the tree are black
+pub record IsRepaired (bytes : List ℕ) (l : Layout) : Type 0 where
+  pub sized : length l.mini_stream_sectors * sector_len l.version ≤ stream_len_mask l.version → l.root.size ≡ length l.mini_stream_sectors * sector_len l.version
+  pub root_black : l.root.color ≡ black
+  pub blacks : AllByRecursion (IsBlackAt (directory bytes l)) l.entries
+
+-- the root has the name that every root has ([MS-CFB] 2.6.2)
+abbrev pub HasRootName : List Entry → Type 0
+HasRootName entries = IfSome (slice_get entries 0) (λ root. HasName root (codes "Root Entry"))
+
+-- THE BYTES HOLD A COPY: a file of this version that means the tree, is sound, has no sector that serves no use, and is repaired
 pub record HoldsCopy (version : Version) (letters : Letters) (bytes : List ℕ) (tree : Tree) : Type 0 where
   pub header : IsHeader version bytes
   pub tight : IsTight letters bytes tree
+  pub repaired : IsRepaired bytes tight.layout

@@ -24,11 +24,13 @@ use Rattle.cfb_copying.specs.Chains.{HasCauseInEither, IsCopyFault}
 use Rattle.cfb_copying.specs.Copied.{CountsTables, IsCopied, IsLongAmong, Restarts}
 use Rattle.cfb_copying.specs.Making.{with_list, IsMade, IsOneOf}
 
--- a copy is made of the live file, whose tree has these entries, in these bytes; the header's counts are right
-pub record HasCopy (s : LiveFile) (who : Owners) (ids bytes : List ℕ) : Type 0 where
+-- a copy is made of the live file, whose tree has these entries, in these bytes; its root has this size, and the header's counts are
+-- right
+pub record HasCopy (s : LiveFile) (who : Owners) (ids : List ℕ) (size : ℕ) (bytes : List ℕ) : Type 0 where
   pub file : LiveFile
   pub own : ℕ → List ℕ
   pub copied : IsCopied s who ids file own
+  pub sized : copied.root_size ≡ size
   pub counted : CountsTables file own
   pub bytes_are : file.bytes ≡ bytes
 

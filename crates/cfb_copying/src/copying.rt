@@ -1,24 +1,25 @@
 //! Files that are copied whole.
 ghost use Rattle.cfb_copying.specs.Chains.{IsCopyFault};
-ghost use Rattle.cfb_copying.specs.Copied.{HoldsCopy};
+ghost use Rattle.cfb_copying.specs.Copied.{HasRootName, HoldsCopy};
 ghost use Rattle.cfb_copying.specs.Steps.{HasCopy, IsOriginal};
 ghost use Rattle.cfb_directory.specs.Entries.{entries_in};
 ghost use Rattle.cfb_directory.specs.Views.{entries_held};
 ghost use Rattle.cfb_fat.specs.Tables.{has_failed_here, version_of, AllRests, HasCauseBelow};
 ghost use Rattle.cfb_live.specs.Live.{MeansLive};
-ghost use Rattle.cfb_live.specs.Strays.{HaveStrictFacts};
 ghost use Rattle.cfb_meaning.specs.Means.{IsStrictlyOpenable};
 ghost use Rattle.cfb_medium.specs.Calls.{IsFaultUnless};
+ghost use Rattle.cfb_medium.specs.Versions.{stream_len_mask};
 ghost use Rattle.cfb_medium.specs.declared.error.Error.TheVariants.{Failed};
 ghost use Rattle.cfb_mini.specs.Views.{allocator_of, directory_of, mini_fat_ids, MiniRests};
 ghost use Rattle.cfb_owners.specs.LiveFile.{LiveFile};
 ghost use Rattle.cfb_owners.specs.Owners.{first_of, mini_fat_owner, Owners};
 ghost use Rattle.cfb_tree.specs.Names.{Letters};
 ghost use Rattle.cfb_tree.specs.Tree.{Tree};
-ghost use Rattle.std.specs.Prelude.{true, IfErr, IfOk, IsErrOf, ◌≡◌};
+ghost use Rattle.std.specs.Prelude.{true, IfErr, IfOk, IsErrOf, ◌≡◌, ◌≤◌};
 
 use crate::beginning::begin_file;
 use crate::entries::end_copy;
+use crate::repairing::{repair, root_len};
 use crate::streams::{copy_minis, copy_streams};
 use cfb_fat::Allocator;
 use cfb_medium::{Error, ReadMedium};
@@ -29,21 +30,23 @@ use cfb_tree::DirEntry;
 use std::alloc::{AllocError, Global};
 
 // The bytes of a copy of a file that has these entries, of which these numbers are the tree's. The entries are told where the
-// copy's chains begin.
+// copy's chains begin, are made black, and the root gets this size.
 fn copy_file<F: ReadMedium>(
     alloc: Global,
     source: &mut Allocator<F>,
     mini_fat_at: u32,
+    root_len: u64,
     ids: &[u32],
     entries: &mut [DirEntry],
 ) -> Result<Vec<u8>, Error>
     ensures copied { IfOk result (λ bytes. (s : LiveFile) (who : Owners)
         → IsOriginal source.old s who ids.now → s.entries ≡ entries_in entries.old
         → mini_fat_at ≡ first_of (who.sectors mini_fat_owner)
-        → HasCopy s who ids.now bytes.items) }
+        → root_len ≤ stream_len_mask s.version → HasCopy s who ids.now root_len bytes.items) }
     ensures refused { IfErr result (λ e. (s : LiveFile) (who : Owners)
         → IsOriginal source.old s who ids.now → s.entries ≡ entries_in entries.old
-        → mini_fat_at ≡ first_of (who.sectors mini_fat_owner) → IsFaultUnless ⊥ e) }
+        → mini_fat_at ≡ first_of (who.sectors mini_fat_owner)
+        → root_len ≤ stream_len_mask s.version → IsFaultUnless ⊥ e) }
     ensures rests { AllRests source.old source.new }
     ensures cause { IfErr result (HasCauseBelow source.old source.new) }
     ensures fault { IfErr result IsCopyFault }
@@ -59,6 +62,7 @@ fn copy_file<F: ReadMedium>(
     if let Err(error) = copy_streams(alloc, source, ids, entries, &mut target) {
         return Err(error);
     }
+    repair(entries, root_len);
     if let Err(error) = end_copy(alloc, &mut target, entries, &mini_fat) {
         return Err(error);
     }
@@ -80,21 +84,30 @@ fn copy_lent<F: ReadMedium>(
     alloc: Global,
     mini: &mut MiniAllocator<F>,
     mini_fat_at: u32,
+    root_len: u64,
     ids: &[u32],
     entries: &mut [DirEntry],
 ) -> Result<Vec<u8>, Error>
     ensures copied { IfOk result (λ bytes. (s : LiveFile) (who : Owners)
         → IsOriginal (allocator_of mini.old) s who ids.now → s.entries ≡ entries_in entries.old
         → mini_fat_at ≡ first_of (who.sectors mini_fat_owner)
-        → HasCopy s who ids.now bytes.items) }
+        → root_len ≤ stream_len_mask s.version → HasCopy s who ids.now root_len bytes.items) }
     ensures refused { IfErr result (λ e. (s : LiveFile) (who : Owners)
         → IsOriginal (allocator_of mini.old) s who ids.now → s.entries ≡ entries_in entries.old
-        → mini_fat_at ≡ first_of (who.sectors mini_fat_owner) → IsFaultUnless ⊥ e) }
+        → mini_fat_at ≡ first_of (who.sectors mini_fat_owner)
+        → root_len ≤ stream_len_mask s.version → IsFaultUnless ⊥ e) }
     ensures rests { MiniRests mini.old mini.new }
     ensures cause { IfErr result (HasCauseBelow (allocator_of mini.old) (allocator_of mini.new)) }
     ensures fault { IfErr result IsCopyFault }
 {
-    copy_file(alloc, mini.allocator_mut(), mini_fat_at, ids, entries)
+    copy_file(
+        alloc,
+        mini.allocator_mut(),
+        mini_fat_at,
+        root_len,
+        ids,
+        entries,
+    )
 }
 
 // The entries again.
@@ -105,7 +118,8 @@ fn entries_again(alloc: Global, entries: &[DirEntry]) -> Result<Vec<DirEntry>, A
 }
 
 /// The bytes of a copy of a live file: a file of the same version that means the same tree, and has no sector that serves no use.
-/// A strict reader takes the copy where the root has its name and the entries are coloured right. Each chain of the file is copied
+/// Root and entries of the tree are black in the copy, and the root's size is that of the mini stream's whole sectors, or the most
+/// that a size of the version can be; so a strict reader takes it where the root has its name. Each chain of the file is copied
 /// whole, so that it needs as much memory as the copy has bytes, besides a list of the entries. The file is only read. `Failed`
 /// after an earlier fault, before all else; `InvalidData` and `Full` only where the file means no tree: a copy has no more sectors
 /// than the file, so that numbers don't run out. The other errors are `Memory` and `Device` ([MS-CFB] 2).
@@ -115,7 +129,7 @@ pub fn copy_of<F: ReadMedium>(alloc: Global, mini: &mut MiniAllocator<F>) -> Res
         → HoldsCopy (version_of (allocator_of mini.old)) letters bytes.items tree) }
     ensures strict { IfOk result (λ bytes. (letters : Letters) (tree : Tree)
         → MeansLive letters mini.old tree
-        → HaveStrictFacts (entries_held (directory_of mini.old))
+        → HasRootName (entries_held (directory_of mini.old))
         → IsStrictlyOpenable letters bytes.items) }
     ensures refused { IfErr result (λ e. (letters : Letters) (tree : Tree)
         → MeansLive letters mini.old tree → IsFaultUnless ⊥ e) }
@@ -130,7 +144,8 @@ pub fn copy_of<F: ReadMedium>(alloc: Global, mini: &mut MiniAllocator<F>) -> Res
     let ids = tree_entries(alloc, mini.directory())?;
     let mut entries = entries_again(alloc, mini.directory().dir_entries())?;
     let mini_fat_at = mini_fat_start(mini);
-    match copy_lent(alloc, mini, mini_fat_at, &ids, &mut entries) {
+    let root_len = root_len(mini);
+    match copy_lent(alloc, mini, mini_fat_at, root_len, &ids, &mut entries) {
         Ok(bytes) => Ok(bytes),
         Err(error) => Err(error),
     }

@@ -1,6 +1,7 @@
 //! The directory of a copy, and what its header says ([MS-CFB] 2.2, 2.6).
 ghost use Rattle.cfb_chains.specs.LinkViews.{ids_of};
 ghost use Rattle.cfb_copying.specs.Chains.{IsCopyFault};
+ghost use Rattle.cfb_copying.specs.Copied.{Repairs};
 ghost use Rattle.cfb_copying.specs.Making.{IsMade};
 ghost use Rattle.cfb_copying.specs.Steps.{sectors_among, CanHold, FillSectors, HasCopied, HasCopy, HasEntries};
 ghost use Rattle.cfb_directory.specs.Entries.{entries_in, SizesFit};
@@ -8,13 +9,14 @@ ghost use Rattle.cfb_fat.specs.Tables.{bytes_of, has_failed_here, is_honest, ver
 ghost use Rattle.cfb_live.specs.Doing.{IsFault};
 ghost use Rattle.cfb_meaning.specs.Means.{directory_count};
 ghost use Rattle.cfb_medium.specs.Calls.{IsFaultUnless};
+ghost use Rattle.cfb_medium.specs.Versions.{stream_len_mask};
 ghost use Rattle.cfb_medium.specs.declared.error.Error.TheVariants.{Full, InvalidData, Memory};
 ghost use Rattle.cfb_owned.specs.Chains.{GoesOn, RunsOut};
 ghost use Rattle.cfb_owners.specs.LiveFile.{LiveFile};
 ghost use Rattle.cfb_owners.specs.Owners.{directory_owner, first_of, Owners};
 ghost use Rattle.cfb_sectors.specs.Header.{directory_sector_count, mini_fat_sector_count};
-ghost use Rattle.cfb_tree.specs.Directory.{entries_of};
-ghost use Rattle.std.specs.Prelude.{false, length, IfErr, IfOk, IsErrOf, IsTrue, List, OnOk, [], ℕ, ◌*◌, ◌+◌, ◌∷◌, ◌≡◌, ◌⊎◌};
+ghost use Rattle.cfb_tree.specs.Directory.{entries_of, Entry};
+ghost use Rattle.std.specs.Prelude.{false, length, IfErr, IfOk, IsErrOf, IsTrue, List, OnOk, [], ℕ, ◌*◌, ◌+◌, ◌∷◌, ◌≡◌, ◌≤◌, ◌⊎◌};
 
 use crate::streams::start_of;
 use cfb_chains::Links;
@@ -150,7 +152,7 @@ fn tell_mini_fat<T: Medium>(target: &mut Allocator<T>, links: &Links) -> Result<
     Ok(())
 }
 
-// Ends a copy: its directory with these entries, and the header's numbers.
+// Ends a copy: its directory with these entries, which were repaired, and the header's numbers.
 pub(crate) fn end_copy<T: Medium>(
     alloc: Global,
     target: &mut Allocator<T>,
@@ -159,13 +161,16 @@ pub(crate) fn end_copy<T: Medium>(
 ) -> Result<(), Error>
     requires { has_failed_here target.old ≡ false }
     ensures ended { OnOk result ((s : LiveFile) (who : Owners) (ids : List ℕ)
-        → FillSectors s.version s.entries → HasCopied s who ids (ids_of mini_fat.now)
-        (entries_in entries.now) target.old → IsTold target.old → HasEnds target.old
-        → HasCopy s who ids (bytes_of target.new)) }
+        (later : List Entry) (size : ℕ) → FillSectors s.version s.entries
+        → HasCopied s who ids (ids_of mini_fat.now) later target.old
+        → Repairs size later (entries_in entries.now) → size ≤ stream_len_mask s.version
+        → IsTold target.old → HasEnds target.old
+        → HasCopy s who ids size (bytes_of target.new)) }
     ensures refused { IfErr result (λ e. (s : LiveFile) (who : Owners) (ids : List ℕ)
-        → (fills : FillSectors s.version s.entries)
+        (later : List Entry) (size : ℕ) → (fills : FillSectors s.version s.entries)
         → CanHold s.version (fills.count + length (sectors_among who ids))
-        → HasCopied s who ids (ids_of mini_fat.now) (entries_in entries.now) target.old
+        → HasCopied s who ids (ids_of mini_fat.now) later target.old
+        → Repairs size later (entries_in entries.now) → size ≤ stream_len_mask s.version
         → IsFaultUnless ⊥ e) }
     ensures cause { IfErr result (HasCauseBelow target.old target.new) }
     ensures fault { IfErr result IsCopyFault }

@@ -6,6 +6,7 @@ mod chains;
 mod copying;
 mod entries;
 mod laws;
+mod repairing;
 mod streams;
 
 pub use chains::copy_chain;

@@ -8,29 +8,29 @@ use Rattle.cfb_copying.specs.Making.{with_list}
 use Rattle.cfb_copying.specs.Steps.{sectors_among, FillSectors}
 use Rattle.cfb_fat.specs.Tables.{version_of}
 use Rattle.cfb_meaning.specs.Means.{directory_count}
-use Rattle.cfb_copying.proofs.Ended.{copy_ended, fill_again, fills_moved}
+use Rattle.cfb_copying.proofs.Ended.{copy_ended, fill_again, fill_repaired, fills_moved}
 use Rattle.cfb_copying.proofs.Numbers.{never_out}
 use Rattle.cfb_copying.proofs.PutChains.{no_full}
 use Rattle.cfb_copying.proofs.entries.end_copy.Goals as goal
 
 pub returns-in-Err-clause-refused : goal.returns-in-Err-clause-refused
-unfolding fill_again fills_moved
-returns-in-Err-clause-refused g c = λ s who ids fills can has.
+unfolding fill_again fill_repaired fills_moved
+returns-in-Err-clause-refused g c = λ s who ids later size fills can has repairs small.
     let a = c.args.target.now in
-    let later = entries_in c.args.entries.now in
+    let es = entries_in c.args.entries.now in
     let copied = length (sectors_among who ids) in
-    let now = fills_moved s.version (version_of a) later has.version (fill_again s.version s.entries later ids has.own has.restarts fills) in
+    let now = fills_moved s.version (version_of a) es has.version (fill_repaired s.version size later es repairs small (fill_again s.version s.entries later ids has.own has.restarts fills)) in
     no_full c.in-Err.error
     (λ full. never_out a s.version 1 now.count copied (now.count + copied) has.version can has.lean (omega arith) (c.in-Err.ensures.stopped (ap Err full) end_of_chain has.own has.bytes has.made has.directory now))
     (c.in-Err.ensures.refused end_of_chain has.own has.bytes has.made has.directory now)
 
 pub returns-clause-ended : goal.returns-clause-ended
-returns-clause-ended g c = λ s who ids fills has told ends.
-    let later = entries_in c.args.entries.now in
+returns-clause-ended g c = λ s who ids later size fills has repairs small told ends.
+    let es = entries_in c.args.entries.now in
     let put = c.in-Ok.ensures in
     let first = c.in_default.ensures in
     let second = c.in_default-tell_mini_fat.ensures in
-    let did = put.put end_of_chain has.own has.bytes has.made has.directory (subst (λ v. FillSectors v later) (sym has.version) (fill_again s.version s.entries later ids has.own has.restarts fills)) in
+    let did = put.put end_of_chain has.own has.bytes has.made has.directory (subst (λ v. FillSectors v es) (sym has.version) (fill_repaired s.version size later es repairs small (fill_again s.version s.entries later ids has.own has.restarts fills))) in
     let dir = ids_of c.in-Ok.links in
     let own = with_list directory_owner dir has.own in
     let bytes = with_list directory_owner did.content has.bytes in
@@ -42,8 +42,8 @@ returns-clause-ended g c = λ s who ids fills has told ends.
     let goes = goes_then a p b c.put_directory.ensures.goes_on later_on in
     let middle = first.told 1 end_of_chain own bytes did.made in
     let counts = second.counted middle.honest in
-    copy_ended s who ids (ids_of c.args.mini_fat.now) dir did.content later a b has goes.version
-    (second.told 1 end_of_chain own bytes middle) did.begins did.held
+    copy_ended s who ids (ids_of c.args.mini_fat.now) dir did.content later es size a b has goes.version
+    (second.told 1 end_of_chain own bytes middle) did.begins did.held repairs
     (goes.told second.live has.made.honest has.made.orderly told) (goes.ends second.live has.made.honest has.made.orderly ends)
     (counts.1 ∙ first.counted did.made.honest ∙ ap (λ v. directory_count v (length dir)) (sym later_on.version)) counts.0
 
