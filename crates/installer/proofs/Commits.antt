@@ -13,6 +13,7 @@ use Rattle.cfb_mini.specs.Views.{allocator_of}
 use Rattle.cfb_tree.specs.Names.{Letters}
 use Rattle.cfb_tree.proofs.OneContent.{Some_same}
 use Rattle.command_file.specs.Request as asked
+use Rattle.msi.proofs.Published.{medium_fails}
 use Rattle.msi.specs.Committing.{PackageCommits}
 use Rattle.msi.specs.Opened.{file_in, PackageHolds}
 use Rattle.msi_meaning.specs.Package.{Packed}
@@ -111,7 +112,7 @@ module _ {D : Type 0} {g : device.Ghosts D} {h : Ghosts (Staged D g)} where
     went_on : (e : Error) → PackageCommits (λ m. HasPublished g (device_of m)) (Err e) (package_in old) (package_in new) → is_failed new ≡ false → h.continues (medium_in (file_in (package_in old))) (medium_in (file_in (package_in new)))
     went_on e commits lives =
         let from = medium_in (file_in (package_in old)) in
-        ⊎_elim (λ broken. absurd (both_ways (is_failed new) lives broken)) (λ goes. goes.continues from (refl_continues from)) commits.quiet
+        ⊎_elim (λ broken. absurd (both_ways (is_failed new) lives (medium_fails (package_in new) broken.0))) (λ goes. goes.continues from (refl_continues from)) commits.quiet
 
     -- so nothing was published
     pub unpublished : (r : Result (Unit {0}) Error) → PackageCommits (λ m. HasPublished g (device_of m)) r (package_in old) (package_in new)

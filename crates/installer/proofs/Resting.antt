@@ -11,6 +11,7 @@ use Rattle.msi.specs.Changing.{KeepsHeld}
 use Rattle.msi.specs.Opened.{file_in, PackageRests}
 use Rattle.msi.specs.declared.package.Package.{Package}
 use Rattle.msi_meaning.specs.Opening.{may_use}
+use Rattle.msi_meaning.specs.SoundParts.{GivesBack}
 use Rattle.msi_meaning.specs.Split.{HasPool, HasSummary, Stores}
 use Rattle.msi_parts.specs.Parts.{heading}
 use Rattle.msi_pool.specs.PoolState.{PoolState}
@@ -40,5 +41,7 @@ module _ {F : Type 0} {g : Ghosts F} where
       summary = λ written fit. subst (λ l. HasSummary l h.tree P.summary) (sym r.file.letters) (h.summary (sym r.written ∙ written) fit);
       three = subst (λ l. HasThree l h.tree) (sym r.file.letters) h.three;
       sound = λ yes. let both = h.sound (sym r.sound ∙ yes) in (means_read (file_in old) (file_in new) h.tree r.file both.0, subst (λ l. StoresSound l h.tree P) (sym r.file.letters) both.1);
+      back = λ yes unmodified written writable fit.
+          subst (λ l. GivesBack l h.tree) (sym r.file.letters) (h.back (sym r.sound ∙ yes) (sym (ap (λ (p : PoolState). p.modified) r.pool) ∙ unmodified) (sym r.written ∙ written) writable fit);
     };
   }

@@ -10,13 +10,14 @@ ghost use Rattle.installer.specs.Step.{told_of};
 ghost use Rattle.installer.specs.Survival.{IsFound, Survives};
 ghost use Rattle.msi.specs.Changing.{PackageIsFit};
 ghost use Rattle.msi.specs.Committing.{HoldsSound};
-ghost use Rattle.msi.specs.Opened.{IsOpenedPackage, PackageHolds};
+ghost use Rattle.msi.specs.Fitting.{unfit_texts};
+ghost use Rattle.msi.specs.Opened.{IsOpenedPackage, PackageHolds, pool_in, summary_in};
 ghost use Rattle.msi_meaning.specs.Calls.{IsNew};
 ghost use Rattle.msi_meaning.specs.Package.{Packed};
 ghost use Rattle.msi_meaning.specs.declared.kind.PackageType.TheVariants.{Installer};
 ghost use Rattle.staged.specs.Log.{logged, recovered, MalformedLog};
 ghost use Rattle.staged.specs.Settled.{HasPublished, IsSettled};
-ghost use Rattle.std.specs.Prelude.{◌≡◌, ◌&&◌, ◌||◌, ℕ, List, [], None, Some, false, map, not, true, IfErr, IfOk, IsTrue, MatchResult, OnOk};
+ghost use Rattle.std.specs.Prelude.{◌≡◌, ◌↔◌, ◌&&◌, ◌||◌, ℕ, List, [], None, Some, false, map, not, string_bytes, take, true, IfErr, IfOk, IsTrue, MatchResult, OnOk};
 ghost use Rattle.cfb_medium.specs.Calls.{Extends, IsFaultUnless};
 
 use crate::Answer;
@@ -43,7 +44,7 @@ pub struct SessionOver<F: Medium> {
 pub type Session<D> = SessionOver<Staged<D>>;
 
 impl<F: Medium> SessionOver<F> {
-    ghost use Rattle.installer.specs.Sessions.{is_failed, is_sound};
+    ghost use Rattle.installer.specs.Sessions.{is_failed, is_sound, package_in};
 
     /// Whether a fault has left the session in a state in which every command is refused.
     pub fn has_failed(&self) -> bool
@@ -57,6 +58,25 @@ impl<F: Medium> SessionOver<F> {
         ensures { result ≡ is_sound self.now }
     {
         self.package.is_sound()
+    }
+
+    /// Whether each text of the package fits its page, and none is too long: then a commit publishes bytes that hold the package. Else
+    /// it writes `?` for a character that its page lacks. It takes no memory, and time for each character.
+    pub fn texts_fit(&self) -> bool
+        ensures { (P : Packed) → PackageHolds (package_in self.now) P
+            → IsTrue result ↔ PackageIsFit P }
+    {
+        self.package.texts_fit()
+    }
+
+    /// The first texts, so many at most, that don't fit their pages, as `Package::unfit_texts` gives them. The one error is `Memory`.
+    pub fn unfit_texts(&self, most: usize) -> Result<Vec<String>, Error>
+        ensures texts { IfOk result (λ texts. map string_bytes texts.items
+            ≡ take most (unfit_texts (pool_in (package_in self.now)).pool
+            (summary_in (package_in self.now)).props)) }
+        ensures errors { IfErr result (λ e. e ≡ error.Memory) }
+    {
+        self.package.unfit_texts(self.alloc, most)
     }
 }
 

@@ -23,6 +23,7 @@ use Rattle.msi_tables.specs.Schema.{columns_columns, columns_name, tables_column
 use Rattle.msi_tables.specs.Table.{Table}
 use Rattle.msi_meaning.specs.Opening.{may_use}
 use Rattle.msi_meaning.specs.Package.{Packed}
+use Rattle.msi_meaning.specs.SoundParts.{GivesBack}
 use Rattle.msi_meaning.specs.Split.{HasPool, HasSummary, Stores}
 use Rattle.msi_parts.specs.Parts.{heading}
 use Rattle.msi_pool.specs.Pool.{Pool}
@@ -70,6 +71,13 @@ three_kept letters old new keeps h = record {
   data_at = keeps.pool_data ∙ h.data_at;
 }
 
+-- the texts of the three give back their bytes yet
+gives_kept : (letters : Letters) (old new : Tree) → KeepsParts letters old new → GivesBack letters old → GivesBack letters new
+gives_kept letters old new keeps h = record {
+  pool = λ pool_bytes data_bytes builder pool_at data_at begins. h.pool pool_bytes data_bytes builder (sym keeps.pool ∙ pool_at) (sym keeps.pool_data ∙ data_at) begins;
+  summary = λ bytes at. h.summary bytes (sym keeps.summary ∙ at);
+}
+
 module _ {F : Type 0} {g : Ghosts F} (old new : Package F g) (d : DifferByFile old new) where
   -- where the file means what it meant, and the pool is as it was, what was held is held
   pub keeps_held : IsTrue (sound_in old) → pool_in new ≡ pool_in old → KeepsMeant (file_in old) (file_in new) → KeepsHeld old new
@@ -92,14 +100,16 @@ module _ {F : Type 0} {g : Ghosts F} (old new : Package F g) (d : DifferByFile o
           summary = λ written fit. subst (λ l. HasSummary l h.tree P.summary) (sym d.letters) (h.summary (sym d.written ∙ written) fit);
           three = subst (λ l. HasThree l h.tree) (sym d.letters) h.three;
           sound = λ yes. (means, subst (λ l. StoresSound l h.tree P) (sym d.letters) both.1);
+          back = λ yes unmodified written writable fit.
+              subst (λ l. GivesBack l h.tree) (sym d.letters) (h.back is (sym (ap (λ (p : PoolState). p.modified) pool) ∙ unmodified) (sym d.written ∙ written) writable fit);
         };
   }
 
 module _ {F : Type 0} {g : Ghosts F} (old new : Package F g) (d : DifferByStore old new) where
   -- what the rule gives is held
   pub next_held : (rule : PackageRule) (P : Packed) (h : PackageHolds old P) (c : StoreIsChanged rule h.tree P (file_in old) (file_in new)) → c.next.kind ≡ P.kind → c.next.summary ≡ P.summary
-      → (pool_in new).pool ≡ c.next.pool → tables_in new ≡ map (heading (pool_in new).pool.long) c.next.tables → ((pool_in new).modified ≡ false → IsWritable c.next.pool → HasPool (letters_in (file_in old)) c.after c.next.pool) → PackageHolds new c.next
-  next_held rule P h c kind summary pool tables has = record {
+      → (pool_in new).pool ≡ c.next.pool → tables_in new ≡ map (heading (pool_in new).pool.long) c.next.tables → ((pool_in new).modified ≡ false → ((pool_in old).modified ≡ false) × (P.pool ≡ c.next.pool)) → PackageHolds new c.next
+  next_held rule P h c kind summary pool tables was = record {
     tree = c.after;
     file = holds_meant (file_in new) c.after c.means;
     usable = ap may_use d.letters ∙ h.usable;
@@ -110,10 +120,17 @@ module _ {F : Type 0} {g : Ghosts F} (old new : Package F g) (d : DifferByStore 
       pool = pool;
       tables = tables;
     };
-    pool = λ unmodified writable. subst (λ l. HasPool l c.after c.next.pool) (sym d.letters) (has unmodified writable);
+    pool = λ unmodified writable.
+        let before = was unmodified in
+        subst (λ l. HasPool l c.after c.next.pool) (sym d.letters)
+        (subst (λ p. HasPool (letters_in (file_in old)) c.after p) before.1 (pool_kept (letters_in (file_in old)) h.tree c.after c.keeps P.pool (h.pool before.0 (subst IsWritable (sym before.1) writable))));
     summary = λ written fit. subst (λ l. HasSummary l c.after c.next.summary) (sym d.letters) (subst (λ s. HasSummary (letters_in (file_in old)) c.after s) (sym summary) (summary_kept (letters_in (file_in old)) h.tree c.after c.keeps P.summary (h.summary (sym d.written ∙ written) (subst SummaryIsFit summary fit))));
     three = subst (λ l. HasThree l c.after) (sym d.letters) (three_kept (letters_in (file_in old)) h.tree c.after c.keeps h.three);
     sound = λ yes. (c.means, subst (λ l. StoresSound l c.after c.next) (sym d.letters) c.stores);
+    back = λ yes unmodified written writable fit.
+        let before = was unmodified in
+        subst (λ l. GivesBack l c.after) (sym d.letters)
+        (gives_kept (letters_in (file_in old)) h.tree c.after c.keeps (h.back (subst IsTrue d.sound yes) before.0 (sym d.written ∙ written) (subst IsWritable (sym before.1) writable) (subst SummaryIsFit summary fit)));
   }
 
 -- a rule by which a package keeps all but its streams
@@ -150,7 +167,7 @@ module _ {F : Type 0} {g : Ghosts F} (rule : PackageRule) (leaves : LeavesTables
             next_held old new (by_store old new d) rule P h c (leaves.kind P c.next c.answered) (leaves.summary P c.next c.answered)
                 (ap (λ (p : PoolState). p.pool) same ∙ h.memory.pool ∙ sym pool)
                 (d.tables ∙ h.memory.tables ∙ ap (λ l. map (heading l) P.tables) (sym (ap (λ (p : PoolState). p.pool.long) same)) ∙ ap (λ ts. map (heading (pool_in new).pool.long) ts) (sym (leaves.tables P c.next c.answered)))
-                (λ unmodified writable. subst (λ p. HasPool (letters_in (file_in old)) c.after p) (sym pool) (pool_kept (letters_in (file_in old)) h.tree c.after c.keeps P.pool (h.pool (sym (ap (λ (p : PoolState). p.modified) same) ∙ unmodified) (subst IsWritable pool writable)))),
+                (λ unmodified. (sym (ap (λ (p : PoolState). p.modified) same) ∙ unmodified, sym pool)),
           )
       done (Err e) told = tt
 
@@ -183,12 +200,10 @@ module _ {F : Type 0} {g : Ghosts F} (rule : PackageRule) (kind : (P Q : Packed)
       memory : (P : Packed) → PackageHolds old P → edited.IsMemoryOf (store_in old) (pool_in old).pool P
       memory P h = record { pool = h.memory.pool; tables = h.memory.tables ∙ ap (λ (p : Pool). map (heading p.long) P.tables) h.memory.pool }
 
-      has : ((pool_in new).modified ≡ false → pool_in new ≡ pool_in old) → (P : Packed) (h : PackageHolds old P) (c : StoreIsChanged rule h.tree P (file_in old) (file_in new)) → (pool_in new).pool ≡ c.next.pool
-          → (pool_in new).modified ≡ false → IsWritable c.next.pool → HasPool (letters_in (file_in old)) c.after c.next.pool
-      has marked P h c pool unmodified writable =
-          let same = marked unmodified in
-          let kept : P.pool ≡ c.next.pool = sym h.memory.pool ∙ sym (ap (λ (p : PoolState). p.pool) same) ∙ pool in
-          subst (λ p. HasPool (letters_in (file_in old)) c.after p) kept (pool_kept (letters_in (file_in old)) h.tree c.after c.keeps P.pool (h.pool (sym (ap (λ (p : PoolState). p.modified) same) ∙ unmodified) (subst IsWritable (sym kept) writable)))
+      was : ((pool_in new).modified ≡ false → pool_in new ≡ pool_in old) → (P : Packed) (h : PackageHolds old P) (c : StoreIsChanged rule h.tree P (file_in old) (file_in new)) → (pool_in new).pool ≡ c.next.pool
+          → (pool_in new).modified ≡ false → ((pool_in old).modified ≡ false) × (P.pool ≡ c.next.pool)
+      was marked P h c pool unmodified =
+          let same = marked unmodified in (sym (ap (λ (p : PoolState). p.modified) same) ∙ unmodified, sym h.memory.pool ∙ sym (ap (λ (p : PoolState). p.pool) same) ∙ pool)
 
       done : ((pool_in new).modified ≡ false → pool_in new ≡ pool_in old) → (r : Result (Unit {0}) Error)
           → OnOk r ((tree : Tree) (P : Packed) → FileMeans (file_in old) tree → StoresSound (letters_in (file_in old)) tree P → edited.IsMemoryOf (store_in old) (pool_in old).pool P → IsEdited rule tree P (file_in old) (file_in new) (pool_in new))
@@ -202,7 +217,7 @@ module _ {F : Type 0} {g : Ghosts F} (rule : PackageRule) (kind : (P Q : Packed)
             c.answered,
             next_held old new (by_store old new d) rule P h c (kind P c.next c.answered) (summary P c.next c.answered) e.pool
                 (d.tables ∙ (memory P h).tables ∙ sym e.tables ∙ ap (λ (p : Pool). map (heading p.long) c.next.tables) (sym e.pool))
-                (has marked P h c e.pool),
+                (was marked P h c e.pool),
           )
 
       refused : (r : Result (Unit {0}) Error)
@@ -243,7 +258,7 @@ module _ {F : Type 0} {g : Ghosts F} (name : List ℕ) (old new : Package F g) (
         let k = drop_keeps name P e.changed.next e.changed.answered in (
           e.changed.next,
           e.changed.answered,
-          next_held old new d rule P h e.changed k.0 k.1 e.memory.pool (e.memory.tables ∙ ap (λ (p : Pool). map (heading p.long) e.changed.next.tables) (sym e.memory.pool)) (has P h e.changed e.memory.pool),
+          next_held old new d rule P h e.changed k.0 k.1 e.memory.pool (e.memory.tables ∙ ap (λ (p : Pool). map (heading p.long) e.changed.next.tables) (sym e.memory.pool)) (was P h e.changed e.memory.pool),
         );
     refused = tt;
     rests = tt;
@@ -253,12 +268,10 @@ module _ {F : Type 0} {g : Ghosts F} (name : List ℕ) (old new : Package F g) (
       memory : (P : Packed) → PackageHolds old P → edited.IsMemoryOf (store_in old) (pool_in old).pool P
       memory P h = record { pool = h.memory.pool; tables = h.memory.tables ∙ ap (λ (p : Pool). map (heading p.long) P.tables) h.memory.pool }
 
-      has : (P : Packed) (h : PackageHolds old P) (s : StoreIsChanged rule h.tree P (file_in old) (file_in new)) → (pool_in new).pool ≡ s.next.pool
-          → (pool_in new).modified ≡ false → IsWritable s.next.pool → HasPool (letters_in (file_in old)) s.after s.next.pool
-      has P h s pool unmodified writable =
-          let same = c.marked unmodified in
-          let kept : P.pool ≡ s.next.pool = sym h.memory.pool ∙ sym (ap (λ (p : PoolState). p.pool) same) ∙ pool in
-          subst (λ p. HasPool (letters_in (file_in old)) s.after p) kept (pool_kept (letters_in (file_in old)) h.tree s.after s.keeps P.pool (h.pool (sym (ap (λ (p : PoolState). p.modified) same) ∙ unmodified) (subst IsWritable (sym kept) writable)))
+      was : (P : Packed) (h : PackageHolds old P) (s : StoreIsChanged rule h.tree P (file_in old) (file_in new)) → (pool_in new).pool ≡ s.next.pool
+          → (pool_in new).modified ≡ false → ((pool_in old).modified ≡ false) × (P.pool ≡ s.next.pool)
+      was P h s pool unmodified =
+          let same = c.marked unmodified in (sym (ap (λ (p : PoolState). p.modified) same) ∙ unmodified, sym h.memory.pool ∙ sym (ap (λ (p : PoolState). p.pool) same) ∙ pool)
   tables_changed (Err e) c = record {
     failed = λ yes. let never : true ≡ false = sym yes ∙ live in absurd (cc);
     unsound = λ no wrong. let never : true ≡ false = sym sound ∙ wrong in absurd (cc);

@@ -17,11 +17,10 @@ use Rattle.msi_meaning.specs.Opening.{may_use}
 use Rattle.msi_meaning.specs.Package.{Packed}
 use Rattle.msi.proofs.Changed.{DifferByFile}
 use Rattle.msi.proofs.Flushed.{keeps_flushed, written_yet}
-use Rattle.msi.proofs.SavedSound.{PacksSound, saved_written}
-use Rattle.msi.specs.Changing.{failed_in}
+use Rattle.msi.proofs.SavedSound.{PacksSound}
+use Rattle.msi.specs.Changing.{PackageIsWritten, PackageWrites, failed_in}
 use Rattle.msi.specs.Copying.{HoldsPackageCopy, PackageCopies}
 use Rattle.msi.specs.Opened.{file_in, pool_in, sound_in}
-use Rattle.msi.specs.Steps.{PackageIsSaved, SavesMemory}
 use Rattle.msi.specs.declared.package.Package.{Package}
 
 -- a refusal of a package that isn't sound needs no fault
@@ -67,21 +66,21 @@ module _ {F : Type 0} {g : Ghosts F} (honest : Type 0) (bytes : List ℕ) where
   }
 
   module _ (old mid : Package F g) (live : failed_in old ≡ false) (sound : sound_in old ≡ true) where
-    pub unsaved_copies : (e : Error) → SavesMemory (Err e) old mid → PackageCopies honest bytes (Err e) old mid
+    pub unsaved_copies : (e : Error) → PackageWrites (Err e) old mid → PackageCopies honest bytes (Err e) old mid
     unsaved_copies e s = record {
       failed = λ yes. let never : true ≡ false = sym yes ∙ live in absurd (cc);
       unsound = λ no wrong. let never : true ≡ false = sym sound ∙ wrong in absurd (cc);
       holds = tt;
       done = tt;
       refused = s.refused;
-      rests = elim s.rests [ inl failed ↦ inl failed | inr keeps ↦ inr (keeps sound) ];
+      rests = s.rests;
       seen = s.seen;
     }
 
-    module _ (u : Unit {0}) (s : SavesMemory (Ok u) old mid) (new : Package F g) (d : DifferByFile mid new) (same : pool_in new ≡ pool_in mid) (rests : FileRests (file_in mid) (file_in new)) where
+    module _ (u : Unit {0}) (s : PackageWrites (Ok u) old mid) (new : Package F g) (d : DifferByFile mid new) (same : pool_in new ≡ pool_in mid) (rests : FileRests (file_in mid) (file_in new)) where
       copied : (version_of (allocator_of (mini_of (file_in mid))) ≡ version_of (allocator_of (mini_of (file_in old))))
           → (honest → (tree : Tree) → FileMeans (file_in mid) tree → CopiesFile (file_in mid) tree bytes)
-          → (P : Packed) → PackageIsSaved mid P → honest → HoldsPackageCopy (version_of (allocator_of (mini_of (file_in old)))) (letters_in (file_in old)) bytes P
+          → (P : Packed) → PackageIsWritten mid P → honest → HoldsPackageCopy (version_of (allocator_of (mini_of (file_in old)))) (letters_in (file_in old)) bytes P
       copied version copies P saved is =
           subst (λ v. HoldsPackageCopy v (letters_in (file_in old)) bytes P) version
           (subst (λ l. HoldsPackageCopy (version_of (allocator_of (mini_of (file_in mid)))) l bytes P) s.seen.0
@@ -97,7 +96,7 @@ module _ {F : Type 0} {g : Ghosts F} (honest : Type 0) (bytes : List ℕ) where
         holds = λ P h is. (keeps_flushed mid new d same rests (s.seen.1 ∙ sound)).holds P (s.holds P h is);
         done = λ P h is fit.
             let saved = s.done P h is fit in
-            (written_yet mid new d same rests (s.seen.1 ∙ sound) P (saved_written mid P saved), copied version copies P saved);
+            (written_yet mid new d same rests (s.seen.1 ∙ sound) P saved, copied version copies P saved);
         refused = tt;
         rests = tt;
         seen = (d.letters ∙ s.seen.0, d.sound ∙ s.seen.1);

@@ -15,9 +15,10 @@ use Rattle.cfb_medium.specs.declared.error.Error.TheVariants.{Failed, Full, Inva
 use Rattle.cfb_medium.specs.declared.medium.ReadMedium.{Ghosts}
 use Rattle.cfb_mini.specs.Views.{allocator_of}
 use Rattle.cfb_tree.specs.Names.{Letters}
+use Rattle.msi_meaning.proofs.SoundAnyway.{sound_so}
 use Rattle.msi_meaning.proofs.Splitting.{joined}
 use Rattle.msi_meaning.specs.Opening.{may_use}
-use Rattle.msi_meaning.specs.Package.{Packed, Packs}
+use Rattle.msi_meaning.specs.Package.{Packed}
 use Rattle.msi_parts.specs.Parts.{heading}
 use Rattle.msi_pool.specs.Pool.{Pool}
 use Rattle.msi_props.specs.Props.{Props}
@@ -26,15 +27,18 @@ use Rattle.msi_streams.specs.Parts.{HasParts, IsTooLong, OfPackage, PartBytes, P
 use Rattle.msi_streams.specs.Writing.{most_bytes}
 use Rattle.msi.proofs.Changed.{DifferByFile, failed_too, keeps_held}
 use Rattle.msi.proofs.HeldParts.{held_parts}
-use Rattle.msi.proofs.SavedSound.{packs_sound, saved_written}
+use Rattle.msi.proofs.SavedSound.{PacksSound, packs_sound}
 use Rattle.msi.specs.Changing.{IsUnsaved, IsChangeError, PackageIsFit, PackageIsWritten, KeepsHeld, PackageWrites, failed_in}
 use Rattle.msi.specs.Opened.{PackageHolds, file_in, kind_in, pool_in, sound_in, summary_in, tables_in, written_in}
-use Rattle.msi.specs.Steps.{PackageIsSaved, SavesMemory}
+use Rattle.msi.specs.Steps.{SavesMemory}
 use Rattle.msi.specs.declared.package.Package.{Package}
 
 both_written : (m w : Bool) → not m && w ≡ true → (m ≡ false) × (w ≡ true)
 both_written true w is = absurd (cc)
 both_written false w is = (refl, is)
+
+pub unwritten : (m w : Bool) → not m && w ≡ false → m ≡ false → w ≡ true → ⊥
+unwritten m w is one other = (let never : true ≡ false = sym (ap₂ (λ a b. not a && b) one other) ∙ is in cc)
 
 -- no fault is want of room
 pub never_full : (r : Result (Unit {0}) Error) → IfErr r (IsFaultUnless ⊥) → r ≡ Err Full → ⊥
@@ -53,11 +57,14 @@ module _ {F : Type 0} {g : Ghosts F} where
   -- nothing is to be written where memory has nothing ahead
   pub written_already : (it : Package F g) → not (pool_in it).modified && written_in it ≡ true → (P : Packed) → PackageHolds it P → IsTrue (sound_in it) → PackageIsFit P → PackageIsWritten it P
   written_already it is P h sound fit =
-      let both = both_written (pool_in it).modified (written_in it) is in record {
+      let both = both_written (pool_in it).modified (written_in it) is in
+      let held = h.sound sound in
+      let packs = joined (letters_in (file_in it)) h.tree P h.stores (h.pool both.0 fit.pool) (h.summary both.1 fit.summary) in record {
         holds = h;
         tree = h.tree;
-        means = (h.sound sound).0;
-        packs = joined (letters_in (file_in it)) h.tree P h.stores (h.pool both.0 fit.pool) (h.summary both.1 fit.summary);
+        means = held.0;
+        packs = packs;
+        sound = sound_so (letters_in (file_in it)) h.tree P packs (record { counted = held.1.counted; free = held.1.free; named = held.1.named; gives_back = h.back sound both.0 both.1 fit.pool fit.summary });
       }
 
   meant_yet : (old new : Package F g) → read.FileRests (file_in old) (file_in new) → KeepsMeant (file_in old) (file_in new)
@@ -69,12 +76,14 @@ module _ {F : Type 0} {g : Ghosts F} where
     keeps_flushed = keeps_held old new d sound same (meant_yet old new rests)
 
     pub written_yet : (P : Packed) → PackageIsWritten old P → PackageIsWritten new P
-    written_yet P w = record {
-      holds = keeps_flushed.holds P w.holds;
-      tree = w.tree;
-      means = means_read (file_in old) (file_in new) w.tree rests w.means;
-      packs = subst (λ l. Packs l w.tree P) (sym d.letters) w.packs;
-    }
+    written_yet P w =
+        let packed = subst (λ l. PacksSound l w.tree P) (sym d.letters) (record { packs = w.packs; sound = w.sound }) in record {
+          holds = keeps_flushed.holds P w.holds;
+          tree = w.tree;
+          means = means_read (file_in old) (file_in new) w.tree rests w.means;
+          packs = packed.packs;
+          sound = packed.sound;
+        }
 
   parts_yet : (old new : CompoundFile F g) (letters : Letters) (P : Packed) (parts : PartBytes) → read.FileRests old new → HasParts letters P parts old → HasParts letters P parts new
   parts_yet old new letters P parts rests p = record {
@@ -101,7 +110,7 @@ module _ {F : Type 0} {g : Ghosts F} where
     parts_held = held_parts new P (kind ∙ h.memory.kind) (ap (λ s. s.props) summary ∙ h.memory.summary) (pool ∙ h.memory.pool)
         (tables ∙ h.memory.tables ∙ ap (λ (x : Pool). map (heading x.long) P.tables) (sym pool)) (ap may_use same_letters ∙ h.usable) parts
 
-    pub parts_written : PackageIsFit P → PackageIsSaved new P
+    pub parts_written : PackageIsFit P → PackageIsWritten new P
     parts_written fit =
         let both = packs_sound (letters_in (file_in new)) parts.after P parts.stores fit parts.summary_at parts.pool_at parts.data_at in
         record { holds = parts_held; tree = parts.after; means = parts.means; packs = both.packs; sound = both.sound }
@@ -174,7 +183,7 @@ module _ {F : Type 0} {g : Ghosts F} where
 
     -- both were written
     pub saved_writes : (r : Result (Unit {0}) Error) → SavesMemory r old new → PackageWrites r old new
-    saved_writes (Ok u) s = sound_writes (Ok u) s.holds (λ P h is fit. saved_written new P (s.done P h is fit)) tt tt s.seen
+    saved_writes (Ok u) s = sound_writes (Ok u) s.holds s.done tt tt s.seen
     saved_writes (Err e) s = sound_writes (Err e) tt tt s.refused s.rests s.seen
 
 -- what lives has not failed by itself

@@ -3,6 +3,7 @@ use Rattle.std.proofs.Common.{◌≡◌, ◌∙◌, ap, map, sym, true, Ok}
 use Rattle.cfb.proofs.LiveMeaning.{holds_meant}
 use Rattle.cfb.specs.Views.{letters_in}
 use Rattle.cfb_medium.specs.declared.medium.ReadMedium.{Ghosts}
+use Rattle.msi_meaning.proofs.SoundAnyway.{sound_anyway}
 use Rattle.msi_meaning.specs.Opening.{may_use}
 use Rattle.msi_meaning.specs.Package.{Packed}
 use Rattle.msi_parts.specs.Parts.{heading}
@@ -11,6 +12,7 @@ use Rattle.msi_pool.specs.Pool.{data_stream, pool_stream}
 use Rattle.msi_props.proofs.Comeback.{written_set_is_read}
 use Rattle.msi_props.specs.Props.{props_bytes}
 use Rattle.msi_streams.specs.Parts.{HasParts, bytes_of_parts}
+use Rattle.msi.proofs.SavedSound.{packs_sound}
 use Rattle.msi.specs.Opened.{PackageHolds, file_in, kind_in, pool_in, summary_in, tables_in}
 use Rattle.msi.specs.declared.package.Package.{Package}
 
@@ -46,4 +48,7 @@ module _ {F : Type 0} {g : Ghosts F} (it : Package F g) (P : Packed) (kind : kin
       data_at = parts.data_at;
     };
     sound = λ yes. (parts.means, parts.stores);
+    back = λ yes unmodified written writable fit.
+        let both = packs_sound (letters_in (file_in it)) parts.after P parts.stores (record { pool = writable; summary = fit }) parts.summary_at parts.pool_at parts.data_at in
+        (sound_anyway (letters_in (file_in it)) parts.after P both.packs both.sound).gives_back;
   }

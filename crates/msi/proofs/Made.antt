@@ -1,5 +1,5 @@
 -- A call that changes which tables a package has is one of the package.
-use Rattle.std.proofs.Common.{◌≡◌, ◌∙◌, ◌⊎◌, ℕ, List, ap, false, inl, inr, map, subst, sym, true, Ok, Err, Result}
+use Rattle.std.proofs.Common.{◌≡◌, ◌∙◌, ◌⊎◌, ℕ, List, ap, false, inl, inr, map, sym, true, Ok, Err, Result}
 use Rattle.std.specs.Prelude.{is_none}
 use Rattle.cfb.specs.Views.{letters_in}
 use Rattle.cfb_medium.specs.declared.error.Error.{Error}
@@ -12,12 +12,9 @@ use Rattle.msi_making.specs.Making.{Makes}
 use Rattle.msi_making.specs.Validating.{validated, with_validation, Validates}
 use Rattle.msi_meaning.specs.Calls.{created, own_columns, Creates, Ends, Rows3}
 use Rattle.msi_meaning.specs.Package.{at_name, stream_name, Packed}
-use Rattle.msi_meaning.specs.Split.{HasPool}
 use Rattle.msi_parts.specs.Parts.{heading}
 use Rattle.msi_pool.specs.Pool.{Pool}
-use Rattle.msi_pool.specs.PoolKept.{IsWritable}
 use Rattle.msi_pool.specs.PoolState.{PoolState}
-use Rattle.msi_stored.proofs.Kept.{pool_kept}
 use Rattle.msi_stored.specs.Changing.{PackageRule, StoreIsChanged}
 use Rattle.msi_tables.specs.Rows.{Row}
 use Rattle.msi_tables.specs.Schema.{columns_columns, tables_columns, validation_name}
@@ -63,19 +60,17 @@ module _ {F : Type 0} {g : Ghosts F} (rule : PackageRule) (keeps : (P Q : Packed
         let k = keeps P e.changed.next e.changed.answered in (
           e.changed.next,
           e.changed.answered,
-          next_held old new d rule P h e.changed k.0 k.1 e.memory.pool (e.memory.tables ∙ ap (λ (p : Pool). map (heading p.long) e.changed.next.tables) (sym e.memory.pool)) (has P h e.changed e.memory.pool),
+          next_held old new d rule P h e.changed k.0 k.1 e.memory.pool (e.memory.tables ∙ ap (λ (p : Pool). map (heading p.long) e.changed.next.tables) (sym e.memory.pool)) (was P h e.changed e.memory.pool),
         );
     refused = tt;
     rests = tt;
     seen = (c.seen.0, d.sound);
   }
     where
-      has : (P : Packed) (h : PackageHolds old P) (s : StoreIsChanged rule h.tree P (file_in old) (file_in new)) → (pool_in new).pool ≡ s.next.pool
-          → (pool_in new).modified ≡ false → IsWritable s.next.pool → HasPool (letters_in (file_in old)) s.after s.next.pool
-      has P h s pool unmodified writable =
-          let same = c.marked unmodified in
-          let kept : P.pool ≡ s.next.pool = sym h.memory.pool ∙ sym (ap (λ (p : PoolState). p.pool) same) ∙ pool in
-          subst (λ p. HasPool (letters_in (file_in old)) s.after p) kept (pool_kept (letters_in (file_in old)) h.tree s.after s.keeps P.pool (h.pool (sym (ap (λ (p : PoolState). p.modified) same) ∙ unmodified) (subst IsWritable (sym kept) writable)))
+      was : (P : Packed) (h : PackageHolds old P) (s : StoreIsChanged rule h.tree P (file_in old) (file_in new)) → (pool_in new).pool ≡ s.next.pool
+          → (pool_in new).modified ≡ false → ((pool_in old).modified ≡ false) × (P.pool ≡ s.next.pool)
+      was P h s pool unmodified =
+          let same = c.marked unmodified in (sym (ap (λ (p : PoolState). p.modified) same) ∙ unmodified, sym h.memory.pool ∙ sym (ap (λ (p : PoolState). p.pool) same) ∙ pool)
   made_changes (Err e) c = record {
     failed = λ yes. let never : true ≡ false = sym yes ∙ live in absurd (cc);
     unsound = λ no wrong. let never : true ≡ false = sym sound ∙ wrong in absurd (cc);

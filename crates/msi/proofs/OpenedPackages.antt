@@ -31,7 +31,7 @@ use Rattle.msi_meaning.specs.Package.{Packed, Packs}
 use Rattle.msi_meaning.proofs.PacksOnce.{packs_once}
 use Rattle.msi_meaning.proofs.SoundAnyway.{sound_anyway}
 use Rattle.msi_meaning.proofs.Splitting.{parted}
-use Rattle.msi_meaning.specs.SoundParts.{IsSound as IsSoundPart}
+use Rattle.msi_meaning.specs.SoundParts.{GivesBack, IsSound as IsSoundPart}
 use Rattle.msi_meaning.specs.Split.{HasPool, HasSummary, Stores}
 use Rattle.msi_streams.specs.Parts.{HasThree}
 use Rattle.msi_stored.specs.Changing.{StoresSound}
@@ -121,6 +121,12 @@ module _ {F : Type 0} {g : Ghosts F} (medium : F) (a : CompoundFile F g) (opens 
             subst (λ l. StoresSound l tree P) (sym named_here) (record { usable = may; stores = (parted letters tree P packs).0; counted = sound.counted; free = sound.free; named = sound.named }),
           )
 
+      -- and its texts give back their bytes
+      back_yet : (tree : Tree) → Means letters (g.bytes medium) tree → IsTrue (sound_in it) → GivesBack (letters_in (file_in it)) tree
+      back_yet tree means is =
+          let so = (judged tree means).0 is in
+          subst (λ l. GivesBack l tree) (sym named_here) (sound_anyway letters tree so.1 so.2 so.3).gives_back
+
       yet : (tree : Tree) (P : Packed) → Means letters (g.bytes medium) tree → Packs letters tree P → PackageHolds it P
       yet tree P means packs =
           let here = parts tree (means_shown letters (g.bytes medium) tree means) in
@@ -142,6 +148,7 @@ module _ {F : Type 0} {g : Ghosts F} (medium : F) (a : CompoundFile F g) (opens 
               data_at = three.1.data_at;
             });
             sound = sound_yet tree P means packs;
+            back = λ is unmodified written writable fit. back_yet tree means is;
           }
 
       sound_to : (b : Bool) → sound_of a ≡ b → IsTrue (sound_in it) → IsSoundFile letters (g.bytes medium)

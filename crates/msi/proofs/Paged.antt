@@ -67,4 +67,5 @@ holds_paged old new page P file tables kind summary sound written pool h = recor
   summary = λ is fit. rw file (h.summary (sym written ∙ is) fit);
   three = rw file h.three;
   sound = λ is. let both = h.sound (subst IsTrue sound is) in rw file (both.0, sound_paged (letters_in (file_in old)) h.tree page P both.1);
+  back = λ is unmodified written writable fit. let no : true ≡ false = sym (ap (λ (p : PoolState). p.modified) pool) ∙ unmodified in absurd (cc);
 }

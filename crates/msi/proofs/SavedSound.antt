@@ -21,7 +21,6 @@ use Rattle.msi.proofs.WrittenSummary.{written_summary_gives_back}
 use Rattle.msi.specs.Changing.{PackageIsFit, PackageIsWritten}
 use Rattle.msi.specs.Committing.{HoldsSound}
 use Rattle.msi.specs.Opened.{file_in}
-use Rattle.msi.specs.Steps.{PackageIsSaved}
 use Rattle.msi.specs.declared.package.Package.{Package}
 
 -- the tree packs the package, which is sound so
@@ -78,11 +77,8 @@ module _ (letters : Letters) (tree : Tree) (P : Packed) (s : StoresSound letters
       }
 
 module _ {F : Type 0} {g : Ghosts F} where
-  pub saved_written : (it : Package F g) (P : Packed) → PackageIsSaved it P → PackageIsWritten it P
-  saved_written it P s = record { holds = s.holds; tree = s.tree; means = s.means; packs = s.packs }
-
   -- the bytes of its file hold it
-  pub saved_found : (it : Package F g) (P : Packed) → PackageIsSaved it P → HoldsSound (letters_in (file_in it)) (bytes_in (file_in it)) P
+  pub saved_found : (it : Package F g) (P : Packed) → PackageIsWritten it P → HoldsSound (letters_in (file_in it)) (bytes_in (file_in it)) P
   unfolding live_of
   saved_found it P s =
       let file = file_in it in

@@ -57,6 +57,7 @@ module _ {F : Type 0} {g : Ghosts F} (it : Package F g) (P : Packed) (h : Packag
     summary = λ written fit. let never : false ≡ true = written in absurd (cc);
     three = h.three;
     sound = λ is. let both = h.sound is in (both.0, sound_summed (letters_in (file_in it)) h.tree s.props P one both.1);
+    back = λ is unmodified written writable fit. let never : false ≡ true = written in absurd (cc);
   }
 
   pub one_section_held : IsTrue (sound_in it) → (summary_in it).props.sections ≡ 1

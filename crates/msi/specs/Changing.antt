@@ -13,6 +13,7 @@ use Rattle.cfb_medium.specs.declared.medium.ReadMedium.{Ghosts}
 use Rattle.cfb_mini.specs.Views.{allocator_of}
 use Rattle.cfb_tree.specs.Tree.{Tree}
 use Rattle.msi_meaning.specs.Package.{Packed, Packs, summary_name}
+use Rattle.msi_meaning.specs.Sound.{IsSoundPackage}
 use Rattle.msi_pool.specs.PoolKept.{IsWritable}
 use Rattle.msi_stored.specs.Changing.{PackageRule}
 use Rattle.msi_props.specs.Props.{props_bytes}
@@ -77,12 +78,13 @@ module _ {F : Type 0} {g : Ghosts F} where
   abbrev pub SummaryFills : Result (Unit {0}) Error → Package F g → Package F g → Type 0
   SummaryFills result old new = IsErrOf result Full → failed_in new ≡ false → IsFullForName (file_in old) summary_name (length (props_bytes (summary_in old).props))
 
-  -- it holds the package, and its file means a tree that packs it
+  -- it holds the package, and its file means a tree that packs it, which is sound so
   pub record PackageIsWritten (it : Package F g) (P : Packed) : Type 0 where
     pub holds : PackageHolds it P
     pub tree : Tree
     pub means : FileMeans (file_in it) tree
     pub packs : Packs (letters_in (file_in it)) tree P
+    pub sound : IsSoundPackage (letters_in (file_in it)) tree P packs
 
   -- a fault; or a stream of memory's pool or summary is longer than one can be, or one of the two can't be written at all, and the package is
   -- held still

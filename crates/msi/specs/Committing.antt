@@ -6,7 +6,7 @@ use Rattle.cfb_meaning.specs.Means.{Means}
 use Rattle.cfb_meaning.specs.Sound.{IsSound}
 use Rattle.cfb_medium.specs.Stops.{LeavesOnly}
 use Rattle.cfb_medium.specs.declared.error.Error.{Error}
-use Rattle.cfb_medium.specs.declared.error.Error.TheVariants.{Failed}
+use Rattle.cfb_medium.specs.declared.error.Error.TheVariants.{Device, Failed}
 use Rattle.cfb_medium.specs.declared.medium.ReadMedium.{Ghosts}
 use Rattle.cfb_mini.specs.Views.{allocator_of}
 use Rattle.cfb_owned.specs.Chains.{GoesOn}
@@ -42,8 +42,8 @@ module _ {F : Type 0} {g : Ghosts F} where
     pub written : PackageIsFit P → PackageIsWritten it P
 
   -- `Failed` after a fault. Where it isn't sound it is done, and nothing was touched. Each sound package that was held is published; what
-  -- comes in between is a fault, or too long. After `Ok` it has not failed; after any error it has failed, or holds what it held, and
-  -- nothing was published.
+  -- comes in between is a fault, or too long. After `Ok` it has not failed; after any error it has failed, or holds what it held. An error
+  -- is a fault of the medium in the midst of its own commit, by which it has failed, or nothing was published.
   pub record PackageCommits (has_published : F → List ℕ → Type 0) (result : Result (Unit {0}) Error) (old new : Package F g) : Type 0 where
     pub failed : failed_in old ≡ true → IsErrOf result Failed × (new ≡ old)
     pub unsound : failed_in old ≡ false → sound_in old ≡ false → (result ≡ Ok tt) × (new ≡ old)
@@ -51,7 +51,7 @@ module _ {F : Type 0} {g : Ghosts F} where
     pub live : OnOk result ((failed_in old ≡ false) × (failed_in new ≡ false))
     pub refused : IfErr result (λ e. (P : Packed) → PackageHolds old P → IsTrue (sound_in old) → IsUnsaved old new e)
     pub rests : OnErr result ((failed_in new ≡ true) ⊎ KeepsHeld old new)
-    pub quiet : OnErr result ((failed_in new ≡ true) ⊎ GoesOn (allocator_of (mini_of (file_in old))) (allocator_of (mini_of (file_in new))))
+    pub quiet : IfErr result (λ e. ((g.failed (medium_in (file_in new)) ≡ true) × ((e ≡ Device) ⊎ (e ≡ Failed))) ⊎ GoesOn (allocator_of (mini_of (file_in old))) (allocator_of (mini_of (file_in new))))
     pub seen : (letters_in (file_in new) ≡ letters_in (file_in old)) × (sound_in new ≡ sound_in old)
 
   -- a stop at a moment since the old state leaves what one might have left by then, or bytes that hold the package that was held

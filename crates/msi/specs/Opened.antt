@@ -15,6 +15,7 @@ use Rattle.cfb_tree.specs.Tree.{Tree}
 use Rattle.msi_meaning.specs.Opening.{may_use, opened}
 use Rattle.msi_meaning.specs.Package.{Packed, Packs}
 use Rattle.msi_meaning.specs.Sound.{IsSoundPackage}
+use Rattle.msi_meaning.specs.SoundParts.{GivesBack}
 use Rattle.msi_meaning.specs.Split.{HasPool, HasSummary, Stores}
 use Rattle.msi_meaning.specs.declared.kind.PackageType.{PackageType}
 use Rattle.msi_parts.specs.Parts.{HasSchema, IsMemoryOf}
@@ -88,7 +89,8 @@ module _ {F : Type 0} {g : Ghosts F} where
     pub written : written_in new ≡ written_in old
 
   -- THE PACKAGE IN MEMORY IS THIS ONE: a tree that its file holds stores it, and memory has its other parts, which are those of their
-  -- streams unless they were changed, or can't be written as they are. Of a sound package the file means the tree, which stores a sound one.
+  -- streams unless they were changed, or can't be written as they are. Of a sound package the file means the tree, which stores a sound one,
+  -- and where neither part was changed their texts there give back their bytes.
   pub record PackageHolds (it : Package F g) (P : Packed) : Type 0 where
     pub tree : Tree
     pub file : FileHolds (file_in it) tree
@@ -99,6 +101,7 @@ module _ {F : Type 0} {g : Ghosts F} where
     pub summary : written_in it ≡ true → SummaryIsFit P.summary → HasSummary (letters_in (file_in it)) tree P.summary
     pub three : HasThree (letters_in (file_in it)) tree
     pub sound : IsTrue (sound_in it) → FileMeans (file_in it) tree × StoresSound (letters_in (file_in it)) tree P
+    pub back : IsTrue (sound_in it) → (pool_in it).modified ≡ false → written_in it ≡ true → IsWritable P.pool → SummaryIsFit P.summary → GivesBack (letters_in (file_in it)) tree
 
   -- Opened over these bytes under this letter table: kind, summary and pool are those that each tree tells that they show, and so are the
   -- tables; each package that the tree packs that they mean is held; and it was judged exactly whether they hold a sound package.

@@ -1,6 +1,5 @@
 -- What is found in a file that was opened, on the way to its package: steps of private functions.
 use Rattle.std.specs.Prelude.{◌≡◌, ◌⊎◌, ◌↔◌, false, true, Bool, Err, IfErr, IsTrue, OnErr, OnOk, Result}
-use Rattle.cfb.specs.Doing.{FileMeans}
 use Rattle.cfb.specs.Streams.{FileHolds}
 use Rattle.cfb.specs.Views.{letters_in, mini_of, sound_of}
 use Rattle.cfb.specs.Views as read
@@ -11,11 +10,10 @@ use Rattle.cfb_medium.specs.declared.medium.ReadMedium.{Ghosts}
 use Rattle.cfb_mini.specs.Views.{allocator_of}
 use Rattle.cfb_tree.specs.Tree.{Tree}
 use Rattle.msi_meaning.specs.Opening.{may_use, opened}
-use Rattle.msi_meaning.specs.Package.{Packed, Packs}
-use Rattle.msi_meaning.specs.Sound.{IsSoundPackage}
+use Rattle.msi_meaning.specs.Package.{Packed}
 use Rattle.msi_parts.specs.Parts.{AreParts, IsSoundIn}
 use Rattle.msi_stored.specs.Shown.{HoldsShown, IsLostPart, bytes_in}
-use Rattle.msi.specs.Changing.{IsUnsaved, KeepsHeld, PackageIsFit, failed_in}
+use Rattle.msi.specs.Changing.{IsUnsaved, KeepsHeld, PackageIsFit, PackageIsWritten, failed_in}
 use Rattle.msi.specs.Opened.{PackageHolds, file_in, kind_in, pool_in, sound_in, summary_in, tables_in}
 use Rattle.msi.specs.declared.package.Package.{Package}
 
@@ -36,17 +34,9 @@ module _ {F : Type 0} {g : Ghosts F} where
     pub cause : HasCauseBelow (allocator_of (mini_of file)) (allocator_of (mini_of new)) e
     pub told : (tree : Tree) → HoldsShown file tree → may_use (letters_in file) ≡ true → IsLostPart (letters_in file) (bytes_in file) e ⊎ (opened (letters_in file) tree ≡ Err e)
 
-  -- it holds the package, and its file means a tree that packs it, which is sound so
-  pub record PackageIsSaved (it : Package F g) (P : Packed) : Type 0 where
-    pub holds : PackageHolds it P
-    pub tree : Tree
-    pub means : FileMeans (file_in it) tree
-    pub packs : Packs (letters_in (file_in it)) tree P
-    pub sound : IsSoundPackage (letters_in (file_in it)) tree P packs
-
   -- pool and summary were written to their streams, whether or not memory was ahead of these
   pub record SavesMemory (result : Result (Unit {0}) Error) (old new : Package F g) : Type 0 where
-    pub done : OnOk result ((P : Packed) → PackageHolds old P → IsTrue (sound_in old) → PackageIsFit P → PackageIsSaved new P)
+    pub done : OnOk result ((P : Packed) → PackageHolds old P → IsTrue (sound_in old) → PackageIsFit P → PackageIsWritten new P)
     pub holds : OnOk result ((P : Packed) → PackageHolds old P → IsTrue (sound_in old) → PackageHolds new P)
     pub live : OnOk result ((has_failed_here (allocator_of (mini_of (file_in old))) ≡ false) × (has_failed_here (allocator_of (mini_of (file_in new))) ≡ false))
     pub refused : IfErr result (λ e. (P : Packed) → PackageHolds old P → IsTrue (sound_in old) → IsUnsaved old new e)

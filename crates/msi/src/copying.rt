@@ -14,12 +14,12 @@ use crate::package::Package;
 use cfb_medium::{Error, Medium};
 
 impl<F: Medium> Package<F> {
-    /// Writes pool and summary to their streams, also where nothing changed, flushes the file, and copies it to an empty medium: a sound
-    /// file of the same version then holds the same package, sound, where each text fits its page, and has no sector that serves no
-    /// use. Of neither medium anything is published. `Failed` after an earlier fault, `InvalidData` where the package isn't sound,
-    /// and then nothing is touched. `InvalidInput` where a text or a stream would be too long; the other errors are faults of
-    /// either medium, `Full` among them. After an error the target is as it was, and the package too, or it has failed; where it
-    /// was only the copy that failed, pool and summary are written.
+    /// Flushes the package, and copies its file to an empty medium: a sound file of the same version then holds the same package, sound,
+    /// where each text fits its page (`texts_fit`), and has no sector that serves no use. Colours and the root's size are set right in
+    /// it, as `CompoundFile::copy_to` says. Of neither medium anything is published. `Failed` after an earlier fault, `InvalidData`
+    /// where the package isn't sound, and then nothing is touched. `InvalidInput` where a text or a stream would be too long; the other
+    /// errors are faults of either medium, `Full` among them. After an error the target is as it was, and the package too, or it has
+    /// failed; where it was only the copy that failed, the package is flushed.
     pub fn copy_to<T: Medium>(&mut self, target: &mut T) -> Result<(), Error>
         requires { IsTrue (T.honest target.old) → T.bytes target.old ≡ [] }
         ensures copies { PackageCopies (IsTrue (T.honest target.old)) (T.bytes target.new) result
@@ -42,7 +42,7 @@ impl<F: Medium> Package<F> {
         if !self.is_sound {
             return Err(Error::InvalidData);
         }
-        if let Err(error) = self.write_memory() {
+        if let Err(error) = self.flush() {
             return Err(error);
         }
         self.store.file.copy_to(target)

@@ -1,5 +1,6 @@
 //! Packages whose pool and summary are written to their streams.
-ghost use Rattle.std.specs.Prelude.{◌≡◌, ◌&&◌, false, not, Err, IfErr, IfOk, Ok, OnOk};
+ghost use Rattle.std.specs.Prelude.{◌≡◌, ◌&&◌, false, not, true, Err, IfErr, IfOk, IsTrue, Ok, OnOk};
+ghost use Rattle.cfb.specs.Publishing.{medium_in};
 ghost use Rattle.cfb.specs.Views.{mini_of};
 ghost use Rattle.cfb_fat.specs.Tables.{HasCauseBelow};
 ghost use Rattle.cfb_mini.specs.Views.{allocator_of};
@@ -8,6 +9,7 @@ ghost use Rattle.msi.specs.Changing.{failed_in, IsChangeError, PackageWrites, Su
 ghost use Rattle.msi.specs.Copying.{GivesMedium};
 ghost use Rattle.msi.specs.Opened.{file_in, pool_in, written_in};
 ghost use Rattle.msi.specs.Steps.{SavesMemory};
+ghost use Rattle.msi_stored.specs.Shown.{bytes_in};
 
 use crate::package::Package;
 use cfb_medium::{Error, Medium};
@@ -18,10 +20,14 @@ impl<F: Medium> Package<F> {
     /// publishes nothing. `Failed` after an earlier fault. Of a package that isn't sound nothing is touched. `InvalidInput` where a text
     /// or a stream would be too long; the other errors are faults, `Full` among them where numbers of entries or sectors are missing for
     /// the summary, which is written first; where they are missing for the pool behind it, the package fails by that. After an error
-    /// nothing is changed, or the package has failed. A text that its page lacks is written with `?` in it.
+    /// nothing is changed, or the package has failed. A text that its page lacks is written with `?` in it. Of a package without a
+    /// change the bytes stay.
     pub fn flush(&mut self) -> Result<(), Error>
         ensures writes { PackageWrites result self.old self.new }
         ensures live { OnOk result (failed_in self.new ≡ false) }
+        ensures still { (pool_in self.old).modified ≡ false → written_in self.old ≡ true
+            → IsTrue (F.honest (medium_in (file_in self.old)))
+            → bytes_in (file_in self.new) ≡ bytes_in (file_in self.old) }
         ensures full { SummaryFills result self.old self.new }
         ensures goes_on { GoesOn (allocator_of (mini_of (file_in self.old)))
             (allocator_of (mini_of (file_in self.new))) }

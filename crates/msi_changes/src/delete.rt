@@ -1,5 +1,5 @@
 //! Deletes.
-ghost use Rattle.std.specs.Prelude.{◌≡◌, false, true, IfOk, IsTrue, None, Ok, OnErr};
+ghost use Rattle.std.specs.Prelude.{◌≡◌, false, true, option_map, IfOk, IsTrue, None, Ok, OnErr};
 ghost use Rattle.std.specs.Rc.{rc_value};
 ghost use Rattle.msi_texts.specs.Results.{Answers};
 ghost use Rattle.msi_expr.specs.Formula.{formula_of};
@@ -57,6 +57,14 @@ impl Delete {
         ensures { result.now ≡ delete_name self.now }
     {
         self.table_name.as_str()
+    }
+
+    /// The condition on its rows; none where it is of all rows.
+    pub fn condition(&self) -> Option<&Expr>
+        ensures { option_map (λ condition. formula_of condition.now) result
+            ≡ delete_condition self.now }
+    {
+        self.condition.as_ref()
     }
 
     /// The rows of a table for which the condition counts as false, and what this changes of the pool: in a draft of it the

@@ -1,6 +1,6 @@
 //! Updates.
 ghost use Rattle.cfb_medium.specs.declared.error.Error.TheVariants.{Memory};
-ghost use Rattle.std.specs.Prelude.{◌≡◌, ◌⊎◌, ◌++◌, [], ◌∷◌, false, true, map, Err, IfErr, IfOk, IsTrue, None, Ok, OnErr, OnOk};
+ghost use Rattle.std.specs.Prelude.{◌≡◌, ◌⊎◌, ◌++◌, [], ◌∷◌, false, true, map, option_map, Err, IfErr, IfOk, IsTrue, None, Ok, OnErr, OnOk};
 ghost use Rattle.std.specs.Rc.{rc_value};
 ghost use Rattle.msi_texts.specs.Results.{Answers};
 ghost use Rattle.msi_values.specs.Borrowed.{borrowed_data};
@@ -90,6 +90,21 @@ impl Update {
         ensures { result.now ≡ update_name self.now }
     {
         self.table_name.as_str()
+    }
+
+    /// The columns that get new values, with these.
+    pub fn sets(&self) -> &[(String, Value)]
+        ensures { sets_of result.now ≡ update_sets self.now }
+    {
+        self.updates.as_slice()
+    }
+
+    /// The condition on its rows; none where it is of all rows.
+    pub fn condition(&self) -> Option<&Expr>
+        ensures { option_map (λ condition. formula_of condition.now) result
+            ≡ update_condition self.now }
+    {
+        self.condition.as_ref()
     }
 
     /// The rows of a table, with new values in the cells for which the condition counts as true, and what this changes of the

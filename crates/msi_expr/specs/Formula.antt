@@ -35,6 +35,11 @@ ast_formula (tree.Or' p a q b) = either (ast_formula a) (ast_formula b)
 abbrev pub formula_of : Expr → Formula
 formula_of e = ast_formula e.ast
 
+-- the value that it is, where it is nothing else
+abbrev pub literal_of : Formula → Option Datum
+literal_of (literal value) = Some value
+literal_of _ = None
+
 -- ---- values
 
 -- a result of more than 32 bits is null

@@ -2,7 +2,7 @@
 ghost use Rattle.std.specs.Prelude.{◌≡◌, Ok, IsTrue, [], map, option_map};
 ghost use Rattle.msi_texts.specs.Results.{Answers};
 ghost use Rattle.msi_values.specs.Datum.{datum_of};
-ghost use Rattle.msi_expr.specs.Formula.{equated_in, formula_of, worth, has_columns, names_after};
+ghost use Rattle.msi_expr.specs.Formula.{equated_in, formula_of, literal_of, worth, has_columns, names_after};
 ghost use Rattle.msi_tables.specs.Row.{cells_of};
 
 use crate::ast::Ast;
@@ -35,6 +35,17 @@ impl Expr {
         let mut names = Vec::new(alloc);
         self.ast.add_names(&mut names)?;
         Ok(names)
+    }
+
+    /// The value that it is, where it is nothing else.
+    pub fn literal(&self) -> Option<&Value>
+        ensures { option_map (λ value. datum_of value.now) result
+            ≡ literal_of (formula_of self.now) }
+    {
+        match &self.ast {
+            Ast::Literal(value) => Some(value),
+            _ => None,
+        }
     }
 
     /// The names of two columns, where it asks whether they are equal, and nothing else.

@@ -4,4 +4,5 @@ pub mod PoolFound
 pub mod PoolRoundTrip
 pub mod PoolStays
 pub mod PoolFree
+pub mod PoolFits
 pub mod Worked

@@ -1,5 +1,5 @@
 -- Which pools their two streams give back.
-use Rattle.std.specs.Prelude.{◌≡◌, ℕ, ◌<◌, ◌^◌, IsTrue, List, [], ◌∷◌, length, All}
+use Rattle.std.specs.Prelude.{◌≡◌, ◌==◌, ◌&&◌, ℕ, ◌<◌, ◌^◌, Bool, not, IsTrue, List, [], ◌∷◌, length, filter, map, All}
 use Rattle.std.specs.Str.{is_utf8}
 use Rattle.msi_texts.specs.declared.codepage.CodePage.{CodePage}
 use Rattle.msi_texts.specs.Page.{encoded, fits}
@@ -8,6 +8,14 @@ use Rattle.msi_pool.specs.Pool.{Pool, Place}
 -- no text stands at a free place
 abbrev pub AreFreeEmpty : List Place → Type 0
 AreFreeEmpty ps = All (λ p. p.count ≡ 0 → p.text ≡ []) ps
+
+-- a text that is in use and doesn't fit the page
+abbrev pub is_unfit : CodePage → Place → Bool
+is_unfit page p = not (p.count == 0) && not (fits page p.text)
+
+-- those texts, in the order of their places
+abbrev pub unfit_among : CodePage → List Place → List (List ℕ)
+unfit_among page ps = map (λ p. p.text) (filter (is_unfit page) ps)
 
 -- a text that fits the page, with a length that fits its field
 pub record CanBeKept (page : CodePage) (text : List ℕ) : Type 0 where

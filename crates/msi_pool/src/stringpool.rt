@@ -1,10 +1,10 @@
 //! The string pool: texts, each with the number of its uses.
-ghost use Rattle.std.specs.Prelude.{◌≡◌, ◌↔◌, ◌⊎◌, ◌+◌, ◌<◌, ◌^◌, ◌++◌, ◌||◌, ◌==◌, not, [], true, false, IsTrue, nat_lt, map, length, Some, None, IfOk, OnOk, OnErr, IfErr, IsErrOf, string_bytes};
+ghost use Rattle.std.specs.Prelude.{◌≡◌, ◌↔◌, ◌⊎◌, ◌+◌, ◌<◌, ◌^◌, ◌++◌, ◌||◌, ◌==◌, not, [], true, false, IsTrue, nat_lt, map, take, length, Some, None, IfOk, OnOk, OnErr, IfErr, IsErrOf, string_bytes};
 ghost use Rattle.std.specs.List.{flat_map, list_all};
 ghost use Rattle.msi_texts.specs.Page.{encoded};
 ghost use Rattle.msi_pool.specs.Pool.{place, last_place, without_use, at_place, places_of, used, head_bytes, head_of, stored_place, pool_stream, data_stream, width_bit};
 ghost use Rattle.msi_pool.specs.PoolDraft.{AreChangesOver, adopted};
-ghost use Rattle.msi_pool.specs.PoolKept.{AreFreeEmpty};
+ghost use Rattle.msi_pool.specs.PoolKept.{AreFreeEmpty, AreKept, IsKeptPlace, IsWritable, is_unfit, unfit_among};
 ghost use Rattle.msi_pool.specs.PoolState.{changed_to, is_in_size, length_limit};
 ghost use Rattle.cfb_medium.specs.declared.error.Error.TheVariants.{InvalidInput, InvalidData, Memory};
 
@@ -227,6 +227,23 @@ impl StringPool {
         are_free_empty(self.places.list())
     }
 
+    /// Whether its two streams, once they are written, are read as this pool: each text fits the page, with a length below 2^32, and no
+    /// text stands at a free place. It takes no memory, and time for each character.
+    pub fn is_writable(&self) -> bool
+        ensures { IsTrue result ↔ IsWritable self.now.pool }
+    {
+        are_kept(self.codepage, self.places.list())
+    }
+
+    /// The texts in use that don't fit the page, in the order of their places, and of these the first `most`. The one error is Memory.
+    pub fn unfit_texts(&self, alloc: Global, most: usize) -> Result<Vec<String>, Error>
+        ensures texts { IfOk result (λ texts. map string_bytes texts.items
+            ≡ take most (unfit_among self.now.pool.page self.now.pool.places)) }
+        ensures kinds { IfErr result (λ e. e ≡ Memory) }
+    {
+        first_unfit(alloc, self.codepage, self.places.list(), most)
+    }
+
     /// Counts a use of the text at the least place that is free or holds it with a count below 65535,
     /// else at a new place, and tells where. InvalidInput where no reference could name that place;
     /// then, and after Memory, nothing changed.
@@ -312,6 +329,59 @@ fn counts_of(alloc: Global, strings: &[(String, u16)]) -> Result<Vec<u16>, Error
         counts.push(*count)?;
     }
     Ok(counts)
+}
+
+// Whether the two streams of a pool give these places back.
+fn are_kept(codepage: CodePage, strings: &[(String, u16)]) -> bool
+    ensures { IsTrue result ↔ AreKept codepage (places_of strings.now) }
+{
+    for entry in strings {
+        if !is_kept(codepage, &entry.0, entry.1) {
+            return false;
+        }
+    }
+    true
+}
+
+// Whether they give a place of this text and count back.
+fn is_kept(codepage: CodePage, text: &str, count: u16) -> bool
+    ensures { IsTrue result
+        ↔ IsKeptPlace codepage (record { text = text.now; count = count }) }
+{
+    if !codepage.fits(text) || codepage.encoded_len(text) >= 4294967296 {
+        return false;
+    }
+    count != 0 || text.is_empty()
+}
+
+// The first texts in use that don't fit the page. The one error is Memory.
+fn first_unfit(
+    alloc: Global,
+    codepage: CodePage,
+    strings: &[(String, u16)],
+    most: usize,
+) -> Result<Vec<String>, Error>
+    ensures texts { IfOk result (λ texts. map string_bytes texts.items
+        ≡ take most (unfit_among codepage (places_of strings.now))) }
+    ensures kinds { IfErr result (λ e. e ≡ Memory) }
+{
+    let mut texts = Vec::new(alloc);
+    for entry in strings {
+        if texts.len() == most {
+            return Ok(texts);
+        }
+        if is_unfit(codepage, &entry.0, entry.1) {
+            texts.push(String::from_str(alloc, &entry.0)?)?;
+        }
+    }
+    Ok(texts)
+}
+
+// Whether a text is in use and doesn't fit the page.
+fn is_unfit(codepage: CodePage, text: &str, count: u16) -> bool
+    ensures { result ≡ is_unfit codepage (record { text = text.now; count = count }) }
+{
+    count != 0 && !codepage.fits(text)
 }
 
 // Whether no text stands at a free place.

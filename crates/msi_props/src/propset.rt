@@ -18,7 +18,7 @@ use std::alloc::Global;
 use std::marker::Model;
 
 // The number of the property that tells the page.
-const PROPERTY_CODEPAGE: u32 = 1;
+pub(crate) const PROPERTY_CODEPAGE: u32 = 1;
 
 /// A property set: values by their numbers, under a code page for texts, with what its file says of the system that wrote it.
 #[derive(Drop)]
@@ -326,7 +326,7 @@ impl PropertySet {
 }
 
 // The page that a value of property 1 tells.
-fn page_in(value: &PropertyValue) -> Option<CodePage>
+pub(crate) fn page_in(value: &PropertyValue) -> Option<CodePage>
     ensures { result ≡ page_in (property_in value.now) }
 {
     match value {

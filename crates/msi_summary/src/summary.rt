@@ -1,14 +1,15 @@
 //! The summary of a package: its texts, moments and numbers.
-ghost use Rattle.std.specs.Prelude.{◌≡◌, ◌⊎◌, ◌++◌, false, true, IfErr, IfOk, IsTrue, None, OnErr, OnOk, Some, map, option_map, string_bytes};
+ghost use Rattle.std.specs.Prelude.{◌≡◌, ◌↔◌, ◌⊎◌, ◌++◌, false, true, IfErr, IfOk, IsTrue, None, OnErr, OnOk, Some, map, option_map, string_bytes};
 ghost use Rattle.cfb_medium.specs.Times.{units_of};
 ghost use Rattle.cfb_medium.specs.declared.error.Error.TheVariants.{InvalidInput, Memory};
 ghost use Rattle.msi_texts.specs.Results.{Answers};
 ghost use Rattle.uuid.specs.Text.{braced_text, upper};
 ghost use Rattle.msi_props.specs.Held.{pair_in, property_in};
+ghost use Rattle.msi_props.specs.Kept.{SetIsWritable};
 ghost use Rattle.msi_summary.specs.Edits.{Edits, edited_state};
 ghost use Rattle.msi_props.specs.Props as property;
 ghost use Rattle.msi_props.specs.Props.{is_in_size, props_bytes, property_named, texts_give_back};
-ghost use Rattle.msi_summary.specs.Summary.{arch_of, keywords_of, languages_of, set_arch, set_keywords, set_languages, some_text, uuid_of, as_number, as_text, as_time, new_summary, number_field, set_number, set_or_cleared, set_page, set_text, set_time, summary_read, text_field, time_field};
+ghost use Rattle.msi_summary.specs.Summary.{arch_of, keywords_of, languages_of, set_arch, set_keywords, set_languages, some_text, uuid_of, as_number, as_text, as_time, new_summary, number_field, set_number, set_or_cleared, set_page, set_text, set_time, summary_format, summary_read, text_field, time_field};
 
 use crate::parts::{
     before_semicolon, behind_semicolon, joined_parts, languages_in, parts_in, push_languages,
@@ -163,6 +164,16 @@ impl SummaryInfo {
             × ((e ≡ Memory) ⊎ ((e ≡ InvalidInput) × (is_in_size self.now.props ≡ false)))) }
     {
         self.properties.write(writer)
+    }
+
+    /// Whether it is read as it is, once it is written: its numbers rise, each text fits the page, which property 1 tells, it takes fewer
+    /// than 2^32 - 1 bytes, and its identifier is a summary's. It takes no memory, and time for each character.
+    pub fn is_writable(&self) -> bool
+        ensures { IsTrue result
+            ↔ (SetIsWritable self.now.props × (self.now.props.format ≡ summary_format)) }
+    {
+        self.properties.format_identifier().as_slice() == FORMAT.as_slice()
+            && self.properties.is_writable()
     }
 
     /// The values with their numbers, which rise.

@@ -6,8 +6,9 @@ use Rattle.cfb_owned.proofs.GoingOn.{goes_cause}
 use Rattle.std.proofs.lemmas.Result.{IfErr-weaker}
 use Rattle.cfb_fat.specs.Tables.{HasCauseBelow}
 use Rattle.msi.specs.Opened.{file_in}
-use Rattle.msi.proofs.Flushed.{failed_cause, fault_kinds, never_full}
-use Rattle.msi.proofs.Published.{commit_leaves, failed_commits, goes_leaves, saved_commits, still_leaves, unsaved_commits, unsound_commits}
+use Rattle.msi_stored.specs.Shown.{bytes_in}
+use Rattle.msi.proofs.Flushed.{failed_cause, fault_kinds, here_live, never_full}
+use Rattle.msi.proofs.Published.{bytes_since, commit_leaves, cut_quiet, failed_commits, goes_leaves, published_bytes, saved_commits, still_leaves, unsaved_commits, unsound_commits}
 use Rattle.msi.proofs.package.Package.commit.Goals as goal
 
 pub returns-then-has_failed-clause-commits : goal.returns-then-has_failed-clause-commits
@@ -26,7 +27,7 @@ pub returns-then-not-self-clause-left : goal.returns-then-not-self-clause-left
 returns-then-not-self-clause-left g c = λ honest. let G = g.met.F.ReadMedium in still_leaves G.continues_refl G.continues_leaves c.args.self.now
 
 pub returns-in-Err-clause-commits : goal.returns-in-Err-clause-commits
-returns-in-Err-clause-commits g c = unsaved_commits g.F.Medium.has_published c.args.self.now _ (sym c.has_failed.ensures ∙ c.if-has_failed.false) c.if-not-self.false c.in-Err.error c.in-Err.ensures.saves c.write_memory.ensures.goes_on
+returns-in-Err-clause-commits g c = unsaved_commits g.F.Medium.has_published c.args.self.now _ (sym c.has_failed.ensures ∙ c.if-has_failed.false) c.if-not-self.false c.in-Err.error c.in-Err.ensures.writes c.flush.ensures.goes_on
 
 pub returns-in-Err-clause-full : goal.returns-in-Err-clause-full
 returns-in-Err-clause-full g c = c.in-Err.ensures.full
@@ -35,13 +36,13 @@ pub returns-clause-full : goal.returns-clause-full
 returns-clause-full g c = λ is live. absurd (never_full c.commit.result c.commit.ensures.fault is)
 
 pub returns-in-Err-clause-left : goal.returns-in-Err-clause-left
-returns-in-Err-clause-left g c = λ honest. let G = g.met.F.ReadMedium in goes_leaves G.continues_refl G.continues_leaves c.args.self.now c.write_memory.new.self c.write_memory.ensures.goes_on
+returns-in-Err-clause-left g c = λ honest. let G = g.met.F.ReadMedium in goes_leaves G.continues_refl G.continues_leaves c.args.self.now c.flush.new.self c.flush.ensures.goes_on
 
 pub returns-in-Err-clause-counted : goal.returns-in-Err-clause-counted
 returns-in-Err-clause-counted g c =
     let G = g.met.F.ReadMedium in
     let m = medium_in (file_in c.args.self.now) in
-    (G.continues_keeps m _ (c.write_memory.ensures.goes_on.continues m (G.continues_refl m))).counted
+    (G.continues_keeps m _ (c.flush.ensures.goes_on.continues m (G.continues_refl m))).counted
 
 pub returns-clause-commits : goal.returns-clause-commits
 returns-clause-commits g c =
@@ -49,22 +50,36 @@ returns-clause-commits g c =
     let it = c.args.self.now in
     let m = medium_in (file_in it) in
     let did = c.commit.ensures in
-    let keeps = G.continues_keeps m _ (c.write_memory.ensures.goes_on.continues m (G.continues_refl m)) in
-    saved_commits g.F.Medium.has_published it c.write_memory.new.self (sym c.has_failed.ensures ∙ c.if-has_failed.false) c.if-not-self.false _ c.in_default.ensures.saves _
+    let keeps = G.continues_keeps m _ (c.flush.ensures.goes_on.continues m (G.continues_refl m)) in
+    saved_commits g.F.Medium.has_published it c.flush.new.self (sym c.has_failed.ensures ∙ c.if-has_failed.false) c.if-not-self.false _ c.in_default.ensures.writes c.in_default.ensures.live _
     (record { letters = did.seen.0; tables = refl; kind = refl; summary = refl; sound = refl; written = refl }) refl c.commit.result did.publishes did.unsound did.err did.fault did.medium.1 (sym keeps.as_failed)
+    (cut_quiet (allocator_of (mini_of (file_in it))) (allocator_of (mini_of (file_in c.flush.new.self))) (allocator_of (mini_of c.commit.new.self)) c.flush.ensures.goes_on c.commit.result did.cut did.err
+    did.memory.directory.honest did.memory.directory.tables.version)
+
+pub returns-then-not-self-clause-still : goal.returns-then-not-self-clause-still
+returns-then-not-self-clause-still g c = λ unmodified written honest. refl
+
+pub returns-in-Err-clause-still : goal.returns-in-Err-clause-still
+returns-in-Err-clause-still g c = λ unmodified written honest. tt
+
+pub returns-clause-still : goal.returns-clause-still
+returns-clause-still g c = λ unmodified written honest.
+    let did = c.commit.ensures in
+    bytes_since (bytes_in (file_in c.args.self.now)) (bytes_in (file_in c.flush.new.self)) (bytes_in c.commit.new.self) (c.flush.ensures.still unmodified written honest) c.commit.result
+    (published_bytes g.F.Medium.has_published (file_in c.flush.new.self) c.commit.new.self (here_live c.flush.new.self c.in_default.ensures.live) (subst IsTrue (sym c.flush.ensures.goes_on.honest) honest) c.commit.result did.publishes did.unsound)
 
 pub returns-clause-left : goal.returns-clause-left
 returns-clause-left g c = λ honest.
     let G = g.met.F.ReadMedium in
-    let goes = c.write_memory.ensures.goes_on in
-    commit_leaves G.continues_refl G.continues_leaves G.counts_now c.args.self.now c.write_memory.new.self c.commit.new.self _ goes c.in_default.ensures.saves (c.commit.ensures.left (subst IsTrue (sym goes.honest) honest))
+    let goes = c.flush.ensures.goes_on in
+    commit_leaves G.continues_refl G.continues_leaves G.counts_now c.args.self.now c.flush.new.self c.commit.new.self _ goes c.in_default.ensures.writes (c.commit.ensures.left (subst IsTrue (sym goes.honest) honest))
 
 pub returns-clause-cause : goal.returns-clause-cause
 returns-clause-cause g c =
     let a = allocator_of (mini_of (file_in c.args.self.now)) in
-    let m = allocator_of (mini_of (file_in c.write_memory.new.self)) in
+    let m = allocator_of (mini_of (file_in c.flush.new.self)) in
     let b = allocator_of (mini_of c.commit.new.self) in
-    IfErr-weaker c.commit.result (HasCauseBelow m b) (HasCauseBelow a b) (λ e cause. goes_cause a m b e c.write_memory.ensures.goes_on c.in_default.ensures.saves.live.1 cause) c.commit.ensures.cause
+    IfErr-weaker c.commit.result (HasCauseBelow m b) (HasCauseBelow a b) (λ e cause. goes_cause a m b e c.flush.ensures.goes_on (here_live c.flush.new.self c.in_default.ensures.live) cause) c.commit.ensures.cause
 
 pub returns-clause-kinds : goal.returns-clause-kinds
 returns-clause-kinds g c = fault_kinds c.commit.result c.commit.ensures.fault
@@ -73,11 +88,11 @@ pub returns-clause-counted : goal.returns-clause-counted
 returns-clause-counted g c =
     let G = g.met.F.ReadMedium in
     let m = medium_in (file_in c.args.self.now) in
-    let keeps = G.continues_keeps m _ (c.write_memory.ensures.goes_on.continues m (G.continues_refl m)) in
+    let keeps = G.continues_keeps m _ (c.flush.ensures.goes_on.continues m (G.continues_refl m)) in
     omega (arith, keeps.counted, c.commit.ensures.medium.0)
 
 pub returns-in-Err-clause-honest : goal.returns-in-Err-clause-honest
-returns-in-Err-clause-honest g c = c.write_memory.ensures.goes_on.honest
+returns-in-Err-clause-honest g c = c.flush.ensures.goes_on.honest
 
 pub returns-clause-honest : goal.returns-clause-honest
-returns-clause-honest g c = c.commit.ensures.memory.directory.honest ∙ c.write_memory.ensures.goes_on.honest
+returns-clause-honest g c = c.commit.ensures.memory.directory.honest ∙ c.flush.ensures.goes_on.honest

@@ -8,7 +8,7 @@ use Rattle.cfb_owned.proofs.GoingOn.{goes_cause, goes_then, rests_go_on}
 use Rattle.msi.specs.Changing.{IsChangeError}
 use Rattle.msi.specs.Opened.{file_in}
 use Rattle.msi.proofs.Copied.{failed_copies, saved_copies, unsaved_copies, unsound_cause, unsound_copies}
-use Rattle.msi.proofs.Flushed.{failed_cause}
+use Rattle.msi.proofs.Flushed.{failed_cause, here_live}
 use Rattle.msi.proofs.package.Package.copy_to.Goals as goal
 
 pub returns-then-has_failed-clause-copies : goal.returns-then-has_failed-clause-copies
@@ -30,7 +30,7 @@ pub returns-then-not-self-clause-kinds : goal.returns-then-not-self-clause-kinds
 returns-then-not-self-clause-kinds g c = inl (inr (inl (inl (inl refl))))
 
 pub returns-in-Err-clause-copies : goal.returns-in-Err-clause-copies
-returns-in-Err-clause-copies g c = unsaved_copies _ _ c.args.self.now _ (sym c.has_failed.ensures ∙ c.if-has_failed.false) c.if-not-self.false c.in-Err.error c.in-Err.ensures.saves
+returns-in-Err-clause-copies g c = unsaved_copies _ _ c.args.self.now _ (sym c.has_failed.ensures ∙ c.if-has_failed.false) c.if-not-self.false c.in-Err.error c.in-Err.ensures.writes
 
 pub returns-in-Err-clause-cause : goal.returns-in-Err-clause-cause
 returns-in-Err-clause-cause g c = inl c.in-Err.ensures.cause
@@ -41,19 +41,19 @@ returns-in-Err-clause-kinds g c = inl c.in-Err.ensures.kinds
 pub returns-clause-copies : goal.returns-clause-copies
 returns-clause-copies g c =
     let did = c.copy_to.ensures in
-    saved_copies _ _ c.args.self.now c.write_memory.new.self (sym c.has_failed.ensures ∙ c.if-has_failed.false) c.if-not-self.false _ c.in_default.ensures.saves _
-    (record { letters = did.rests.letters; tables = refl; kind = refl; summary = refl; sound = refl; written = refl }) refl did.rests c.copy_to.result c.write_memory.ensures.goes_on.version did.copied did.refused
+    saved_copies _ _ c.args.self.now c.flush.new.self (sym c.has_failed.ensures ∙ c.if-has_failed.false) c.if-not-self.false _ c.in_default.ensures.writes _
+    (record { letters = did.rests.letters; tables = refl; kind = refl; summary = refl; sound = refl; written = refl }) refl did.rests c.copy_to.result c.flush.ensures.goes_on.version did.copied did.refused
 
 pub returns-clause-goes_on : goal.returns-clause-goes_on
 returns-clause-goes_on g c =
-    let m = allocator_of (mini_of (file_in c.write_memory.new.self)) in
-    goes_then (allocator_of (mini_of (file_in c.args.self.now))) m _ c.write_memory.ensures.goes_on (rests_go_on m _ c.copy_to.ensures.rests.mini.directory.allocator)
+    let m = allocator_of (mini_of (file_in c.flush.new.self)) in
+    goes_then (allocator_of (mini_of (file_in c.args.self.now))) m _ c.flush.ensures.goes_on (rests_go_on m _ c.copy_to.ensures.rests.mini.directory.allocator)
 
 pub returns-clause-cause : goal.returns-clause-cause
 returns-clause-cause g c =
     let a = allocator_of (mini_of (file_in c.args.self.now)) in
-    let m = allocator_of (mini_of (file_in c.write_memory.new.self)) in
-    IfErr-weaker c.copy_to.result _ _ (λ e cause. ⊎_elim (λ below. inl (goes_cause a m (allocator_of (mini_of c.copy_to.new.self)) e c.write_memory.ensures.goes_on c.in_default.ensures.saves.live.1 below)) (λ there. inr there) cause) c.copy_to.ensures.cause
+    let m = allocator_of (mini_of (file_in c.flush.new.self)) in
+    IfErr-weaker c.copy_to.result _ _ (λ e cause. ⊎_elim (λ below. inl (goes_cause a m (allocator_of (mini_of c.copy_to.new.self)) e c.flush.ensures.goes_on (here_live c.flush.new.self c.in_default.ensures.live) below)) (λ there. inr there) cause) c.copy_to.ensures.cause
 
 pub returns-clause-kinds : goal.returns-clause-kinds
 returns-clause-kinds g c = IfErr-weaker c.copy_to.result IsCopyFault (λ e. IsChangeError e ⊎ IsCopyFault e) (λ e fault. inr fault) c.copy_to.ensures.fault

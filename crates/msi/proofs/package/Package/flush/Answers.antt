@@ -2,8 +2,8 @@ use Rattle.std.proofs.Common.{◌∙◌, inr, refl, sym}
 use Rattle.cfb.specs.Views.{mini_of}
 use Rattle.cfb_mini.specs.Views.{allocator_of}
 use Rattle.cfb_owned.proofs.GoingOn.{rests_go_on}
-use Rattle.msi.specs.Opened.{file_in}
-use Rattle.msi.proofs.Flushed.{failed_cause, failed_writes, fault_kinds, fault_unsaved, here_live, keeps_flushed, lives_yet, never_full, now_live, on_err, on_ok, saved_writes, sound_writes, unsound_writes, written_already, written_yet}
+use Rattle.msi.specs.Opened.{file_in, pool_in, written_in}
+use Rattle.msi.proofs.Flushed.{failed_cause, failed_writes, fault_kinds, fault_unsaved, here_live, keeps_flushed, lives_yet, never_full, now_live, on_err, on_ok, saved_writes, sound_writes, unsound_writes, unwritten, written_already, written_yet}
 use Rattle.msi.proofs.package.Package.flush.Goals as goal
 
 pub returns-then-has_failed-clause-writes : goal.returns-then-has_failed-clause-writes
@@ -55,3 +55,9 @@ pub returns-clause-live : goal.returns-clause-live
 returns-clause-live g c =
     let G = g.met.F.ReadMedium in
     lives_yet G.continues_refl G.continues_keeps (file_in c.args.self.now) (file_in c.write_memory.new.self) (sym c.has_failed.ensures ∙ c.if-has_failed.false) c.write_memory.ensures.goes_on.continues c.write_memory.result (now_live _ _ c.write_memory.result c.write_memory.ensures.saves.live)
+
+pub returns-then-is_written-clause-still : goal.returns-then-is_written-clause-still
+returns-then-is_written-clause-still g c = λ unmodified written honest. c.flush.ensures.rests.mini.directory.allocator.sectors.bytes honest
+
+pub returns-clause-still : goal.returns-clause-still
+returns-clause-still g c = λ unmodified written honest. absurd (unwritten (pool_in c.args.self.now).modified (written_in c.args.self.now) (sym c.is_written.ensures ∙ c.if-is_written.false) unmodified written)
