@@ -4,3 +4,4 @@ pub mod Commands
 pub mod Built
 pub mod Nested
 pub mod Said
+pub mod Guards

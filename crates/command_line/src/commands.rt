@@ -1,12 +1,13 @@
 //! The run of commands on a package, and what is answered.
-use crate::failures::{Failure, Paths, failure_of};
-use crate::files::{self, Found};
+use crate::failures::failure_of;
+use crate::files;
 use crate::progress::Progress;
 use crate::sessions::run_commands;
 use cfb_medium::Error;
 use installer::{Answer, Command, answer_text};
 use installer_runs::{Ending as Ended, Listener};
-use package_views::{Trouble, is_sound_at, trouble_of, why_refused};
+use package_files::{Failure, Faults, Found, Names, Trouble, cut_log, look_at_log};
+use package_views::{is_signed_at, is_sound_at, why_refused};
 use std::alloc::Global;
 use std::fs::File;
 use std::io::Write;
@@ -22,61 +23,147 @@ pub(crate) enum Ending {
     Refused,
 }
 
-/// Runs commands on the package of two files, prints their answers, and shows how far it has come. Where there is no log yet, none is
-/// made before the package was found to be one.
+/// Runs commands on the package of two files, prints their answers, and shows how far it has come. The log is made by the first commit.
+/// One into which this run wrote is cut to a byte at its end.
 pub(crate) fn run<R: Files<File = File> + AllocGlobal + Clock, O: Write, E: Write>(
     rt: &R,
-    paths: &Paths<'_>,
+    names: &Names,
     commands: &[Command],
     out: &mut O,
     progress: &mut Progress<'_, R, E>,
+    is_quiet: bool,
 ) -> Result<Ending, Failure> {
-    check_before_log(rt, paths)?;
-    let device = files::open(rt, paths)?;
-    let mut answers = Answers::new(rt.alloc(), out, progress);
+    let found = files::look_to_commit(rt, names)?;
+    let faults = Faults::new();
+    let device = files::open(rt, names, &faults)?;
+    let mut answers = Answers::new(rt.alloc(), commands, out, progress);
     match run_commands(rt.alloc(), device, commands, &mut answers) {
         Ok(Ended::Whole) => {}
-        Ok(Ended::Unopened(error)) => return Err(why_no_session(rt, paths, error)),
+        Ok(Ended::Unopened(error)) => return Err(why_no_session(rt, names, error)),
         Ok(Ended::Cut) | Err(_) => answers.meet(Failure::Memory),
     }
-    answers.ending()
-}
-
-// Refuses files on which no session can be opened, where there is no log yet.
-fn check_before_log<R: Files<File = File> + AllocGlobal>(
-    rt: &R,
-    paths: &Paths<'_>,
-) -> Result<(), Failure> {
-    match files::look_at(rt, paths)? {
-        Found::Missing => {
-            check_package(rt, paths.package)?;
-            files::check_log_folder(rt, paths)
-        }
-        _ => Ok(()),
+    if found == Found::Open || has_commit(commands) {
+        cut_log(rt, names);
+    }
+    let (ending, heard) = (answers.ending(), answers.heard);
+    if !is_quiet {
+        tell_notes(rt, names, heard, progress.err());
+    }
+    match ending {
+        Ok(ending) => Ok(ending),
+        Err(failure) => Err(files::why_fault(rt, names, &faults, failure)),
     }
 }
 
-// Refuses a file that is no package.
-fn check_package<R: Files<File = File> + AllocGlobal>(rt: &R, path: &str) -> Result<(), Failure> {
-    match is_sound_at(rt, path) {
-        Ok(_) => Ok(()),
-        Err(Error::Memory) => Err(Failure::Memory),
-        Err(error) => Err(Failure::Package(trouble_of(rt, path, error))),
-    }
+// Whether one of the commands commits.
+fn has_commit(commands: &[Command]) -> bool {
+    commands
+        .iter()
+        .any(|command| matches!(command, Command::Commit))
 }
 
 // Why no session was opened on two files: a refusal by rule is one of the log, whose commit then stays open, or of the package.
 fn why_no_session<R: Files<File = File> + AllocGlobal>(
     rt: &R,
-    paths: &Paths<'_>,
+    names: &Names,
     error: Error,
 ) -> Failure {
     match error {
         Error::Memory | Error::Device | Error::Failed | Error::Full => failure_of(error),
-        _ => match files::look_at(rt, paths) {
+        _ => match look_at_log(rt, names) {
             Ok(Found::Open) => Failure::Log(Trouble::UnfitCommit),
-            _ => Failure::Package(why_refused(rt, paths.package)),
+            _ => Failure::Package(why_refused(rt, names)),
         },
+    }
+}
+
+// What was heard of a run that a person may want to know.
+#[derive(Clone, Copy, Debug, Default)]
+struct Heard {
+    // How many changes were made behind the last commit, or the last way back.
+    changes: usize,
+    // A change was committed.
+    has_committed: bool,
+    // A change was refused as `InvalidData`, as each of a package that isn't sound.
+    has_invalid: bool,
+    // A table wasn't made since there is no `_Validation`.
+    lacks_validation: bool,
+}
+
+impl Heard {
+    // Notes the answer of a command.
+    fn note(&mut self, command: &Command, answer: &Answer) {
+        match (command, answer) {
+            (Command::Commit, Answer::Done) => {
+                self.has_committed = self.has_committed || self.changes > 0;
+                self.changes = 0;
+            }
+            (Command::RollBack, Answer::Done) => self.changes = 0,
+            (Command::CreateTable(_, _), Answer::Refused(Error::NotFound)) => {
+                self.lacks_validation = true;
+            }
+            (command, Answer::Done) if is_change(command) => {
+                self.changes = self.changes.saturating_add(1);
+            }
+            (command, Answer::Refused(Error::InvalidData)) if is_change(command) => {
+                self.has_invalid = true;
+            }
+            _ => {}
+        }
+    }
+}
+
+// Whether a command changes a package.
+fn is_change(command: &Command) -> bool {
+    matches!(
+        command,
+        Command::CreateTable(_, _)
+            | Command::DropTable(_)
+            | Command::Insert(_)
+            | Command::Update(_)
+            | Command::Delete(_)
+            | Command::WriteStream(_, _)
+            | Command::RemoveStream(_)
+            | Command::RemoveSignature
+            | Command::SetSummary(_)
+            | Command::SetCodepage(_)
+    )
+}
+
+// Tells what the answers don't.
+fn tell_notes<R: Files<File = File> + AllocGlobal, E: Write>(
+    rt: &R,
+    names: &Names,
+    heard: Heard,
+    err: &mut E,
+) {
+    let named = names.named();
+    if heard.has_invalid && matches!(is_sound_at(rt, names), Ok(false)) {
+        let _ = writeln!(
+            err,
+            "msidb: {named}: the package isn't sound, so it isn't changed; `msidb check` tells why, `msidb adopt` makes a copy that can be changed"
+        );
+    }
+    if heard.lacks_validation {
+        let _ = writeln!(
+            err,
+            "msidb: {named}: tables are made and dropped only where there is a table _Validation; `msidb adopt --validation` makes a copy that has one"
+        );
+    }
+    if heard.changes > 0 {
+        let count = heard.changes;
+        let noun = if count == 1 { "change" } else { "changes" };
+        let verb = if count == 1 { "is" } else { "are" };
+        let _ = writeln!(
+            err,
+            "msidb: {named}: {count} {noun} behind the last commit {verb} gone; the command `{{\"op\":\"commit\"}}` keeps what was done before it"
+        );
+    }
+    if heard.has_committed && is_signed_at(rt, names) {
+        let _ = writeln!(
+            err,
+            "msidb: {named}: its digital signature no longer fits; `{{\"op\":\"remove_signature\"}}` takes it away"
+        );
     }
 }
 
@@ -84,6 +171,9 @@ fn why_no_session<R: Files<File = File> + AllocGlobal>(
 #[derive(Drop)]
 struct Answers<'a, 'b, O, R, E> {
     alloc: Global,
+    commands: &'a [Command],
+    done: usize,
+    heard: Heard,
     out: &'a mut O,
     progress: &'a mut Progress<'b, R, E>,
     // A command was refused by a rule.
@@ -98,6 +188,10 @@ impl<'a, 'b, O: Write, R: Clock, E: Write> Listener for Answers<'a, 'b, O, R, E>
     // Prints the answers of a slice.
     fn hear(&mut self, answers: &[Answer]) {
         for answer in answers {
+            if let Some(command) = self.commands.get(self.done) {
+                self.heard.note(command, answer);
+            }
+            self.done = self.done.saturating_add(1);
             self.note(answer);
             self.print(answer);
         }
@@ -106,9 +200,17 @@ impl<'a, 'b, O: Write, R: Clock, E: Write> Listener for Answers<'a, 'b, O, R, E>
 }
 
 impl<'a, 'b, O: Write, R: Clock, E: Write> Answers<'a, 'b, O, R, E> {
-    fn new(alloc: Global, out: &'a mut O, progress: &'a mut Progress<'b, R, E>) -> Self {
+    fn new(
+        alloc: Global,
+        commands: &'a [Command],
+        out: &'a mut O,
+        progress: &'a mut Progress<'b, R, E>,
+    ) -> Self {
         Answers {
             alloc,
+            commands,
+            done: 0,
+            heard: Heard::default(),
             out,
             progress,
             has_refusal: false,
@@ -171,7 +273,7 @@ pub(crate) fn print_line<O: Write>(
     let text = text_of(alloc, answer)?;
     match writeln!(out, "{text}") {
         Ok(()) => Ok(()),
-        Err(_) => Err(Failure::Output),
+        Err(error) => Err(Failure::Output(error.kind())),
     }
 }
 

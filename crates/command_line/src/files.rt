@@ -1,97 +1,115 @@
-//! The two files of a package, and which file is taken for a log.
-use crate::failures::{Failure, Paths};
-use cfb_medium::{Error, ReadMedium};
-use file_device::{FileDevice, FileMedium};
-use package_views::{Trouble, trouble_at};
-use staged::{Recovered, is_log, recover};
+//! The two files of a package that a word writes, and what is refused before it does.
+use cfb_medium::Error;
+use package_files::{
+    Failure, Faults, Found, Fresh, Names, PackageDevice, Trouble, check_one_name, create_files,
+    has_folder, look_at_log, open_files, trouble_at, trouble_of_kind, writers_trouble_at,
+};
+use staged::{Recovered, recover};
 use std::fs::{self, File};
-use std::path::Path;
 use std::rt::Files;
 
-/// What was found where a log is named.
-#[derive(Clone, Copy, Debug, PartialEq, Eq)]
-pub(crate) enum Found {
-    /// No file.
-    Missing,
-    /// A log that holds nothing to be done.
-    Closed,
-    /// A log with a commit to finish.
-    Open,
+/// What is found as the log of a package that is there and can be written. Nothing is written. A log that is named and may be any file is
+/// refused.
+pub(crate) fn look_at<R: Files<File = File>>(rt: &R, names: &Names) -> Result<Found, Failure> {
+    if let Some(trouble) = writers_trouble_at(rt, names.package()) {
+        return Err(Failure::Package(trouble));
+    }
+    check_one_name(rt, names)?;
+    look_at_log(rt, names)
 }
 
-/// What is found as the log of a package that is there. Nothing is written.
-pub(crate) fn look_at<R: Files<File = File>>(rt: &R, paths: &Paths<'_>) -> Result<Found, Failure> {
-    match trouble_at(rt, paths.package) {
-        Some(trouble) => Err(Failure::Package(trouble)),
-        None => look_at_log(rt, paths),
+/// The same for a word that commits.
+pub(crate) fn look_to_commit<R: Files<File = File>>(
+    rt: &R,
+    names: &Names,
+) -> Result<Found, Failure> {
+    match look_at(rt, names)? {
+        Found::Doubtful if names.is_log_named() => Err(Failure::Log(Trouble::DoubtfulLog)),
+        Found::Missing if !has_folder(rt, names.log()) => Err(Failure::Log(Trouble::NoFolder)),
+        found => Ok(found),
     }
 }
 
-/// The files of a package that is there; a log that is missing is made.
-pub(crate) fn open<R: Files<File = File>>(
-    rt: &R,
-    paths: &Paths<'_>,
-) -> Result<FileDevice, Failure> {
-    match FileDevice::open(rt, paths.package, paths.log) {
-        Ok(device) => Ok(device),
-        Err(_) => Err(why_not_opened(rt, paths)),
+/// The files of a package that is there.
+pub(crate) fn open<'a, R: Files<File = File>>(
+    rt: &'a R,
+    names: &'a Names,
+    faults: &'a Faults,
+) -> Result<PackageDevice<'a, R>, Failure> {
+    open_files(rt, names, faults)
+}
+
+/// The files of a new package, and which of them weren't there before. What can't become one is refused before anything is made.
+pub(crate) fn create<'a, R: Files<File = File>>(
+    rt: &'a R,
+    names: &'a Names,
+    faults: &'a Faults,
+) -> Result<(PackageDevice<'a, R>, Fresh), Failure> {
+    let fresh = check_new(rt, names)?;
+    match create_files(rt, names, faults) {
+        Ok(device) => Ok((device, fresh)),
+        Err(Failure::Package(Trouble::Unwritable)) if fresh.package => {
+            Err(Failure::Package(Trouble::Unmakable))
+        }
+        Err(failure) => Err(failure),
     }
 }
 
-/// The files of a new package. What can't become one is refused before anything is made.
-pub(crate) fn create<R: Files<File = File>>(
+/// Why a call on the two files met a fault: no space is left, or the log can't be made.
+pub(crate) fn why_fault<R: Files<File = File>>(
     rt: &R,
-    paths: &Paths<'_>,
-) -> Result<FileDevice, Failure> {
-    check_new(rt, paths)?;
-    match FileDevice::create(rt, paths.package, paths.log) {
-        Ok(device) => Ok(device),
-        Err(_) => Err(why_not_opened(rt, paths)),
+    names: &Names,
+    faults: &Faults,
+    failure: Failure,
+) -> Failure {
+    let kind = match (failure, faults.last()) {
+        (Failure::Package(Trouble::Fault), Some(kind)) => kind,
+        _ => return failure,
+    };
+    match look_at_log(rt, names) {
+        Ok(Found::Missing) if trouble_of_kind(kind) == Trouble::Unwritable => {
+            Failure::Log(Trouble::Unmakable)
+        }
+        _ if trouble_of_kind(kind) == Trouble::NoSpace => Failure::Package(Trouble::NoSpace),
+        _ => failure,
     }
 }
 
 /// Finishes the commit of a log, where it holds one.
-pub(crate) fn finish<R: Files<File = File>>(
-    rt: &R,
-    paths: &Paths<'_>,
-) -> Result<Recovered, Failure> {
-    let mut device = open(rt, paths)?;
+pub(crate) fn finish<R: Files<File = File>>(rt: &R, names: &Names) -> Result<Recovered, Failure> {
+    let faults = Faults::new();
+    let mut device = open(rt, names, &faults)?;
     match recover_device(&mut device) {
         Ok(recovered) => Ok(recovered),
         Err(Error::InvalidData) => Err(Failure::Log(Trouble::UnfitCommit)),
-        Err(_) => Err(Failure::Package(Trouble::Fault)),
+        Err(_) => Err(why_fault(rt, names, &faults, Failure::Package(Trouble::Fault))),
     }
 }
 
-/// Refuses a log that isn't there and can't be made.
-pub(crate) fn check_log_folder<R: Files<File = File>>(
-    rt: &R,
-    paths: &Paths<'_>,
-) -> Result<(), Failure> {
-    if has_folder(rt, paths.log) {
-        Ok(())
-    } else {
-        Err(Failure::Log(Trouble::NoFolder))
-    }
-}
-
-// A function of its own, as is `may_be_log`, since what is told of the call costs time wherever it is seen.
-fn recover_device(device: &mut FileDevice) -> Result<Recovered, Error> {
+// A function of its own, since what is told of the call costs time wherever it is seen.
+fn recover_device<R: Files<File = File>>(
+    device: &mut PackageDevice<'_, R>,
+) -> Result<Recovered, Error> {
     recover(device)
 }
 
-// Refuses what can't become a new package and its log: a package that is there, a file that is no log, the log of another package.
-fn check_new<R: Files<File = File>>(rt: &R, paths: &Paths<'_>) -> Result<(), Failure> {
-    let is_missing = is_place_free(rt, paths.package)?;
-    match look_at_log(rt, paths)? {
-        Found::Missing => check_log_folder(rt, paths)?,
-        Found::Open if is_missing => return Err(Failure::Log(Trouble::OtherCommit)),
-        _ => {}
-    }
-    if !is_missing && !is_empty(rt, paths.package) {
+// Refuses what can't become a new package and its log: a package that is there, a file that is no log or may be any file, the log of another
+// package, a folder that isn't there.
+fn check_new<R: Files<File = File>>(rt: &R, names: &Names) -> Result<Fresh, Failure> {
+    let package = is_place_free(rt, names.package())?;
+    check_one_name(rt, names)?;
+    let log = match look_at_log(rt, names)? {
+        Found::Missing if !has_folder(rt, names.log()) => {
+            return Err(Failure::Log(Trouble::NoFolder));
+        }
+        Found::Doubtful => return Err(Failure::Log(Trouble::DoubtfulLog)),
+        Found::Open if package => return Err(Failure::Log(Trouble::OtherCommit)),
+        found => found == Found::Missing,
+    };
+    if !package && !is_empty(rt, names.package()) {
         return Err(Failure::Package(Trouble::Present));
     }
-    Ok(())
+    Ok(Fresh { package, log })
 }
 
 // Whether there is no file where a package is to be made. Refused where none can be made.
@@ -104,79 +122,10 @@ fn is_place_free<R: Files<File = File>>(rt: &R, path: &str) -> Result<bool, Fail
     }
 }
 
-// What is found as the log. A file that is none is refused.
-fn look_at_log<R: Files<File = File>>(rt: &R, paths: &Paths<'_>) -> Result<Found, Failure> {
-    if paths.package == paths.log {
-        return Err(Failure::Log(Trouble::Itself));
-    }
-    match trouble_at(rt, paths.log) {
-        None => {}
-        Some(Trouble::Missing) => return Ok(Found::Missing),
-        Some(trouble) => return Err(Failure::Log(trouble)),
-    }
-    match look_into(rt, paths.log) {
-        Ok(Some(found)) => Ok(found),
-        Ok(None) => Err(Failure::Log(Trouble::NoLog)),
-        Err(_) => Err(Failure::Log(Trouble::Unreadable)),
-    }
-}
-
-// Looks into the file that is named as a log. None where it is no log.
-fn look_into<R: Files<File = File>>(rt: &R, log: &str) -> Result<Option<Found>, Error> {
-    let mut file = FileMedium::open(rt, log)?;
-    if !may_be_log(&mut file)? {
-        return Ok(None);
-    }
-    Ok(Some(if has_open_gate(&mut file)? {
-        Found::Open
-    } else {
-        Found::Closed
-    }))
-}
-
-fn may_be_log(file: &mut FileMedium) -> Result<bool, Error> {
-    is_log(file)
-}
-
-// Whether a log holds a commit: it has two bytes or more, and the first is 01.
-fn has_open_gate(file: &mut FileMedium) -> Result<bool, Error> {
-    let mut start = [0u8; 2];
-    let count = file.read_at(0, &mut start)?;
-    Ok(count == 2 && start[0] == 1)
-}
-
-// Why two files weren't opened.
-fn why_not_opened<R: Files<File = File>>(rt: &R, paths: &Paths<'_>) -> Failure {
-    if let Some(trouble) = trouble_at(rt, paths.package) {
-        return Failure::Package(trouble);
-    }
-    match trouble_at(rt, paths.log) {
-        None | Some(Trouble::Missing) => {}
-        Some(trouble) => return Failure::Log(trouble),
-    }
-    if FileMedium::open_rw(rt, paths.package).is_err() {
-        Failure::Package(Trouble::Unwritable)
-    } else {
-        Failure::Log(Trouble::Unwritable)
-    }
-}
-
 // Whether a file has no bytes.
 fn is_empty<R: Files<File = File>>(rt: &R, path: &str) -> bool {
     match fs::metadata(rt, path) {
         Ok(metadata) => metadata.len() == 0,
-        Err(_) => false,
-    }
-}
-
-// Whether the folder of a path is there.
-fn has_folder<R: Files<File = File>>(rt: &R, path: &str) -> bool {
-    let folder = match Path::new(path).parent() {
-        Some(folder) if !folder.as_str().is_empty() => folder.as_str(),
-        _ => ".",
-    };
-    match fs::metadata(rt, folder) {
-        Ok(metadata) => metadata.is_dir(),
         Err(_) => false,
     }
 }

@@ -1,38 +1,36 @@
 //! The names of a package's tables and streams.
 use crate::commands::{Ending, print_line};
-use crate::failures::{Failure, Paths, failure_of};
-use crate::files::{self, Found};
-use cfb::FileMedium;
+use crate::failures::failure_of;
 use cfb_medium::Error;
 use installer::Answer;
 use msi::Package;
+use package_files::{Failure, Names, Shown, check_shown};
 use package_views::{package_at, streams_of, tables_of, trouble_of};
 use std::alloc::Global;
 use std::fs::File;
 use std::io::Write;
 use std::rt::Files;
 
-/// Prints the names of the tables, and those of the streams that hold no tables. A commit that a stop cut short is finished first;
-/// else the package is only read.
-pub(crate) fn list<R: Files<File = File> + AllocGlobal, O: Write>(
+/// Prints the names of the tables, and those of the streams that hold no tables, of a package as a recovery would leave it. It is only
+/// read.
+pub(crate) fn list<R: Files<File = File> + AllocGlobal, O: Write, E: Write>(
     rt: &R,
-    paths: &Paths<'_>,
+    names: &Names,
     out: &mut O,
+    err: &mut E,
 ) -> Result<Ending, Failure> {
-    if files::look_at(rt, paths)? == Found::Open {
-        files::finish(rt, paths)?;
-    }
-    match package_at(rt, paths.package) {
+    check_shown(rt, names, err)?;
+    match package_at(rt, names) {
         Ok(package) => print_names(rt.alloc(), &package, out),
         Err(Error::Memory) => Err(Failure::Memory),
-        Err(error) => Err(Failure::Package(trouble_of(rt, paths.package, error))),
+        Err(error) => Err(Failure::Package(trouble_of(rt, names, error))),
     }
 }
 
 // Prints both lists, a line each.
 fn print_names<O: Write>(
     alloc: Global,
-    package: &Package<FileMedium>,
+    package: &Package<Shown>,
     out: &mut O,
 ) -> Result<Ending, Failure> {
     let tables = names_of_tables(alloc, package);
@@ -53,7 +51,7 @@ fn print_list<O: Write>(
     }
 }
 
-fn names_of_tables(alloc: Global, package: &Package<FileMedium>) -> Result<Vec<String>, Error> {
+fn names_of_tables(alloc: Global, package: &Package<Shown>) -> Result<Vec<String>, Error> {
     let mut names = Vec::new(alloc);
     for name in tables_of(package)? {
         names.push(name)?;
@@ -61,7 +59,7 @@ fn names_of_tables(alloc: Global, package: &Package<FileMedium>) -> Result<Vec<S
     Ok(names)
 }
 
-fn names_of_streams(alloc: Global, package: &Package<FileMedium>) -> Result<Vec<String>, Error> {
+fn names_of_streams(alloc: Global, package: &Package<Shown>) -> Result<Vec<String>, Error> {
     let mut names = Vec::new(alloc);
     for name in streams_of(package)? {
         names.push(name)?;

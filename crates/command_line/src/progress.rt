@@ -30,6 +30,11 @@ impl<'a, R: Clock, E: Write> Progress<'a, R, E> {
         }
     }
 
+    // Where it is told.
+    pub(crate) fn err(&mut self) -> &mut E {
+        self.err
+    }
+
     // So many commands more are done.
     pub(crate) fn step(&mut self, count: usize) {
         self.done = self.done.saturating_add(count);

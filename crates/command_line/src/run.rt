@@ -1,9 +1,9 @@
 //! What the program does with its words.
-ghost use Rattle.std.specs.Prelude.{◌≤◌};
+ghost use Rattle.std.specs.Prelude.{◌≤◌, IfErr};
 
 use crate::commands::{Ending, run};
-use crate::failures::{Failure, Paths, failure_of, tell_failure};
-use crate::files::{self, Found};
+use crate::failures::failure_of;
+use crate::files;
 use crate::lists::list;
 use crate::progress::Progress;
 use crate::sessions::{commit_copy, create_package};
@@ -12,12 +12,17 @@ use crate::texts::commands_in;
 use cfb::MemoryMedium;
 use cfb_medium::Error;
 use clap::error::ErrorKind;
+use command_file::{Command, slip_in};
 use command_words::{Line, Log, read_words};
 use msi::Package;
 use package_checks::{adopted_package, check_package};
-use package_views::{Trouble, export_package, show_package, tell};
+use package_files::{
+    Failure, Faults, Found, Names, Trouble, cut_log, names_of, remove_fresh, tell, tell_failure,
+    tell_failure_of,
+};
+use package_views::{export_package, show_package};
 use staged::Recovered;
-use std::alloc::{AllocError, Global};
+use std::alloc::Global;
 use std::fs::File;
 use std::io::Write;
 use std::rt::Files;
@@ -29,8 +34,8 @@ use std::time::Clock;
 /// was opened; 3 for a fault, where home file or log were refused, or a file that is to be shown, and where nothing more can be
 /// written. A fault comes before a refusal. A file that is named as the log and is none is refused before anything is written.
 /// Commands are run to the end of their list, also where their answers can't be written. Where answers go to a terminal, tables are shown
-/// in aligned columns; where what went wrong does, a long run says how far it has come. What is shown or listed is only read, but
-/// that a list finishes a commit that a stop cut short; and nothing is made by what is refused.
+/// in aligned columns; where what went wrong does, a long run says how far it has come. What is shown, listed, checked or exported is only
+/// read, as a recovery would leave it; and nothing is made by what is refused.
 pub fn msidb<R: Files<File = File> + AllocGlobal + Clock, O: Write, E: Write>(
     rt: &R,
     words: &[String],
@@ -81,19 +86,46 @@ fn carry_out<R: Files<File = File> + AllocGlobal + Clock, O: Write, E: Write>(
 {
     match line {
         Line::Create(package, log) => on_files(rt, Word::Create, package, log, out, err),
-        Line::Adopt(package, log, source, validation) => {
-            let word = Word::Adopt(source, validation);
+        Line::Adopt(package, log, source, beside, validation) => {
+            let word = Word::Adopt(source, beside, validation);
             on_files(rt, word, package, log, out, err)
         }
         Line::Recover(package, log) => on_files(rt, Word::Recover, package, log, out, err),
         Line::List(package, log) => on_files(rt, Word::List, package, log, out, err),
-        Line::Run(package, log, commands) => {
-            let word = Word::Run(commands, terminals.err);
+        Line::Run(package, log, commands, quiet) => {
+            let word = Word::Run(commands, terminals.err, quiet);
             on_files(rt, word, package, log, out, err)
         }
-        Line::Show(path, parts) => show_package(rt, path, parts, terminals.out, out, err),
-        Line::Check(path) => check_package(rt, path, out, err),
-        Line::Export(path, folder) => export_package(rt, path, folder, err),
+        Line::Show(path, log, parts) => match named(rt, path, log, err) {
+            Ok(names) => show_package(rt, &names, parts, terminals.out, out, err),
+            Err(status) => status,
+        },
+        Line::Check(path, log) => match named(rt, path, log, err) {
+            Ok(names) => check_package(rt, &names, out, err),
+            Err(status) => status,
+        },
+        Line::Export(path, log, folder) => match named(rt, path, log, err) {
+            Ok(names) => export_package(rt, &names, folder, err),
+            Err(status) => status,
+        },
+    }
+}
+
+// The files of the package at a path. Where they can't be told, the status is given, and why is told.
+fn named<R: Files<File = File> + AllocGlobal, E: Write>(
+    rt: &R,
+    package: &str,
+    log: Option<&str>,
+    err: &mut E,
+) -> Result<Names, u8>
+    ensures { IfErr result (λ status. status ≤ 3) }
+{
+    match names_of(rt, package, log) {
+        Ok(names) => Ok(names),
+        Err(failure) => {
+            tell_failure_of(package, log, failure, err);
+            Err(3)
+        }
     }
 }
 
@@ -101,12 +133,12 @@ fn carry_out<R: Files<File = File> + AllocGlobal + Clock, O: Write, E: Write>(
 #[derive(Clone, Copy, Debug)]
 enum Word<'a> {
     Create,
-    // With the path of the package that is read, and whether it gets an empty _Validation.
-    Adopt(&'a str, bool),
+    // With the path of the package that is read, and that of its log where it is named; and whether it gets an empty _Validation.
+    Adopt(&'a str, Option<&'a str>, bool),
     Recover,
     List,
-    // With the path of the command file, and whether progress is shown.
-    Run(&'a str, bool),
+    // With the path of the command file, whether progress is shown, and whether no notes are told.
+    Run(&'a str, bool, bool),
 }
 
 // Does what a word asks for, with the log that is named or the one beside the package.
@@ -120,27 +152,17 @@ fn on_files<R: Files<File = File> + AllocGlobal + Clock, O: Write, E: Write>(
 ) -> u8
     ensures { result ≤ 3 }
 {
-    if let Log::Twice(first, second) = log {
-        let _ = writeln!(err, "msidb: two logs are named, {first} and {second}");
-        return 2;
-    }
-    let Ok(path) = path_of_log(rt.alloc(), package, log) else {
-        tell("out of memory", err);
-        return 3;
+    let log = match log {
+        Log::Beside => None,
+        Log::At(path) => Some(path),
+        Log::Twice(first, second) => {
+            let _ = writeln!(err, "msidb: two logs are named, {first} and {second}");
+            return 2;
+        }
     };
-    let paths = Paths {
-        package,
-        log: &path,
-        is_log_named: log != Log::Beside,
-    };
-    do_word(rt, word, &paths, out, err)
-}
-
-// The path of the log that is named, or of the one beside the package.
-fn path_of_log(alloc: Global, package: &str, log: Log<'_>) -> Result<String, AllocError> {
-    match log {
-        Log::At(path) | Log::Twice(path, _) => String::from_str(alloc, path),
-        Log::Beside => format!(in alloc; "{package}.log"),
+    match named(rt, package, log, err) {
+        Ok(names) => do_word(rt, word, &names, out, err),
+        Err(status) => status,
     }
 }
 
@@ -148,34 +170,39 @@ fn path_of_log(alloc: Global, package: &str, log: Log<'_>) -> Result<String, All
 fn do_word<R: Files<File = File> + AllocGlobal + Clock, O: Write, E: Write>(
     rt: &R,
     word: Word<'_>,
-    paths: &Paths<'_>,
+    names: &Names,
     out: &mut O,
     err: &mut E,
 ) -> u8
     ensures { result ≤ 3 }
 {
     let ended = match word {
-        Word::Create => create(rt, paths, out),
-        Word::Adopt(source, has_validation) => {
-            return adopt_file(rt, paths, source, has_validation, out, err);
+        Word::Create => create(rt, names, out),
+        Word::Adopt(source, log, has_validation) => {
+            let source = match named(rt, source, log, err) {
+                Ok(source) => source,
+                Err(status) => return status,
+            };
+            return adopt_file(rt, names, &source, has_validation, out, err);
         }
-        Word::Recover => finish(rt, paths, out),
-        Word::List => list(rt, paths, out),
-        Word::Run(commands, shows_progress) => {
-            return run_file(rt, paths, commands, out, err, shows_progress);
+        Word::Recover => finish(rt, names, out, err),
+        Word::List => list(rt, names, out, err),
+        Word::Run(commands, shows_progress, is_quiet) => {
+            return run_file(rt, names, commands, out, err, shows_progress, is_quiet);
         }
     };
-    status_of(ended, paths, err)
+    status_of(ended, names, err)
 }
 
 // Runs the commands of a file, which is read before a package is opened.
 fn run_file<R: Files<File = File> + AllocGlobal + Clock, O: Write, E: Write>(
     rt: &R,
-    paths: &Paths<'_>,
+    names: &Names,
     path: &str,
     out: &mut O,
     err: &mut E,
     shows_progress: bool,
+    is_quiet: bool,
 ) -> u8
     ensures { result ≤ 3 }
 {
@@ -183,20 +210,37 @@ fn run_file<R: Files<File = File> + AllocGlobal + Clock, O: Write, E: Write>(
         Ok(commands) => commands,
         Err(error) => return if error == Error::Memory { 3 } else { 2 },
     };
+    if let Some(place) = slip_at(&commands) {
+        tell_slip(path, place.saturating_add(1), err);
+        return 2;
+    }
     let mut progress = Progress::new(rt, err, shows_progress, commands.len());
-    let ended = run(rt, paths, &commands, out, &mut progress);
-    status_of(ended, paths, err)
+    let ended = run(rt, names, &commands, out, &mut progress, is_quiet);
+    status_of(ended, names, err)
+}
+
+// A function of its own, since what is told of the call costs time wherever it is seen.
+fn slip_at(commands: &[Command]) -> Option<usize> {
+    slip_in(commands)
+}
+
+// Tells that an update or a delete would hold of all rows, where some were meant.
+fn tell_slip<E: Write>(path: &str, number: usize, err: &mut E) {
+    let _ = writeln!(
+        err,
+        "msidb: {path}: command {number}: its `where` is a value and names no column; write `{{\"op\":\"eq\",\"args\":[{{\"col\":\"Id\"}},1]}}` or the like, or leave `where` out for all rows"
+    );
 }
 
 // The status of a word, and what went wrong is told.
-fn status_of<E: Write>(ended: Result<Ending, Failure>, paths: &Paths<'_>, err: &mut E) -> u8
+fn status_of<E: Write>(ended: Result<Ending, Failure>, names: &Names, err: &mut E) -> u8
     ensures { result ≤ 3 }
 {
     match ended {
         Ok(Ending::Done) => 0,
         Ok(Ending::Refused) => 1,
         Err(failure) => {
-            tell_failure(paths, failure, err);
+            tell_failure(names, failure, err);
             3
         }
     }
@@ -205,22 +249,37 @@ fn status_of<E: Write>(ended: Result<Ending, Failure>, paths: &Paths<'_>, err: &
 // Makes a package and commits it.
 fn create<R: Files<File = File> + AllocGlobal, O: Write>(
     rt: &R,
-    paths: &Paths<'_>,
+    names: &Names,
     out: &mut O,
 ) -> Result<Ending, Failure> {
-    let device = files::create(rt, paths)?;
+    let faults = Faults::new();
+    let (device, fresh) = files::create(rt, names, &faults)?;
     match create_package(rt.alloc(), device) {
-        Ok(()) => answer("created", out),
-        Err(Error::InvalidData) => Err(Failure::Log(Trouble::UnfitCommit)),
-        Err(error) => Err(failure_of(error)),
+        Ok(()) => {
+            cut_log(rt, names);
+            answer("created", out)
+        }
+        Err(error) => {
+            let failure = files::why_fault(rt, names, &faults, why_not_made(error));
+            remove_fresh(rt, names, fresh);
+            Err(failure)
+        }
+    }
+}
+
+// Why no package was made.
+fn why_not_made(error: Error) -> Failure {
+    match error {
+        Error::InvalidData => Failure::Log(Trouble::UnfitCommit),
+        error => failure_of(error),
     }
 }
 
 // Makes a package of one of any maker, which is read first, with an empty _Validation where it is to have one and has none.
 fn adopt_file<R: Files<File = File> + AllocGlobal, O: Write, E: Write>(
     rt: &R,
-    paths: &Paths<'_>,
-    source: &str,
+    names: &Names,
+    source: &Names,
     has_validation: bool,
     out: &mut O,
     err: &mut E,
@@ -231,49 +290,73 @@ fn adopt_file<R: Files<File = File> + AllocGlobal, O: Write, E: Write>(
         Ok(package) => package,
         Err(status) => return status,
     };
-    let ended = keep_copy(rt, paths, &mut package, out);
-    status_of(ended, paths, err)
+    let ended = keep_copy(rt, names, &mut package, out);
+    status_of(ended, names, err)
 }
 
 // Makes the files of a package, and commits a copy of this one there.
 fn keep_copy<R: Files<File = File> + AllocGlobal, O: Write>(
     rt: &R,
-    paths: &Paths<'_>,
+    names: &Names,
     package: &mut Package<MemoryMedium>,
     out: &mut O,
 ) -> Result<Ending, Failure> {
-    let device = files::create(rt, paths)?;
+    let faults = Faults::new();
+    let (device, fresh) = files::create(rt, names, &faults)?;
     match commit_copy(rt.alloc(), package, device) {
-        Ok(()) => answer("adopted", out),
-        Err(Error::InvalidData) => Err(Failure::Log(Trouble::UnfitCommit)),
-        Err(error) => Err(failure_of(error)),
+        Ok(()) => {
+            cut_log(rt, names);
+            answer("adopted", out)
+        }
+        Err(error) => {
+            let failure = files::why_fault(rt, names, &faults, why_not_made(error));
+            remove_fresh(rt, names, fresh);
+            Err(failure)
+        }
     }
 }
 
 // Finishes a commit that was cut short. A log that is named must be there.
-fn finish<R: Files<File = File>, O: Write>(
+fn finish<R: Files<File = File>, O: Write, E: Write>(
     rt: &R,
-    paths: &Paths<'_>,
+    names: &Names,
     out: &mut O,
+    err: &mut E,
 ) -> Result<Ending, Failure> {
-    let recovered = match files::look_at(rt, paths)? {
-        Found::Missing if paths.is_log_named => return Err(Failure::Log(Trouble::Missing)),
-        Found::Missing => Recovered::Closed,
-        _ => files::finish(rt, paths)?,
+    let recovered = match files::look_at(rt, names)? {
+        Found::Missing if names.is_log_named() => return Err(Failure::Log(Trouble::Missing)),
+        Found::Missing => {
+            tell_no_log(names, err);
+            Recovered::Closed
+        }
+        Found::Doubtful => Recovered::Closed,
+        Found::Closed | Found::Open => {
+            let recovered = files::finish(rt, names)?;
+            if recovered != Recovered::Closed {
+                cut_log(rt, names);
+            }
+            recovered
+        }
     };
     match recovered {
         Recovered::Closed => answer("closed", out),
         Recovered::Applied(pages) => match writeln!(out, "applied {pages}") {
             Ok(()) => Ok(Ending::Done),
-            Err(_) => Err(Failure::Output),
+            Err(error) => Err(Failure::Output(error.kind())),
         },
     }
+}
+
+// Tells that a package has no log. Where one lies elsewhere, nothing in the two files says so.
+fn tell_no_log<E: Write>(names: &Names, err: &mut E) {
+    let named = names.named();
+    let _ = writeln!(err, "msidb: {named}: no log beside it");
 }
 
 // Prints what was done.
 fn answer<O: Write>(what: &str, out: &mut O) -> Result<Ending, Failure> {
     match writeln!(out, "{what}") {
         Ok(()) => Ok(Ending::Done),
-        Err(_) => Err(Failure::Output),
+        Err(error) => Err(Failure::Output(error.kind())),
     }
 }

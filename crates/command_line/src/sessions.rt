@@ -1,23 +1,28 @@
 //! What is done on the two files of a package: a function for each call, since what is told of a call costs time wherever it is seen.
 use cfb::{CaseMapper, MemoryMedium};
 use cfb_medium::Error;
-use file_device::FileDevice;
 use installer::Command;
 use installer_runs::{Ending, Listener, copy_on, create_on, run_on};
 use msi::Package;
+use package_files::PackageDevice;
 use std::alloc::Global;
+use std::fs::File;
+use std::rt::Files;
 
 /// Makes a package and commits it.
-pub(crate) fn create_package(alloc: Global, device: FileDevice) -> Result<(), Error> {
+pub(crate) fn create_package<R: Files<File = File>>(
+    alloc: Global,
+    device: PackageDevice<'_, R>,
+) -> Result<(), Error> {
     let letters = CaseMapper::ascii(alloc)?;
     let (_device, made) = create_on(alloc, device, letters);
     made
 }
 
 /// Runs commands on a package that is there. The one error is `Memory`: then nothing was done.
-pub(crate) fn run_commands<L: Listener>(
+pub(crate) fn run_commands<R: Files<File = File>, L: Listener>(
     alloc: Global,
-    device: FileDevice,
+    device: PackageDevice<'_, R>,
     commands: &[Command],
     listener: &mut L,
 ) -> Result<Ending, Error> {
@@ -27,10 +32,10 @@ pub(crate) fn run_commands<L: Listener>(
 }
 
 /// Commits a copy of a package to a device whose own is empty, once the device was recovered. `AlreadyExists` where it isn't empty.
-pub(crate) fn commit_copy(
+pub(crate) fn commit_copy<R: Files<File = File>>(
     alloc: Global,
     package: &mut Package<MemoryMedium>,
-    device: FileDevice,
+    device: PackageDevice<'_, R>,
 ) -> Result<(), Error> {
     let (_device, copied) = copy_on(alloc, package, device);
     copied

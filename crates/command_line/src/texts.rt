@@ -1,7 +1,7 @@
 //! The text of a command file.
 use cfb_medium::Error;
 use command_file::{Command, Refusal, read_commands, refusal_in};
-use package_views::{Trouble, tell, tell_trouble, trouble_at};
+use package_files::{Trouble, tell, tell_trouble, trouble_at};
 use serde_json::Value as Json;
 use std::alloc::Global;
 use std::fs::{self, File};

@@ -1,5 +1,6 @@
 -- What a line says of the words.
 use Rattle.std.specs.Prelude.{◌≡◌, Bool, false, List, [], ◌∷◌, Option, Some, None, codes, option_map}
+use Rattle.std.specs.Borrow.{Bor}
 use Rattle.std.specs.Str.{bytes_eq}
 use Rattle.clap.specs.Words.{Row, Text, first_of, subcommand_of}
 use Rattle.command_words.specs.Words.{msidb}
@@ -13,12 +14,12 @@ use Rattle.command_words.specs.declared.line.Parts.{Parts}
 abbrev pub said : Line → Text × List (Text × Text)
 said (Create home log) = (codes "create", (codes "PACKAGE", home.now) ∷ [])
 said (Recover home log) = (codes "recover", (codes "PACKAGE", home.now) ∷ [])
-said (Run home log commands) = (codes "run", (codes "PACKAGE", home.now) ∷ [])
-said (Adopt home log source validation) = (codes "adopt", (codes "PACKAGE", home.now) ∷ (codes "SOURCE", source.now) ∷ [])
+said (Run home log commands quiet) = (codes "run", (codes "PACKAGE", home.now) ∷ [])
+said (Adopt home log source beside validation) = (codes "adopt", (codes "PACKAGE", home.now) ∷ (codes "SOURCE", source.now) ∷ [])
 said (ListNames home log) = (codes "list", (codes "PACKAGE", home.now) ∷ [])
-said (Show file parts) = (codes "show", (codes "FILE", file.now) ∷ [])
-said (Check file) = (codes "check", (codes "FILE", file.now) ∷ [])
-said (Export file folder) = (codes "export", (codes "FILE", file.now) ∷ (codes "FOLDER", folder.now) ∷ [])
+said (Show file log parts) = (codes "show", (codes "FILE", file.now) ∷ [])
+said (Check file log) = (codes "check", (codes "FILE", file.now) ∷ [])
+said (Export file log folder) = (codes "export", (codes "FILE", file.now) ∷ (codes "FOLDER", folder.now) ∷ [])
 
 -- these paths were given under these names
 abbrev pub AreIn : List (Text × Text) → List Row → Type 0
@@ -67,17 +68,21 @@ log_among first (Some last) = first
 abbrev pub IsNamedIn : Log → Option Text → List Row → Type 0
 IsNamedIn log among rows = named_by log ≡ named among (first_of (codes "log") rows)
 
+-- the log of a package that is only read, where one is named under this name
+abbrev pub IsReadLog : Option (Bor Text) → Text → List Row → Type 0
+IsReadLog log name rows = option_map (λ s. s.now) log ≡ first_of name rows
+
 -- what is asked for besides the paths that must be there
 abbrev pub AsksFor : Line → List Row → Type 0
 AsksFor (Create home log) rows = IsNamedIn log (first_of (codes "LOG") rows) rows
 AsksFor (Recover home log) rows = IsNamedIn log (first_of (codes "LOG") rows) rows
 AsksFor (ListNames home log) rows = IsNamedIn log (first_of (codes "LOG") rows) rows
-AsksFor (Adopt home log source validation) rows = IsNamedIn log None rows × (validation ≡ is_set (first_of (codes "validation") rows))
-AsksFor (Run home log commands) rows = let first = first_of (codes "COMMANDS") rows in let last = first_of (codes "LAST") rows in
-    (Some commands.now ≡ commands_among first last) × IsNamedIn log (log_among first last) rows
-AsksFor (Show file parts) rows = AreAsked parts rows
-AsksFor (Check file) rows = Unit {0}
-AsksFor (Export file folder) rows = Unit {0}
+AsksFor (Adopt home log source beside validation) rows = IsNamedIn log None rows × IsReadLog beside (codes "source-log") rows × (validation ≡ is_set (first_of (codes "validation") rows))
+AsksFor (Run home log commands quiet) rows = let first = first_of (codes "COMMANDS") rows in let last = first_of (codes "LAST") rows in
+    (Some commands.now ≡ commands_among first last) × IsNamedIn log (log_among first last) rows × (quiet ≡ is_set (first_of (codes "quiet") rows))
+AsksFor (Show file log parts) rows = IsReadLog log (codes "log") rows × AreAsked parts rows
+AsksFor (Check file log) rows = IsReadLog log (codes "log") rows
+AsksFor (Export file log folder) rows = IsReadLog log (codes "log") rows
 
 -- the word that was found, with its paths, is what the line says
 abbrev pub SaidIn : Line → Option (Text × List Row) → Type 0

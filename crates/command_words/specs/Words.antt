@@ -19,21 +19,31 @@ on_package name = with_rule (with_rule (with_rule (new_app name) (path (codes "P
 abbrev pub two_paths : App
 two_paths = with_rule (with_rule (new_app (codes "run")) (path (codes "PACKAGE"))) (path (codes "COMMANDS"))
 
-abbrev pub run : App
-run = with_rule (with_rule two_paths (new_rule (codes "LAST"))) log_option
-
 -- a word behind two hyphens, which nothing follows
 abbrev pub flag : Text → Rule
 flag id = record (new_rule id) { long = Some id; action = Some SetTrue }
+
+abbrev pub run_logged : App
+run_logged = with_rule (with_rule two_paths (new_rule (codes "LAST"))) log_option
+
+abbrev pub run : App
+run = with_rule run_logged (flag (codes "quiet"))
 
 -- the word that adopts a package: its own path, and that of the package that is read, with its log behind `--log`, and a flag
 abbrev pub sourced : App
 sourced = with_rule (with_rule (with_rule (new_app (codes "adopt")) (path (codes "PACKAGE"))) (path (codes "SOURCE"))) log_option
 
-abbrev pub adopted : App
-adopted = with_rule sourced (flag (codes "validation"))
+-- the log of the package that is read, behind `--source-log`
+abbrev pub source_log_option : Rule
+source_log_option = record (new_rule (codes "source-log")) { long = Some (codes "source-log"); value_names = 1 }
 
--- the word that shows a package: its path, a table's name, which may be missing, and three flags
+abbrev pub source_logged : App
+source_logged = with_rule sourced source_log_option
+
+abbrev pub adopted : App
+adopted = with_rule source_logged (flag (codes "validation"))
+
+-- the word that shows a package: its path, a table's name, which may be missing, three flags, and its log
 abbrev pub table_shown : App
 table_shown = with_rule (with_rule (new_app (codes "show")) (path (codes "FILE"))) (new_rule (codes "TABLE"))
 
@@ -43,16 +53,19 @@ summary_shown = with_rule table_shown (flag (codes "summary"))
 abbrev pub streams_shown : App
 streams_shown = with_rule summary_shown (flag (codes "streams"))
 
+abbrev pub tree_shown : App
+tree_shown = with_rule streams_shown (flag (codes "tree"))
+
 abbrev pub shown : App
-shown = with_rule streams_shown (flag (codes "tree"))
+shown = with_rule tree_shown log_option
 
--- the word that writes a package to a folder: the paths of both
+-- the word that writes a package to a folder: the paths of both, and its log
 abbrev pub exported : App
-exported = with_rule (with_rule (new_app (codes "export")) (path (codes "FILE"))) (path (codes "FOLDER"))
+exported = with_rule (with_rule (with_rule (new_app (codes "export")) (path (codes "FILE"))) (path (codes "FOLDER"))) log_option
 
--- the word that judges a package: its path
+-- the word that judges a package: its path and its log
 abbrev pub checked : App
-checked = with_rule (new_app (codes "check")) (path (codes "FILE"))
+checked = with_rule (with_rule (new_app (codes "check")) (path (codes "FILE"))) log_option
 
 -- no word yet: one must be there, or a wish for help or version, and the program's own name isn't among the words
 abbrev pub bare : App

@@ -39,21 +39,21 @@ pub struct Parts<'a> {
 pub enum Line<'a> {
     /// Make a new package.
     Create(&'a str, Log<'a>),
-    /// Make a package of one of any maker, whose texts are counted otherwise; and whether it gets an empty `_Validation`, where it has
-    /// none.
-    Adopt(&'a str, Log<'a>, &'a str, bool),
+    /// Make a package of one of any maker, whose texts are counted otherwise, with the log of that one, where it is named; and whether it
+    /// gets an empty `_Validation`, where it has none.
+    Adopt(&'a str, Log<'a>, &'a str, Option<&'a str>, bool),
     /// Finish a commit.
     Recover(&'a str, Log<'a>),
-    /// Run the commands of a file.
-    Run(&'a str, Log<'a>, &'a str),
+    /// Run the commands of a file; and whether no notes are told.
+    Run(&'a str, Log<'a>, &'a str, bool),
     /// List the tables and the streams.
     List(&'a str, Log<'a>),
-    /// Show parts of a package of any maker.
-    Show(&'a str, Parts<'a>),
+    /// Show parts of a package of any maker, with its log, where it is named.
+    Show(&'a str, Option<&'a str>, Parts<'a>),
     /// Tell which rules a package of any maker breaks.
-    Check(&'a str),
+    Check(&'a str, Option<&'a str>),
     /// Write a package of any maker to a new folder.
-    Export(&'a str, &'a str),
+    Export(&'a str, Option<&'a str>, &'a str),
 }
 
 /// Reads the words after the program's name. Words that ask for nothing are refused, with a text that says why; so is a wish for help
@@ -86,16 +86,19 @@ fn line_of<'a>(name: &str, paths: &ArgMatches<'a>) -> Option<Line<'a>>
         "show" => {
             let file = path(paths, "FILE")?;
             let parts = parts_in(paths);
-            Some(Line::Show(file, parts))
+            let log = path(paths, "log");
+            Some(Line::Show(file, log, parts))
         }
         "check" => {
             let file = path(paths, "FILE")?;
-            Some(Line::Check(file))
+            let log = path(paths, "log");
+            Some(Line::Check(file, log))
         }
         "export" => {
             let file = path(paths, "FILE")?;
             let folder = path(paths, "FOLDER")?;
-            Some(Line::Export(file, folder))
+            let log = path(paths, "log");
+            Some(Line::Export(file, log, folder))
         }
         "run" => line_of_run(paths),
         "adopt" => line_of_adoption(paths),
@@ -127,14 +130,15 @@ fn line_of_run<'a>(paths: &ArgMatches<'a>) -> Option<Line<'a>>
 {
     let package = path(paths, "PACKAGE")?;
     let first = path(paths, "COMMANDS")?;
+    let quiet = has_flag(paths, "quiet");
     match path(paths, "LAST") {
         Some(last) => {
             let log = log_in(Some(first), paths);
-            Some(Line::Run(package, log, last))
+            Some(Line::Run(package, log, last, quiet))
         }
         None => {
             let log = log_in(None, paths);
-            Some(Line::Run(package, log, first))
+            Some(Line::Run(package, log, first, quiet))
         }
     }
 }
@@ -148,8 +152,9 @@ fn line_of_adoption<'a>(paths: &ArgMatches<'a>) -> Option<Line<'a>>
     let package = path(paths, "PACKAGE")?;
     let source = path(paths, "SOURCE")?;
     let log = log_in(None, paths);
+    let beside = path(paths, "source-log");
     let validation = has_flag(paths, "validation");
-    Some(Line::Adopt(package, log, source, validation))
+    Some(Line::Adopt(package, log, source, beside, validation))
 }
 
 // The log that is named among the paths, or behind `--log`.

@@ -1,7 +1,7 @@
 //! The words that the program takes.
 ghost use Rattle.std.specs.Prelude.{◌≡◌, codes, true, false, IfOk, IfErr, map, string_bytes};
 ghost use Rattle.clap.specs.Words.{app_of, kind_of, new_app, new_rule, rule_of, takes, with_rule, with_subcommand, HasMatchesOf};
-ghost use Rattle.command_words.specs.Words.{adopted, bare, checked, exported, flag, log_option, msidb, on_package, path, run, shown, sourced, streams_shown, summary_shown, table_shown, two_paths, with_files, with_log, with_looks, without_run};
+ghost use Rattle.command_words.specs.Words.{adopted, bare, checked, exported, flag, log_option, msidb, on_package, path, run, run_logged, shown, source_log_option, source_logged, sourced, streams_shown, summary_shown, table_shown, tree_shown, two_paths, with_files, with_log, with_looks, without_run};
 
 use clap::error::ErrorKind;
 use clap::{Arg, ArgAction, ArgMatches, Command, Error};
@@ -67,6 +67,17 @@ fn log_behind<'a>(alloc: Global) -> Arg<'a>
     )
 }
 
+// The option that names the log of the package that is read.
+fn source_log_behind<'a>(alloc: Global) -> Arg<'a>
+    ensures rule { rule_of result ≡ source_log_option }
+    ensures local { result.global ≡ false }
+{
+    Arg::new(alloc, "source-log")
+        .long("source-log")
+        .value_name("LOG")
+        .help("The log of the other package, if it isn't its path with `.log` behind it")
+}
+
 // A word with the paths of a package and of its log.
 fn with_paths<'a>(
     alloc: Global,
@@ -90,7 +101,7 @@ fn with_paths<'a>(
 // What stands behind the help of the word that runs commands: an example of each op.
 fn help_on_commands<'a>() -> &'a str {
     r#"Example: msidb run setup.msi commands.json
-Prints an answer for each command, a line of JSON each. A log that isn't there is made, once the package was found to be one.
+Prints an answer for each command, a line of JSON each. The first commit makes the log, beside the file to which the path leads.
 A command file has a command of these, or several:
 [{"op":"create_table","table":"T","columns":[{"name":"Id","type":"int16","key":true}]},
  {"op":"insert","table":"T","rows":[[1],[2]]},
@@ -127,7 +138,7 @@ fn with_commands<'a>(alloc: Global) -> Result<Command<'a>, AllocError>
         help_on_commands(),
     )
     .override_usage(
-        "msidb run [--log <LOG>] <PACKAGE> <COMMANDS>\n       msidb run <PACKAGE> <LOG> <COMMANDS>",
+        "msidb run [--quiet] [--log <LOG>] <PACKAGE> <COMMANDS>\n       msidb run [--quiet] <PACKAGE> <LOG> <COMMANDS>",
     );
     let first = add(command, needed_path(alloc, "PACKAGE", "The package"))?;
     let commands = needed_path(
@@ -139,8 +150,8 @@ fn with_commands<'a>(alloc: Global) -> Result<Command<'a>, AllocError>
 }
 
 // The same with the log: in front of the command file, which is then the last path, or behind its option.
-fn with_run<'a>(alloc: Global) -> Result<Command<'a>, AllocError>
-    ensures { IfOk result (λ c. app_of c ≡ run) }
+fn with_run_log<'a>(alloc: Global) -> Result<Command<'a>, AllocError>
+    ensures { IfOk result (λ c. app_of c ≡ run_logged) }
 {
     let command = with_commands(alloc)?;
     let last = Arg::new(alloc, "LAST").hide(true);
@@ -148,9 +159,22 @@ fn with_run<'a>(alloc: Global) -> Result<Command<'a>, AllocError>
     add(first, log_behind(alloc))
 }
 
+// The same with a flag for no notes.
+fn with_run<'a>(alloc: Global) -> Result<Command<'a>, AllocError>
+    ensures { IfOk result (λ c. app_of c ≡ run) }
+{
+    let command = with_run_log(alloc)?;
+    let quiet = flag_of(
+        alloc,
+        "quiet",
+        "No notes on stderr; what goes wrong is told all the same",
+    );
+    add(command, quiet)
+}
+
 // What stands behind the help of the word that shows a package.
 fn help_on_show<'a>() -> &'a str {
-    "Example: msidb show setup.msi Property\nPrints a line of JSON for each part that is asked for, or for all but the tree; a table's rows stand behind its columns. Nothing is written.\nStatus: 0 done, 1 no table has the name, 3 the file is no package, or a part of it can't be read."
+    "Example: msidb show setup.msi Property\nPrints a line of JSON for each part that is asked for, or for all but the tree; a table's rows stand behind its columns. Where a commit was cut short, what recover will make of it is shown; nothing is written.\nStatus: 0 done, 1 no table has the name, 3 the file is no package, or a part of it can't be read."
 }
 
 // The word that shows a package, with the path of a file and the name of a table.
@@ -195,8 +219,8 @@ fn with_streams<'a>(alloc: Global) -> Result<Command<'a>, AllocError>
 }
 
 // The same with one for the tree.
-fn with_file<'a>(alloc: Global) -> Result<Command<'a>, AllocError>
-    ensures { IfOk result (λ c. app_of c ≡ shown) }
+fn with_tree<'a>(alloc: Global) -> Result<Command<'a>, AllocError>
+    ensures { IfOk result (λ c. app_of c ≡ tree_shown) }
 {
     let command = with_streams(alloc)?;
     let tree = flag_of(
@@ -205,6 +229,14 @@ fn with_file<'a>(alloc: Global) -> Result<Command<'a>, AllocError>
         "The tree of the compound file, which need be no package: storages and streams",
     );
     add(command, tree)
+}
+
+// The same with the log.
+fn with_file<'a>(alloc: Global) -> Result<Command<'a>, AllocError>
+    ensures { IfOk result (λ c. app_of c ≡ shown) }
+{
+    let command = with_tree(alloc)?;
+    add(command, log_behind(alloc))
 }
 
 // What stands behind the help of the word that judges a package.
@@ -222,12 +254,13 @@ fn with_judged<'a>(alloc: Global) -> Result<Command<'a>, AllocError>
         "Tells which rules a package of any maker breaks",
         help_on_check(),
     );
-    add(command, needed_path(alloc, "FILE", "The package"))
+    let first = add(command, needed_path(alloc, "FILE", "The package"))?;
+    add(first, log_behind(alloc))
 }
 
 // What stands behind the help of the word that exports a package.
 fn help_on_export<'a>() -> &'a str {
-    "Example: msidb export setup.msi setup\nWrites each table as TABLE.idt, as Windows Installer exports it, and each other stream to _Streams.\nIn names of files each byte but letters, digits, `_`, `-` and a dot that isn't the first stands as % and two digits.\nStatus: 0 done, 3 the file is no package, or not all could be read and written."
+    "Example: msidb export setup.msi setup\nWrites each table as TABLE.idt, as Windows Installer exports it, and each other stream to _Streams.\nThe files are made in setup.part, which gets the name at the end. In names of files each byte but letters, digits, `_`, `-` and a dot that isn't the first stands as % and two digits.\nStatus: 0 done, 3 the file is no package, or not all could be read and written."
 }
 
 // The word that exports a package, with the paths of a file and of a folder.
@@ -246,12 +279,13 @@ fn with_folder<'a>(alloc: Global) -> Result<Command<'a>, AllocError>
         "FOLDER",
         "The folder, which is made and must not be there",
     );
-    add(first, folder)
+    let second = add(first, folder)?;
+    add(second, log_behind(alloc))
 }
 
 // What stands behind the help of the word that adopts a package.
 fn help_on_adopt<'a>() -> &'a str {
-    "Example: msidb adopt setup.msi other.msi\nMakes the package, and the log setup.msi.log. It holds what the other one does, and counts each text as often as cells use it. A package\nthat breaks further rules isn't adopted: they are told as `check` tells them, and nothing is made. The other package is only read.\nTables can be made and dropped only where there is a table _Validation: with --validation a package without one gets an empty one.\nStatus: 0 done, 1 rules are broken, 3 the other file is no package, or there is a package already."
+    "Example: msidb adopt setup.msi other.msi\nMakes the package, and by its commit the log setup.msi.log. It holds what the other one does, and counts each text as often as cells use it. A package\nthat breaks further rules isn't adopted: they are told as `check` tells them, and nothing is made. The other package is only read.\nTables can be made and dropped only where there is a table _Validation: with --validation a package without one gets an empty one.\nStatus: 0 done, 1 rules are broken, 3 the other file is no package, or there is a package already."
 }
 
 // The word that adopts a package, with the paths of both.
@@ -277,11 +311,19 @@ fn with_source<'a>(alloc: Global) -> Result<Command<'a>, AllocError>
     add(second, log_behind(alloc))
 }
 
+// The same with the log of the package that is read.
+fn with_source_log<'a>(alloc: Global) -> Result<Command<'a>, AllocError>
+    ensures { IfOk result (λ c. app_of c ≡ source_logged) }
+{
+    let command = with_source(alloc)?;
+    add(command, source_log_behind(alloc))
+}
+
 // The same with a flag for an empty _Validation.
 fn with_adoption<'a>(alloc: Global) -> Result<Command<'a>, AllocError>
     ensures { IfOk result (λ c. app_of c ≡ adopted) }
 {
-    let command = with_source(alloc)?;
+    let command = with_source_log(alloc)?;
     let validation = flag_of(
         alloc,
         "validation",
@@ -329,7 +371,7 @@ fn on_files<'a>(alloc: Global) -> Result<Command<'a>, AllocError>
         alloc,
         "create",
         "Makes a new package and commits it",
-        "Example: msidb create setup.msi\nMakes the package, and the log setup.msi.log. Where the package is there already it is left, with status 3; so is a file that is named as the log and is none.",
+        "Example: msidb create setup.msi\nMakes the package, and by its commit the log setup.msi.log. Where the package is there already it is left, with status 3; so is a file that is named as the log and is none.",
     )?;
     let first = with(bare, create)?;
     let recover = with_paths(
@@ -352,7 +394,7 @@ fn on_packages<'a>(alloc: Global) -> Result<Command<'a>, AllocError>
         alloc,
         "list",
         "Lists the tables and the streams",
-        "Example: msidb list setup.msi\nPrints the names of the tables, and those of the streams that hold no tables, a JSON list on a line each. A commit that a stop cut short is finished first.",
+        "Example: msidb list setup.msi\nPrints the names of the tables, and those of the streams that hold no tables, a JSON list on a line each. Nothing is written.",
     )?;
     with(first, list)
 }

@@ -1,5 +1,5 @@
 -- Names of files, byte by byte.
-use Rattle.std.proofs.Common.{rules, zero, ◌≡◌, ◌∙◌, ℕ, suc, ◌<◌, ◌/◌, ◌%◌, ◌==◌, Bool, true, false, not, ◌&&◌, ◌||◌, List, [], ◌∷◌, ◌++◌, length, refl, sym, ap, ap₂, arith}
+use Rattle.std.proofs.Common.{rules, zero, ◌≡◌, ◌∙◌, ℕ, suc, ◌<◌, ◌/◌, ◌%◌, ◌==◌, Bool, true, false, not, ◌&&◌, ◌||◌, List, [], ◌∷◌, ◌++◌, length, take, refl, sym, ap, ap₂, arith}
 use Rattle.std.specs.Prelude.{if◌then◌else◌, slice_index, slice_index_or, Ok}
 use Rattle.std.specs.List.{AllPass}
 use Rattle.std.proofs.lemmas.List.Elements.{All-append, All-cons, All-nil}
@@ -8,7 +8,7 @@ use Rattle.hex.proofs.HexLemmas.{decode_of-encode_upper, decode_of-ok, decode_of
 use Rattle.msi_export.specs.FileNames.{file_name, is_plain, is_safe, written}
 
 -- two lists of a length are told from what they begin
-same_front : (s t xs ys : List ℕ) → length s ≡ length t → s ++ xs ≡ t ++ ys → (s ≡ t) × (xs ≡ ys)
+pub same_front : (s t xs ys : List ℕ) → length s ≡ length t → s ++ xs ≡ t ++ ys → (s ≡ t) × (xs ≡ ys)
 same_front [] [] xs ys n e = (refl, e)
 same_front [] (d ∷ t) xs ys n e = absurd (cc)
 same_front (c ∷ s) [] xs ys n e = absurd (cc)
@@ -105,3 +105,9 @@ plain_is_no_dot b is = grind (arith)
 pub no_first_dot : (xs : List ℕ) → (slice_index (file_name true xs) 0 == 46) ≡ false
 no_first_dot [] = refl
 no_first_dot (x ∷ xs) = no_dot (is_plain x || (x == 46 && false)) x (file_name false xs) (plain_is_no_dot x)
+
+-- a part of a safe name is safe
+pub safe_part : (n : ℕ) (xs : List ℕ) → AllPass is_safe xs → AllPass is_safe (take n xs)
+safe_part zero xs all = All-nil Safe
+safe_part (suc n) [] all = All-nil Safe
+safe_part (suc n) (x ∷ xs) all = All-cons Safe x (take n xs) (all 0 0 (omega arith)) (safe_part n xs (λ k d below. all (suc k) d (omega arith)))

@@ -1,3 +1,4 @@
 -- Lemmas on exports.
 pub mod FileNames
 pub mod Joined
+pub mod Numbered

@@ -1,5 +1,6 @@
 -- Names of files for any names.
-use Rattle.std.specs.Prelude.{ℕ, ◌==◌, Bool, false, not, ◌&&◌, ◌||◌, List, [], ◌∷◌, ◌++◌, nat_le, if◌then◌else◌}
+use Rattle.std.specs.Prelude.{ℕ, ◌==◌, Bool, true, false, not, ◌&&◌, ◌||◌, List, [], ◌∷◌, ◌++◌, length, take, nat_le, if◌then◌else◌}
+use Rattle.std.specs.Fmt.{decimal}
 use Rattle.hex.specs.Hex.{encode_upper}
 
 -- a letter, a digit, `_` or `-`
@@ -21,3 +22,7 @@ file_name first (b ∷ bs) = written first b ++ file_name false bs
 -- what stands in such a name
 abbrev pub is_safe : ℕ → Bool
 is_safe c = is_plain c || c == 46 || c == 37
+
+-- a name that no folder refuses for its length: of one of more than 200 bytes the first 200, `~`, and a number
+abbrev pub numbered_name : ℕ → List ℕ → List ℕ
+numbered_name number name = let whole = file_name true name in if nat_le (length whole) 200 then whole else take 200 whole ++ 126 ∷ decimal number

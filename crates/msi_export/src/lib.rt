@@ -9,8 +9,11 @@ mod rows;
 mod streams;
 
 pub use headings::heading_lines;
-pub use laws::{different_names_have_different_files, files_stay_in_their_folder};
-pub use names::safe_name;
+pub use laws::{
+    different_names_have_different_files, files_stay_in_their_folder,
+    numbered_names_have_different_files,
+};
+pub use names::{file_name_of, safe_name};
 pub use properties::property_name;
 pub use rows::row_text;
 pub use streams::{StreamFacts, facts_of_stream, stream_bytes};

@@ -1,12 +1,16 @@
 //! Names of files.
-ghost use Rattle.std.specs.Prelude.{◌≡◌, ◌++◌, ◌==◌, length, true, string_bytes, IfErr, Ok, OnOk};
+ghost use Rattle.std.specs.Prelude.{◌≡◌, ◌≤◌, ◌++◌, ◌∷◌, [], ◌==◌, length, take, true, string_bytes, IfErr, IfOk, Ok, OnOk};
 ghost use Rattle.cfb_medium.specs.declared.error.Error.TheVariants.{Memory};
+ghost use Rattle.std.specs.List.{AllPass};
 ghost use Rattle.msi_texts.specs.Results.{Answers};
-ghost use Rattle.msi_export.specs.FileNames.{file_name, is_plain, written};
+ghost use Rattle.msi_export.specs.FileNames.{file_name, is_plain, is_safe, numbered_name, written};
 
 use cfb_medium::Error;
 use hex::encode_upper;
 use std::alloc::Global;
+
+// The most bytes of a name that stands as it is. Systems take 255, and `.idt` or a number stand behind.
+const LONGEST: usize = 200;
 
 /// A name for a file: each byte of these but letters, digits, `_`, `-` and a dot that isn't the first stands as `%` and two digits. So
 /// different names have different files, and none leads out of a folder (`different_names_have_different_files`,
@@ -19,6 +23,44 @@ pub fn safe_name(alloc: Global, name: &str) -> Result<String, Error>
         push_byte(alloc, &mut safe, *byte)?;
     }
     Ok(safe)
+}
+
+/// A name for a file that no folder refuses for its length: that of `safe_name`, or where it has more than 200 bytes the first 200, `~`, and
+/// the number that is given. So names of different numbers have different files (`numbered_names_have_different_files`). The one error is
+/// `Memory`.
+pub fn file_name_of(alloc: Global, name: &str, number: u64) -> Result<String, Error>
+    ensures { Answers string_bytes result (Ok (numbered_name number name.now)) }
+{
+    let safe = safe_name(alloc, name)?;
+    if safe.len() <= LONGEST {
+        return Ok(safe);
+    }
+    let start = start_of(alloc, &safe)?;
+    Ok(format!(in alloc; "{start}~{number}")?)
+}
+
+// The first bytes of a name that is safe and long.
+fn start_of(alloc: Global, safe: &str) -> Result<String, Error>
+    requires long { 200 ≤ length safe.now }
+    requires safe { AllPass is_safe safe.now }
+    ensures ok { IfOk result (λ start. string_bytes start ≡ take 200 safe.now) }
+    ensures err { IfErr result (λ e. e ≡ Memory) }
+{
+    let mut start = String::new(alloc);
+    for byte in &safe.as_bytes()[..LONGEST] {
+        push_safe(&mut start, *byte)?;
+    }
+    Ok(start)
+}
+
+// Adds a byte that stands for itself.
+fn push_safe(start: &mut String, byte: u8) -> Result<(), Error>
+    requires { is_safe byte ≡ true }
+    ensures ok { OnOk result (string_bytes start.new ≡ string_bytes start.old ++ byte ∷ []) }
+    ensures err { IfErr result (λ e. e ≡ Memory) }
+{
+    start.push(char::from(byte))?;
+    Ok(())
 }
 
 // Adds what stands for a byte.

@@ -6,25 +6,30 @@ use crate::packages::{adopted_at, defects_at, validate};
 use cfb::MemoryMedium;
 use cfb_medium::Error;
 use msi::{Defect, Package};
-use package_views::{tell_error, tell_why_refused};
+use package_files::{Names, Output, check_shown, status_of_error, tell_failure};
+use package_views::tell_why_refused;
 use std::fs::File;
 use std::io::Write;
 use std::rt::Files;
 
-/// A copy in memory of the package at a path, with right counts, which is sound, and with an empty `_Validation` where it is to have one
+/// A copy in memory of a package, as a recovery would leave it, with right counts, which is sound, and with an empty `_Validation` where it is to have one
 /// and has none. Where there can be none the status is given and what was found is told: 1 where the package breaks further rules, a
 /// line for each; 3 where the file is no package or can't be read, or `_Validation` can't be added, which is told with the file's name,
 /// and where nothing can be written. The file is only read.
 pub fn adopted_package<'a, R: Files<File = File> + AllocGlobal, O: Write, E: Write>(
     rt: &R,
-    path: &'a str,
+    names: &'a Names,
     has_validation: bool,
     out: &'a mut O,
     err: &'a mut E,
 ) -> Result<Package<MemoryMedium>, u8>
     ensures { IfErr result (λ status. status ≤ 3) }
 {
-    let mut package = match counted_package(rt, path, out, err) {
+    if let Err(failure) = check_shown(rt, names, err) {
+        tell_failure(names, failure, err);
+        return Err(3);
+    }
+    let mut package = match counted_package(rt, names, out, err) {
         Ok(package) => package,
         Err(status) => return Err(status),
     };
@@ -34,6 +39,7 @@ pub fn adopted_package<'a, R: Files<File = File> + AllocGlobal, O: Write, E: Wri
     match validate(&mut package) {
         Ok(()) => Ok(package),
         Err(error) => {
+            let path = names.named();
             let _ = writeln!(err, "msidb: {path}: no _Validation can be added: {error}");
             Err(3)
         }
@@ -43,26 +49,26 @@ pub fn adopted_package<'a, R: Files<File = File> + AllocGlobal, O: Write, E: Wri
 // The same as it is.
 fn counted_package<R: Files<File = File> + AllocGlobal, O: Write, E: Write>(
     rt: &R,
-    path: &str,
+    names: &Names,
     out: &mut O,
     err: &mut E,
 ) -> Result<Package<MemoryMedium>, u8>
     ensures { IfErr result (λ status. status ≤ 3) }
 {
-    let found = match defects_at(rt, path) {
+    let found = match defects_at(rt, names) {
         Ok(found) => found,
         Err(error) => {
-            tell_why_refused(rt, path, error, err);
+            tell_why_refused(rt, names, error, err);
             return Err(3);
         }
     };
-    match adopted_at(rt, path) {
+    match adopted_at(rt, names) {
         Ok(package) => Ok(package),
         Err(Error::InvalidData) if !found.is_empty() => Err(tell_defects(
-            rt, path, &found, out, err,
+            rt, names, &found, out, err,
         )),
         Err(error) => {
-            tell_why_refused(rt, path, error, err);
+            tell_why_refused(rt, names, error, err);
             Err(3)
         }
     }
@@ -71,18 +77,16 @@ fn counted_package<R: Files<File = File> + AllocGlobal, O: Write, E: Write>(
 // Writes a line for each rule that a package breaks.
 fn tell_defects<R: Files<File = File> + AllocGlobal, O: Write, E: Write>(
     rt: &R,
-    path: &str,
+    names: &Names,
     found: &[Defect],
     out: &mut O,
     err: &mut E,
 ) -> u8
     ensures { result ≤ 3 }
 {
-    match write_defects(rt, path, found, out) {
+    let mut out = Output::new(out);
+    match write_defects(rt, names, found, &mut out) {
         Ok(()) => 1,
-        Err(error) => {
-            tell_error(path, error, err);
-            3
-        }
+        Err(error) => status_of_error(names.named(), error, out.broken(), 1, err),
     }
 }

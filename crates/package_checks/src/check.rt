@@ -5,7 +5,8 @@ use crate::packages::defects_at;
 use crate::places::write_places;
 use cfb_medium::Error;
 use msi::Defect;
-use package_views::{tell_error, tell_why_refused};
+use package_files::{Names, Output, check_shown, status_of_error, tell_failure};
+use package_views::tell_why_refused;
 use std::fs::File;
 use std::io::Write;
 use std::rt::Files;
@@ -35,45 +36,46 @@ fn text_of(defect: Defect) -> &'static str {
 // Writes a line for each rule, and behind it one for each place at which it is broken, where these are known.
 pub(crate) fn write_defects<R: Files<File = File> + AllocGlobal, O: Write>(
     rt: &R,
-    path: &str,
+    names: &Names,
     found: &[Defect],
-    out: &mut O,
+    out: &mut Output<'_, O>,
 ) -> Result<(), Error> {
     for defect in found {
-        if writeln!(out, "{}", text_of(*defect)).is_err() {
-            return Err(Error::Device);
-        }
-        write_places(rt, path, *defect, out)?;
+        out.line(text_of(*defect))?;
+        write_places(rt, names, *defect, out)?;
     }
     Ok(())
 }
 
-/// Tells which rules the package at a path breaks, which is only read: a line for each, none where it is sound. Behind the line stand, with
+/// Tells which rules a package breaks, which is only read, as a recovery would leave it: a line for each, none where it is sound. Behind the line stand, with
 /// two blanks in front, texts of pool and summary that their code page doesn't give back, texts that no cell uses, tables with a wrong name,
 /// columns of `_Validation` that aren't as they must be, objects that are out of place, tables whose rows can't be read, and texts that
 /// aren't counted right, where it is the rule on these. The status is 0 where it is sound, 1 where it isn't, 3 where the file is no package
-/// or can't be read, which is told with the file's name, and where nothing can be written.
+/// or can't be read, or its log is malformed, which is told with the file's name, and where nothing can be written; where nobody reads the
+/// answers any more it is 0 or 1 all the same.
 pub fn check_package<'a, R: Files<File = File> + AllocGlobal, O: Write, E: Write>(
     rt: &R,
-    path: &'a str,
+    names: &'a Names,
     out: &'a mut O,
     err: &'a mut E,
 ) -> u8
     ensures { result ≤ 3 }
 {
-    let found = match defects_at(rt, path) {
+    if let Err(failure) = check_shown(rt, names, err) {
+        tell_failure(names, failure, err);
+        return 3;
+    }
+    let found = match defects_at(rt, names) {
         Ok(found) => found,
         Err(error) => {
-            tell_why_refused(rt, path, error, err);
+            tell_why_refused(rt, names, error, err);
             return 3;
         }
     };
-    match write_defects(rt, path, &found, out) {
+    let mut out = Output::new(out);
+    match write_defects(rt, names, &found, &mut out) {
         Ok(()) if found.is_empty() => 0,
         Ok(()) => 1,
-        Err(error) => {
-            tell_error(path, error, err);
-            3
-        }
+        Err(error) => status_of_error(names.named(), error, out.broken(), 1, err),
     }
 }

@@ -1,10 +1,11 @@
 //! Compound files that are looked through: a function for each call, since what is told of a call costs time wherever it is seen.
-use cfb::{CaseMapper, FileMedium, MiniAllocator, ReadMedium, Validation};
+use cfb::{CaseMapper, MiniAllocator, ReadMedium, Validation};
 use cfb_findings::{
     broken_streams, shared_mini_sectors, shared_sectors, uncovered_sectors, unmarked_tables,
 };
 use cfb_medium::Error;
 use cfb_opening::open_file;
+use package_files::{Names, Shown, shown_at};
 use std::alloc::Global;
 use std::fs::File;
 use std::rt::Files;
@@ -12,22 +13,22 @@ use std::rt::Files;
 /// A compound file as its tables tell it, and how many bytes it has.
 #[derive(Drop)]
 pub(crate) struct Container {
-    file: MiniAllocator<FileMedium>,
+    file: MiniAllocator<Shown>,
     len: u64,
 }
 
-/// The compound file at a path, to be looked through for the places at which it isn't sound.
+/// A compound file, to be looked through for the places at which it isn't sound.
 pub(crate) fn container_at<R: Files<File = File> + AllocGlobal>(
     rt: &R,
-    path: &str,
+    names: &Names,
 ) -> Result<Container, Error> {
-    let mut medium = FileMedium::open(rt, path)?;
+    let mut medium = shown_at(rt, names)?;
     let len = medium.len()?;
     let file = open_container(rt.alloc(), medium)?;
     Ok(Container { file, len })
 }
 
-fn open_container(alloc: Global, medium: FileMedium) -> Result<MiniAllocator<FileMedium>, Error> {
+fn open_container(alloc: Global, medium: Shown) -> Result<MiniAllocator<Shown>, Error> {
     let letters = CaseMapper::ascii(alloc)?;
     match open_file(alloc, medium, &letters, Validation::Permissive) {
         Ok(file) => Ok(file),

@@ -1,5 +1,5 @@
 //! Packages that are looked through: a function for each call, since what is told of a call costs time wherever it is seen.
-use cfb::{CaseMapper, CompoundFile, FileMedium, MemoryMedium};
+use cfb::{CaseMapper, CompoundFile, MemoryMedium};
 use cfb_medium::Error;
 use msi::{Defect, Package, defects};
 use msi_adopting::adopt;
@@ -15,20 +15,26 @@ use msi_schema::validation_columns;
 use msi_store::read_parts;
 use msi_tables::Table;
 use msi_texts::decode;
+use package_files::{Names, Shown, shown_at};
+use package_views::container_at;
 use serde_json::Value as Json;
 use std::alloc::{AllocError, Global};
 use std::fs::File;
 use std::rc::Rc;
 use std::rt::Files;
 
-/// The rules of a sound package that the one at a path breaks.
+/// The rules of a sound package that one breaks.
 pub(crate) fn defects_at<R: Files<File = File> + AllocGlobal>(
     rt: &R,
-    path: &str,
+    names: &Names,
 ) -> Result<Vec<Defect>, Error> {
-    let letters = CaseMapper::ascii(rt.alloc())?;
-    let medium = FileMedium::open(rt, path)?;
-    match defects(rt.alloc(), medium, letters) {
+    let shown = shown_at(rt, names)?;
+    defects_of(rt.alloc(), shown)
+}
+
+fn defects_of(alloc: Global, shown: Shown) -> Result<Vec<Defect>, Error> {
+    let letters = CaseMapper::ascii(alloc)?;
+    match defects(alloc, shown, letters) {
         Ok((_medium, found)) => Ok(found),
         Err((_medium, error)) => Err(error),
     }
@@ -37,23 +43,23 @@ pub(crate) fn defects_at<R: Files<File = File> + AllocGlobal>(
 /// The file of a package, and its parts that memory has.
 #[derive(Drop)]
 pub(crate) struct Looked {
-    file: CompoundFile<FileMedium>,
+    file: CompoundFile<Shown>,
     parts: PackageParts,
 }
 
-/// The package at a path, to be looked through for the places at which it breaks rules.
+/// A package, to be looked through for the places at which it breaks rules.
 pub(crate) fn looked_at<R: Files<File = File> + AllocGlobal>(
     rt: &R,
-    path: &str,
+    names: &Names,
 ) -> Result<Looked, Error> {
-    let mut file = cfb::open(rt, rt.alloc(), path)?;
+    let mut file = container_at(rt, names)?;
     match parts_of(rt.alloc(), &mut file) {
         Ok(parts) => Ok(Looked { file, parts }),
         Err(error) => Err(error),
     }
 }
 
-fn parts_of(alloc: Global, file: &mut CompoundFile<FileMedium>) -> Result<PackageParts, Error> {
+fn parts_of(alloc: Global, file: &mut CompoundFile<Shown>) -> Result<PackageParts, Error> {
     read_parts(alloc, file)
 }
 
@@ -149,12 +155,12 @@ pub(crate) fn quote(alloc: Global, text: &str) -> Result<String, AllocError> {
     Json::String(String::from_str(alloc, text)?).to_string(alloc)
 }
 
-/// A copy in memory of the package at a path, with right counts, which is sound. `InvalidData` where there is none.
+/// A copy in memory of a package, with right counts, which is sound. `InvalidData` where there is none.
 pub(crate) fn adopted_at<R: Files<File = File> + AllocGlobal>(
     rt: &R,
-    path: &str,
+    names: &Names,
 ) -> Result<Package<MemoryMedium>, Error> {
-    let mut file = cfb::open(rt, rt.alloc(), path)?;
+    let mut file = container_at(rt, names)?;
     let target = copy_of(rt.alloc(), &mut file)?;
     let package = package_in(rt.alloc(), target)?;
     if package.is_sound() {
@@ -173,7 +179,7 @@ pub(crate) fn validate(package: &mut Package<MemoryMedium>) -> Result<(), Error>
 }
 
 // The bytes of a copy with right counts.
-fn copy_of(alloc: Global, file: &mut CompoundFile<FileMedium>) -> Result<MemoryMedium, Error> {
+fn copy_of(alloc: Global, file: &mut CompoundFile<Shown>) -> Result<MemoryMedium, Error> {
     let letters = CaseMapper::ascii(alloc)?;
     match adopt(alloc, file, MemoryMedium::new(alloc), letters) {
         Ok(target) => Ok(target),

@@ -14,19 +14,20 @@ use msi::Defect;
 use msi_export::property_name;
 use msi_findings::Miscount;
 use msi_tables::Table;
+use package_files::{Names, Output};
 use std::alloc::Global;
 use std::fs::File;
 use std::io::Write;
 use std::rc::Rc;
 use std::rt::Files;
 
-/// Writes each place at which the package at a path breaks a rule, but that on the summary's sections and that on the rows of `_Tables`.
+/// Writes each place at which a package breaks a rule, but that on the summary's sections and that on the rows of `_Tables`.
 /// `Device` where nothing can be written.
 pub(crate) fn write_places<R: Files<File = File> + AllocGlobal, O: Write>(
     rt: &R,
-    path: &str,
+    names: &Names,
     defect: Defect,
-    out: &mut O,
+    out: &mut Output<'_, O>,
 ) -> Result<(), Error> {
     match defect {
         Defect::PoolTexts
@@ -36,7 +37,7 @@ pub(crate) fn write_places<R: Files<File = File> + AllocGlobal, O: Write>(
         | Defect::Validation
         | Defect::Objects
         | Defect::Counts => {
-            let mut looked = looked_at(rt, path)?;
+            let mut looked = looked_at(rt, names)?;
             let mut lines = Lines {
                 alloc: rt.alloc(),
                 out,
@@ -44,7 +45,7 @@ pub(crate) fn write_places<R: Files<File = File> + AllocGlobal, O: Write>(
             lines.places(defect, &mut looked)
         }
         Defect::Container => {
-            let container = container_at(rt, path)?;
+            let container = container_at(rt, names)?;
             let mut lines = Lines {
                 alloc: rt.alloc(),
                 out,
@@ -57,12 +58,12 @@ pub(crate) fn write_places<R: Files<File = File> + AllocGlobal, O: Write>(
 
 // Where the places are written.
 #[derive(Drop)]
-struct Lines<'a, O> {
+struct Lines<'a, 'b, O> {
     alloc: Global,
-    out: &'a mut O,
+    out: &'a mut Output<'b, O>,
 }
 
-impl<'a, O: Write> Lines<'a, O> {
+impl<'a, 'b, O: Write> Lines<'a, 'b, O> {
     // The places at which one of the seven rules is broken.
     fn places(&mut self, defect: Defect, looked: &mut Looked) -> Result<(), Error> {
         match defect {
@@ -207,10 +208,7 @@ impl<'a, O: Write> Lines<'a, O> {
 
     // Writes a line. `Device` where it can't be written.
     fn line(&mut self, text: &str) -> Result<(), Error> {
-        match writeln!(self.out, "  {text}") {
-            Ok(()) => Ok(()),
-            Err(_) => Err(Error::Device),
-        }
+        self.out.line(&format!(in self.alloc; "  {text}")?)
     }
 }
 

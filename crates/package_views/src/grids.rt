@@ -1,11 +1,11 @@
 //! The rows of a table in aligned columns, for a person who reads them on a terminal.
 use crate::packages::{columns_of, text_of_json, value_of_cell};
-use cfb::FileMedium;
 use cfb_medium::Error;
 use msi::Package;
 use msi_columns::{Column, ColumnType};
 use msi_tables::{Row, Rows};
 use msi_values::Value;
+use package_files::Shown;
 use std::alloc::{AllocError, Global};
 use text_columns::{Cell, Side, escaped, table_lines};
 
@@ -15,7 +15,7 @@ const WIDEST: usize = 255;
 /// The lines of a table with these rows: the names of its columns, dashes, the rows. The one error is `Memory`.
 pub(crate) fn grid_lines(
     alloc: Global,
-    package: &Package<FileMedium>,
+    package: &Package<Shown>,
     name: &str,
     rows: Rows,
 ) -> Result<Vec<String>, Error> {

@@ -1,8 +1,8 @@
 //! Packages that are only read: a function for each call, since what is told of a call costs time wherever it is seen.
-use cfb::{CaseMapper, CompoundFile, Entries, Entry, FileMedium};
+use cfb::{CaseMapper, CompoundFile, Entries, Entry};
 use cfb_medium::Error;
 use installer::cell_value;
-use msi::{Package, Streams, Tables, open};
+use msi::{Package, Streams, Tables};
 use msi_columns::Column;
 use msi_export::{StreamFacts, facts_of_stream, row_text, stream_bytes};
 use msi_meaning::PackageType;
@@ -10,18 +10,44 @@ use msi_props::PropertyValue;
 use msi_query::Select;
 use msi_tables::{Row, Rows, Table};
 use msi_values::Value;
+use package_files::{Names, Shown, shown_at};
 use serde_json::Value as Json;
 use std::alloc::{AllocError, Global};
 use std::fs::File;
 use std::rt::Files;
 
-/// The package at a path, to be read.
+/// A package, to be read as a recovery would leave it.
 pub fn package_at<R: Files<File = File> + AllocGlobal>(
     rt: &R,
-    path: &str,
-) -> Result<Package<FileMedium>, Error> {
-    let letters = CaseMapper::ascii(rt.alloc())?;
-    open(rt, rt.alloc(), path, letters)
+    names: &Names,
+) -> Result<Package<Shown>, Error> {
+    let shown = shown_at(rt, names)?;
+    package_of(rt.alloc(), shown)
+}
+
+fn package_of(alloc: Global, shown: Shown) -> Result<Package<Shown>, Error> {
+    let letters = CaseMapper::ascii(alloc)?;
+    match Package::open(alloc, shown, letters) {
+        Ok(package) => Ok(package),
+        Err((_shown, error)) => Err(error),
+    }
+}
+
+/// A compound file, to be read as a recovery would leave it.
+pub fn container_at<R: Files<File = File> + AllocGlobal>(
+    rt: &R,
+    names: &Names,
+) -> Result<CompoundFile<Shown>, Error> {
+    let shown = shown_at(rt, names)?;
+    container_of(rt.alloc(), shown)
+}
+
+fn container_of(alloc: Global, shown: Shown) -> Result<CompoundFile<Shown>, Error> {
+    let letters = CaseMapper::ascii(alloc)?;
+    match CompoundFile::open(alloc, shown, letters) {
+        Ok(file) => Ok(file),
+        Err((_shown, error)) => Err(error),
+    }
 }
 
 /// A value as lines of JSON have it.
@@ -33,16 +59,16 @@ pub(crate) fn text_of_json(alloc: Global, value: &Json) -> Result<String, AllocE
     value.to_string(alloc)
 }
 
-/// The objects of the compound file at a path, each storage before what it holds.
+/// The objects of a compound file, each storage before what it holds.
 pub(crate) fn entries_at<R: Files<File = File> + AllocGlobal>(
     rt: &R,
-    path: &str,
+    names: &Names,
 ) -> Result<Entries, Error> {
-    let file = cfb::open(rt, rt.alloc(), path)?;
+    let file = container_at(rt, names)?;
     entries_of(&file)
 }
 
-fn entries_of(file: &CompoundFile<FileMedium>) -> Result<Entries, Error> {
+fn entries_of(file: &CompoundFile<Shown>) -> Result<Entries, Error> {
     file.walk()
 }
 
@@ -51,50 +77,61 @@ pub(crate) fn class_of(alloc: Global, entry: &Entry) -> Result<String, AllocErro
     format!(in alloc; "{}", entry.clsid())
 }
 
-/// Whether the package at a path is sound.
-pub fn is_sound_at<R: Files<File = File> + AllocGlobal>(rt: &R, path: &str) -> Result<bool, Error> {
-    let package = package_at(rt, path)?;
+/// Whether a package is sound.
+pub fn is_sound_at<R: Files<File = File> + AllocGlobal>(
+    rt: &R,
+    names: &Names,
+) -> Result<bool, Error> {
+    let package = package_at(rt, names)?;
     Ok(is_sound(&package))
 }
 
-pub(crate) fn is_sound(package: &Package<FileMedium>) -> bool {
+/// Whether a package has a digital signature; not, where it can't be read.
+pub fn is_signed_at<R: Files<File = File> + AllocGlobal>(rt: &R, names: &Names) -> bool {
+    match package_at(rt, names) {
+        Ok(package) => is_signed(&package),
+        Err(_) => false,
+    }
+}
+
+pub(crate) fn is_sound(package: &Package<Shown>) -> bool {
     package.is_sound()
 }
 
-pub(crate) fn is_signed(package: &Package<FileMedium>) -> bool {
+pub(crate) fn is_signed(package: &Package<Shown>) -> bool {
     package.has_digital_signature()
 }
 
-pub(crate) fn kind_of(package: &Package<FileMedium>) -> PackageType {
+pub(crate) fn kind_of(package: &Package<Shown>) -> PackageType {
     package.package_type()
 }
 
 /// The number of the code page of its texts.
-pub(crate) fn page_of(package: &Package<FileMedium>) -> i32 {
+pub(crate) fn page_of(package: &Package<Shown>) -> i32 {
     package.database_codepage().id()
 }
 
 /// The properties of its summary.
-pub(crate) fn properties_of(package: &Package<FileMedium>) -> &[(u32, PropertyValue)] {
+pub(crate) fn properties_of(package: &Package<Shown>) -> &[(u32, PropertyValue)] {
     package.summary_info().properties()
 }
 
 /// The names of its tables.
-pub fn tables_of(package: &Package<FileMedium>) -> Result<Tables, Error> {
+pub fn tables_of(package: &Package<Shown>) -> Result<Tables, Error> {
     package.tables()
 }
 
 /// The names of its streams that belong to no table.
-pub fn streams_of(package: &Package<FileMedium>) -> Result<Streams, Error> {
+pub fn streams_of(package: &Package<Shown>) -> Result<Streams, Error> {
     package.streams()
 }
 
-pub(crate) fn table_named<'a>(package: &'a Package<FileMedium>, name: &str) -> Option<&'a Table> {
+pub(crate) fn table_named<'a>(package: &'a Package<Shown>, name: &str) -> Option<&'a Table> {
     package.get_table(name)
 }
 
 /// The columns of a table; none where there is no such table.
-pub(crate) fn columns_of<'a>(package: &'a Package<FileMedium>, name: &str) -> &'a [Column] {
+pub(crate) fn columns_of<'a>(package: &'a Package<Shown>, name: &str) -> &'a [Column] {
     match table_named(package, name) {
         Some(table) => table.columns(),
         None => &[],
@@ -104,7 +141,7 @@ pub(crate) fn columns_of<'a>(package: &'a Package<FileMedium>, name: &str) -> &'
 /// All rows of a table.
 pub(crate) fn rows_of(
     alloc: Global,
-    package: &mut Package<FileMedium>,
+    package: &mut Package<Shown>,
     name: &str,
 ) -> Result<Rows, Error> {
     let select = Select::table(alloc, name)?;
@@ -114,7 +151,7 @@ pub(crate) fn rows_of(
 /// A row as it is exported.
 pub(crate) fn text_of_row(
     alloc: Global,
-    package: &Package<FileMedium>,
+    package: &Package<Shown>,
     name: &str,
     row: &Row,
 ) -> Result<String, Error> {
@@ -123,7 +160,7 @@ pub(crate) fn text_of_row(
 
 pub(crate) fn facts_of(
     alloc: Global,
-    package: &mut Package<FileMedium>,
+    package: &mut Package<Shown>,
     name: &str,
 ) -> Result<StreamFacts, Error> {
     facts_of_stream(alloc, package, name)
@@ -131,7 +168,7 @@ pub(crate) fn facts_of(
 
 pub(crate) fn bytes_of(
     alloc: Global,
-    package: &mut Package<FileMedium>,
+    package: &mut Package<Shown>,
     name: &str,
 ) -> Result<Vec<u8>, Error> {
     stream_bytes(alloc, package, name)

@@ -8,8 +8,6 @@ use crate::packages::{
 };
 use crate::refusals::tell_why_refused;
 use crate::tree::{tree_at, write_tree};
-use crate::troubles::{tell_error, tell_part};
-use cfb::FileMedium;
 use cfb_medium::Error;
 use command_words::Parts;
 use installer::{columns_value, property_value};
@@ -18,6 +16,9 @@ use msi_columns::Column;
 use msi_export::{StreamFacts, property_name};
 use msi_props::PropertyValue;
 use msi_tables::{Row, Rows};
+use package_files::{
+    Names, Output, Shown as ShownFile, check_shown, status_of_error, tell_failure, tell_part,
+};
 use serde_json::{Value as Json, json};
 use std::alloc::{AllocError, Global};
 use std::fs::File;
@@ -39,13 +40,13 @@ enum Shown {
     NoTable,
 }
 
-/// Shows parts of the package at a path, which is only read; the tree first, for which it need be no package but any compound file. On a
-/// terminal a table stands in aligned columns, elsewhere as lines of JSON. The status is 0 where all was shown, 1 where no table has the
-/// name, 3 where the file is no package or a part of it can't be read, which is told with the file's name, and where nothing can be
-/// written.
+/// Shows parts of a package, which is only read, as a recovery would leave it; the tree first, for which it need be no package but any
+/// compound file. On a terminal a table stands in aligned columns, elsewhere as lines of JSON. The status is 0 where all was shown, 1 where
+/// no table has the name, 3 where the file is no package or a part of it can't be read, or its log is malformed, which is told with the
+/// file's name, and where nothing can be written; where nobody reads the answers any more it is what it was so far.
 pub fn show_package<'a, R: Files<File = File> + AllocGlobal, O: Write, E: Write>(
     rt: &R,
-    path: &'a str,
+    names: &'a Names,
     parts: Parts<'_>,
     is_terminal: bool,
     out: &'a mut O,
@@ -53,34 +54,35 @@ pub fn show_package<'a, R: Files<File = File> + AllocGlobal, O: Write, E: Write>
 ) -> u8
     ensures { result ≤ 3 }
 {
+    if let Err(failure) = check_shown(rt, names, err) {
+        tell_failure(names, failure, err);
+        return 3;
+    }
     if parts.tree {
-        let status = show_tree(rt, path, out, err);
+        let status = show_tree(rt, names, out, err);
         if status != 0 || is_tree_alone(parts) {
             return status;
         }
     }
-    let mut package = match package_at(rt, path) {
+    let mut package = match package_at(rt, names) {
         Ok(package) => package,
         Err(error) => {
-            tell_why_refused(rt, path, error, err);
+            tell_why_refused(rt, names, error, err);
             return 3;
         }
     };
     let mut page = Page {
         alloc: rt.alloc(),
-        path,
+        path: names.named(),
         is_terminal,
-        out,
+        out: Output::new(out),
         err,
     };
     match show_parts(&mut page, &mut package, parts) {
         Ok(Shown::Whole) => 0,
         Ok(Shown::NoTable) => 1,
         Ok(Shown::Partly) => 3,
-        Err(error) => {
-            tell_error(path, error, page.err);
-            3
-        }
+        Err(error) => status_of_error(names.named(), error, page.out.broken(), 0, page.err),
     }
 }
 
@@ -92,32 +94,30 @@ fn is_tree_alone(parts: Parts<'_>) -> bool {
 // Shows the tree. The status is 0 where it was shown, else 3.
 fn show_tree<R: Files<File = File> + AllocGlobal, O: Write, E: Write>(
     rt: &R,
-    path: &str,
+    names: &Names,
     out: &mut O,
     err: &mut E,
 ) -> u8
     ensures { result ≤ 3 }
 {
-    let entries = match tree_at(rt, path) {
+    let entries = match tree_at(rt, names) {
         Ok(entries) => entries,
         Err(error) => {
-            tell_why_refused(rt, path, error, err);
+            tell_why_refused(rt, names, error, err);
             return 3;
         }
     };
-    match write_tree(rt.alloc(), entries, out) {
+    let mut out = Output::new(out);
+    match write_tree(rt.alloc(), entries, &mut out) {
         Ok(()) => 0,
-        Err(error) => {
-            tell_error(path, error, err);
-            3
-        }
+        Err(error) => status_of_error(names.named(), error, out.broken(), 0, err),
     }
 }
 
 // Shows the parts that are asked for, or all but the tree.
 fn show_parts<O: Write, E: Write>(
     page: &mut Page<'_, O, E>,
-    package: &mut Package<FileMedium>,
+    package: &mut Package<ShownFile>,
     parts: Parts<'_>,
 ) -> Result<Shown, Error> {
     if parts.summary {
@@ -140,12 +140,12 @@ struct Page<'a, O, E> {
     path: &'a str,
     // A person reads them.
     is_terminal: bool,
-    out: &'a mut O,
+    out: Output<'a, O>,
     err: &'a mut E,
 }
 
 impl<'a, O: Write, E: Write> Page<'a, O, E> {
-    fn show_all(&mut self, package: &mut Package<FileMedium>) -> Result<Shown, Error> {
+    fn show_all(&mut self, package: &mut Package<ShownFile>) -> Result<Shown, Error> {
         self.line(&facts_value(self.alloc, package)?)?;
         self.show_summary(package)?;
         let tables = self.show_tables(package)?;
@@ -158,7 +158,7 @@ impl<'a, O: Write, E: Write> Page<'a, O, E> {
     }
 
     // Each property of the summary.
-    fn show_summary(&mut self, package: &Package<FileMedium>) -> Result<(), Error> {
+    fn show_summary(&mut self, package: &Package<ShownFile>) -> Result<(), Error> {
         for (number, value) in properties_of(package) {
             let line = numbered_value(self.alloc, *number, value)?;
             self.line(&line)?;
@@ -167,7 +167,7 @@ impl<'a, O: Write, E: Write> Page<'a, O, E> {
     }
 
     // Each table, by the bytes of the names.
-    fn show_tables(&mut self, package: &mut Package<FileMedium>) -> Result<Shown, Error> {
+    fn show_tables(&mut self, package: &mut Package<ShownFile>) -> Result<Shown, Error> {
         let mut shown = Shown::Whole;
         for name in tables_of(package)? {
             if self.show_one(package, &name)? == Shown::Partly {
@@ -178,7 +178,7 @@ impl<'a, O: Write, E: Write> Page<'a, O, E> {
     }
 
     // A table among others, for a person between its name and an empty line.
-    fn show_one(&mut self, package: &mut Package<FileMedium>, name: &str) -> Result<Shown, Error> {
+    fn show_one(&mut self, package: &mut Package<ShownFile>, name: &str) -> Result<Shown, Error> {
         if !self.is_terminal {
             return self.show_table(package, name);
         }
@@ -191,7 +191,7 @@ impl<'a, O: Write, E: Write> Page<'a, O, E> {
 
     fn show_table_asked(
         &mut self,
-        package: &mut Package<FileMedium>,
+        package: &mut Package<ShownFile>,
         name: &str,
     ) -> Result<Shown, Error> {
         if table_named(package, name).is_some() {
@@ -202,11 +202,7 @@ impl<'a, O: Write, E: Write> Page<'a, O, E> {
     }
 
     // The columns of a table, and its rows, or why they can't be read.
-    fn show_table(
-        &mut self,
-        package: &mut Package<FileMedium>,
-        name: &str,
-    ) -> Result<Shown, Error> {
+    fn show_table(&mut self, package: &mut Package<ShownFile>, name: &str) -> Result<Shown, Error> {
         if !self.is_terminal {
             let heading = heading_value(self.alloc, package, name)?;
             self.line(&heading)?;
@@ -223,7 +219,7 @@ impl<'a, O: Write, E: Write> Page<'a, O, E> {
     // The rows of a table, or why they can't be read.
     fn show_rows(
         &mut self,
-        package: &mut Package<FileMedium>,
+        package: &mut Package<ShownFile>,
         name: &str,
     ) -> Result<Option<Error>, Error> {
         let rows = match rows_of(self.alloc, package, name) {
@@ -250,7 +246,7 @@ impl<'a, O: Write, E: Write> Page<'a, O, E> {
     // Rows in aligned columns.
     fn show_grid(
         &mut self,
-        package: &Package<FileMedium>,
+        package: &Package<ShownFile>,
         name: &str,
         rows: Rows,
     ) -> Result<(), Error> {
@@ -261,7 +257,7 @@ impl<'a, O: Write, E: Write> Page<'a, O, E> {
     }
 
     // Each stream that belongs to no table, in the container's order.
-    fn show_streams(&mut self, package: &mut Package<FileMedium>) -> Result<Shown, Error> {
+    fn show_streams(&mut self, package: &mut Package<ShownFile>) -> Result<Shown, Error> {
         let mut shown = Shown::Whole;
         for name in streams_of(package)? {
             match facts_of(self.alloc, package, &name) {
@@ -283,15 +279,12 @@ impl<'a, O: Write, E: Write> Page<'a, O, E> {
 
     // Writes a text as a line. `Device` where it can't be written.
     fn text(&mut self, text: &str) -> Result<(), Error> {
-        match writeln!(self.out, "{text}") {
-            Ok(()) => Ok(()),
-            Err(_) => Err(Error::Device),
-        }
+        self.out.line(text)
     }
 }
 
 // What is said of the whole package.
-fn facts_value(alloc: Global, package: &Package<FileMedium>) -> Result<Json, AllocError> {
+fn facts_value(alloc: Global, package: &Package<ShownFile>) -> Result<Json, AllocError> {
     let kind = Json::String(format!(in alloc; "{:?}", kind_of(package))?);
     let page = Json::from(page_of(package));
     let (signed, sound) = (is_signed(package), is_sound(package));
@@ -315,7 +308,7 @@ fn numbered_value(alloc: Global, number: u32, value: &PropertyValue) -> Result<J
 // The name and the columns of a table.
 fn heading_value(
     alloc: Global,
-    package: &Package<FileMedium>,
+    package: &Package<ShownFile>,
     name: &str,
 ) -> Result<Json, AllocError> {
     let columns = match table_named(package, name) {

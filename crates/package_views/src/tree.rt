@@ -3,31 +3,30 @@ use crate::packages::{class_of, entries_at, text_of_json};
 use cfb::{Entries, Entry};
 use cfb_medium::Error;
 use msi_texts::decode;
+use package_files::{Names, Output};
 use serde_json::{Value as Json, json};
 use std::alloc::Global;
 use std::fs::File;
 use std::io::Write;
 use std::rt::Files;
 
-/// The objects of the compound file at a path, each storage before what it holds, siblings in their order.
+/// The objects of a compound file, each storage before what it holds, siblings in their order.
 pub(crate) fn tree_at<R: Files<File = File> + AllocGlobal>(
     rt: &R,
-    path: &str,
+    names: &Names,
 ) -> Result<Entries, Error> {
-    entries_at(rt, path)
+    entries_at(rt, names)
 }
 
 /// Writes a line for each object. `Device` where it can't be written.
 pub(crate) fn write_tree<O: Write>(
     alloc: Global,
     entries: Entries,
-    out: &mut O,
+    out: &mut Output<'_, O>,
 ) -> Result<(), Error> {
     for entry in entries {
         let line = text_of_json(alloc, &entry_value(alloc, &entry)?)?;
-        if writeln!(out, "{line}").is_err() {
-            return Err(Error::Device);
-        }
+        out.line(&line)?;
     }
     Ok(())
 }

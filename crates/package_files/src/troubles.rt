@@ -4,7 +4,7 @@ use std::fmt;
 use std::io::Write;
 
 /// What is wrong with a file.
-#[derive(Clone, Copy)]
+#[derive(Clone, Copy, PartialEq, Eq)]
 pub enum Trouble {
     /// There is none.
     Missing,
@@ -12,6 +12,12 @@ pub enum Trouble {
     NoFolder,
     /// The system doesn't let it be made.
     Unmakable,
+    /// It is a link that leads to no file.
+    Dangling,
+    /// Several names lead to it, and its log stands beside one of them.
+    OtherNames,
+    /// No space is left where it lies.
+    NoSpace,
     /// It is a folder.
     Folder,
     /// It is a pipe, a device node, or the like.
@@ -32,6 +38,8 @@ pub enum Trouble {
     Present,
     /// It is named as the log, and is none.
     NoLog,
+    /// It is named as the log, begins as a closed one, and may be any file.
+    DoubtfulLog,
     /// It is named as package and as log.
     Itself,
     /// It is a log with a commit, and there is no package.
@@ -64,7 +72,11 @@ impl Trouble {
         match self {
             Trouble::Missing => "no such file",
             Trouble::NoFolder => "it can't be made: there is no such folder",
-            Trouble::Unmakable => "it can't be made",
+            Trouble::Unmakable => "it can't be made: its folder can't be written",
+            Trouble::Dangling => "a link that leads to no file",
+            Trouble::OtherNames =>
+                "several names lead to this file, and its log would lie beside one of them; name a log by `--log`, or copy the file and change the copy",
+            Trouble::NoSpace => "no space is left; `msidb recover` finishes what was begun",
             Trouble::Folder => "a folder",
             Trouble::NotRegular => "no regular file",
             Trouble::Hidden => "it can't be looked at",
@@ -76,6 +88,8 @@ impl Trouble {
             Trouble::Present => "it is there already",
             Trouble::NoLog =>
                 "no log of a package, so it is left as it is; name another by `--log`",
+            Trouble::DoubtfulLog =>
+                "it may be any file, so it is left as it is; name another log by `--log`, or remove it if nobody needs it",
             Trouble::Itself => "it can't be the log too; name another by `--log`",
             Trouble::OtherCommit => "it holds a commit of another package; name another by `--log`",
             Trouble::UnfitCommit =>
@@ -107,7 +121,7 @@ pub fn tell_trouble<E: Write>(path: &str, trouble: Trouble, err: &mut E) {
 }
 
 /// Tells why a part of a package, of this kind and name, couldn't be read.
-pub(crate) fn tell_part<E: Write>(path: &str, kind: &str, name: &str, error: Error, err: &mut E) {
+pub fn tell_part<E: Write>(path: &str, kind: &str, name: &str, error: Error, err: &mut E) {
     let _ = writeln!(err, "msidb: {path}: {kind} {name}: {error}");
 }
 
