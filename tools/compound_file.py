@@ -23,16 +23,17 @@ def plain(name):
     return found
 
 
-def streams(path):
-    """The streams under the root of a compound file whose FAT is listed in the header, by their plain names, in the order of their tree."""
+def tables(path):
+    """Of a compound file whose FAT is listed in the header: the entries of its directory, its mini FAT, the bytes of its mini stream, and what
+    gives those of a chain."""
     data = path.read_bytes()
     size = 1 << struct.unpack_from("<H", data, 30)[0]
-    tables, first = struct.unpack_from("<2I", data, 44)
+    count, first = struct.unpack_from("<2I", data, 44)
 
     def sector(number):
         return data[(number + 1) * size : (number + 2) * size]
 
-    fat = [it for place in struct.unpack_from("<109I", data, 76)[:tables] for it in numbers(sector(place), 4)]
+    fat = [it for place in struct.unpack_from("<109I", data, 76)[:count] for it in numbers(sector(place), 4)]
 
     def chain(number):
         found = b""
@@ -43,7 +44,20 @@ def streams(path):
     mini_fat = numbers(chain(struct.unpack_from("<I", data, 60)[0]), 4)
     directory = chain(first)
     entries = [directory[at : at + 128] for at in range(0, len(directory), 128)]
-    mini = chain(struct.unpack_from("<I", entries[0], 116)[0])
+    return entries, mini_fat, chain(struct.unpack_from("<I", entries[0], 116)[0]), chain
+
+
+def facts(path):
+    """The root's size, how many bytes the sectors of the mini stream have, and how many entries in use are black and red."""
+    entries, _, mini, _ = tables(path)
+    size = struct.unpack_from("<Q", entries[0], 120)[0] & 0xFFFFFFFF
+    colors = [it[67] for it in entries if it[66]]
+    return f"root {size} of {len(mini)} bytes, {colors.count(1)} black, {colors.count(0)} red"
+
+
+def streams(path):
+    """The streams under the root of such a file, by their plain names, in the order of their tree."""
+    entries, mini_fat, mini, chain = tables(path)
 
     def content(entry):
         number, length = struct.unpack_from("<IQ", entry, 116)

@@ -4,6 +4,7 @@ import collections
 import contextlib
 import json
 import os
+import pathlib
 import re
 import shutil
 import subprocess
@@ -33,6 +34,9 @@ class Files:
 
     def __init__(self, program, library, folder):
         self.program, self.library, self.folder = program, library, folder
+        # the log that is named stands beside the package, too, for the words that only read
+        os.symlink(NAMES["log"], f"{folder}/{NAMES['home']}.log")
+        self.told = {}
 
     def put(self, home, log):
         """Puts these bytes into the two files; None stands for no file."""
@@ -71,6 +75,33 @@ class Files:
             calls = []
         return Ran(ran.returncode, ran.stdout.decode(), ran.stderr.decode(), calls)
 
+    def plain(self, *words):
+        """A run of the program on these words, which isn't looked at."""
+        how = {"cwd": self.folder, "stdin": subprocess.DEVNULL, "stdout": subprocess.PIPE, "stderr": subprocess.PIPE}
+        ran = subprocess.run([self.program, *words], **how)
+        return Ran(ran.returncode, ran.stdout.decode(), ran.stderr.decode(), [])
+
+    def read(self, word, *more):
+        """A run of a word that only reads, on the package and the log beside it."""
+        return self.plain(word, "home.msi", *more)
+
+    def exported(self):
+        """The files that an export makes."""
+        folder = f"{self.folder}/exported"
+        ran = self.plain("export", "home.msi", "exported")
+        made = {it.name: it.read_bytes() for it in sorted(pathlib.Path(folder).rglob("*")) if it.is_file()}
+        shutil.rmtree(folder, ignore_errors=True)
+        return ran.status, made
+
+    def adopted(self):
+        """The package that is adopted."""
+        ran = self.plain("adopt", "adopted.msi", "home.msi")
+        made = pathlib.Path(f"{self.folder}/adopted.msi").read_bytes() if ran.status == 0 else b""
+        for name in ("adopted.msi", "adopted.msi.log"):
+            with contextlib.suppress(FileNotFoundError):
+                os.remove(f"{self.folder}/{name}")
+        return ran.status, made
+
     def run(self, commands, **settings):
         """A run of these commands, with the answers in place of what was printed."""
         with open(f"{self.folder}/commands.json", "w") as it:
@@ -92,5 +123,9 @@ def files_of(program):
 
 
 def counted(calls):
-    """Those calls that the library counts: all but the program's output."""
-    return [it for it in calls if it.kind != "print"]
+    """Those calls that the library counts: all but the program's output; without those by which at the end a closed log is cut, of which none
+    matters to what is answered."""
+    end = next((place for place, it in enumerate(calls) if it.kind == "cut"), len(calls))
+    while end < len(calls) and end and calls[end - 1].kind in ("length", "read"):
+        end -= 1
+    return [it for it in calls[:end] if it.kind != "print"]
