@@ -71,13 +71,7 @@ pub fn show_package<'a, R: Files<File = File> + AllocGlobal, O: Write, E: Write>
             return 3;
         }
     };
-    let mut page = Page {
-        alloc: rt.alloc(),
-        path: names.named(),
-        is_terminal,
-        out: Output::new(out),
-        err,
-    };
+    let mut page = Page::new(rt.alloc(), names.named(), is_terminal, out, err);
     match show_parts(&mut page, &mut package, parts) {
         Ok(Shown::Whole) => 0,
         Ok(Shown::NoTable) => 1,
@@ -145,6 +139,22 @@ struct Page<'a, O, E> {
 }
 
 impl<'a, O: Write, E: Write> Page<'a, O, E> {
+    fn new(
+        alloc: Global,
+        path: &'a str,
+        is_terminal: bool,
+        out: &'a mut O,
+        err: &'a mut E,
+    ) -> Self {
+        Page {
+            alloc,
+            path,
+            is_terminal,
+            out: Output::new(out),
+            err,
+        }
+    }
+
     fn show_all(&mut self, package: &mut Package<ShownFile>) -> Result<Shown, Error> {
         self.line(&facts_value(self.alloc, package)?)?;
         self.show_summary(package)?;
