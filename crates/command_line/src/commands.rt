@@ -8,7 +8,8 @@ use installer::{Answer, Command, answer_text};
 use installer_runs::{Ending as Ended, Listener};
 use package_files::{Failure, Faults, Found, Names, Trouble, cut_log, look_at_log};
 use package_views::{is_signed_at, is_sound_at, why_refused};
-use std::alloc::Global;
+use serde_json::Value as Json;
+use std::alloc::{AllocError, Global};
 use std::fs::File;
 use std::io::Write;
 use std::rt::Files;
@@ -36,7 +37,7 @@ pub(crate) fn run<R: Files<File = File> + AllocGlobal + Clock, O: Write, E: Writ
     let found = files::look_to_commit(rt, names)?;
     let faults = Faults::new();
     let device = files::open(rt, names, &faults)?;
-    let mut answers = Answers::new(rt.alloc(), commands, out, progress);
+    let mut answers = Answers::new(rt.alloc(), names.named(), commands, out, progress);
     match run_commands(rt.alloc(), device, commands, &mut answers) {
         Ok(Ended::Whole) => {}
         Ok(Ended::Unopened(error)) => return Err(why_no_session(rt, names, error)),
@@ -171,6 +172,7 @@ fn tell_notes<R: Files<File = File> + AllocGlobal, E: Write>(
 #[derive(Drop)]
 struct Answers<'a, 'b, O, R, E> {
     alloc: Global,
+    named: &'a str,
     commands: &'a [Command],
     done: usize,
     heard: Heard,
@@ -197,17 +199,42 @@ impl<'a, 'b, O: Write, R: Clock, E: Write> Listener for Answers<'a, 'b, O, R, E>
         }
         self.progress.step(answers.len());
     }
+
+    // Tells which texts keep a commit back.
+    fn keep_back(&mut self, texts: &[String]) {
+        let named = self.named;
+        let _ = write!(
+            self.progress.err(),
+            "msidb: {named}: not committed, since its code page lacks a character of"
+        );
+        for text in texts {
+            if let Ok(quoted) = quoted(self.alloc, text) {
+                let _ = write!(self.progress.err(), " {quoted}");
+            }
+        }
+        let _ = writeln!(
+            self.progress.err(),
+            "; the command `{{\"op\":\"set_codepage\",\"id\":65001}}` takes all texts"
+        );
+    }
+}
+
+// A text as JSON has it.
+fn quoted(alloc: Global, text: &str) -> Result<String, AllocError> {
+    Json::String(String::from_str(alloc, text)?).to_string(alloc)
 }
 
 impl<'a, 'b, O: Write, R: Clock, E: Write> Answers<'a, 'b, O, R, E> {
     fn new(
         alloc: Global,
+        named: &'a str,
         commands: &'a [Command],
         out: &'a mut O,
         progress: &'a mut Progress<'b, R, E>,
     ) -> Self {
         Answers {
             alloc,
+            named,
             commands,
             done: 0,
             heard: Heard::default(),

@@ -3,14 +3,13 @@ use Rattle.std.proofs.Common.{◌≡◌, ◌∙◌, ◌+◌, ◌-◌, ◌<◌, �
 use Rattle.std.proofs.lemmas.List.{map-append}
 use Rattle.cfb_medium.specs.declared.medium.ReadMedium as medium
 use Rattle.command_file.specs.Request.{Request}
-use Rattle.installer.proofs.Running.{follow_none, follow_then}
-use Rattle.installer.specs.Follows.{FollowAll}
 use Rattle.installer.specs.Reply.{Reply}
 use Rattle.installer.specs.Sessions.{device_below, letters_in}
 use Rattle.installer.specs.Survival.{Survives}
 use Rattle.installer.specs.declared.session.SessionOver.{SessionOver}
 use Rattle.cfb_medium.specs.declared.error.Error.{Error}
-use Rattle.installer_runs.specs.Runs.{GoesAlong}
+use Rattle.installer_runs.proofs.Fitting.{fit_none, goes_fit_then}
+use Rattle.installer_runs.specs.Runs.{GoesAlong, GoesFit}
 use Rattle.installer_runs.specs.declared.running.Ending.{Ending}
 use Rattle.installer_runs.specs.declared.running.Ending.TheVariants.{Unopened, Whole}
 use Rattle.staged.specs.declared.device.Device.{Ghosts}
@@ -26,14 +25,14 @@ module _ {D : Type 0} {g : Ghosts D} {h : medium.Ghosts (Staged D g)} {C : Type 
   pub record Followed (commands : List C) (count : ℕ) (old new : SessionOver (Staged D g) h) : Type 0 where
     pub within : count ≤ length commands
     pub replies : List Reply
-    pub follow : FollowAll (map f (take count commands)) replies old new
+    pub follow : GoesFit (map f (take count commands)) replies old new
 
   pub followed_none : (commands : List C) (it : SessionOver (Staged D g) h) → Survives (letters_in it) g (device_below it) (device_below it) [] → Followed commands 0 it it
-  followed_none commands it stay = record { within = omega arith; replies = []; follow = follow_none it stay }
+  followed_none commands it stay = record { within = omega arith; replies = []; follow = fit_none it stay }
 
   -- a slice behind them
   pub followed_more : (commands slice : List C) (n m : ℕ) → n < m → m ≤ length commands → slice ≡ take (m - n) (drop n commands) → (told : List Reply) (old mid new : SessionOver (Staged D g) h)
-      → Followed commands n old mid → FollowAll (map f slice) told mid new → Followed commands m old new
+      → Followed commands n old mid → GoesFit (map f slice) told mid new → Followed commands m old new
   followed_more commands slice n m more within is told old mid new before then =
       let sum : n + (m - n) ≡ m = omega (arith, more) in
       let both : take n commands ++ slice ≡ take m commands = ap (λ s. take n commands ++ s) is ∙ sym (take-add n (m - n) commands) ∙ ap (λ k. take k commands) sum in
@@ -41,7 +40,7 @@ module _ {D : Type 0} {g : Ghosts D} {h : medium.Ghosts (Staged D g)} {C : Type 
       record {
         within = within;
         replies = before.replies ++ told;
-        follow = subst (λ r. FollowAll r (before.replies ++ told) old new) requests (follow_then (map f (take n commands)) (map f slice) before.replies told old mid new before.follow then);
+        follow = subst (λ r. GoesFit r (before.replies ++ told) old new) requests (goes_fit_then (map f (take n commands)) (map f slice) before.replies told old mid new before.follow then);
       }
 
   -- these are the first of the requests
@@ -52,5 +51,5 @@ module _ {D : Type 0} {g : Ghosts D} {h : medium.Ghosts (Staged D g)} {C : Type 
     whole = λ is. sym (taken f n commands) ∙ ap (map f) (take_all n commands (whole is));
     opened = opened;
     replies = before.replies;
-    follow = subst (λ r. FollowAll r before.replies old new) (taken f n commands) (subst (λ it. FollowAll (map f (take n commands)) before.replies old it) (sym same) before.follow);
+    follow = subst (λ r. GoesFit r before.replies old new) (taken f n commands) (subst (λ it. GoesFit (map f (take n commands)) before.replies old it) (sym same) before.follow);
   }

@@ -6,11 +6,11 @@ use Rattle.cfb_medium.specs.declared.medium.ReadMedium as medium
 use Rattle.cfb_tree.specs.Names.{Letters}
 use Rattle.command_file.specs.Request.{Request}
 use Rattle.installer.proofs.Stopping.{survives_then}
-use Rattle.installer.specs.Course.{Mark, Runs, running}
+use Rattle.installer.specs.Course.{Mark, running}
 use Rattle.installer.specs.Sessions.{beginning, device_below, is_sound, letters_in, StandsAt}
 use Rattle.installer.specs.Survival.{Survives}
 use Rattle.installer.specs.declared.session.SessionOver.{SessionOver}
-use Rattle.installer_runs.specs.Runs.{Leads, RunsOn}
+use Rattle.installer_runs.specs.Runs.{Leads, RunsFit, RunsOn}
 use Rattle.installer_runs.specs.declared.running.Ending.{Ending}
 use Rattle.installer_runs.specs.declared.running.Ending.TheVariants.{Unopened}
 use Rattle.msi_meaning.specs.Package.{Packed}
@@ -61,7 +61,7 @@ module _ {D : Type 0} {g : Ghosts D} {h : medium.Ghosts (Staged D g)} (letters :
         start = beginning it (Some P) P;
         end = on.0;
         begins = record { held = refl; based = refl; phase = refl; sound = sound };
-        runs = subst (λ (l : Letters). Runs l (beginning it (Some P) P) (take leads.along.count requests) leads.along.replies on.1 on.0) compared on.2;
+        runs = subst (λ (l : Letters). RunsFit l (beginning it (Some P) P) (take leads.along.count requests) leads.along.replies on.1 on.0) compared on.2;
         survives = survives_behind on.1 on.4;
       }
 

@@ -12,9 +12,9 @@ loop-done-init g c =
 
 pub returns-in-Err : goal.returns-in-Err
 returns-in-Err g c =
-    goes_along said c.args.commands.now c.loop-done.done Cut c.args.session.now c.loop-done.session c.run.new.self c.in-Err.ensures.none_ran.1 (λ is. absurd (cc is)) (λ e is. absurd (cc is)) c.loop-done.invariant
+    goes_along said c.args.commands.now c.loop-done.done Cut c.args.session.now c.loop-done.session c.run_slice.new.session c.in-Err.ensures.none_ran (λ is. absurd (cc is)) (λ e is. absurd (cc is)) c.loop-done.invariant
 
 pub loop-done-preserved : goal.loop-done-preserved
 loop-done-preserved g c =
-    followed_more said c.args.commands.now _ c.loop-done.done c.end_of_slice-end.result c.end_of_slice-end.ensures.behind c.end_of_slice-end.ensures.inside refl _ c.args.session.now c.loop-done.session c.run.new.self c.loop-done.invariant
-    c.in-Ok.ensures.followed
+    followed_more said c.args.commands.now _ c.loop-done.done c.next_slice-end.result c.next_slice-end.ensures.behind c.next_slice-end.ensures.inside refl _ c.args.session.now c.loop-done.session c.run_slice.new.session c.loop-done.invariant
+    c.in-Ok.ensures.goes
